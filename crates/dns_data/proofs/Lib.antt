@@ -1,0 +1,9 @@
+pub mod DataFacts
+pub mod Labels
+pub mod Names
+pub mod Pieces
+pub mod Reading
+pub mod RoundTrip
+pub mod Sets
+pub mod StandardFacts
+pub mod Words

@@ -1,0 +1,59 @@
+-- Names: prefixes, and names that are one.
+use Rattle.std.proofs.Common.{◌≡◌, ℕ, ◌+◌, ◌≤◌, ◌++◌, Bool, true, List, [], ◌∷◌, length, take, drop, Ordering, sym, refl, ap, ◌∙◌, arith}
+use Rattle.std.specs.Prelude.{◌↔◌, sum_by}
+use Rattle.std.specs.List.{AllByRecursion}
+use Rattle.std.proofs.lemmas.List.Sums.{sum_by-cons}
+use Rattle.std.specs.Bool.{IsTrue}
+use Rattle.std.specs.Cmp.Lexicographic.{pointwise_decides, bytes_decides, lists_ties, texts_ties}
+use Rattle.std.specs.declared.cmp.Ordering.TheVariants.{Less, Equal, Greater}
+use Rattle.std.specs.Ordering.{is_eq}
+use Rattle.std.proofs.lemmas.List.{take-append-drop, take_at}
+use Rattle.dns_data.specs.Label.{IsLabel, label_cmp}
+use Rattle.dns_data.specs.Name.{Labels, IsName, wire_octets, name_eq, name_cmp, is_prefix}
+
+-- names that are one are equal
+pub name_eq_decides : (a b : Labels) → (name_eq a b ≡ true → a ≡ b) × (a ≡ b → name_eq a b ≡ true)
+name_eq_decides = pointwise_decides bytes_decides
+
+-- names of which neither stands before the other are one
+pub same_names : (a b : Labels) → name_cmp a b ≡ Equal → a ≡ b
+same_names a b e = (name_eq_decides a b).0 (lists_ties label_cmp texts_ties a b ∙ ap is_eq e)
+
+is_eq-Equal : (o : Ordering) → is_eq o ≡ true → o ≡ Equal
+is_eq-Equal Less h = cc
+is_eq-Equal Equal h = refl
+is_eq-Equal Greater h = cc
+
+-- a name is the other exactly where neither stands before the other
+pub name_cmp_equal : (a b : Labels) (o : Ordering) → o ≡ name_cmp a b → (o ≡ Equal) ↔ (a ≡ b)
+name_cmp_equal a b o is = (
+  λ e. same_names a b (sym is ∙ e),
+  λ e. is ∙ is_eq-Equal _ (sym (lists_ties label_cmp texts_ties a b) ∙ (name_eq_decides a b).1 e),
+)
+
+-- a name is a prefix of another exactly where labels below it make the other
+pub is_prefix_means : (above name : Labels) (r : Bool) → r ≡ is_prefix above name → IsTrue r ↔ ((below : Labels) × (above ++ below ≡ name))
+is_prefix_means above name r is = (
+  λ holds. let front : above ≡ take (length above) name = (name_eq_decides above (take (length above) name)).0 (sym is ∙ holds) in
+      (drop (length above) name, ap (λ (xs : Labels). xs ++ drop (length above) name) front ∙ take-append-drop (length above) name),
+  λ (below, e). is ∙ (name_eq_decides above (take (length above) name)).1 (sym (take_at above below (length above) refl) ∙ ap (take (length above)) e),
+)
+
+-- labels take at least an octet each
+pub length_le_octets : (labels : Labels) → length labels ≤ sum_by (λ label. length label + 1) labels
+length_le_octets [] = omega arith
+length_le_octets (label ∷ labels) =
+    omega (arith, length_le_octets labels, sum_by-cons (λ (xs : List ℕ). length xs + 1) label labels)
+
+-- what holds of the items of two lists holds of those of both
+pub all_append : {X : Type 0} (P : X → Type 0) (xs ys : List X) → AllByRecursion P xs → AllByRecursion P ys → AllByRecursion P (xs ++ ys)
+all_append P [] ys h k = k
+all_append P (x ∷ xs) ys h k = (h.0, all_append P xs ys h.1 k)
+
+-- and of one more item
+pub all_push : {X : Type 0} (P : X → Type 0) (xs : List X) (x : X) → AllByRecursion P xs → P x → AllByRecursion P (xs ++ x ∷ [])
+all_push P xs x h k = all_append P xs (x ∷ []) h (k, tt)
+
+-- names keep being names
+pub name_append : (a b : Labels) → AllByRecursion IsLabel a → AllByRecursion IsLabel b → wire_octets (a ++ b) ≤ 255 → IsName (a ++ b)
+name_append a b h k short = record { labels = all_append IsLabel a b h k; short = short }

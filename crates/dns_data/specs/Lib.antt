@@ -1,0 +1,10 @@
+pub mod Label
+pub mod Name
+pub mod NameOrder
+pub mod Octet
+pub mod Rdata
+pub mod RrType
+pub mod Spelling
+pub mod DataText
+pub mod Fault
+pub mod TypeSet

@@ -1,0 +1,30 @@
+-- Octets of ASCII text, and how one is printed where it can't stand as it is.
+use Rattle.std.specs.Prelude.{ℕ, ◌+◌, ◌-◌, ◌*◌, ◌/◌, ◌%◌, Bool, ◌&&◌, nat_le, List, [], ◌∷◌, if◌then◌else◌}
+
+-- A to Z
+abbrev pub is_upper : ℕ → Bool
+is_upper octet = nat_le 65 octet && nat_le octet 90
+
+-- a to z
+abbrev pub is_lower : ℕ → Bool
+is_lower octet = nat_le 97 octet && nat_le octet 122
+
+-- 0 to 9
+abbrev pub is_digit : ℕ → Bool
+is_digit octet = nat_le 48 octet && nat_le octet 57
+
+-- an octet with A to Z folded to a to z (RFC 4343 section 3)
+abbrev pub folded : ℕ → ℕ
+folded octet = if is_upper octet then octet + 32 else octet
+
+-- an octet with a to z raised to A to Z
+abbrev pub raised : ℕ → ℕ
+raised octet = if is_lower octet then octet - 32 else octet
+
+-- the number that three decimal digits stand for
+abbrev pub three_digit_value : ℕ → ℕ → ℕ → ℕ
+three_digit_value a b c = (a - 48) * 100 + (b - 48) * 10 + (c - 48)
+
+-- a backslash, and the octet's number in three decimal digits (RFC 1035 section 5.1)
+abbrev pub decimal_escape : ℕ → List ℕ
+decimal_escape octet = 92 ∷ (48 + octet / 100) ∷ (48 + octet / 10 % 10) ∷ (48 + octet % 10) ∷ []

@@ -1,0 +1,81 @@
+//! Why octets are no label, a text no name, and labels no longer name.
+
+ghost use Rattle.std.specs.Prelude.{◌≡◌};
+ghost use Rattle.dns_data.specs.declared.fault.JoinFault.TheVariants as join_fault;
+ghost use Rattle.dns_data.specs.declared.fault.NameFault.TheVariants as name_fault;
+
+use crate::memory::NoMemory;
+use std::alloc::{AllocError, AllocFailed};
+use thiserror::Error;
+
+/// Why octets are no label or a text is no name, in the order of the reading of a text.
+#[derive(Clone, Copy, Debug, PartialEq, Eq, Error)]
+pub enum NameFault {
+    #[error("a label has no octet")]
+    EmptyLabel,
+    #[error("a label has more than 63 octets")]
+    LabelTooLong,
+    #[error("the name has more than 255 octets")]
+    NameTooLong,
+    #[error("a backslash stands before no octet and no three digits up to 255")]
+    BadEscape,
+    #[error("no memory")]
+    NoMemory,
+}
+
+/// Why labels were not put below a name.
+#[derive(Clone, Copy, Debug, PartialEq, Eq, Error)]
+pub enum JoinFault {
+    #[error("the name would have more than 255 octets")]
+    TooLong,
+    #[error("no memory")]
+    NoMemory,
+}
+
+impl From<AllocError> for NameFault {
+    ghost from_gives = { λ _ fault. fault ≡ name_fault.NoMemory };
+
+    fn from(_fault: AllocError) -> NameFault {
+        NameFault::NoMemory
+    }
+}
+
+impl<T: Drop> From<AllocFailed<T>> for NameFault {
+    ghost from_gives = { λ _ fault. fault ≡ name_fault.NoMemory };
+
+    fn from(_fault: AllocFailed<T>) -> NameFault {
+        NameFault::NoMemory
+    }
+}
+
+impl From<NoMemory> for NameFault {
+    ghost from_gives = { λ _ fault. fault ≡ name_fault.NoMemory };
+
+    fn from(_fault: NoMemory) -> NameFault {
+        NameFault::NoMemory
+    }
+}
+
+impl From<AllocError> for JoinFault {
+    ghost from_gives = { λ _ fault. fault ≡ join_fault.NoMemory };
+
+    fn from(_fault: AllocError) -> JoinFault {
+        JoinFault::NoMemory
+    }
+}
+
+impl<T: Drop> From<AllocFailed<T>> for JoinFault {
+    ghost from_gives = { λ _ fault. fault ≡ join_fault.NoMemory };
+
+    fn from(_fault: AllocFailed<T>) -> JoinFault {
+        JoinFault::NoMemory
+    }
+}
+
+impl From<NoMemory> for JoinFault {
+    ghost from_gives = { λ _ fault. fault ≡ join_fault.NoMemory };
+
+    fn from(_fault: NoMemory) -> JoinFault {
+        JoinFault::NoMemory
+    }
+}

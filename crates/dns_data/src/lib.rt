@@ -1,0 +1,29 @@
+//! Domain names, record types and record data, and the small types that stand for a list, a text
+//! and want of memory in the plain values of every crate above.
+#![tactic(auto)]
+
+mod fault;
+mod label;
+mod list;
+mod memory;
+mod name;
+mod printing;
+mod rdata;
+mod rr_type;
+mod spelling;
+mod text;
+mod type_set;
+
+pub use fault::{JoinFault, NameFault};
+pub use label::Label;
+pub use list::{List, Octets};
+pub use memory::NoMemory;
+pub use name::Name;
+pub use printing::rdata_text;
+pub use rdata::{Rdata, Rr};
+pub use rr_type::RrType;
+pub use text::Text;
+pub use type_set::TypeSet;
+
+#[cfg(test)]
+mod tests;

@@ -1,0 +1,98 @@
+//! A list that contracts see as its items.
+
+ghost use Rattle.std.specs.Prelude.{◌≡◌, ◌∷◌, ◌++◌, [], IfOk, OnOk, OnErr};
+
+use crate::memory::NoMemory;
+use std::alloc::Global;
+use std::marker::Model;
+
+/// Items in order.
+#[derive(Debug, Drop)]
+pub struct List<T> {
+    items: Vec<T>,
+}
+
+impl<T> Model for List<T> {
+    ghost use Rattle.std.specs.Prelude.{List};
+
+    ghost Value = { List T };
+
+    ghost view = { λ list. list.items.items };
+}
+
+/// A list of octets.
+pub type Octets = List<u8>;
+
+impl<T> List<T> {
+    /// The list without an item. It takes no memory.
+    pub fn new(alloc: Global) -> List<T>
+        ensures { result ≡ [] }
+    {
+        List {
+            items: Vec::new(alloc),
+        }
+    }
+
+    /// The list of a vector's items.
+    pub fn from_vec(items: Vec<T>) -> List<T>
+        ensures { result ≡ items.items }
+    {
+        List { items }
+    }
+
+    /// The vector of the items.
+    pub fn into_vec(self) -> Vec<T>
+        ensures { result.items ≡ self }
+    {
+        self.items
+    }
+
+    /// The items, in order.
+    pub fn items(&self) -> &[T]
+        ensures { result.now ≡ self.now }
+    {
+        self.items.as_slice()
+    }
+
+    /// Puts an item at the end. After an error the list is as it was.
+    pub fn push(&mut self, item: T) -> Result<(), NoMemory>
+    where
+        T: Drop,
+        ensures ok { OnOk result (self.new ≡ self.old ++ item ∷ []) }
+        ensures err { OnErr result (self.new ≡ self.old) }
+    {
+        self.items.push(item)?;
+        Ok(())
+    }
+}
+
+impl List<u8> {
+    /// The list of these octets.
+    pub fn from_octets(alloc: Global, octets: &[u8]) -> Result<List<u8>, NoMemory>
+        ensures { IfOk result (λ list. list ≡ octets.now) }
+    {
+        Ok(List {
+            items: octets.to_vec(alloc)?,
+        })
+    }
+
+    /// An equal list.
+    pub fn copy(&self, alloc: Global) -> Result<List<u8>, NoMemory>
+        ensures { IfOk result (λ list. list ≡ self.now) }
+    {
+        List::from_octets(alloc, self.items())
+    }
+}
+
+impl List<Octets> {
+    /// An equal list.
+    pub fn copy(&self, alloc: Global) -> Result<List<Octets>, NoMemory>
+        ensures { IfOk result (λ list. list ≡ self.now) }
+    {
+        let mut list = List::new(alloc);
+        for octets in self.items() {
+            list.push(octets.copy(alloc)?)?;
+        }
+        Ok(list)
+    }
+}
