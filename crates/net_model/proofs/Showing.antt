@@ -1,0 +1,146 @@
+-- How a query is seen to show a fault, or not to.
+use Rattle.std.proofs.Common.{◌≡◌, ℕ, zero, suc, ◌==◌, Bool, true, false, List, [], ◌∷◌, length, refl, ap, subst}
+use Rattle.std.specs.Prelude.{Option, Some, None, slice_get, option_map, option_and_then, if◌then◌else◌}
+use Rattle.std.specs.List.{list_all, AllByRecursion}
+use Rattle.dns_data.specs.Name.{Labels}
+use Rattle.dns_data.specs.declared.rr_type.RrType.{RrType}
+use Rattle.net_model.specs.declared.class.Class.{Class}
+use Rattle.net_model.specs.declared.config.Config.{Config}
+use Rattle.net_model.specs.declared.fault.Fault.{Fault}
+use Rattle.net_model.specs.declared.fault.Fault.TheVariants.{Answers, Blackhole}
+use Rattle.net_model.specs.declared.place.Place.{Place}
+use Rattle.net_model.specs.declared.walk.Hop.{Hop}
+use Rattle.net_model.specs.declared.walk.Leaf.{Leaf}
+use Rattle.net_model.specs.declared.walk.Leaf.TheVariants as leaves
+use Rattle.net_model.specs.declared.walk.State.{State}
+use Rattle.net_model.specs.declared.walk.Walk.{Walk}
+use Rattle.net_model.specs.Class.{IsClassOf}
+use Rattle.net_model.specs.Learnt.{InLeast, InGreatest}
+use Rattle.net_model.specs.Nearest.{server_names}
+use Rattle.net_model.specs.Reading.{ground_of}
+use Rattle.net_model.specs.Shown.{MayShow, WalksShow, ShowsAnswers, ShowsIn}
+use Rattle.net_model.specs.Step.{Setting, Branch, Go, End, start, next}
+use Rattle.net_model.specs.Walk.{led_on, branched, walk_from, walk_along, IsWalk}
+use Rattle.net_model.proofs.Naming.{and_first, and_second}
+use Rattle.net_model.proofs.Words.{following_all}
+
+-- a fault is shown by the walk with these numbers
+pub shown_by : (config : Config) (rewrites : ℕ) (query : Labels) (rtype : RrType) (fault : Fault) (numbers : List ℕ) (walk : Walk)
+    → walk_along (following_all config rewrites) query rtype numbers ≡ Some walk
+    → MayShow config query rtype fault
+    → WalksShow (following_all config rewrites) (InLeast config rewrites) (InGreatest config rewrites) (walk ∷ []) fault
+    → ShowsIn config rewrites query rtype fault
+shown_by config rewrites query rtype fault numbers walk along may show =
+    record {
+      followed = server_names config;
+      in_force = refl;
+      shows = record { may = may; walks = walk ∷ []; are_walks = ((numbers, along), tt); show = show };
+    }
+
+-- answers differ between the walks with these numbers
+pub shown_by_two : (config : Config) (rewrites : ℕ) (query : Labels) (rtype : RrType) (class : Class) (numbers others : List ℕ) (one other : Walk)
+    → walk_along (following_all config rewrites) query rtype numbers ≡ Some one
+    → walk_along (following_all config rewrites) query rtype others ≡ Some other
+    → IsClassOf (ground_of config) query class → ShowsAnswers one other
+    → ShowsIn config rewrites query rtype (Answers class rtype)
+shown_by_two config rewrites query rtype class numbers others one other along beside is differ =
+    record {
+      followed = server_names config;
+      in_force = refl;
+      shows = record { may = (refl, is); walks = one ∷ other ∷ []; are_walks = ((numbers, along), ((others, beside), tt)); show = differ };
+    }
+
+-- the branch ends in a leaf that passes, or leads to a state that does
+abbrev branch_passes : (Leaf → Bool) → (State → Bool) → Branch → Bool
+branch_passes test passes (Go hop to) = passes to
+branch_passes test passes (End hop leaf) = test leaf
+
+-- each walk from the state has a leaf that passes, and not more than so many states
+abbrev pub leaves_pass : (Leaf → Bool) → Setting → RrType → ℕ → State → Bool
+leaves_pass test setting rtype zero state = false
+leaves_pass test setting rtype (suc depth) state =
+    list_all (branch_passes test (leaves_pass test setting rtype depth)) (next setting rtype state)
+
+-- the item with a number passes what all pass
+item_passes : {X : Type 0} (test : X → Bool) (xs : List X) (number : ℕ) (x : X) → list_all test xs ≡ true → slice_get xs number ≡ Some x
+    → test x ≡ true
+item_passes test [] number x all e = cc
+item_passes test (first ∷ xs) zero x all e =
+    let same : first ≡ x = cc in subst (λ y. test y ≡ true) same (and_first (test first) (list_all test xs) all)
+item_passes test (first ∷ xs) (suc number) x all e = item_passes test xs number x (and_second (test first) (list_all test xs) all) e
+
+led_on_passes : (test : Leaf → Bool) (state : State) (hop : Hop) (rest : Option Walk) (walk : Walk) → option_map (led_on state hop) rest ≡ Some walk
+    → ((later : Walk) → rest ≡ Some later → test later.leaf ≡ true) → test walk.leaf ≡ true
+led_on_passes test state hop None walk e later = cc
+led_on_passes test state hop (Some rest) walk e later =
+    let same : led_on state hop rest ≡ walk = cc in subst (λ (w : Walk). test w.leaf ≡ true) same (later rest refl)
+
+ended_passes : (test : Leaf → Bool) (is_last : Bool) (ended walk : Walk) → (if is_last then Some ended else None) ≡ Some walk
+    → test ended.leaf ≡ true → test walk.leaf ≡ true
+ended_passes test true ended walk e h = let same : ended ≡ walk = cc in subst (λ (w : Walk). test w.leaf ≡ true) same h
+ended_passes test false ended walk e h = cc
+
+branched_passes : (test : Leaf → Bool) (passes : State → Bool) (state : State) (is_last : Bool) (on : State → Option Walk) (branch : Option Branch) (walk : Walk)
+    → ((b : Branch) → branch ≡ Some b → branch_passes test passes b ≡ true)
+    → ((to : State) (later : Walk) → passes to ≡ true → on to ≡ Some later → test later.leaf ≡ true)
+    → branched state is_last on branch ≡ Some walk → test walk.leaf ≡ true
+branched_passes test passes state is_last on None walk all later e = cc
+branched_passes test passes state is_last on (Some (Go hop to)) walk all later e =
+    led_on_passes test state hop (on to) walk e (λ rest. later to rest (all (Go hop to) refl))
+branched_passes test passes state is_last on (Some (End hop leaf)) walk all later e =
+    ended_passes test is_last _ walk e (all (End hop leaf) refl)
+
+walk_from_passes : (test : Leaf → Bool) (setting : Setting) (rtype : RrType) (depth : ℕ) (numbers : List ℕ) (state : State) (walk : Walk)
+    → leaves_pass test setting rtype depth state ≡ true → walk_from setting rtype numbers state ≡ Some walk → test walk.leaf ≡ true
+walk_from_passes test setting rtype zero numbers state walk all e = cc
+walk_from_passes test setting rtype (suc depth) [] state walk all e = cc
+walk_from_passes test setting rtype (suc depth) (number ∷ numbers) state walk all e =
+    branched_passes test (leaves_pass test setting rtype depth) state (length numbers == 0) (walk_from setting rtype numbers)
+    (slice_get (next setting rtype state) number) walk
+    (λ b is. item_passes (branch_passes test (leaves_pass test setting rtype depth)) (next setting rtype state) number b all is)
+    (λ to later. walk_from_passes test setting rtype depth numbers to later) e
+
+-- each walk of the query has a leaf that passes, and not more than so many states
+abbrev pub all_leaves_pass : (Leaf → Bool) → Setting → Labels → RrType → ℕ → Bool
+all_leaves_pass test setting query rtype depth = list_all (leaves_pass test setting rtype depth) (start setting.config query)
+
+begun_passes : (test : Leaf → Bool) (setting : Setting) (rtype : RrType) (depth : ℕ) (numbers : List ℕ) (begin : Option State) (walk : Walk)
+    → ((state : State) → begin ≡ Some state → leaves_pass test setting rtype depth state ≡ true)
+    → option_and_then (walk_from setting rtype numbers) begin ≡ Some walk → test walk.leaf ≡ true
+begun_passes test setting rtype depth numbers None walk all e = cc
+begun_passes test setting rtype depth numbers (Some state) walk all e =
+    walk_from_passes test setting rtype depth numbers state walk (all state refl) e
+
+-- so the leaf of each walk passes
+pub walk_passes : (test : Leaf → Bool) (setting : Setting) (query : Labels) (rtype : RrType) (depth : ℕ)
+    → all_leaves_pass test setting query rtype depth ≡ true → (walk : Walk) → IsWalk setting query rtype walk → test walk.leaf ≡ true
+walk_passes test setting query rtype depth all walk ([], along) = cc
+walk_passes test setting query rtype depth all walk (number ∷ numbers, along) =
+    begun_passes test setting rtype depth numbers (slice_get (start setting.config query) number) walk
+    (λ state is. item_passes (leaves_pass test setting rtype depth) (start setting.config query) number state all is) along
+
+-- the leaf isn't that no such name exists
+abbrev pub isnt_nxdomain : Leaf → Bool
+isnt_nxdomain leaves.NxDomain = false
+isnt_nxdomain leaf = true
+
+no_walk_shows : (setting : Setting) (in_least in_greatest : Labels → Type 0) (query : Labels) (rtype : RrType) (place : Place) (walks : List Walk)
+    → ((walk : Walk) → IsWalk setting query rtype walk → isnt_nxdomain walk.leaf ≡ true)
+    → AllByRecursion (IsWalk setting query rtype) walks → WalksShow setting in_least in_greatest walks (Blackhole place) → ⊥
+no_walk_shows setting in_least in_greatest query rtype place [] none are show = show
+no_walk_shows setting in_least in_greatest query rtype place (walk ∷ []) none are show =
+    let exists : isnt_nxdomain walk.leaf ≡ true = none walk are.0 in
+    let ends : isnt_nxdomain walk.leaf ≡ false = ap isnt_nxdomain show.ends in cc
+no_walk_shows setting in_least in_greatest query rtype place (walk ∷ other ∷ []) none are show = show
+no_walk_shows setting in_least in_greatest query rtype place (walk ∷ other ∷ third ∷ walks) none are show = show
+
+-- a query of which no walk ends in a name that doesn't exist shows no blackhole
+pub no_blackhole : (config : Config) (rewrites : ℕ) (query : Labels) (rtype : RrType) (place : Place) (depth : ℕ)
+    → all_leaves_pass isnt_nxdomain (following_all config rewrites) query rtype depth ≡ true
+    → ShowsIn config rewrites query rtype (Blackhole place) → ⊥
+no_blackhole config rewrites query rtype place depth all shown =
+    no_walk_shows _ (InLeast config rewrites) (InGreatest config rewrites) query rtype place shown.shows.walks
+    (λ walk is. walk_passes isnt_nxdomain (following_all config rewrites) query rtype depth all walk
+    (subst (λ (names : List Labels). IsWalk (record { config = config; rewrites = rewrites; followed = names }) query rtype walk)
+    shown.in_force is))
+    shown.shows.are_walks shown.shows.show

@@ -1,0 +1,12 @@
+-- Worked values of the definitions. Each is a theorem: a false one stops the check.
+mod ExampleZone
+mod Classes
+mod Dependencies
+mod Existence
+mod Faults
+mod Wildcards
+mod Cuts
+mod Redirections
+mod Aliases
+mod Rewrites
+mod Referrals

@@ -1,0 +1,92 @@
+-- The lookup of a name and a type in a zone whose origin is at or above the name (RFC 1034 section 4.3.2,
+-- RFC 4592 section 3.3, RFC 6672 section 3.2).
+use Rattle.std.specs.Prelude.{true, false, ◌&&◌, nat_lt, nat_le, List, [], ◌∷◌, ◌++◌, length, codes, Option, Some, None, if◌then◌else◌}
+use Rattle.dns_data.specs.Name.{Labels, wire_octets, swap}
+use Rattle.dns_data.specs.RrType.{type_eq}
+use Rattle.dns_data.specs.declared.rdata.Rdata.{Rdata}
+use Rattle.dns_data.specs.declared.rr_type.RrType.{RrType}
+use Rattle.dns_data.specs.declared.rr_type.RrType.TheVariants as types
+use Rattle.net_model.specs.declared.config.Zone.{Zone}
+use Rattle.net_model.specs.declared.found.Found.{Found}
+use Rattle.net_model.specs.declared.found.Found.TheVariants.{Referral, Rewrite, TooLong, Answer, NoData, NxDomain}
+use Rattle.net_model.specs.Order.{in_order}
+use Rattle.net_model.specs.Prefix.{shortest, longest}
+use Rattle.net_model.specs.Zone.{owns, exists_in, targets_at, data_at, ns_names, data_cmp}
+
+-- the zone cut at or above the name: its shortest prefix below the origin that owns an NS record
+-- (RFC 1034 section 4.3.2, step 3b)
+abbrev pub zone_cut : Zone → Labels → Option Labels
+zone_cut zone name =
+    shortest (λ above. nat_lt (length zone.origin) (length above) && owns zone above types.Ns) name
+
+-- the owner whose DNAME record redirects the name: its shortest proper prefix, the origin allowed, that owns
+-- one (RFC 6672 section 3.2, step 3c)
+abbrev pub dname_owner : Zone → Labels → Option Labels
+dname_owner zone name =
+    shortest
+    (λ above. nat_le (length zone.origin) (length above) && nat_lt (length above) (length name)
+    && owns zone above types.Dname)
+    name
+
+-- the first of some names
+abbrev pub first_name : List Labels → Option Labels
+first_name [] = None
+first_name (name ∷ names) = Some name
+
+-- the longest existing prefix of the name (RFC 4592 section 3.3.1)
+abbrev pub closest_encloser : Zone → Labels → Option Labels
+closest_encloser zone name = longest (exists_in zone) name
+
+-- the asterisk label directly below the closest encloser (RFC 4592 section 3.3.1)
+abbrev pub source_of_synthesis : Labels → Labels
+source_of_synthesis encloser = encloser ++ codes "*" ∷ []
+
+-- the data of a type, or that there are none
+abbrev pub answer_of : List Rdata → Found
+answer_of [] = NoData
+answer_of (first ∷ rest) = Answer (first ∷ rest)
+
+-- what an existing name gives: the rewrite of its alias, if that counts, or its data of the type
+abbrev pub aliased : Zone → Labels → RrType → Option Labels → Found
+aliased zone owner rtype (Some target) = Rewrite false owner target
+aliased zone owner rtype None = answer_of (in_order data_cmp (data_at zone owner rtype))
+
+-- what the records of an existing name give: a CNAME record rewrites the query of any other type
+-- (RFC 1034 sections 3.6.2 and 4.3.2, step 3a)
+abbrev pub at_name : Zone → Labels → RrType → Found
+at_name zone owner rtype =
+    aliased zone owner rtype
+    (if type_eq rtype types.Cname then None else first_name (targets_at zone owner types.Cname))
+
+-- what a DNAME record gives for a name below its owner (RFC 6672 section 2.2)
+abbrev pub redirected : Labels → Labels → Option Labels → Found
+redirected name owner None = NxDomain
+redirected name owner (Some target) =
+    if nat_le (wire_octets (swap name owner target)) 255 then Rewrite true owner (swap name owner target)
+    else TooLong owner
+
+-- what a name that doesn't exist gives: its source of synthesis stands for it, if there is one
+-- (RFC 4592 section 3.3.1)
+abbrev pub synthesized : Zone → RrType → Option Labels → Found
+synthesized zone rtype None = NxDomain
+synthesized zone rtype (Some encloser) =
+    if exists_in zone (source_of_synthesis encloser)
+    then at_name zone (source_of_synthesis encloser) rtype
+    else NxDomain
+
+-- Which of the zone cut and the DNAME owner decides: the shorter one, and the cut where they are one name.
+-- With neither, the name's own records do, or those of its wildcard.
+abbrev pub decided : Zone → Labels → RrType → Option Labels → Option Labels → Found
+decided zone name rtype (Some cut) None = Referral cut (ns_names zone cut)
+decided zone name rtype (Some cut) (Some owner) =
+    if nat_lt (length owner) (length cut)
+    then redirected name owner (first_name (targets_at zone owner types.Dname))
+    else Referral cut (ns_names zone cut)
+decided zone name rtype None (Some owner) = redirected name owner (first_name (targets_at zone owner types.Dname))
+decided zone name rtype None None =
+    if exists_in zone name then at_name zone name rtype
+    else synthesized zone rtype (closest_encloser zone name)
+
+-- what the zone answers to the name and the type
+abbrev pub found : Zone → Labels → RrType → Found
+found zone name rtype = decided zone name rtype (zone_cut zone name) (dname_owner zone name)

@@ -1,0 +1,162 @@
+-- The faults that a query shows with a type, one definition for each kind.
+use Rattle.std.specs.Prelude.{◌≡◌, ◌≢◌, ℕ, Bool, true, false, List, [], ◌∷◌, ◌++◌, Some, Contains}
+use Rattle.std.specs.List.{AllByRecursion}
+use Rattle.dns_data.specs.Name.{Labels, is_prefix}
+use Rattle.dns_data.specs.declared.rr_type.RrType.{RrType}
+use Rattle.net_model.specs.declared.class.Class.{Class}
+use Rattle.net_model.specs.declared.config.Config.{Config}
+use Rattle.net_model.specs.declared.config.Zone.{Zone}
+use Rattle.net_model.specs.declared.fault.Fault.{Fault}
+use Rattle.net_model.specs.declared.fault.Fault.TheVariants as faults
+use Rattle.net_model.specs.declared.place.Cut.{Cut}
+use Rattle.net_model.specs.declared.place.Place.{Place}
+use Rattle.net_model.specs.declared.walk.Hop.{Hop}
+use Rattle.net_model.specs.declared.walk.Hop.TheVariants.{Refer}
+use Rattle.net_model.specs.declared.walk.Leaf.{Leaf}
+use Rattle.net_model.specs.declared.walk.Leaf.TheVariants as leaves
+use Rattle.net_model.specs.declared.walk.State.{State}
+use Rattle.net_model.specs.declared.walk.Walk.{Walk}
+use Rattle.net_model.specs.Class.{IsClassOf, IsRepresentative}
+use Rattle.net_model.specs.Learnt.{IsInForce, InLeast, InGreatest}
+use Rattle.net_model.specs.Nearest.{zone_of, is_configured, is_top}
+use Rattle.net_model.specs.Reading.{ground_of}
+use Rattle.net_model.specs.Step.{Setting, has_glue}
+use Rattle.net_model.specs.Walk.{IsWalk}
+use Rattle.net_model.specs.Zone.{ns_names, addresses}
+
+-- the walk goes through the referral to this name server
+abbrev pub Refers : Walk → Cut → Type 0
+Refers walk cut = Contains walk.hops (Refer cut)
+
+-- the walk ends behind the referral to this name server
+abbrev pub EndsBehind : Walk → Cut → Type 0
+EndsBehind walk cut = (before : List Hop) × (walk.hops ≡ before ++ Refer cut ∷ [])
+
+-- the last rewrite of the walk has this place
+pub record LastRewriteAt (walk : Walk) (place : Place) : Type 0 where
+  pub before : List State
+  pub last : State
+  pub states : walk.states ≡ before ++ last ∷ []
+  pub at_place : last.last ≡ Some place
+
+-- the zone in which the referral stands, and the one of its name server with exactly the cut as origin
+pub record BothSides (config : Config) (cut : Cut) : Type 0 where
+  pub above : Zone
+  pub below : Zone
+  pub refers : zone_of config cut.server cut.zone ≡ Some above
+  pub serves : zone_of config cut.ns cut.cut ≡ Some below
+
+-- lame delegation (RFC 1912 section 2.8): the walk ends at a server that doesn't serve the delegated zone
+pub record ShowsLame (walk : Walk) (cut : Cut) : Type 0 where
+  pub behind : EndsBehind walk cut
+  pub ends : walk.leaf ≡ leaves.Lame cut.ns
+
+-- delegation differs (RFC 1034 section 4.2.2): the delegated zone lists other name servers at its origin
+pub record ShowsDiffers (config : Config) (walk : Walk) (cut : Cut) : Type 0 where
+  pub refers : Refers walk cut
+  pub sides : BothSides config cut
+  pub differ : ns_names sides.above cut.cut ≢ ns_names sides.below cut.cut
+
+-- missing glue (RFC 1034 section 4.2.1): the name server is at or below the cut and has no glue
+pub record ShowsNoGlue (config : Config) (walk : Walk) (cut : Cut) : Type 0 where
+  pub refers : Refers walk cut
+  pub inside : is_prefix cut.cut cut.ns ≡ true
+  pub no_glue : has_glue config cut ≡ false
+
+-- glue differs (RFC 1034 section 4.2.2): the name server is at or below the cut, both zones hold addresses of
+-- it, and not the same ones
+pub record ShowsGlueDiffers (config : Config) (walk : Walk) (cut : Cut) : Type 0 where
+  pub refers : Refers walk cut
+  pub inside : is_prefix cut.cut cut.ns ≡ true
+  pub sides : BothSides config cut
+  pub above : addresses sides.above cut.ns ≢ []
+  pub below : addresses sides.below cut.ns ≢ []
+  pub differ : addresses sides.above cut.ns ≢ addresses sides.below cut.ns
+
+-- cyclic dependency (RFC 1034 section 4.2.1): without glue the name server's address is learnt only by way of
+-- name servers of which the same is true
+pub record ShowsCyclic (config : Config) (in_least in_greatest : Labels → Type 0) (walk : Walk) (cut : Cut) : Type 0 where
+  pub refers : Refers walk cut
+  pub configured : is_configured config cut.ns ≡ true
+  pub no_top : is_top config cut.ns ≡ false
+  pub no_glue : has_glue config cut ≡ false
+  pub learnt_at_most : in_greatest cut.ns
+  pub not_at_least : in_least cut.ns → ⊥
+
+-- rewrite limit: the walk ends where one more rewrite isn't allowed
+abbrev pub ShowsLimit : Walk → Place → Type 0
+ShowsLimit walk place = walk.leaf ≡ leaves.Limit place
+
+-- blackhole: the walk is rewritten and ends at a name that doesn't exist
+pub record ShowsBlackhole (walk : Walk) (place : Place) : Type 0 where
+  pub rewritten : LastRewriteAt walk place
+  pub ends : walk.leaf ≡ leaves.NxDomain
+
+-- the leaf tells what a zone has for the name
+abbrev pub is_authoritative : Leaf → Bool
+is_authoritative (leaves.Answer rdata) = true
+is_authoritative leaves.NoData = true
+is_authoritative leaves.NxDomain = true
+is_authoritative leaf = false
+
+-- answers differ: two walks end in such leaves, and these are not equal
+pub record ShowsAnswers (one other : Walk) : Type 0 where
+  pub first : is_authoritative one.leaf ≡ true
+  pub second : is_authoritative other.leaf ≡ true
+  pub differ : one.leaf ≢ other.leaf
+
+-- overlong (RFC 6672 section 2.2): the walk ends where the rewritten name has more than 255 octets
+abbrev pub ShowsOverlong : Walk → Place → Type 0
+ShowsOverlong walk place = walk.leaf ≡ leaves.Overlong place
+
+-- no address: the walk ends at a name server that isn't in the greatest set
+pub record ShowsNoAddress (in_greatest : Labels → Type 0) (walk : Walk) (cut : Cut) : Type 0 where
+  pub behind : EndsBehind walk cut
+  pub ends : walk.leaf ≡ leaves.NoAddress cut.ns
+  pub not_at_most : in_greatest cut.ns → ⊥
+
+-- A walk shows the fault by itself. Answers that differ take two walks. The two tests tell the names of the
+-- servers in the least and in the greatest set of learnt addresses.
+abbrev pub WalkShows : Config → (Labels → Type 0) → (Labels → Type 0) → Walk → Fault → Type 0
+WalkShows config in_least in_greatest walk (faults.Lame cut) = ShowsLame walk cut
+WalkShows config in_least in_greatest walk (faults.Differs cut) = ShowsDiffers config walk cut
+WalkShows config in_least in_greatest walk (faults.NoGlue cut) = ShowsNoGlue config walk cut
+WalkShows config in_least in_greatest walk (faults.GlueDiffers cut) = ShowsGlueDiffers config walk cut
+WalkShows config in_least in_greatest walk (faults.Cyclic cut) = ShowsCyclic config in_least in_greatest walk cut
+WalkShows config in_least in_greatest walk (faults.Limit place) = ShowsLimit walk place
+WalkShows config in_least in_greatest walk (faults.Blackhole place) = ShowsBlackhole walk place
+WalkShows config in_least in_greatest walk (faults.Answers class rtype) = ⊥
+WalkShows config in_least in_greatest walk (faults.Overlong place) = ShowsOverlong walk place
+WalkShows config in_least in_greatest walk (faults.NoAddress cut) = ShowsNoAddress in_greatest walk cut
+
+-- the query is the representative of its class
+abbrev pub Represents : Config → Labels → Type 0
+Represents config query =
+    (class : Class) × IsClassOf (ground_of config) query class × IsRepresentative (ground_of config) class query
+
+-- what a fault asks of the query itself: overlong is told of representatives, differing answers of the class
+abbrev pub MayShow : Config → Labels → RrType → Fault → Type 0
+MayShow config query rtype (faults.Answers class shown_with) =
+    (shown_with ≡ rtype) × IsClassOf (ground_of config) query class
+MayShow config query rtype (faults.Overlong place) = Represents config query
+MayShow config query rtype fault = Unit {0}
+
+-- walks of the query that show the fault: one by itself, or two with differing answers
+abbrev pub WalksShow : Setting → (Labels → Type 0) → (Labels → Type 0) → List Walk → Fault → Type 0
+WalksShow setting in_least in_greatest (one ∷ other ∷ []) (faults.Answers class rtype) = ShowsAnswers one other
+WalksShow setting in_least in_greatest (walk ∷ []) fault = WalkShows setting.config in_least in_greatest walk fault
+WalksShow setting in_least in_greatest walks fault = ⊥
+
+-- the query shows the fault with the type, by some of its walks
+pub record Shows (setting : Setting) (in_least in_greatest : Labels → Type 0) (query : Labels) (rtype : RrType) (fault : Fault) : Type 0 where
+  pub may : MayShow setting.config query rtype fault
+  pub walks : List Walk
+  pub are_walks : AllByRecursion (IsWalk setting query rtype) walks
+  pub show : WalksShow setting in_least in_greatest walks fault
+
+-- the query shows the fault with the type in the configuration: with the set in force, and the least and
+-- greatest sets of learnt addresses
+pub record ShowsIn (config : Config) (rewrites : ℕ) (query : Labels) (rtype : RrType) (fault : Fault) : Type 0 where
+  pub followed : List Labels
+  pub in_force : IsInForce config rewrites followed
+  pub shows : Shows (record { config = config; rewrites = rewrites; followed = followed }) (InLeast config rewrites) (InGreatest config rewrites) query rtype fault

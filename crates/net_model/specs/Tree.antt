@@ -1,0 +1,34 @@
+-- The class tree of a configuration, its size, and the state pairs of a query.
+use Rattle.std.specs.Prelude.{◌≡◌, ◌≢◌, ◌↔◌, ℕ, ◌≤◌, List, Contains, AllPairs}
+use Rattle.std.specs.declared.cmp.Ordering.TheVariants.{Less}
+use Rattle.dns_data.specs.Name.{Labels, wire_octets, name_cmp}
+use Rattle.dns_data.specs.declared.rr_type.RrType.{RrType}
+use Rattle.net_model.specs.declared.class.Class.TheVariants.{Below}
+use Rattle.net_model.specs.declared.config.Config.{Config}
+use Rattle.net_model.specs.declared.walk.State.{State}
+use Rattle.net_model.specs.declared.walk.Walk.{Walk}
+use Rattle.net_model.specs.Class.{IsRepresentative}
+use Rattle.net_model.specs.Nearest.{server_names}
+use Rattle.net_model.specs.Reading.{Ground, IsNamed}
+use Rattle.net_model.specs.Walk.{IsWalk}
+
+-- the class tree: the named names of at most 255 octets, in the order of names
+pub record IsClassTree (ground : Ground) (names : List Labels) : Type 0 where
+  pub ordered : AllPairs (λ a b. name_cmp a b ≡ Less) names
+  pub all : (name : Labels) → Contains names name ↔ (IsNamed ground name × (wire_octets name ≤ 255))
+
+-- the names of the tree below which there is a class that isn't empty, in the order of names
+pub record AreBelowClasses (ground : Ground) (names below : List Labels) : Type 0 where
+  pub ordered : AllPairs (λ a b. name_cmp a b ≡ Less) below
+  pub all : (above : Labels) → Contains below above ↔ (Contains names above × ((name : Labels) × IsRepresentative ground (Below above) name))
+
+-- the pair is reached: the state stands on a walk of the query with the type, where all configured servers are followed
+pub record IsReached (config : Config) (rewrites : ℕ) (query : Labels) (pair : State × RrType) : Type 0 where
+  pub walk : Walk
+  pub is_walk : IsWalk (record { config = config; rewrites = rewrites; followed = server_names config }) query pair.1 walk
+  pub stands : Contains walk.states pair.0
+
+-- the pairs of state and type that a query reaches, each once
+pub record AreReached (config : Config) (rewrites : ℕ) (query : Labels) (pairs : List (State × RrType)) : Type 0 where
+  pub once : AllPairs (λ a b. a ≢ b) pairs
+  pub all : (pair : State × RrType) → Contains pairs pair ↔ IsReached config rewrites query pair

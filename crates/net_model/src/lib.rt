@@ -1,0 +1,19 @@
+//! The plain values of hosted zones and of the queries that are followed through them, and the
+//! definitions that every promise of the crates above is stated in: existence, lookup, walks, classes
+//! and faults. The definitions stand in `specs/`; the laws over them are the contracts of `laws`.
+#![tactic(auto)]
+
+mod class;
+mod config;
+mod fault;
+mod found;
+pub mod laws;
+mod place;
+mod walk;
+
+pub use class::Class;
+pub use config::{Config, Server, Zone};
+pub use fault::Fault;
+pub use found::Found;
+pub use place::{Cut, Place};
+pub use walk::{Hop, Leaf, State, Walk};
