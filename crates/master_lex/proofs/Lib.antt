@@ -1,0 +1,13 @@
+pub mod UndoLemmas
+pub mod LastLemmas
+pub mod StandsLemmas
+pub mod FrontLemmas
+pub mod Characters
+pub mod Failing
+pub mod Parts
+pub mod Cuts
+pub mod Existence
+pub mod Holds
+pub mod Unique
+pub mod OneCut
+pub mod Values

@@ -1,0 +1,13 @@
+-- The text was fed up to here.
+use Rattle.std.proofs.Common.{◌≡◌, ◌≤◌, ◌-◌, length, false}
+use Rattle.master_lex.proofs.tests.shown.Given as goal
+
+abbrev pub invariant-loop-fed : goal.invariant-loop-fed
+invariant-loop-fed l = record {
+  unended : l.lexer.finished ≡ false;
+  fed : l.lexer.fed ≡ l.fed;
+  within : l.fed ≤ length l.text;
+}
+
+abbrev pub decreases-loop-fed : goal.decreases-loop-fed
+decreases-loop-fed l = length l.text - l.fed

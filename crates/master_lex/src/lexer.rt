@@ -1,0 +1,100 @@
+//! The lexer.
+
+ghost use Rattle.std.specs.Prelude.{◌≡◌, ◌+◌, ◌-◌, ◌^◌, ◌<◌, ◌≤◌, ℕ, List, [], ◌++◌, length, true, false, OnOk, OnErr, IfOk};
+ghost use Rattle.master_lex.specs.declared.entry.Entry.{Entry};
+ghost use Rattle.master_lex.specs.Holding.{StandsFor, Answers, answer, given_with, left};
+
+use crate::fault::TakeFault;
+use crate::passage::{Mode, Passage};
+use crate::taken::Taken;
+use dns_data::NoMemory;
+use std::alloc::Global;
+use std::marker::Model;
+
+/// The entries of a master file, from octets that come in pieces.
+#[derive(Debug, Drop)]
+pub struct Lexer {
+    passage: Passage,
+    fed: u32,
+    finished: bool,
+}
+
+impl Model for Lexer {
+    ghost use Rattle.master_lex.specs.Passing.{state_of};
+    ghost use Rattle.master_lex.specs.Holding.{Held, IsSound};
+
+    ghost Value = { Held };
+
+    ghost view = { λ a. record { state = state_of a.passage; fed = a.fed; finished = a.finished } };
+
+    ghost invariant = { λ a. IsSound (state_of a.passage) a.fed };
+}
+
+impl Lexer {
+    /// The lexer that was fed nothing. It takes no memory.
+    pub fn new(alloc: Global) -> Lexer
+        ensures stands { StandsFor result [] [] }
+        ensures open { result.finished ≡ false }
+    {
+        Lexer {
+            passage: Passage::new(alloc),
+            fed: 0,
+            finished: false,
+        }
+    }
+
+    /// Takes the next piece of the text. After an error nothing of the piece was taken.
+    pub fn feed(&mut self, alloc: Global, piece: &[u8]) -> Result<(), NoMemory>
+        requires open { self.old.finished ≡ false }
+        requires short { self.old.fed + length piece.now < 2 ^ 32 - 1 }
+        ensures stands { (text : List ℕ) (given : List Entry) → StandsFor self.old text given
+            → OnOk result (StandsFor self.new (text ++ piece.now) given) }
+        ensures fed { OnOk result (self.new.fed ≡ self.old.fed + length piece.now) }
+        ensures open { self.new.finished ≡ false }
+        ensures err { OnErr result (self.new ≡ self.old) }
+    {
+        let mark = self.passage.mark();
+        if self.passage.pass_all(alloc, piece).is_err() {
+            self.passage.undo(mark);
+            return Err(NoMemory);
+        }
+        self.fed += piece.len() as u32;
+        Ok(())
+    }
+
+    /// Says that the text has ended.
+    pub fn finish(&mut self)
+        requires { self.old.finished ≡ false }
+        ensures stands { (text : List ℕ) (given : List Entry) → StandsFor self.old text given → StandsFor self.new text given }
+        ensures finished { self.new.finished ≡ true }
+    {
+        self.finished = true;
+    }
+
+    /// Takes the next entry. `Lex` comes where it has a fault, and then again at each call; after
+    /// `NoMemory` the call can be tried again.
+    pub fn take(&mut self, alloc: Global) -> Result<Taken, TakeFault>
+        ensures answer { (text : List ℕ) (given : List Entry) → StandsFor self.old text given
+            → Answers result (answer self.old.finished text given) }
+        ensures stands { (text : List ℕ) (given : List Entry) → StandsFor self.old text given
+            → IfOk result (λ taken. StandsFor self.new text (given_with given taken)) }
+        ensures left { IfOk result (λ taken. left self.old ≡ given_with [] taken ++ left self.new) }
+        ensures finished { self.new.finished ≡ self.old.finished }
+        ensures fed { self.new.fed ≡ self.old.fed }
+        ensures err { OnErr result (self.new ≡ self.old) }
+    {
+        if let Some(entry) = self.passage.ready.pop_front() {
+            return Ok(Taken::Entry(entry));
+        }
+        if let Mode::Faulty(fault) = self.passage.way.mode {
+            return Err(TakeFault::Lex {
+                line: fault.line,
+                kind: fault.kind,
+            });
+        }
+        if !self.finished {
+            return Ok(Taken::More);
+        }
+        self.passage.take_last(alloc)
+    }
+}

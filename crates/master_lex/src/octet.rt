@@ -1,0 +1,63 @@
+//! What single octets mean.
+
+ghost use Rattle.std.specs.Prelude.{◌≡◌, ◌<◌};
+ghost use Rattle.master_lex.specs.Octets.{kind, is_digit, is_space, digit_after};
+
+/// What an octet of a master file means outside quotes and escapes (RFC 1035 section 5.1).
+#[derive(Clone, Copy, Debug, PartialEq, Eq)]
+pub enum OctetKind {
+    Plain,
+    Blank,
+    LineFeed,
+    Semicolon,
+    Open,
+    Close,
+    Quote,
+    Backslash,
+}
+
+/// What the octet means outside quotes and escapes.
+#[tactic(auto, unfolding(crate::specs::Octets::kind))]
+pub fn kind_of(octet: u8) -> OctetKind
+    ensures { result ≡ kind octet }
+{
+    match octet {
+        b' ' | b'\t' | b'\r' => OctetKind::Blank,
+        b'\n' => OctetKind::LineFeed,
+        b';' => OctetKind::Semicolon,
+        b'(' => OctetKind::Open,
+        b')' => OctetKind::Close,
+        b'"' => OctetKind::Quote,
+        b'\\' => OctetKind::Backslash,
+        _ => OctetKind::Plain,
+    }
+}
+
+/// Whether the octet is a digit.
+pub fn is_digit_octet(octet: u8) -> bool
+    ensures { result ≡ is_digit octet }
+{
+    b'0' <= octet && octet <= b'9'
+}
+
+/// Whether the octet is a space or a tab.
+pub fn is_space_octet(octet: u8) -> bool
+    ensures { result ≡ is_space octet }
+{
+    octet == b' ' || octet == b'\t'
+}
+
+/// The value with one digit more, where the octet is a digit and the value is within the limit.
+pub fn with_digit(value: u8, octet: u8, limit: u8) -> Option<u8>
+    ensures { result ≡ digit_after value octet limit }
+{
+    if !is_digit_octet(octet) {
+        return None;
+    }
+    let more = u16::from(value) * 10 + u16::from(octet - b'0');
+    if more <= u16::from(limit) {
+        Some(more as u8)
+    } else {
+        None
+    }
+}

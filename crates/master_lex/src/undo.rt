@@ -1,0 +1,81 @@
+//! The way back to what was held before a piece.
+
+ghost use Rattle.std.specs.Prelude.{◌≡◌, ℕ, List, [], length};
+ghost use Rattle.master_lex.specs.declared.entry.Entry.{Entry};
+ghost use Rattle.master_lex.specs.declared.entry.Token.{Token};
+ghost use Rattle.master_lex.specs.Passing.{State, state_of};
+ghost use Rattle.master_lex.specs.Undo.{mark_of, TokensGrew, EntriesGrew, Grew};
+
+use crate::entry::{Entry, Token};
+use crate::passage::{Passage, Way};
+use std::collections::VecDeque;
+
+/// How much was held before a piece.
+#[derive(Clone, Copy, Debug)]
+pub struct Mark {
+    /// How many whole entries.
+    pub ready: usize,
+    /// How many whole tokens of the entry under way.
+    pub tokens: usize,
+    /// How many octets of the token under way.
+    pub raw: usize,
+    /// How far the entry under way had come.
+    pub way: Way,
+}
+
+/// Brings back the first `tokens_len` tokens and the first `raw_len` octets of the token behind
+/// them, from what has grown since.
+fn undo_tokens(tokens: &mut Vec<Token>, raw: &mut Vec<u8>, tokens_len: usize, raw_len: usize)
+    ensures tokens { (before : List Token) (begun : List ℕ) → length before ≡ tokens_len → length begun ≡ raw_len
+        → TokensGrew before begun tokens.old.items raw.old.items → tokens.new.items ≡ before }
+    ensures raw { (before : List Token) (begun : List ℕ) → length before ≡ tokens_len → length begun ≡ raw_len
+        → TokensGrew before begun tokens.old.items raw.old.items → raw.new.items ≡ begun }
+{
+    if tokens.len() <= tokens_len {
+        raw.truncate(raw_len);
+        return;
+    }
+    let token = tokens.remove(tokens_len);
+    tokens.truncate(tokens_len);
+    *raw = token.raw.into_vec();
+    raw.truncate(raw_len);
+}
+
+/// Brings back the first `len` entries, and the tokens of the entry behind them.
+fn undo_entries(ready: &mut VecDeque<Entry>, tokens: &mut Vec<Token>, raw: &mut Vec<u8>, len: usize)
+    ensures ready { (before : List Entry) (whole : List Token) (begun : List ℕ) → length before ≡ len
+        → EntriesGrew before whole begun ready.old.items tokens.old.items raw.old.items → ready.new.items ≡ before }
+    ensures tokens { (before : List Entry) (whole : List Token) (begun : List ℕ) → length before ≡ len
+        → EntriesGrew before whole begun ready.old.items tokens.old.items raw.old.items
+        → TokensGrew whole begun tokens.new.items raw.new.items }
+{
+    let Some(entry) = ready.remove(len) else {
+        return;
+    };
+    ready.truncate(len);
+    *tokens = entry.tokens.into_vec();
+    raw.clear();
+}
+
+impl Passage {
+    /// How much is held.
+    pub fn mark(&self) -> Mark
+        ensures { result ≡ mark_of (state_of self.now) }
+    {
+        Mark {
+            ready: self.ready.len(),
+            tokens: self.tokens.len(),
+            raw: self.raw.len(),
+            way: self.way,
+        }
+    }
+
+    /// Brings back what was held at the mark.
+    pub fn undo(&mut self, mark: Mark)
+        ensures { (before : State) → mark ≡ mark_of before → Grew before (state_of self.old) → state_of self.new ≡ before }
+    {
+        undo_entries(&mut self.ready, &mut self.tokens, &mut self.raw, mark.ready);
+        undo_tokens(&mut self.tokens, &mut self.raw, mark.tokens, mark.raw);
+        self.way = mark.way;
+    }
+}
