@@ -1,0 +1,20 @@
+-- The history of the verdict book that a list of accepted events makes.
+use Rattle.std.specs.Prelude.{List, Option, Some, None}
+use Rattle.std.specs.List.{filter_map}
+use Rattle.pool_core.specs.declared.event.Event.{Event}
+use Rattle.pool_core.specs.declared.event.Event.TheVariants.{Push, Pop, Steal, Claim, File, Stop}
+use Rattle.pool_core.specs.declared.entry.Entry.{Entry}
+use Rattle.pool_core.specs.declared.entry.Entry.TheVariants.{Claim as ClaimEntry, File as FileEntry, Stop as StopEntry}
+
+-- claims, filings and stops are entries, without their workers
+abbrev pub entry_of : Event → Option Entry
+entry_of (Push worker ticket) = None
+entry_of (Pop worker) = None
+entry_of (Steal worker from) = None
+entry_of (Claim worker ticket) = Some (ClaimEntry ticket)
+entry_of (File worker ticket children) = Some (FileEntry ticket children)
+entry_of (Stop cause) = Some (StopEntry cause)
+
+-- the entries of these events, in order
+abbrev pub shadow : List Event → List Entry
+shadow events = filter_map entry_of events

@@ -1,0 +1,12 @@
+use crate::event::StopCause;
+
+/// An entry in the history of the verdict book, which knows no worker.
+#[derive(Clone, Copy, Debug, PartialEq, Eq)]
+pub enum Entry {
+    /// The ticket was claimed.
+    Claim { ticket: u32 },
+    /// The ticket was filed, and the next `children` numbers were issued.
+    File { ticket: u32, children: u32 },
+    /// The book was stopped.
+    Stop { cause: StopCause },
+}

@@ -1,0 +1,22 @@
+//! The pool machine: tickets that workers push on deques, take from them, claim and file, as a pure
+//! machine without threads. A layer above may rest on this: after every list of events each issued
+//! ticket has one spot, is claimed at most once and filed at most once, after its claim; and what the
+//! workers claimed, filed and stopped is a legal history of the verdict book.
+#![tactic(auto)]
+
+mod entry;
+mod event;
+mod fault;
+pub mod laws;
+mod machine;
+mod queue;
+mod spot;
+
+pub use entry::Entry;
+pub use event::{Event, StopCause};
+pub use fault::StepFault;
+pub use machine::Core;
+pub use spot::Spot;
+
+#[cfg(test)]
+mod tests;
