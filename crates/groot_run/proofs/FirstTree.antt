@@ -1,0 +1,204 @@
+-- The size of the class tree of a configuration of the first shape.
+use Rattle.std.proofs.Common.{◌≡◌, ℕ, suc, ◌+◌, ◌*◌, ◌^◌, ◌<◌, ◌≤◌, true, false, List, [], ◌∷◌, ◌++◌, map, length, Contains, AllPairs, IsSorted, IsPermutation, get_or, is_lt, is_gt, Ordering, Less, Equal, Greater, drop, Bor, ◌-◌, sym, refl, ap, ◌∙◌, subst, inl, inr, arith, le_trans, append-nil, length-append}
+use Rattle.std.specs.Prelude.{sum_by}
+use Rattle.std.specs.Ordering.{ordering_reverse}
+use Rattle.std.proofs.lemmas.List.{length-map, get_or-map, drop_more}
+use Rattle.std.specs.List.{common_prefix_len}
+use Rattle.std.proofs.lemmas.List.Sums.{sum_by-append, sum_by-cons}
+use Rattle.std.proofs.lemmas.List.Sorted.{IsPermutation-sym, Contains-permutation, length_permutation}
+use Rattle.dns_data.specs.Label.{label_eq}
+use Rattle.dns_data.specs.Name.{Labels, wire_octets, name_cmp}
+use Rattle.dns_data.specs.declared.rdata.Rr.{Rr}
+use Rattle.net_model.specs.declared.class.Class.TheVariants.{Below}
+use Rattle.net_model.specs.declared.config.Config.{Config}
+use Rattle.net_model.specs.Class.{IsFirstUnnamed, IsRepresentative}
+use Rattle.net_model.specs.Reading.{Ground, records, ground_of}
+use Rattle.groot_run.specs.FirstShape.{is_first_shape, one_zone, IsFirstConfig}
+use Rattle.groot_run.specs.Report.{IsTreeSize}
+use Rattle.groot_run.specs.SortedTree.{new_prefixes, tree_after, tree_of}
+use Rattle.groot_run.proofs.Membership.{has_first, from_map}
+use Rattle.groot_run.proofs.NameOrder.{Begins, UpTo, Before, names_total, pairs_from_rising}
+use Rattle.groot_run.proofs.SortedTree.{InOrder, rising_tree, tree_has, from_tree, length-new_prefixes}
+use Rattle.groot_run.proofs.FirstGround.{named_among, among_named, plain_records, how_made, no_redirections, ground_has, from_ground}
+use Rattle.groot_run.proofs.FreeLabel.{free_label}
+use Rattle.groot_run.proofs.FirstLabel.{first_unnamed}
+
+-- octets of a name with labels below it
+wire_below : (above below : Labels) → wire_octets (above ++ below) ≡ wire_octets above + sum_by (λ label. length label + 1) below
+wire_below above below = omega (arith, sum_by-append (λ (label : List ℕ). length label + 1) above below)
+
+-- a prefix has no more octets than the name
+wire_prefix : (above name : Labels) → Begins above name → wire_octets above ≤ wire_octets name
+wire_prefix above name (below, e) = omega (arith, wire_below above below, ap wire_octets e)
+
+-- a label takes its length and one
+wire_label : (above : Labels) (label : List ℕ) → wire_octets (above ++ label ∷ []) ≡ wire_octets above + (length label + 1)
+wire_label above label = omega (arith, wire_below above (label ∷ []), sum_by-cons (λ (x : List ℕ). length x + 1) label [])
+
+-- a name has fewer labels than octets
+pub labels_fewer : (name : Labels) → length name < wire_octets name
+labels_fewer [] = omega arith
+labels_fewer (label ∷ name) = omega (arith, labels_fewer name, sum_by-cons (λ (x : List ℕ). length x + 1) label name)
+
+-- names in order, as a sort leaves them
+not_before : (o : Ordering) → is_lt o ≡ is_gt (ordering_reverse o)
+not_before Less = refl
+not_before Equal = refl
+not_before Greater = refl
+
+one_up : (k : ℕ) → suc k + 1 ≡ suc (k + 1)
+one_up k = omega arith
+
+in_order_after : (first : Labels) (names : List Labels) → IsSorted name_cmp (first ∷ names) → InOrder first names
+in_order_after first [] sorted = tt
+in_order_after first (next ∷ names) sorted = (
+  ap is_gt (names_total.antisymm first next) ∙ sym (not_before (name_cmp next first))
+      ∙ sorted 0 [] (omega arith) (omega arith),
+  in_order_after next names (λ k d low high.
+      subst (λ (m : ℕ). is_lt (name_cmp (get_or (first ∷ next ∷ names) m d) (get_or (next ∷ names) k d)) ≡ false) (one_up k)
+      (sorted (suc k) d (omega arith) (omega arith))),
+)
+
+pub in_order : (names : List Labels) → IsSorted name_cmp names → InOrder [] names
+in_order [] sorted = tt
+in_order (first ∷ names) sorted = (root first, in_order_after first names sorted) where
+  root : (name : Labels) → UpTo [] name
+  root [] = refl
+  root (label ∷ name) = refl
+
+-- how many records a configuration may have for its class tree to be counted
+abbrev most_records : ℕ
+most_records = 1000000
+
+module _ (server : Labels) (first : Rr) (rest : List Rr) (shape : is_first_shape (first ∷ rest) ≡ true) (sorted : List Labels)
+    (same : IsPermutation (map (λ rr. rr.owner) (first ∷ rest)) sorted) where
+  abbrev owners : List Labels
+  owners = map (λ (rr : Rr). rr.owner) (first ∷ rest)
+
+  abbrev ground : Ground
+  ground = ground_of (one_zone server first.owner (first ∷ rest))
+
+  is_owner : (name : Labels) → Contains sorted name → Contains owners name
+  is_owner name has = Contains-permutation sorted owners name (IsPermutation-sym owners sorted same) has
+
+  owner_short : (name : Labels) → Contains sorted name → wire_octets name ≤ 200
+  owner_short name has =
+      let found = from_map (λ (rr : Rr). rr.owner) (first ∷ rest) name (is_owner name has) in
+      subst (λ (x : Labels). wire_octets x ≤ 200) found.2 (plain_records first rest shape found.0 found.1).short
+
+  -- the tree's names are those of the ground, and short
+  named_by_tree : (above : Labels) → Contains (tree_of sorted) above → Contains ground.names above × (wire_octets above ≤ 200)
+  named_by_tree above has =
+      elim (from_tree sorted above has) [
+        | inl root ↦ (
+          ground_has server first rest shape first.owner above (has_first first.owner (map (λ (rr : Rr). rr.owner) rest))
+              (first.owner, ap (λ (x : Labels). x ++ first.owner) root),
+          subst (λ (x : Labels). wire_octets x ≤ 200) (sym root) (omega arith),
+        )
+        | inr (name, among, begins) ↦ (
+            let less : wire_octets above ≤ wire_octets name = wire_prefix above name begins in
+            (ground_has server first rest shape name above (is_owner name among) begins, le_trans less (owner_short name among)))
+      ]
+
+  in_tree : (above : Labels) → Contains ground.names above → Contains (tree_of sorted) above
+  in_tree above has =
+      let found = from_ground server first rest shape above has in
+      tree_has sorted found.0 above (Contains-permutation owners sorted found.0 same found.1) found.2
+
+  none : ground.redirections ≡ []
+  none = no_redirections server first rest shape
+
+  -- there is a class below each name of the tree, and it isn't empty
+  stands_below : length (first ∷ rest) ≤ most_records → (above : Labels) → Contains (tree_of sorted) above
+      → (name : Labels) × IsRepresentative ground (Below above) name
+  stands_below few above has =
+      let fits : length owners < 16 ^ 5 = omega (arith, length-map (first ∷ rest) (λ (rr : Rr). rr.owner)) in
+      let free = free_label 5 above owners (omega arith) (omega arith) fits in
+      chosen above (named_by_tree above has).1 free.0 free.2
+      (first_unnamed ground none above free.0 free.1
+      (λ found. (let one = from_ground server first rest shape (above ++ free.0 ∷ []) found in free.3 one.0 one.1 one.2)))
+    where
+      chosen : (above : Labels) → wire_octets above ≤ 200 → (label : List ℕ) → length label ≡ 5
+          → (least : List ℕ) × IsFirstUnnamed ground above least × (length least ≤ length label)
+          → (name : Labels) × IsRepresentative ground (Below above) name
+      chosen above short label long (least, is_first, fits) =
+          (above ++ least ∷ [], record { label = least; first = is_first; extends = refl; short = omega (arith, wire_label above least) })
+
+  pub size_of_tree : IsSorted name_cmp sorted → length (first ∷ rest) ≤ most_records
+      → IsTreeSize ground (length (tree_of sorted)) (2 * length (tree_of sorted))
+  size_of_tree order few =
+      let ordered : AllPairs Before (tree_of sorted) = pairs_from_rising (tree_of sorted) (rising_tree sorted (in_order sorted order)) in
+      record {
+        tree = tree_of sorted;
+        below = tree_of sorted;
+        is_tree = record {
+          ordered = ordered;
+          all = λ name. (
+            λ has. (let found = named_by_tree name has in (among_named ground name found.0, le_trans found.1 (omega arith))),
+            λ named. in_tree name (named_among ground none name named.0),
+          );
+        };
+        are_below = record { ordered = ordered; all = λ above. (λ has. (has, stands_below few above has), λ has. has.0) };
+        counts_names = refl;
+        counts_classes = omega arith;
+      }
+
+-- names behind references, in order
+pub sorted_names : {X : Type 0} (f : X → Labels) (xs : List X) → IsSorted (λ x y. name_cmp (f x) (f y)) xs → IsSorted name_cmp (map f xs)
+sorted_names f [] sorted = λ k d low high. absurd (omega arith)
+sorted_names f (x ∷ xs) sorted = λ k d low high.
+    let long = length-map (x ∷ xs) f in
+    let within : k + 1 < length (x ∷ xs) = omega arith in
+    let here : k < length (x ∷ xs) = omega arith in
+    let later = get_or-map f (x ∷ xs) (k + 1) x d within in
+    let earlier = get_or-map f (x ∷ xs) k x d here in
+    rw (later, earlier) (sorted k x low within)
+
+-- one name more is counted
+pub counted_more : (names i shared : ℕ) (before labels : Labels) (owners : List (Bor Labels)) (owner : Bor Labels)
+    → i < length owners → owner ≡ get_or owners i owner → labels ≡ owner.now → shared ≡ common_prefix_len label_eq labels before
+    → names + length (tree_after before (map (λ (o : Bor Labels). o.now) (drop i owners))) ≡ length (tree_of (map (λ (o : Bor Labels). o.now) owners))
+    → names + (length labels - shared) + length (tree_after labels (map (λ (o : Bor Labels). o.now) (drop (i + 1) owners)))
+    ≡ length (tree_of (map (λ (o : Bor Labels). o.now) owners))
+counted_more names i shared before labels owners owner below is same value so_far =
+    let rest : List Labels = map (λ (o : Bor Labels). o.now) (drop (i + 1) owners) in
+    let opened : map (λ (o : Bor Labels). o.now) (drop i owners) ≡ labels ∷ rest =
+    ap (map (λ (o : Bor Labels). o.now)) (drop_more owners i owner below)
+    ∙ ap (λ (o : Bor Labels). o.now ∷ rest) (sym is) ∙ ap (λ (x : Labels). x ∷ rest) (sym same) in
+    let all : length (tree_after before (map (λ (o : Bor Labels). o.now) (drop i owners))) ≡ length (new_prefixes before labels ++ tree_after labels rest) =
+    ap (λ (xs : List Labels). length (tree_after before xs)) opened in
+    omega (arith, length-append (new_prefixes before labels) (tree_after labels rest), length-new_prefixes before labels)
+
+-- the owners of a configuration of the first shape, in order, give its class tree and as many classes again
+SizedBy : Config → Type 0
+SizedBy config =
+    length (records config) ≤ most_records → (sorted : List Labels) → IsPermutation (map (λ rr. rr.owner) (records config)) sorted
+    → IsSorted name_cmp sorted → IsTreeSize (ground_of config) (length (tree_of sorted)) (2 * length (tree_of sorted))
+
+sized_by_parts : (server : Labels) (first : Rr) (rest : List Rr) → is_first_shape (first ∷ rest) ≡ true → SizedBy (one_zone server first.owner (first ∷ rest))
+unfolding SizedBy
+sized_by_parts server first rest shape few sorted same order =
+    let whole : (first ∷ rest) ++ [] ≡ first ∷ rest = append-nil (first ∷ rest) in
+    size_of_tree server first rest shape sorted
+    (subst (λ (list : List Rr). IsPermutation (map (λ rr. rr.owner) list) sorted) whole same)
+    order
+    (subst (λ (list : List Rr). length list ≤ most_records) whole few)
+
+-- where the owners are behind references to the names of these records
+pub size_of_first : (config : Config) → IsFirstConfig config → length (records config) ≤ most_records → (rrs : List Rr) → rrs ≡ records config
+    → (owners : List (Bor Labels)) → IsPermutation (map (λ rr. rr.owner) rrs) (map (λ (o : Bor Labels). o.now) owners)
+    → IsSorted name_cmp (map (λ (o : Bor Labels). o.now) owners)
+    → IsTreeSize (ground_of config) (length (tree_of (map (λ (o : Bor Labels). o.now) owners))) (2 * length (tree_of (map (λ (o : Bor Labels). o.now) owners)))
+unfolding SizedBy
+size_of_first config is few rrs of_config owners same order =
+    let made = how_made config is in
+    subst SizedBy made.made (sized_by_parts made.server made.first made.rest made.shape) few (map (λ (o : Bor Labels). o.now) owners)
+    (subst (λ (list : List Rr). IsPermutation (map (λ rr. rr.owner) list) (map (λ (o : Bor Labels). o.now) owners)) of_config same) order
+
+-- there are as many owners as records
+pub as_many_owners : (rrs : List Rr) (owners : List (Bor Labels)) → IsPermutation (map (λ rr. rr.owner) rrs) (map (λ (o : Bor Labels). o.now) owners)
+    → length owners ≡ length rrs
+as_many_owners rrs owners same =
+    sym (length-map owners (λ (o : Bor Labels). o.now))
+    ∙ length_permutation (map (λ (rr : Rr). rr.owner) rrs) (map (λ (o : Bor Labels). o.now) owners) same
+    ∙ length-map rrs (λ (rr : Rr). rr.owner)

@@ -1,0 +1,17 @@
+pub mod Digits
+pub mod Directories
+pub mod FewRecords
+pub mod FirstGround
+pub mod FirstLabel
+pub mod FirstTree
+pub mod FreeLabel
+pub mod Fronts
+pub mod Least
+pub mod Membership
+pub mod NameOrder
+pub mod NoFaults
+pub mod NoRewrites
+pub mod Pieces
+pub mod SortedTree
+pub mod Lines
+pub mod Json

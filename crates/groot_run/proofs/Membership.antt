@@ -1,0 +1,99 @@
+-- Which items a list has, after a map, a filter or several lists in a row.
+use Rattle.std.proofs.Common.{◌≡◌, ℕ, suc, ◌<◌, Bool, zero, true, false, cond, ◌⊎◌, List, [], ◌∷◌, ◌++◌, map, length, get_or, Contains, All, filter, flat_map, sym, refl, ap, ◌∙◌, subst, inl, inr, arith, true≢false}
+use Rattle.std.proofs.lemmas.List.Elements.{Contains-append_left, Contains-append_right, Contains-append_cases, Contains-get_or}
+
+module _ {X : Type 0} where
+  -- no item is in the empty list
+  pub none_in_nil : (x : X) → Contains [] x → ⊥
+  none_in_nil x (k, below, is) = omega arith
+
+  -- the first item
+  pub has_first : (x : X) (xs : List X) → Contains (x ∷ xs) x
+  has_first x xs = (0, omega arith, refl)
+
+  -- an item behind the first
+  pub has_later : (y : X) (xs : List X) (x : X) → Contains xs x → Contains (y ∷ xs) x
+  has_later y xs x has = Contains-append_right (y ∷ []) xs x has
+
+  -- an item is the first or behind it
+  pub first_or_later : (y : X) (xs : List X) (x : X) → Contains (y ∷ xs) x → (y ≡ x) ⊎ Contains xs x
+  first_or_later y xs x (k, below, is) = by k below is where
+    by : (k : ℕ) → k < length (y ∷ xs) → get_or (y ∷ xs) k x ≡ x → (y ≡ x) ⊎ Contains xs x
+    by zero below is = inl is
+    by (suc k) below is = inr (k, omega arith, is)
+
+  -- what holds of each item that a list has holds along the list
+  pub all_from_contains : (P : X → Type 0) (xs : List X) → ((x : X) → Contains xs x → P x) → All P xs
+  all_from_contains P xs each k d below = each (get_or xs k d) (Contains-get_or xs k d below)
+
+  -- an item of two lists in a row
+  pub has_either : (xs ys : List X) (x : X) → Contains (xs ++ ys) x → Contains xs x ⊎ Contains ys x
+  has_either = Contains-append_cases
+
+  -- a filter keeps the items that pass
+  pub filter_has : (test : X → Bool) (xs : List X) (x : X) → Contains xs x → test x ≡ true → Contains (filter test xs) x
+  filter_has test [] x has pass = absurd (none_in_nil x has)
+  filter_has test (y ∷ xs) x has pass =
+      elim (first_or_later y xs x has) [
+        | inl same ↦ at_first (test y) (ap test same ∙ pass) same
+        | inr later ↦ at_later (test y) (filter_has test xs x later pass)
+      ]
+    where
+      at_first : (b : Bool) → b ≡ true → y ≡ x → Contains (cond b (y ∷ filter test xs) (filter test xs)) x
+      at_first true e same = subst (λ z. Contains (y ∷ filter test xs) z) same (has_first y (filter test xs))
+      at_first false e same = absurd (true≢false (sym e))
+
+      at_later : (b : Bool) → Contains (filter test xs) x → Contains (cond b (y ∷ filter test xs) (filter test xs)) x
+      at_later true rest = has_later y (filter test xs) x rest
+      at_later false rest = rest
+
+  -- and no others
+  pub from_filter : (test : X → Bool) (xs : List X) (x : X) → Contains (filter test xs) x → Contains xs x × (test x ≡ true)
+  from_filter test [] x has = absurd (none_in_nil x has)
+  from_filter test (y ∷ xs) x has = by (test y) refl has (from_filter test xs x) where
+    by : (b : Bool) → test y ≡ b → Contains (cond b (y ∷ filter test xs) (filter test xs)) x
+        → (Contains (filter test xs) x → Contains xs x × (test x ≡ true)) → Contains (y ∷ xs) x × (test x ≡ true)
+    by true e has rest =
+        elim (first_or_later y (filter test xs) x has) [
+          | inl same ↦ (subst (λ z. Contains (y ∷ xs) z) same (has_first y xs), ap test (sym same) ∙ e)
+          | inr later ↦ (has_later y xs x (rest later).0, (rest later).1)
+        ]
+    by false e has rest = (has_later y xs x (rest has).0, (rest has).1)
+
+module _ {X Y : Type 0} (f : X → Y) where
+  -- the image of an item is in the mapped list
+  pub map_has : (xs : List X) (x : X) → Contains xs x → Contains (map f xs) (f x)
+  map_has [] x has = absurd (none_in_nil x has)
+  map_has (y ∷ xs) x has =
+      elim (first_or_later y xs x has) [
+        | inl same ↦ subst (λ z. Contains (f y ∷ map f xs) (f z)) same (has_first (f y) (map f xs))
+        | inr later ↦ has_later (f y) (map f xs) (f x) (map_has xs x later)
+      ]
+
+  -- and an item of the mapped list is an item's image
+  pub from_map : (xs : List X) (y : Y) → Contains (map f xs) y → (x : X) × Contains xs x × (f x ≡ y)
+  from_map [] y has = absurd (none_in_nil y has)
+  from_map (x ∷ xs) y has =
+      elim (first_or_later (f x) (map f xs) y has) [
+        | inl same ↦ (x, has_first x xs, same)
+        | inr later ↦ (let rest = from_map xs y later in (rest.0, has_later x xs rest.0 rest.1, rest.2))
+      ]
+
+module _ {X Y : Type 0} (f : X → List Y) where
+  -- the items of an item's list are in all lists together
+  pub flat_map_has : (xs : List X) (x : X) (y : Y) → Contains xs x → Contains (f x) y → Contains (flat_map f xs) y
+  flat_map_has [] x y has inner = absurd (none_in_nil x has)
+  flat_map_has (z ∷ xs) x y has inner =
+      elim (first_or_later z xs x has) [
+        | inl same ↦ Contains-append_left (f z) (flat_map f xs) y (subst (λ w. Contains (f w) y) (sym same) inner)
+        | inr later ↦ Contains-append_right (f z) (flat_map f xs) y (flat_map_has xs x y later inner)
+      ]
+
+  -- and no others
+  pub from_flat_map : (xs : List X) (y : Y) → Contains (flat_map f xs) y → (x : X) × Contains xs x × Contains (f x) y
+  from_flat_map [] y has = absurd (none_in_nil y has)
+  from_flat_map (x ∷ xs) y has =
+      elim (Contains-append_cases (f x) (flat_map f xs) y has) [
+        | inl here ↦ (x, has_first x xs, here)
+        | inr later ↦ (let rest = from_flat_map xs y later in (rest.0, has_later x xs rest.0 rest.1, rest.2))
+      ]

@@ -1,0 +1,96 @@
+-- The order of names: prefixes, names between others, and lists in which each name stands before the later ones.
+use Rattle.std.proofs.Common.{◌≡◌, ℕ, Bool, true, false, cond, List, [], ◌∷◌, ◌++◌, map, Contains, AllPairs, filter, Ordering, Less, Equal, Greater, is_gt, is_eq, sym, refl, ap, ◌∙◌, subst, inl, inr, true≢false}
+use Rattle.std.specs.Cmp.{IsTotalOrder}
+use Rattle.std.specs.Cmp.Lexicographic.{nat_list_cmp_total, lists_total, texts_ties, bytes_decides}
+use Rattle.std.specs.Ordering.{ordering_then}
+use Rattle.std.proofs.lemmas.Cmp.{tied_itself}
+use Rattle.std.proofs.lemmas.List.Kept.{AllPairs-cons}
+use Rattle.dns_data.specs.Label.{label_cmp}
+use Rattle.dns_data.specs.Name.{Labels, name_cmp}
+use Rattle.groot_run.proofs.Membership.{none_in_nil, has_first, has_later, has_either, from_map, from_filter, all_from_contains}
+
+-- the first name's labels begin the second's
+abbrev pub Begins : Labels → Labels → Type 0
+Begins above name = (below : Labels) × (above ++ below ≡ name)
+
+-- the first name doesn't stand behind the second
+abbrev pub UpTo : Labels → Labels → Type 0
+UpTo a b = is_gt (name_cmp a b) ≡ false
+
+abbrev pub Before : Labels → Labels → Type 0
+Before a b = name_cmp a b ≡ Less
+
+pub names_total : IsTotalOrder name_cmp
+names_total = lists_total nat_list_cmp_total
+
+-- labels of which neither stands before the other are one
+pub same_labels : (a b : List ℕ) → label_cmp a b ≡ Equal → a ≡ b
+same_labels a b e = (bytes_decides a b).0 (texts_ties a b ∙ ap is_eq e)
+
+-- a label before two names doesn't change how they stand
+pub under_label : (label : List ℕ) (a b : Labels) → name_cmp (label ∷ a) (label ∷ b) ≡ name_cmp a b
+under_label label a b = ap (λ o. ordering_then o (name_cmp a b)) (tied_itself nat_list_cmp_total label)
+
+-- a name doesn't stand behind one that it begins
+pub prefix_up_to : (above below : Labels) → UpTo above (above ++ below)
+prefix_up_to [] [] = refl
+prefix_up_to [] (label ∷ below) = refl
+prefix_up_to (label ∷ above) below = ap is_gt (under_label label above (above ++ below)) ∙ prefix_up_to above below
+
+pub up_to_before : (a b c : Labels) → UpTo a b → Before b c → Before a c
+up_to_before a b c le lt = by (name_cmp a b) refl le where
+  by : (o : Ordering) → name_cmp a b ≡ o → is_gt o ≡ false → Before a c
+  by Less e h = names_total.trans a b c e lt
+  by Equal e h = names_total.congr a b c e ∙ lt
+  by Greater e h = absurd (true≢false h)
+
+-- a prefix of a name that is no prefix of an earlier one stands behind that one
+pub new_prefix_after : (a above below : Labels) → UpTo a (above ++ below) → (Begins above a → ⊥) → Before a above
+new_prefix_after [] [] below le new = absurd (new ([], refl))
+new_prefix_after [] (label ∷ above) below le new = refl
+new_prefix_after (other ∷ a) [] below le new = absurd (new (other ∷ a, refl))
+new_prefix_after (other ∷ a) (label ∷ above) below le new =
+    by (label_cmp other label) refl le (new_prefix_after a above below)
+  where
+    by : (o : Ordering) → label_cmp other label ≡ o → is_gt (ordering_then o (name_cmp a (above ++ below))) ≡ false
+        → (UpTo a (above ++ below) → (Begins above a → ⊥) → Before a above) → ordering_then o (name_cmp a above) ≡ Less
+    by Less e h rest = refl
+    by Equal e h rest =
+        rest h (λ (below', same). new (below', ap (λ (xs : Labels). label ∷ xs) same ∙ ap (λ (x : List ℕ). x ∷ a) (sym (same_labels other label e))))
+    by Greater e h rest = absurd (true≢false h)
+
+-- each name of the list stands before the later ones
+abbrev pub Rising : List Labels → Type 0
+Rising [] = Unit {0}
+Rising (name ∷ names) = ((later : Labels) → Contains names later → Before name later) × Rising names
+
+pub pairs_from_rising : (names : List Labels) → Rising names → AllPairs Before names
+pairs_from_rising [] h = λ i j d lt below. absurd (none_in_nil d (j, below, refl))
+pairs_from_rising (name ∷ names) h =
+    AllPairs-cons Before name names (all_from_contains (Before name) names h.0) (pairs_from_rising names h.1)
+
+pub rising_append : (xs ys : List Labels) → Rising xs → Rising ys
+    → ((x y : Labels) → Contains xs x → Contains ys y → Before x y) → Rising (xs ++ ys)
+rising_append [] ys h k across = k
+rising_append (x ∷ xs) ys h k across = (
+  λ later has. elim (has_either xs ys later has) [
+    | inl here ↦ h.0 later here
+    | inr there ↦ across x later (has_first x xs) there
+  ],
+  rising_append xs ys h.1 k (λ a b has there. across a b (has_later x xs a has) there),
+)
+
+pub rising_map : (label : List ℕ) (names : List Labels) → Rising names → Rising (map (λ above. label ∷ above) names)
+rising_map label [] h = tt
+rising_map label (name ∷ names) h = (
+  λ later has. let found = from_map (λ (above : Labels). label ∷ above) names later has in
+      subst (Before (label ∷ name)) found.2 (under_label label name found.0 ∙ h.0 found.0 found.1),
+  rising_map label names h.1,
+)
+
+pub rising_filter : (test : Labels → Bool) (names : List Labels) → Rising names → Rising (filter test names)
+rising_filter test [] h = tt
+rising_filter test (name ∷ names) h = by (test name) (rising_filter test names h.1) where
+  by : (b : Bool) → Rising (filter test names) → Rising (cond b (name ∷ filter test names) (filter test names))
+  by true rest = (λ later has. h.0 later (from_filter test names later has).0, rest)
+  by false rest = rest

@@ -1,0 +1,113 @@
+-- The report of a configuration: the faults that some query shows, each with its first query and walk.
+use Rattle.std.specs.Prelude.{◌≡◌, ◌≢◌, ℕ, ◌+◌, ◌≤◌, Bool, true, false, ◌&&◌, ◌||◌, List, [], ◌∷◌, length, map, Some, Contains, AllPairs, slice_get}
+use Rattle.std.specs.List.{list_any, AllByRecursion}
+use Rattle.std.specs.Cmp.Lexicographic.{slice_cmp}
+use Rattle.std.specs.declared.cmp.Ordering.{Ordering}
+use Rattle.std.specs.declared.cmp.Ordering.TheVariants.{Less}
+use Rattle.dns_data.specs.Name.{Labels, name_eq, wire_octets}
+use Rattle.dns_data.specs.RrType.{number_of}
+use Rattle.dns_data.specs.declared.rr_type.RrType.{RrType}
+use Rattle.net_model.specs.declared.class.Class.{Class}
+use Rattle.net_model.specs.declared.class.Class.TheVariants.{Exact, Below}
+use Rattle.net_model.specs.declared.config.Config.{Config}
+use Rattle.net_model.specs.declared.fault.Fault.{Fault}
+use Rattle.net_model.specs.declared.fault.Fault.TheVariants.{Blackhole}
+use Rattle.net_model.specs.declared.walk.State.{State}
+use Rattle.net_model.specs.declared.walk.Walk.{Walk}
+use Rattle.net_model.specs.Class.{class_cmp, IsRepresentative}
+use Rattle.net_model.specs.FaultOrder.{fault_cmp}
+use Rattle.net_model.specs.Learnt.{IsInForce, InLeast, InGreatest}
+use Rattle.net_model.specs.Reading.{Ground, ground_of, IsNamed}
+use Rattle.net_model.specs.Shown.{ShowsIn, WalksShow}
+use Rattle.net_model.specs.Step.{Setting}
+use Rattle.net_model.specs.Tree.{IsClassTree, AreBelowClasses}
+use Rattle.net_model.specs.Walk.{walk_along, path_cmp}
+
+-- A fault with the query and the type that show it first, whether the first walk comes to a server twice with one
+-- name, and the walks.
+pub record Entry : Type 0 where
+  pub fault : Fault
+  pub rtype : RrType
+  pub query : Labels
+  pub repeats : Bool
+  pub walks : List Walk
+
+pub record Report : Type 0 where
+  pub classes : ℕ
+  pub names : ℕ
+  pub rewrites : ℕ
+  pub entries : List Entry
+
+-- the kinds of fault that are looked for
+abbrev pub is_looked_for : Fault → Bool
+is_looked_for (Blackhole place) = true
+is_looked_for fault = false
+
+-- two states are at one server with one name
+abbrev pub is_same_place : State → State → Bool
+is_same_place a b = name_eq a.server b.server && name_eq a.name b.name
+
+-- two of the states are
+abbrev pub repeats : List State → Bool
+repeats [] = false
+repeats (state ∷ states) = list_any (is_same_place state) states || repeats states
+
+-- it is a class of the tree: of a named name of at most 255 octets
+abbrev pub IsClass : Config → Class → Type 0
+IsClass config (Exact name) = IsNamed (ground_of config) name × (wire_octets name ≤ 255)
+IsClass config (Below name) = IsNamed (ground_of config) name × (wire_octets name ≤ 255)
+
+-- the class's representative shows the fault with the type
+pub record ClassShows (config : Config) (rewrites : ℕ) (class : Class) (query : Labels) (rtype : RrType) (fault : Fault) : Type 0 where
+  pub is_class : IsClass config class
+  pub represents : IsRepresentative (ground_of config) class query
+  pub shows : ShowsIn config rewrites query rtype fault
+
+-- the walks along these lists of branch numbers, in order, are walks of the query that show the fault
+pub record PathsShow (setting : Setting) (query : Labels) (rtype : RrType) (fault : Fault) (paths : List (List ℕ)) (walks : List Walk) : Type 0 where
+  pub are_walks : map (walk_along setting query rtype) paths ≡ map Some walks
+  pub show : WalksShow setting (InLeast setting.config setting.rewrites) (InGreatest setting.config setting.rewrites) walks fault
+
+-- the order of walks, and of pairs of walks by the earlier and then the later one
+abbrev pub paths_cmp : List (List ℕ) → List (List ℕ) → Ordering
+paths_cmp a b = slice_cmp path_cmp a b
+
+-- the entry has the first representative in class order that shows its fault, then the first type in number
+-- order, then the first walk or pair of walks
+pub record IsEntry (config : Config) (rewrites : ℕ) (entry : Entry) : Type 0 where
+  pub class : Class
+  pub followed : List Labels
+  pub paths : List (List ℕ)
+  pub in_force : IsInForce config rewrites followed
+  pub shown : ClassShows config rewrites class entry.query entry.rtype entry.fault
+  pub first_class : (other : Class) (query : Labels) (rtype : RrType) → ClassShows config rewrites other query rtype entry.fault → class_cmp other class ≢ Less
+  pub first_type : (rtype : RrType) → ShowsIn config rewrites entry.query rtype entry.fault → number_of entry.rtype ≤ number_of rtype
+  pub walks : PathsShow (record { config = config; rewrites = rewrites; followed = followed }) entry.query entry.rtype entry.fault paths entry.walks
+  pub first_walks : (others : List (List ℕ)) (walks : List Walk) → PathsShow (record { config = config; rewrites = rewrites; followed = followed }) entry.query entry.rtype entry.fault others walks → paths_cmp others paths ≢ Less
+  pub repeats : (first : Walk) → slice_get entry.walks 0 ≡ Some first → entry.repeats ≡ repeats first.states
+
+-- some query of at most 255 octets shows the fault with one of the twelve types
+pub record IsShown (config : Config) (rewrites : ℕ) (fault : Fault) : Type 0 where
+  pub looked_for : is_looked_for fault ≡ true
+  pub query : Labels
+  pub rtype : RrType
+  pub short : wire_octets query ≤ 255
+  pub shows : ShowsIn config rewrites query rtype fault
+
+-- the ground's class tree has so many names, and with the classes below them that aren't empty so many classes
+pub record IsTreeSize (ground : Ground) (names classes : ℕ) : Type 0 where
+  pub tree : List Labels
+  pub below : List Labels
+  pub is_tree : IsClassTree ground tree
+  pub are_below : AreBelowClasses ground tree below
+  pub counts_names : names ≡ length tree
+  pub counts_classes : classes ≡ length tree + length below
+
+-- the report of the configuration with so many rewrites
+pub record IsReport (config : Config) (rewrites : ℕ) (report : Report) : Type 0 where
+  pub size : IsTreeSize (ground_of config) report.names report.classes
+  pub limit : report.rewrites ≡ rewrites
+  pub ordered : AllPairs (λ a b. fault_cmp a.fault b.fault ≡ Less) report.entries
+  pub each_right : AllByRecursion (IsEntry config rewrites) report.entries
+  pub each_shown : AllByRecursion (λ entry. IsShown config rewrites entry.fault) report.entries
+  pub all_shown : (fault : Fault) → IsShown config rewrites fault → Contains (map (λ entry. entry.fault) report.entries) fault

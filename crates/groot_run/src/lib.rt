@@ -1,0 +1,25 @@
+//! The top call: what the program does with its words, its files and its two outputs, and the clauses that say so.
+//! For files that read, the octets on out are exactly the report of their configuration; every other answer has its
+//! cause in the words, in what the files give or in a count of failures that rose.
+#![tactic(auto)]
+
+mod ending;
+mod fault;
+mod files;
+mod job;
+mod load;
+mod metadata;
+mod output;
+mod report;
+mod run;
+mod shape;
+mod status;
+mod token;
+mod tree;
+mod zone_file;
+
+pub use run::groot;
+pub use status::Status;
+
+#[cfg(test)]
+mod tests;

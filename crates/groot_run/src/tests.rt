@@ -1,0 +1,3 @@
+//! Whole runs over files and outputs in memory.
+
+mod first_path;
