@@ -7,7 +7,7 @@ use Rattle.dns_data.specs.Name.{Labels}
 use Rattle.dns_data.specs.Octet.{is_digit}
 use Rattle.dns_data.specs.Spelling.{name_of_text}
 use Rattle.dns_data.specs.declared.rdata.Rdata.{Rdata}
-use Rattle.dns_data.specs.declared.rdata.Rdata.TheVariants.{A, Ns, Soa}
+use Rattle.dns_data.specs.declared.rdata.Rdata.TheVariants.{A, Ns, Cname, Soa}
 use Rattle.dns_data.specs.declared.rdata.Rr.{Rr}
 
 infixl 10 ◌>>=◌
@@ -114,6 +114,11 @@ abbrev pub ns_of : List (List ℕ) → Option Rdata
 ns_of (field ∷ []) = option_map Ns (name_of field)
 ns_of fields = None
 
+-- the data of a CNAME record (RFC 1035 section 3.3.1)
+abbrev pub cname_of : List (List ℕ) → Option Rdata
+cname_of (field ∷ []) = option_map Cname (name_of field)
+cname_of fields = None
+
 -- the data of an A record
 abbrev pub a_of : List (List ℕ) → Option Rdata
 a_of (field ∷ []) = option_map A (address_of field)
@@ -124,7 +129,8 @@ abbrev pub data_of : List ℕ → List (List ℕ) → Option Rdata
 data_of word fields =
     if pointwise nat_eq word (codes "SOA") then soa_of fields
     else (if pointwise nat_eq word (codes "NS") then ns_of fields
-    else (if pointwise nat_eq word (codes "A") then a_of fields else None))
+    else (if pointwise nat_eq word (codes "CNAME") then cname_of fields
+    else (if pointwise nat_eq word (codes "A") then a_of fields else None)))
 
 -- the record of the tokens of a line: owner, TTL, type, data
 abbrev pub record_of : ℕ → List (List ℕ) → Option Rr

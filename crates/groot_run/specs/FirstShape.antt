@@ -1,30 +1,51 @@
--- The first shape: one zone, without rewrites, zone cuts or wildcards.
-use Rattle.std.specs.Prelude.{◌≡◌, ◌≤◌, length, Bool, false, ◌&&◌, ◌||◌, not, nat_le, List, [], ◌∷◌, codes, Option, Some, None, if◌then◌else◌}
-use Rattle.std.specs.List.{list_any, list_all}
+-- The first shape: one zone, without DNAME records, zone cuts, wildcards or chains of aliases.
+use Rattle.std.specs.Prelude.{◌≡◌, length, Bool, true, false, ◌&&◌, not, nat_le, List, [], ◌∷◌, codes, Option, Some, None, if◌then◌else◌, ◌==◌}
+use Rattle.std.specs.List.{list_any, list_all, filter}
 use Rattle.dns_data.specs.Label.{label_eq}
 use Rattle.dns_data.specs.Name.{Labels, wire_octets, is_prefix, name_eq}
 use Rattle.dns_data.specs.Rdata.{has_type}
 use Rattle.dns_data.specs.declared.rdata.Rr.{Rr}
+use Rattle.dns_data.specs.declared.rdata.Rdata.{Rdata}
+use Rattle.dns_data.specs.declared.rdata.Rdata.TheVariants as data_of
 use Rattle.dns_data.specs.declared.rr_type.RrType.TheVariants as types
 use Rattle.net_model.specs.declared.config.Config.{Config}
+use Rattle.net_model.specs.Zone.{is_of}
 
 -- the name is at or below the origin, has at most 200 octets and no asterisk label
 abbrev pub is_plain_owner : Labels → Labels → Bool
 is_plain_owner origin owner =
     is_prefix origin owner && nat_le (wire_octets owner) 200 && not (list_any (label_eq (codes "*")) owner)
 
--- a record behind the zone's SOA record: an NS record at the origin, or an address record
+-- data that may stand behind the zone's SOA record at this owner: NS records at the origin alone, no SOA record and
+-- no DNAME record
+abbrev pub is_plain_data : Labels → Labels → Rdata → Bool
+is_plain_data origin owner (data_of.Soa mname rname serial refresh retry expire minimum) = false
+is_plain_data origin owner (data_of.Dname target) = false
+is_plain_data origin owner (data_of.Ns target) = name_eq owner origin
+is_plain_data origin owner rdata = true
+
+-- a record that may stand behind the zone's SOA record
 abbrev pub is_plain_record : Labels → Rr → Bool
-is_plain_record origin rr =
-    is_plain_owner origin rr.owner
-    && (has_type types.A rr.rdata || (has_type types.Ns rr.rdata && name_eq rr.owner origin))
+is_plain_record origin rr = is_plain_owner origin rr.owner && is_plain_data origin rr.owner rr.rdata
+
+-- the records of this owner
+abbrev pub records_at : Labels → List Rr → List Rr
+records_at owner rrs = filter (λ rr. name_eq rr.owner owner) rrs
+
+-- an alias's owner owns no other record, and its target owns no alias
+abbrev pub is_plain_alias : List Rr → Labels → Rdata → Bool
+is_plain_alias rrs owner (data_of.Cname target) =
+    (length (records_at owner rrs) == 1) && not (list_any (is_of target types.Cname) rrs)
+is_plain_alias rrs owner rdata = true
 
 -- the records are those of a zone of the first shape
 abbrev pub is_first_shape : List Rr → Bool
 is_first_shape [] = false
 is_first_shape (first ∷ rest) =
-    has_type types.Soa first.rdata && is_plain_owner first.owner first.owner
+    nat_le (length (first ∷ rest)) 500
+    && has_type types.Soa first.rdata && is_plain_owner first.owner first.owner
     && list_all (is_plain_record first.owner) rest
+    && list_all (λ rr. is_plain_alias (first ∷ rest) rr.owner rr.rdata) rest
 
 -- the configuration of one server that is the only top server and holds one zone
 abbrev pub one_zone : Labels → Labels → List Rr → Config
@@ -40,9 +61,8 @@ config_of server [] = None
 config_of server (first ∷ rest) =
     if is_first_shape (first ∷ rest) then Some (one_zone server first.owner (first ∷ rest)) else None
 
--- the configuration is of the first shape, with at most 500 records
+-- the configuration is of the first shape
 pub record IsFirstConfig (config : Config) : Type 0 where
   pub server : Labels
   pub rrs : List Rr
-  pub few : length rrs ≤ 500
   pub made : config_of server rrs ≡ Some config

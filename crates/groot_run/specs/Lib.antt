@@ -14,6 +14,7 @@ pub use Rattle.serde_json.specs.Written
 pub mod Conf
 pub mod FirstForm
 pub mod FirstShape
+pub mod Blackholes
 pub mod Job
 pub mod Metadata
 pub mod Report
