@@ -1,4 +1,4 @@
-pub mod Digits
+pub mod LastDot
 pub mod Directories
 pub mod FewRecords
 pub mod FirstGround
@@ -13,5 +13,4 @@ pub mod NoFaults
 pub mod NoRewrites
 pub mod Pieces
 pub mod SortedTree
-pub mod Lines
 pub mod Json

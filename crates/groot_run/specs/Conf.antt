@@ -1,9 +1,14 @@
 -- What the files of a job give: a configuration, the first refusal, or a file that isn't held.
-use Rattle.std.specs.Prelude.{◌≡◌, ℕ, ◌⊎◌, nat_eq, nat_le, List, [], ◌∷◌, ◌++◌, length, codes, decimal, Option, Some, None, if◌then◌else◌}
+use Rattle.std.specs.Prelude.{◌≡◌, ℕ, ◌⊎◌, nat_eq, nat_le, List, [], ◌∷◌, ◌++◌, length, codes, decimal, Option, Some, None, Result, Ok, Err, if◌then◌else◌}
 use Rattle.std.specs.List.{list_any, starts_with}
-use Rattle.dns_data.specs.declared.rdata.Rr.{Rr}
+use Rattle.dns_data.specs.Name.{Labels}
 use Rattle.net_model.specs.declared.config.Config.{Config}
-use Rattle.groot_run.specs.FirstForm.{records_of}
+use Rattle.master_read.specs.ZoneText.{zone_text}
+use Rattle.master_read.specs.declared.fault.TextFault.{TextFault}
+use Rattle.master_read.specs.declared.fault.TextFault.TheVariants as text_faults
+use Rattle.master_read.specs.declared.zone_text.ZoneText.{ZoneText}
+use Rattle.groot_run.specs.Codes.{cause_code}
+use Rattle.groot_run.specs.Identical.{distinct}
 use Rattle.groot_run.specs.FirstShape.{config_of}
 use Rattle.groot_run.specs.Metadata.{meta_of}
 use Rattle.groot_run.specs.declared.metadata.Metadata.{Metadata}
@@ -54,12 +59,20 @@ abbrev pub config_or : List ℕ → Option Config → Reading
 config_or file None = not_yet file
 config_or file (Some config) = Reads config
 
+-- how many records the zone files may have in all
+abbrev pub most_records : ℕ
+most_records = 1000000
+
+-- what the records of a zone file give, or the fault in it: a zone has one of identical records
+abbrev pub text_reading : Labels → List ℕ → Result ZoneText TextFault → Reading
+text_reading server file (Ok text) = config_or file (config_of server (distinct text.rrs))
+text_reading server file (Err (text_faults.At number line cause)) =
+    Refuses (record { file = file; line = line; code = cause_code cause })
+text_reading server file (Err text_faults.NoMemory) = not_yet file
+
 -- what a zone file's octets give
 abbrev pub zone_reading : Metadata → List ℕ → List ℕ → Reading
-zone_reading meta file octets = of_records (records_of octets) where
-  of_records : Option (List Rr) → Reading
-  of_records None = not_yet file
-  of_records (Some rrs) = config_or file (config_of meta.server rrs)
+zone_reading meta file octets = text_reading meta.server file (zone_text [] most_records octets)
 
 -- what the metadata file's octets give, with the zone file that they name
 abbrev pub meta_reading : Contents → List ℕ → List ℕ → Reading

@@ -11,8 +11,11 @@ pub use Rattle.net_model.specs.Walk
 pub use Rattle.serde_json.specs.Data
 pub use Rattle.serde_json.specs.Read
 pub use Rattle.serde_json.specs.Written
+pub use Rattle.master_read.specs.ZoneText
+pub mod Codes
+pub mod Identical
 pub mod Conf
-pub mod FirstForm
+pub mod ServerName
 pub mod FirstShape
 pub mod Blackholes
 pub mod Job

@@ -7,7 +7,7 @@ use Rattle.serde_json.specs.Data.{Data, Items, no_items, item}
 use Rattle.serde_json.specs.Find.{get, as_str, as_array}
 use Rattle.serde_json.specs.Read.{read}
 use Rattle.groot_run.specs.declared.metadata.Metadata.{Metadata}
-use Rattle.groot_run.specs.FirstForm.{◌>>=◌, is_token, name_of}
+use Rattle.groot_run.specs.ServerName.{server_of}
 
 -- the value of a text of JSON
 abbrev pub value_of : List ℕ → Option Data
@@ -18,6 +18,10 @@ abbrev pub only_item : Items → Option Data
 only_item (item value no_items) = Some value
 only_item items = None
 
+infixl 10 ◌>>=◌
+abbrev pub ◌>>=◌ : {A B : Type 0} → Option A → (A → Option B) → Option B
+o >>= f = option_and_then f o
+
 -- the text of a member
 abbrev pub text_at : List ℕ → Data → Option (List ℕ)
 text_at key value = option_and_then as_str (get key value)
@@ -25,10 +29,6 @@ text_at key value = option_and_then as_str (get key value)
 -- the items of a member
 abbrev pub items_at : List ℕ → Data → Option Items
 items_at key value = option_and_then as_array (get key value)
-
--- the name of a server: a token that ends with a dot
-abbrev pub server_of : List ℕ → Option Labels
-server_of server = if is_token server then name_of server else None
 
 -- the metadata, if a test of them holds
 abbrev pub accepted : Bool → Metadata → Option Metadata

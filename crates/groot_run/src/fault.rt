@@ -5,6 +5,7 @@ ghost use Rattle.groot_run.specs.declared.fault.LoadFault.TheVariants as load_fa
 ghost use Rattle.groot_run.specs.Loading.{IsReadOf, IsNotYetOf};
 
 use dns_data::{NoMemory, Text};
+use master_read::TextCause;
 use std::alloc::{AllocError, Global};
 use thiserror::Error;
 
@@ -14,9 +15,16 @@ pub enum LoadFault {
     /// A read of this file failed.
     #[error("a read failed")]
     Read { file: Text },
-    /// This file isn't in the first form, or its zone isn't of the first shape.
+    /// These metadata aren't in the first form, the zone isn't of the first shape, or the file is too long.
     #[error("not of a form that is read yet")]
     NotYet { file: Text },
+    /// This zone file doesn't read: the line of the entry or of the text at fault, counted from 1, and why.
+    #[error("a zone file that doesn't read")]
+    Text {
+        file: Text,
+        line: u32,
+        cause: TextCause,
+    },
     /// Memory ran out.
     #[error("no memory")]
     NoMemory,

@@ -3,18 +3,20 @@
 //! cause in the words, in what the files give or in a count of failures that rose.
 #![tactic(auto)]
 
+mod code;
 mod ending;
 mod fault;
 mod files;
+mod identical;
 mod job;
 mod load;
 mod metadata;
 mod output;
 mod report;
 mod run;
+mod server_name;
 mod shape;
 mod status;
-mod token;
 mod tree;
 mod zone_file;
 

@@ -11,9 +11,10 @@ use crate::fault::LoadFault;
 use crate::files::{WholeFault, read_whole};
 use crate::metadata::{Metadata, read_metadata};
 use crate::shape::one_zone;
-use crate::zone_file::read_records;
+use crate::zone_file::read_zone;
 use dns_data::{NoMemory, Text};
 use io_edges::Files;
+use master_read::TextFault;
 use net_model::Config;
 use std::alloc::Global;
 
@@ -83,11 +84,17 @@ fn configured(
     file: Text,
     octets: &[u8],
 ) -> Result<Config, LoadFault>
+    requires { length octets.now ≤ most_octets }
     ensures gives { Gives (zone_reading metadata file octets.now) result }
     ensures shape { IfOk result IsFirstConfig }
     ensures no_read { NeverRead result }
 {
-    let Some(rrs) = read_records(alloc, octets)? else {
+    let text = match read_zone(alloc, octets) {
+        Ok(text) => text,
+        Err(TextFault::At { line, cause, .. }) => return Err(LoadFault::Text { file, line, cause }),
+        Err(TextFault::NoMemory) => return Err(LoadFault::NoMemory),
+    };
+    let Some(rrs) = distinct_records(alloc, text.rrs, MOST_RECORDS)? else {
         return Err(LoadFault::NotYet { file });
     };
     match one_zone(alloc, metadata.server, rrs)? {

@@ -2,10 +2,10 @@
 
 ghost use Rattle.std.specs.Prelude.{◌≡◌, IfOk, codes};
 ghost use Rattle.std.specs.Option.{option_map, option_and_then};
-ghost use Rattle.groot_run.specs.Metadata.{only_item, items_at, text_at, server_of, row_of, meta_of_value, meta_of};
+ghost use Rattle.groot_run.specs.Metadata.{only_item, items_at, text_at, row_of, meta_of_value, meta_of};
 ghost use Rattle.serde_json.specs.View.{view};
 
-use crate::token::{is_plain, read_name};
+use crate::server_name::server_name;
 use dns_data::{Name, NoMemory, Text};
 use serde_json::Value;
 use std::alloc::Global;
@@ -77,14 +77,4 @@ fn row_metadata(alloc: Global, top: &str, row: &Value) -> Result<Option<Metadata
         server,
         file: Text::from_str(alloc, file)?,
     }))
-}
-
-/// The name of a server, or `None` where the text is no token that ends with a dot or is no name.
-fn server_name(alloc: Global, text: &[u8]) -> Result<Option<Name>, NoMemory>
-    ensures { IfOk result (λ found. found ≡ server_of text.now) }
-{
-    if !is_plain(text) {
-        return Ok(None);
-    }
-    read_name(alloc, text)
 }

@@ -10,6 +10,7 @@ ghost use Rattle.groot_run.specs.FirstShape.{IsFirstConfig};
 ghost use Rattle.groot_run.specs.Job.{Check, job_of};
 ghost use Rattle.groot_run.specs.Outcome.{HasCause, HasKnownCause, ReadFaultRose, ReadFaultKnown, WroteReport, NoReadFailed, ToldOnErr, known_reading, writes_nothing};
 
+use crate::code::code_of_cause;
 use crate::ending::{Ending, Refused};
 use crate::fault::LoadFault;
 use crate::job::check_job;
@@ -92,6 +93,11 @@ fn run<F: Files, O: Sink>(alloc: Global, words: &[&str], files: &mut F, out: &mu
             file,
             line: 0,
             code: "not-yet",
+        }),
+        Err(LoadFault::Text { file, line, cause }) => Ending::Refused(Refused {
+            file,
+            line,
+            code: code_of_cause(&cause),
         }),
         Err(LoadFault::NoMemory) => Ending::Done(Status::NoMemory),
     }
