@@ -1,0 +1,57 @@
+#!/usr/bin/env python3
+"""Writes a zone file of about so many octets, as a hosting firm might have it: make_zone.py OCTETS > FILE
+
+Hosts with addresses of both families, mail, texts, services, aliases and certificate authorities, in relative and
+absolute names, with escapes, comments, continued lines and inherited owners and TTLs. The same size gives the same file.
+"""
+import random
+import sys
+
+HEAD = """\
+$TTL 1h
+$ORIGIN hosting.example.
+@   IN  SOA ns1 hostmaster (
+            2026010101 ; serial
+            3h 15m 1w 1h )
+    IN  NS  ns1
+    IN  NS  ns2
+ns1 IN  A   192.0.2.1
+ns2 IN  A   192.0.2.2
+"""
+
+
+def host(number, draw):
+    """The records of one host."""
+    name = f"host{number}"
+    low, high = number % 256, number // 256 % 256
+    yield f"; customer {number}: {draw.choice(['paid', 'trial', 'internal'])}\n"
+    yield f"{name}\t300\tIN\tA\t10.{draw.randrange(256)}.{high}.{low}\n"
+    yield f"\t\tIN\tAAAA\t2001:db8:{draw.randrange(65536):x}::{number % 65536:x}\n"
+    yield f"\t\tMX\t{draw.randrange(100)} mail.{name}\n"
+    yield f"mail.{name} A 10.{draw.randrange(256)}.{low}.{high}\n"
+    yield f"www.{name} 1h30m CNAME {name}.hosting.example.\n"
+    kind = number % 5
+    if kind == 0:
+        yield f"{name} TXT ( \"v=spf1 ip4:10.0.{high}.{low} -all\" ; mail policy\n\t\"note \\\"{number}\\\"; \\065\\032b\" )\n"
+    elif kind == 1:
+        yield f"_sip._tcp.{name} 60 SRV 10 {draw.randrange(100)} 5060 {name}\n"
+    elif kind == 2:
+        yield f"box\\.{number}.{name} A 10.1.{high}.{low}\n"
+    elif kind == 3:
+        yield f"{name} CAA 0 issue \"ca{number % 7}.example\"\n"
+    else:
+        yield f"{name} TYPE65534 \\# 5 ( 08000100{low:02x} )\n"
+
+
+def write_zone(octets, into):
+    draw = random.Random(octets)
+    written = into.write(HEAD)
+    number = 0
+    while written < octets:
+        number += 1
+        for line in host(number, draw):
+            written += into.write(line)
+
+
+if __name__ == "__main__":
+    write_zone(int(sys.argv[1]), sys.stdout)

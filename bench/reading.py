@@ -1,0 +1,75 @@
+#!/usr/bin/env python3
+"""Measures the reading of zone files: reading.py [GROOT]
+
+GROOT is the built program, crates/groot/out/groot if none is given. For files of 1 and 16 MiB it prints the processor
+seconds and the peak memory of groot, and of the stock checkers of master files that are installed (Knot's kzonecheck,
+BIND's named-checkzone), each the best of five runs, and groot's ratios to them. groot reads such a file whole and then
+refuses it with status 3, since the zone has more records than are judged today.
+"""
+import os
+import shutil
+import subprocess
+import sys
+import tempfile
+
+import make_zone
+
+HERE = os.path.dirname(os.path.abspath(__file__))
+MEBIBYTE = 1 << 20
+RUNS = 5
+METADATA = '{"TopNameServers":["ns1.hosting.example."],"ZoneFiles":[{"FileName":"hosting.zone","NameServer":"ns1.hosting.example."}]}'
+
+
+def measured(words, statuses):
+    """The least processor seconds and peak memory in MiB of some runs."""
+    best = None
+    for _ in range(RUNS):
+        child = subprocess.Popen(words, stdout=subprocess.DEVNULL, stderr=subprocess.DEVNULL)
+        _, status, usage = os.wait4(child.pid, 0)
+        child.returncode = os.waitstatus_to_exitcode(status)
+        if child.returncode not in statuses:
+            raise SystemExit(f"{words[0]}: status {child.returncode}")
+        seconds, memory = usage.ru_utime + usage.ru_stime, usage.ru_maxrss / 1024
+        best = (seconds, memory) if best is None else (min(best[0], seconds), min(best[1], memory))
+    return best
+
+
+def programs(groot, folder):
+    """Each program with its words and the statuses that it may end with."""
+    zone = os.path.join(folder, "hosting.zone")
+    yield "groot", [groot, "check", os.path.join(folder, "m.json")], (0, 1, 3)
+    if shutil.which("kzonecheck"):
+        yield "kzonecheck", ["kzonecheck", "-o", "hosting.example.", zone], (0,)
+    if shutil.which("named-checkzone"):
+        yield "named-checkzone", ["named-checkzone", "-i", "none", "hosting.example.", zone], (0,)
+
+
+def records_in(path):
+    """How many records the file has, by what make_zone writes."""
+    with open(path) as lines:
+        return sum(1 for line in lines if line.strip() and line[0] not in ";$" and not line.lstrip().startswith(("\"", "20", "3h")))
+
+
+def main():
+    groot = sys.argv[1] if len(sys.argv) > 1 else os.path.join(HERE, "..", "crates", "groot", "out", "groot")
+    print(f"{'file':>8} {'program':<16} {'cpu s':>7} {'MiB/s':>7} {'records/s':>10} {'peak MiB':>9} {'cpu ratio':>10} {'memory ratio':>13}")
+    for size in (1, 16):
+        with tempfile.TemporaryDirectory() as folder:
+            path = os.path.join(folder, "hosting.zone")
+            with open(path, "w") as into:
+                make_zone.write_zone(size * MEBIBYTE - 4096, into)
+            with open(os.path.join(folder, "m.json"), "w") as into:
+                into.write(METADATA)
+            records, octets = records_in(path), os.path.getsize(path)
+            own = None
+            for name, words, statuses in programs(groot, folder):
+                seconds, memory = measured(words, statuses)
+                own = own or (seconds, memory)
+                print(
+                    f"{size:>4} MiB {name:<16} {seconds:>7.3f} {octets / MEBIBYTE / max(seconds, 1e-3):>7.1f}"
+                    f" {records / max(seconds, 1e-3):>10.0f} {memory:>9.1f} {own[0] / max(seconds, 1e-3):>10.2f} {own[1] / memory:>13.2f}"
+                )
+
+
+if __name__ == "__main__":
+    main()
