@@ -43,8 +43,8 @@ abbrev pub blackhole_walk : Labels → Labels → Alias → Walk
 blackhole_walk server origin alias =
     record {
       states = record { server = server; name = alias.owner; carried = true; cut = 0; used = 0; last = None; zone = Some origin }
-        ∷ record { server = server; name = alias.target; carried = false; cut = 0; used = 1; last = Some (alias_place server origin alias); zone = Some origin }
-        ∷ [];
+          ∷ record { server = server; name = alias.target; carried = false; cut = 0; used = 1; last = Some (alias_place server origin alias); zone = Some origin }
+          ∷ [];
       hops = Rewrite (alias_place server origin alias) false alias.target ∷ [];
       leaf = NxDomain;
     }
