@@ -2,7 +2,7 @@
 
 mod failures;
 mod first_path;
+mod master_files;
 mod metadata_form;
 mod runs;
 mod words;
-mod zone_form;
