@@ -1,0 +1,9 @@
+pub use Rattle.dns_data.specs.Name
+pub use Rattle.master_lex.specs.Holding
+pub use Rattle.master_lex.specs.Spelling
+pub mod Words
+pub mod Context
+pub mod Fault
+pub mod Entries
+pub mod ZoneText
+pub mod Reader

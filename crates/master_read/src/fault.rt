@@ -1,0 +1,102 @@
+//! Why a text gives no records.
+
+ghost use Rattle.std.specs.Prelude.{◌≡◌};
+ghost use Rattle.master_read.specs.declared.fault.EntryFault.TheVariants as entry_fault;
+ghost use Rattle.master_read.specs.declared.fault.TextFault.TheVariants as text_fault;
+
+use dns_data::{NameFault, NoMemory};
+use master_lex::LexKind;
+use rdata_forms::RdataFault;
+use thiserror::Error;
+
+/// What is wrong in a master file.
+#[derive(Clone, Copy, Debug, PartialEq, Eq, Error)]
+pub enum TextCause {
+    /// What is wrong lies in the spelling of an entry (RFC 1035 section 5.1).
+    #[error("{0}")]
+    Lex(LexKind),
+    /// A directive is none that is read, or its argument isn't one that it takes.
+    #[error("the directive doesn't read")]
+    BadDirective,
+    /// The directive is `$INCLUDE` or `$GENERATE`.
+    #[error("the directive isn't supported")]
+    NotSupported,
+    /// The owner is no name.
+    #[error("the owner is no name: {0}")]
+    BadOwner(NameFault),
+    /// The line begins with a space or a tab, and no record stands before it.
+    #[error("no owner stands here or before")]
+    NoOwner,
+    /// No type follows the owner, the TTL and the class.
+    #[error("no type stands here")]
+    NoType,
+    /// The word where a type stands is the word of none.
+    #[error("the type isn't known")]
+    UnknownType,
+    /// The class is another than IN.
+    #[error("the class isn't IN")]
+    NotIn,
+    /// The TTL is no time.
+    #[error("the TTL is no time")]
+    BadTtl,
+    /// The data are none of the type.
+    #[error("the data don't read: {0}")]
+    Rdata(RdataFault),
+    /// Neither the record nor what stands before it says a TTL.
+    #[error("no TTL stands here or before")]
+    NoTtl,
+    /// The text has more records than there is room for.
+    #[error("too many records")]
+    TooMany,
+}
+
+/// Why a text gives no records.
+#[derive(Clone, Copy, Debug, PartialEq, Eq, Error)]
+pub enum TextFault {
+    /// An entry doesn't read.
+    #[error("file {file}, line {line}: {cause}")]
+    At {
+        /// The number of the file, 0 for the first.
+        file: u32,
+        /// The line of the entry, or of the fault in its spelling, counted from 1.
+        line: u32,
+        /// What is wrong there.
+        cause: TextCause,
+    },
+    /// Memory ran out.
+    #[error("no memory")]
+    NoMemory,
+}
+
+/// Why an entry wasn't read.
+#[derive(Clone, Copy, Debug, PartialEq, Eq)]
+pub enum EntryFault {
+    /// This is wrong in it.
+    Cause(TextCause),
+    /// Memory ran out.
+    NoMemory,
+}
+
+impl From<NoMemory> for TextFault {
+    ghost from_gives = { λ _ fault. fault ≡ text_fault.NoMemory };
+
+    fn from(_fault: NoMemory) -> TextFault {
+        TextFault::NoMemory
+    }
+}
+
+impl From<NoMemory> for EntryFault {
+    ghost from_gives = { λ _ fault. fault ≡ entry_fault.NoMemory };
+
+    fn from(_fault: NoMemory) -> EntryFault {
+        EntryFault::NoMemory
+    }
+}
+
+impl From<TextCause> for EntryFault {
+    ghost from_gives = { λ cause fault. fault ≡ entry_fault.Cause cause };
+
+    fn from(cause: TextCause) -> EntryFault {
+        EntryFault::Cause(cause)
+    }
+}

@@ -1,0 +1,16 @@
+//! The records of a master file (RFC 1035 section 5), from octets that come in pieces.
+#![tactic(auto)]
+
+mod context;
+mod fault;
+mod laws;
+mod progress;
+mod reader;
+mod records;
+mod words;
+mod zone_text;
+
+pub use fault::{TextCause, TextFault};
+pub use laws::read_by_the_cut;
+pub use reader::ZoneReader;
+pub use zone_text::ZoneText;

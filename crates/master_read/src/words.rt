@@ -1,0 +1,169 @@
+//! The words of types, classes and directives.
+
+ghost use Rattle.std.specs.Prelude.{◌≡◌, ◌≤◌, map, length};
+ghost use Rattle.master_read.specs.Words.{is_word, is_among, type_word, type_with, type_numbered, class_word, number_behind, number_of_digits, value_from};
+
+use dns_data::RrType;
+
+/// What a type's word says.
+#[derive(Clone, Copy, Debug, PartialEq, Eq)]
+pub enum TypeWord {
+    /// One of the twelve types.
+    Known(RrType),
+    /// A type whose records are dropped.
+    Dropped,
+    /// A type whose records are kept under its word.
+    Other,
+}
+
+/// What a class's word says.
+#[derive(Clone, Copy, Debug, PartialEq, Eq)]
+pub enum ClassWord {
+    /// The class IN.
+    In,
+    /// Another class.
+    NotIn,
+}
+
+/// The words of the types whose records are dropped.
+const DROPPED: [&str; 3] = ["RRSIG", "NSEC", "NSEC3"];
+
+/// The words of the other types whose records are kept.
+const OTHERS: [&str; 29] = [
+    "AFSDB",
+    "APL",
+    "CDNSKEY",
+    "CDS",
+    "CERT",
+    "CSYNC",
+    "DHCID",
+    "DLV",
+    "DNSKEY",
+    "DS",
+    "EUI48",
+    "EUI64",
+    "HIP",
+    "HTTPS",
+    "IPSECKEY",
+    "KEY",
+    "KX",
+    "LOC",
+    "NAPTR",
+    "NSEC3PARAM",
+    "OPENPGPKEY",
+    "RP",
+    "SMIMEA",
+    "SPF",
+    "SSHFP",
+    "SVCB",
+    "TLSA",
+    "URI",
+    "ZONEMD",
+];
+
+/// Whether the octets are this word.
+pub fn is_word(word: &str, octets: &[u8]) -> bool
+    ensures { result ≡ is_word word.now octets.now }
+{
+    word.as_bytes().eq_ignore_ascii_case(octets)
+}
+
+/// Whether the octets are one of these words.
+#[tactic(auto, unfolding(crate::specs::Words::is_among))]
+fn is_among(words: &[&str], octets: &[u8]) -> bool
+    ensures { result ≡ is_among (map (λ word. word.now) words.now) octets.now }
+{
+    words.iter().any(|word| is_word(word, octets))
+}
+
+/// What the word of a type says, or `None` where the octets are none.
+#[tactic(auto, unfolding(crate::specs::Words::type_word))]
+pub fn type_word(octets: &[u8]) -> Option<TypeWord>
+    ensures { result ≡ type_word octets.now }
+{
+    if let Some(rtype) = RrType::from_word(octets) {
+        return Some(TypeWord::Known(rtype));
+    }
+    if is_among(&DROPPED, octets) {
+        return Some(TypeWord::Dropped);
+    }
+    if is_among(&OTHERS, octets) {
+        return Some(TypeWord::Other);
+    }
+    Some(type_with(number_behind("TYPE", octets)?))
+}
+
+/// What the number of a type says.
+fn type_with(number: u16) -> TypeWord
+    ensures { result ≡ type_with number }
+{
+    match number {
+        46 | 47 | 50 => TypeWord::Dropped,
+        _ => type_numbered(number).map_or(TypeWord::Other, TypeWord::Known),
+    }
+}
+
+/// The type of the twelve that has this number, or `None` where none has.
+#[tactic(auto, unfolding(crate::specs::Words::type_numbered))]
+fn type_numbered(number: u16) -> Option<RrType>
+    ensures { result ≡ type_numbered number }
+{
+    RrType::ALL
+        .iter()
+        .copied()
+        .find(|rtype| rtype.number() == number)
+}
+
+/// What the word of a class says, or `None` where the octets are none.
+#[tactic(auto, unfolding(crate::specs::Words::class_word))]
+pub fn class_word(octets: &[u8]) -> Option<ClassWord>
+    ensures { result ≡ class_word octets.now }
+{
+    if is_among(&["IN", "CLASS1"], octets) {
+        return Some(ClassWord::In);
+    }
+    if is_among(&["CS", "CH", "HS"], octets) {
+        return Some(ClassWord::NotIn);
+    }
+    number_behind("CLASS", octets)?;
+    Some(ClassWord::NotIn)
+}
+
+/// The number of one to five digits, up to 65,535, behind a word, or `None` where the octets are none such.
+fn number_behind(word: &str, octets: &[u8]) -> Option<u16>
+    ensures { result ≡ number_behind word.now octets.now }
+{
+    if octets.len() < word.len() {
+        return None;
+    }
+    let (front, digits) = octets.split_at(word.len());
+    if !is_word(word, front) {
+        return None;
+    }
+    number_of(digits)
+}
+
+/// The number of one to five digits, up to 65,535, or `None` where the octets are none such.
+fn number_of(digits: &[u8]) -> Option<u16>
+    ensures { result ≡ number_of_digits digits.now }
+{
+    if digits.is_empty() || digits.len() > 5 {
+        return None;
+    }
+    u16::try_from(value_of(digits)?).ok()
+}
+
+/// The value of up to five digits, or `None` where another octet stands among them.
+fn value_of(digits: &[u8]) -> Option<u32>
+    requires { length digits.now ≤ 5 }
+    ensures { result ≡ value_from 0 digits.now }
+{
+    let mut value = 0;
+    for octet in digits {
+        if !octet.is_ascii_digit() {
+            return None;
+        }
+        value = value * 10 + u32::from(*octet - b'0');
+    }
+    Some(value)
+}
