@@ -213,7 +213,7 @@ module _ (server : Labels) (first : Rr) (rest : List Rr) (shape : is_first_shape
 
   report_of_zone : (aliases : List Alias) (names classes : ℕ) → IsTreeSize (ground_of config) names classes → AreBlackholes zone aliases
       → IsReport config default_rewrites
-        (record { classes = classes; names = names; rewrites = default_rewrites; entries = blackhole_entries server first.owner aliases })
+      (record { classes = classes; names = names; rewrites = default_rewrites; entries = blackhole_entries server first.owner aliases })
   report_of_zone aliases names classes size are =
       record {
         size = size;
@@ -236,7 +236,7 @@ ReportsOn config =
     (server : Labels) (zone : Zone) → server_names config ≡ server ∷ [] → zones config ≡ zone ∷ []
     → (aliases : List Alias) (names classes : ℕ) → IsTreeSize (ground_of config) names classes → AreBlackholes zone aliases
     → IsReport config default_rewrites
-      (record { classes = classes; names = names; rewrites = default_rewrites; entries = blackhole_entries server zone.origin aliases })
+    (record { classes = classes; names = names; rewrites = default_rewrites; entries = blackhole_entries server zone.origin aliases })
 
 of_parts : (server : Labels) (first : Rr) (rest : List Rr) → is_first_shape (first ∷ rest) ≡ true → ReportsOn (one_zone server first.owner (first ∷ rest))
 of_parts server first rest shape other zone named held aliases names classes size are =
@@ -258,7 +258,7 @@ pub report_of_blackholes : (config : Config) → IsFirstConfig config → (serve
     → IsTreeSize (ground_of config) names classes
     → AreBlackholes zone aliases
     → IsReport config default_rewrites
-      (record { classes = classes; names = names; rewrites = default_rewrites; entries = blackhole_entries server zone.origin aliases })
+    (record { classes = classes; names = names; rewrites = default_rewrites; entries = blackhole_entries server zone.origin aliases })
 report_of_blackholes config is server zone named held aliases names classes size are =
     let made = how_made config is in
     subst ReportsOn made.made (of_parts made.server made.first made.rest made.shape) server zone named held aliases names classes size are

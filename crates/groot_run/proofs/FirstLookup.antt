@@ -90,7 +90,7 @@ module _ (zone : Zone) (first : IsFirstZone zone) where
   not_origin encloser =
       elim (cases_Bool (name_eq (source_of_synthesis encloser) zone.origin)) [
         | inl same ↦ absurd (not_below_asterisk encloser zone.origin
-          ([], append-nil (source_of_synthesis encloser) ∙ (same_names (source_of_synthesis encloser) zone.origin).0 same) first.plain_origin)
+            ([], append-nil (source_of_synthesis encloser) ∙ (same_names (source_of_synthesis encloser) zone.origin).0 same) first.plain_origin)
         | inr other ↦ other
       ]
 
@@ -98,7 +98,7 @@ module _ (zone : Zone) (first : IsFirstZone zone) where
   not_above encloser rr among =
       elim (cases_Bool (is_prefix (source_of_synthesis encloser) rr.owner)) [
         | inl begins ↦ absurd (not_below_asterisk encloser rr.owner
-          (is_prefix_tells (source_of_synthesis encloser) rr.owner begins) (first.records rr among).no_asterisk)
+            (is_prefix_tells (source_of_synthesis encloser) rr.owner begins) (first.records rr among).no_asterisk)
         | inr other ↦ other
       ]
 

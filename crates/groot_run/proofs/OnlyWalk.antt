@@ -51,7 +51,7 @@ one_branch setting rtype state branch number numbers walk alone is =
     let place = alone_at (next setting rtype state) branch number taken.0 alone taken.1 in (
       place.0,
       ap (branched state (length numbers == 0) (walk_from setting rtype numbers))
-      (sym (taken.1 ∙ ap (λ (b : Branch). Some b) place.1)) ∙ is,
+          (sym (taken.1 ∙ ap (λ (b : Branch). Some b) place.1)) ∙ is,
     )
 
 -- ---- walks

@@ -14,10 +14,14 @@ use thiserror::Error;
 pub enum LoadFault {
     /// A read of this file failed.
     #[error("a read failed")]
-    Read { file: Text },
+    Read {
+        file: Text,
+    },
     /// These metadata aren't in the first form, the zone isn't of the first shape, or the file is too long.
     #[error("not of a form that is read yet")]
-    NotYet { file: Text },
+    NotYet {
+        file: Text,
+    },
     /// This zone file doesn't read: the line of the entry or of the text at fault, counted from 1, and why.
     #[error("a zone file that doesn't read")]
     Text {

@@ -9,7 +9,11 @@ use std::alloc::Global;
 
 /// Of identical records the first, or `None` where there are more than `most` of them. A record is compared with
 /// those that are kept, at most `most`, so that any number of records costs a bounded number of comparisons each.
-pub fn distinct_records(alloc: Global, rrs: List<Rr>, most: usize) -> Result<Option<List<Rr>>, NoMemory>
+pub fn distinct_records(
+    alloc: Global,
+    rrs: List<Rr>,
+    most: usize,
+) -> Result<Option<List<Rr>>, NoMemory>
     ensures kept { IfOk result (λ found. IfSome found (λ kept. kept ≡ distinct rrs)) }
     ensures many { IfOk result (λ found. IfNone found (most < length (distinct rrs))) }
 {

@@ -1,14 +1,15 @@
 //! From a metadata file's name to a configuration.
 
-ghost use Rattle.std.specs.Prelude.{◌≡◌, ◌++◌, ℕ, List, IfOk, OnOk, IfSome};
+ghost use Rattle.std.specs.Prelude.{◌≡◌, ◌≤◌, ◌++◌, ℕ, List, length, IfOk, OnOk, IfSome};
 ghost use Rattle.std.specs.String.{string_bytes};
 ghost use Rattle.io_edges.specs.Counts.{NoneFell};
-ghost use Rattle.groot_run.specs.Conf.{Contents, conf, joined, directory_of, zone_reading};
+ghost use Rattle.groot_run.specs.Conf.{Contents, conf, joined, directory_of, zone_reading, most_octets};
 ghost use Rattle.groot_run.specs.FirstShape.{IsFirstConfig};
 ghost use Rattle.groot_run.specs.Loading.{Gives, GivesFile, FailedAt, FailedAtOpened, NeverRead};
 
 use crate::fault::LoadFault;
 use crate::files::{WholeFault, read_whole};
+use crate::identical::distinct_records;
 use crate::metadata::{Metadata, read_metadata};
 use crate::shape::one_zone;
 use crate::zone_file::read_zone;
@@ -17,6 +18,9 @@ use io_edges::Files;
 use master_read::TextFault;
 use net_model::Config;
 use std::alloc::Global;
+
+/// How many records a zone of the first shape may have.
+const MOST_RECORDS: usize = 500;
 
 /// The configuration that a metadata file and its zone file give.
 pub fn load<F: Files>(alloc: Global, files: &mut F, meta: &str) -> Result<Config, LoadFault>

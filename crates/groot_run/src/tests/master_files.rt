@@ -90,7 +90,10 @@ fn codes_of_entries(rt: HostRuntime) -> Result<(), Fail> {
         ("a.t. 60 TXT b )\n", "t.zone:3: stray-close\n"),
         ("a.t. 60 TXT b\\256\n", "t.zone:3: bad-escape\n"),
         ("$TTL 1x\n", "t.zone:3: bad-directive\n"),
-        ("$GENERATE 1-9 a$ A 192.0.2.$\n", "t.zone:3: not-supported\n"),
+        (
+            "$GENERATE 1-9 a$ A 192.0.2.$\n",
+            "t.zone:3: not-supported\n",
+        ),
         ("$INCLUDE sub.zone\n", "t.zone:3: not-supported\n"),
         ("a..t. 60 A 10.0.0.1\n", "t.zone:3: bad-owner\n"),
         ("a.t. 60 IN\n", "t.zone:3: no-type\n"),
@@ -110,7 +113,10 @@ fn codes_of_data(rt: HostRuntime) -> Result<(), Fail> {
     let cases = [
         ("x.t. 60 A 10.0.0.256\n", "t.zone:3: bad-address\n"),
         ("x.t. 60 A 10.0.0.01\n", "t.zone:3: bad-address\n"),
-        ("x.t. 60 A 10.0.0.1\nx.t. 60 MX mail\n", "t.zone:4: field-count\n"),
+        (
+            "x.t. 60 A 10.0.0.1\nx.t. 60 MX mail\n",
+            "t.zone:4: field-count\n",
+        ),
         ("x.t. 60 MX 65536 mail.t.\n", "t.zone:3: bad-number\n"),
         ("x.t. 60 PTR a..b\n", "t.zone:3: bad-name\n"),
         ("x.t. 60 TYPE65534 \\# 2 0a\n", "t.zone:3: bad-hex\n"),
