@@ -1,5 +1,5 @@
 -- What the first shape says of each record of a zone, in parts.
-use Rattle.std.proofs.Common.{◌≡◌, ℕ, ◌≤◌, Bool, true, false, cond, not, List, [], ◌∷◌, codes, length, Contains, Some, None, sym, refl, ap, ◌∙◌, subst, inl, inr, leb-true, eqb-true}
+use Rattle.std.proofs.Common.{◌≡◌, ◌≤◌, Bool, true, false, cond, List, [], ◌∷◌, codes, length, Contains, Some, None, sym, refl, ap, ◌∙◌, subst, inl, inr, leb-true, eqb-true}
 use Rattle.std.specs.List.{list_any}
 use Rattle.std.proofs.lemmas.Bool.{and_parts, not-true}
 use Rattle.dns_data.specs.Label.{label_eq}
@@ -115,8 +115,8 @@ first_zone first rest shape =
           elim (first_or_later first rest rr has) [
             | inl same ↦ absurd (soa_no_alias first.rdata target head.1 (ap (λ (r : Rr). r.rdata) same ∙ holds))
             | inr later ↦ plain_alias (first ∷ rest) rr.owner target
-              (ap (is_plain_alias (first ∷ rest) rr.owner) (sym holds)
-              ∙ each_of_all (λ (r : Rr). is_plain_alias (first ∷ rest) r.owner r.rdata) rest aliases.1 rr later)
+                (ap (is_plain_alias (first ∷ rest) rr.owner) (sym holds)
+                ∙ each_of_all (λ (r : Rr). is_plain_alias (first ∷ rest) r.owner r.rdata) rest aliases.1 rr later)
           ];
     }
 
