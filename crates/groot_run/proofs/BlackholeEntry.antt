@@ -1,9 +1,11 @@
 -- The entry of a blackhole in the report of a configuration of the first shape: the query for its alias's owner is the
 -- representative of the owner's own class, no other class's shows it, and type A is the first type.
-use Rattle.std.proofs.Common.{◌≡◌, subst, append-nil, map, Contains, ℕ, ◌≤◌, false, List, [], ◌∷◌, Some, Less, Equal, sym, refl, ap, ◌∙◌, arith}
+use Rattle.std.proofs.Common.{◌≡◌, ℕ, ◌≤◌, false, List, [], ◌∷◌, map, Contains, Some, Less, Equal, sym, refl, ap, ◌∙◌, subst, append-nil, arith}
+use Rattle.std.specs.List.{flat_map}
 use Rattle.std.specs.Prelude.{◌≢◌}
 use Rattle.std.proofs.lemmas.Bool.{and_right, or_from}
 use Rattle.std.proofs.lemmas.Cmp.{tied_itself}
+use Rattle.std.proofs.lemmas.List.Elements.{Contains-append_left}
 use Rattle.std.proofs.lemmas.Option.{same_Some}
 use Rattle.dns_data.specs.Name.{Labels, wire_octets, name_cmp, name_eq}
 use Rattle.dns_data.specs.RrType.{number_of}
@@ -19,25 +21,23 @@ use Rattle.net_model.specs.declared.place.Place.{Place}
 use Rattle.net_model.specs.declared.walk.Walk.{Walk}
 use Rattle.net_model.specs.Class.{class_cmp}
 use Rattle.net_model.specs.Nearest.{server_names}
+use Rattle.net_model.specs.Prefix.{prefixes}
 use Rattle.net_model.specs.Reading.{IsNamed, records, origins_and_owners, ground_of}
 use Rattle.net_model.specs.Shown.{ShowsIn}
 use Rattle.net_model.specs.Walk.{walk_along}
 use Rattle.groot_run.specs.Blackholes.{Alias, IsBlackhole, alias_place, blackhole_walk, blackhole_entry}
 use Rattle.groot_run.specs.Outcome.{default_rewrites}
 use Rattle.groot_run.specs.Report.{repeats, ClassShows, PathsShow, paths_cmp, IsEntry}
+use Rattle.groot_run.proofs.FirstAliases.{target_differs}
 use Rattle.groot_run.proofs.FirstBlackholes.{owns_blackhole, shown_is_alias, only_blackhole, blackhole_walk_shows, owner_shows}
 use Rattle.groot_run.proofs.FirstGround.{among_named}
 use Rattle.groot_run.proofs.FirstNearest.{config_for}
-use Rattle.groot_run.proofs.Membership.{has_later, map_has, flat_map_has}
-use Rattle.groot_run.proofs.SortedTree.{prefixes_have}
-use Rattle.std.proofs.lemmas.List.Elements.{Contains-append_left}
-use Rattle.std.specs.List.{flat_map}
-use Rattle.net_model.specs.Prefix.{prefixes}
-use Rattle.groot_run.proofs.FirstAliases.{target_differs}
 use Rattle.groot_run.proofs.FirstRecords.{IsFirstZone}
 use Rattle.groot_run.proofs.FirstWalks.{setting_for}
+use Rattle.groot_run.proofs.Membership.{has_later, map_has, flat_map_has}
 use Rattle.groot_run.proofs.NameOrder.{names_total}
 use Rattle.groot_run.proofs.OnlyWalk.{IsOnlyWalk, shown_by_one}
+use Rattle.groot_run.proofs.SortedTree.{prefixes_have}
 
 -- type A has the least number
 a_first : (rtype : RrType) → number_of types.A ≤ number_of rtype

@@ -27,12 +27,12 @@ use Rattle.groot_run.specs.Blackholes.{Alias, IsBlackhole, AreBlackholes, alias_
 use Rattle.groot_run.specs.FirstShape.{is_first_shape, one_zone, IsFirstConfig}
 use Rattle.groot_run.specs.Outcome.{default_rewrites}
 use Rattle.groot_run.specs.Report.{Entry, is_looked_for, IsEntry, IsShown, IsTreeSize, IsReport}
+use Rattle.groot_run.proofs.BlackholeEntry.{owner_short, entry_right}
 use Rattle.groot_run.proofs.FirstBlackholes.{shown_is_alias, owner_shows}
 use Rattle.groot_run.proofs.FirstNearest.{config_for}
 use Rattle.groot_run.proofs.FirstRecords.{IsFirstZone, first_zone, how_made}
 use Rattle.groot_run.proofs.Membership.{has_first, has_later, map_has}
 use Rattle.groot_run.proofs.NameOrder.{names_total}
-use Rattle.groot_run.proofs.BlackholeEntry.{owner_short, entry_right}
 
 -- ---- lists
 

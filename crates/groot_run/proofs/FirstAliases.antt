@@ -1,8 +1,8 @@
 -- The aliases of a zone of the first shape: a name owns one or none, its target owns none, and a lookup of any type but
 -- CNAME rewrites the query to the target.
 use Rattle.std.proofs.Common.{◌≡◌, Bool, true, false, cond, List, [], ◌∷◌, map, length, Contains, filter, Option, Some, None, sym, refl, ap, ◌∙◌, subst, inl, inr, true≢false}
-use Rattle.std.specs.Prelude.{if◌then◌else◌}
 use Rattle.std.specs.List.{list_any, filter_map}
+use Rattle.std.specs.Prelude.{if◌then◌else◌}
 use Rattle.std.proofs.lemmas.Bool.{cases_Bool, and_parts, and_from}
 use Rattle.std.proofs.lemmas.Option.{same_Some}
 use Rattle.dns_data.specs.Name.{Labels, name_eq}
@@ -20,11 +20,11 @@ use Rattle.net_model.specs.Lookup.{first_name, answer_of, aliased, at_name, foun
 use Rattle.net_model.specs.Order.{in_order}
 use Rattle.net_model.specs.Zone.{is_of, owns, exists_in, target_of, data_at, targets_at, data_cmp}
 use Rattle.groot_run.specs.FirstShape.{records_at}
+use Rattle.groot_run.proofs.FirstLookup.{own_records_decide, owner_exists}
 use Rattle.groot_run.proofs.FirstRecords.{IsFirstZone}
 use Rattle.groot_run.proofs.Membership.{none_in_nil, has_first, from_filter, filter_has, from_map, map_has}
 use Rattle.groot_run.proofs.Searches.{any_has, filter_none, filter_map_has, from_filter_map, same_if_alone}
 use Rattle.groot_run.proofs.SortedTree.{same_names}
-use Rattle.groot_run.proofs.FirstLookup.{own_records_decide, owner_exists}
 
 -- the target to which an alias of the name rewrites a query of the type
 abbrev pub alias_for : Zone → Labels → RrType → Option Labels

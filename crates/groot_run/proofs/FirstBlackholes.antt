@@ -23,8 +23,8 @@ use Rattle.net_model.specs.Zone.{exists_in, data_at, data_cmp}
 use Rattle.groot_run.specs.Blackholes.{Alias, IsBlackhole, alias_place, blackhole_walk}
 use Rattle.groot_run.specs.Outcome.{default_rewrites}
 use Rattle.groot_run.proofs.FirstAliases.{OwnsAlias, alias_for, alias_tells, alias_told}
-use Rattle.groot_run.proofs.FirstRecords.{IsFirstZone}
 use Rattle.groot_run.proofs.FirstNearest.{config_for, nearest_inside}
+use Rattle.groot_run.proofs.FirstRecords.{IsFirstZone}
 use Rattle.groot_run.proofs.FirstWalks.{leaf_of, leaf_inside, leaf_at, setting_for, plain_walk, alias_walk, only_plain, only_alias}
 use Rattle.groot_run.proofs.OnlyWalk.{IsOnlyWalk, only_walk_shows}
 

@@ -1,7 +1,7 @@
 -- A lookup in a zone of the first shape finds no cut, no redirection and no wildcard: a name's own records decide.
 use Rattle.std.proofs.Common.{◌≡◌, true, false, ◌&&◌, [], ◌∷◌, ◌++◌, length, codes, Contains, nat_lt, nat_le, Option, Some, None, sym, refl, ap, ◌∙◌, append-nil, inl, inr, true≢false, arith, le-ltb}
-use Rattle.std.specs.Prelude.{if◌then◌else◌}
 use Rattle.std.specs.List.{list_any}
+use Rattle.std.specs.Prelude.{if◌then◌else◌}
 use Rattle.std.proofs.lemmas.Bool.{cases_Bool, and_parts, and_from, and_left, and_right, or_from, or_right}
 use Rattle.dns_data.specs.Label.{label_eq}
 use Rattle.dns_data.specs.Name.{Labels, is_prefix, name_eq}

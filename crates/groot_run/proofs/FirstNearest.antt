@@ -7,7 +7,6 @@ use Rattle.dns_data.specs.Name.{Labels, is_prefix, name_eq}
 use Rattle.net_model.specs.declared.config.Config.{Config}
 use Rattle.net_model.specs.declared.config.Server.{Server}
 use Rattle.net_model.specs.declared.config.Zone.{Zone}
-use Rattle.net_model.specs.declared.found.Found.TheVariants as found_as
 use Rattle.net_model.specs.Nearest.{server_named, zone_with_origin, nearest, nearest_of}
 use Rattle.net_model.specs.Prefix.{prefixes}
 use Rattle.groot_run.specs.FirstShape.{one_zone}
