@@ -1,6 +1,6 @@
 -- The blackholes that queries show in a configuration of the first shape: those of its aliases whose target doesn't
 -- exist, each by the query for its alias's owner.
-use Rattle.std.proofs.Common.{◌≡◌, Bool, true, false, cond, List, [], ◌∷◌, ◌++◌, Option, Some, None, sym, refl, ap, ◌∙◌, subst}
+use Rattle.std.proofs.Common.{◌≡◌, Bool, true, false, List, [], ◌∷◌, ◌++◌, Option, Some, None, sym, refl, ap, ◌∙◌, subst}
 use Rattle.std.specs.Prelude.{if◌then◌else◌, option_map}
 use Rattle.std.proofs.lemmas.Option.{same_Some}
 use Rattle.dns_data.specs.Name.{Labels, is_prefix}
@@ -16,16 +16,16 @@ use Rattle.net_model.specs.declared.walk.Leaf.{Leaf}
 use Rattle.net_model.specs.declared.walk.Leaf.TheVariants.{NxDomain, Outside}
 use Rattle.net_model.specs.declared.walk.State.{State}
 use Rattle.net_model.specs.declared.walk.Walk.{Walk}
-use Rattle.net_model.specs.Learnt.{InLeast, InGreatest}
 use Rattle.net_model.specs.Nearest.{nearest_of, server_names}
 use Rattle.net_model.specs.Order.{in_order}
 use Rattle.net_model.specs.Shown.{LastRewriteAt, ShowsBlackhole, ShowsIn}
 use Rattle.net_model.specs.Zone.{exists_in, data_at, data_cmp}
 use Rattle.groot_run.specs.Blackholes.{Alias, IsBlackhole, alias_place, blackhole_walk}
 use Rattle.groot_run.specs.Outcome.{default_rewrites}
-use Rattle.groot_run.proofs.FirstLookup.{OwnsAlias, alias_for, alias_tells, alias_told}
+use Rattle.groot_run.proofs.FirstAliases.{OwnsAlias, alias_for, alias_tells, alias_told}
+use Rattle.groot_run.proofs.FirstNearest.{config_for, nearest_inside}
 use Rattle.groot_run.proofs.FirstRecords.{IsFirstZone}
-use Rattle.groot_run.proofs.FirstWalks.{leaf_of, leaf_inside, leaf_at, config_for, setting_for, nearest_inside, plain_walk, alias_walk, only_plain, only_alias}
+use Rattle.groot_run.proofs.FirstWalks.{leaf_of, leaf_inside, leaf_at, setting_for, plain_walk, alias_walk, only_plain, only_alias}
 use Rattle.groot_run.proofs.OnlyWalk.{IsOnlyWalk, only_walk_shows}
 
 -- ---- ends
@@ -75,22 +75,22 @@ owns_blackhole zone alias is = record { rr = is.rr; among = is.among; owned = is
 
 module _ (server : Labels) (zone : Zone) (first : IsFirstZone zone) where
   -- a walk that no alias rewrites shows no blackhole
-  plain_shows_none : (followed : List Labels) (query : Labels) (rtype : RrType) (place : Place)
-      → ShowsBlackhole (plain_walk server zone first followed query rtype) place → ⊥
-  plain_shows_none followed query rtype place shows =
-      let none : ◌≡◌ {A = Option Place} None (Some place) = last_place [] _ (plain_walk server zone first followed query rtype) place refl shows.rewritten in
+  plain_shows_none : (query : Labels) (rtype : RrType) (place : Place)
+      → ShowsBlackhole (plain_walk server zone query rtype) place → ⊥
+  plain_shows_none query rtype place shows =
+      let none : ◌≡◌ {A = Option Place} None (Some place) = last_place [] _ (plain_walk server zone query rtype) place refl shows.rewritten in
       cc
 
   -- a walk that an alias rewrites shows that of the alias, if its target doesn't exist
-  alias_shows : (followed : List Labels) (query target : Labels) (rtype : RrType) (place : Place) → OwnsAlias zone query target
-      → ShowsBlackhole (alias_walk server zone first followed query target rtype) place
+  alias_shows : (query target : Labels) (rtype : RrType) (place : Place) → OwnsAlias zone query target
+      → ShowsBlackhole (alias_walk server zone query target rtype) place
       → IsBlackhole zone (record { owner = query; target = target })
       × (alias_place server zone.origin (record { owner = query; target = target }) ≡ place)
-  alias_shows followed query target rtype place owns shows =
+  alias_shows query target rtype place owns shows =
       let ends = leaf_tells zone target rtype shows.ends in (
         record { rr = owns.rr; among = owns.among; owned = owns.owned; holds = owns.holds; below = ends.0; missing = ends.1 },
         same_Some (alias_place server zone.origin (record { owner = query; target = target })) place
-            (last_place (_ ∷ []) _ (alias_walk server zone first followed query target rtype) place refl shows.rewritten),
+            (last_place (_ ∷ []) _ (alias_walk server zone query target rtype) place refl shows.rewritten),
       )
 
   -- a blackhole that a query shows is that of an alias, and the query is for the alias's owner
@@ -100,15 +100,15 @@ module _ (server : Labels) (zone : Zone) (first : IsFirstZone zone) where
     by : (target : Option Labels) → alias_for zone query rtype ≡ target
         → (alias : Alias) × IsBlackhole zone alias × (alias.owner ≡ query) × (alias_place server zone.origin alias ≡ place)
     by None e =
-        absurd (plain_shows_none shown.followed query rtype place
+        absurd (plain_shows_none query rtype place
         (only_walk_shows (setting_for server zone shown.followed) _ _ query rtype place (0 ∷ 0 ∷ [])
-        (plain_walk server zone first shown.followed query rtype) shown.shows.walks
+        (plain_walk server zone query rtype) shown.shows.walks
         (only_plain server zone first shown.followed query rtype e) shown.shows.are_walks shown.shows.show))
     by (Some target) e =
         let shows = only_walk_shows (setting_for server zone shown.followed) _ _ query rtype place (0 ∷ 0 ∷ 0 ∷ [])
-        (alias_walk server zone first shown.followed query target rtype) shown.shows.walks
+        (alias_walk server zone query target rtype) shown.shows.walks
         (only_alias server zone first shown.followed query target rtype e) shown.shows.are_walks shown.shows.show in
-        let is = alias_shows shown.followed query target rtype place (alias_tells zone query rtype target e) shows in
+        let is = alias_shows query target rtype place (alias_tells zone query rtype target e) shows in
         (record { owner = query; target = target }, is.0, refl, is.1)
 
   -- the walk of an alias that is a blackhole
@@ -122,9 +122,9 @@ module _ (server : Labels) (zone : Zone) (first : IsFirstZone zone) where
         leaf = leaf;
       }
 
-  walk_of_blackhole : (followed : List Labels) (alias : Alias) (rtype : RrType) → IsBlackhole zone alias
-      → alias_walk server zone first followed alias.owner alias.target rtype ≡ blackhole_walk server zone.origin alias
-  walk_of_blackhole followed alias rtype is =
+  walk_of_blackhole : (alias : Alias) (rtype : RrType) → IsBlackhole zone alias
+      → alias_walk server zone alias.owner alias.target rtype ≡ blackhole_walk server zone.origin alias
+  walk_of_blackhole alias rtype is =
       let owner : is_prefix zone.origin alias.owner ≡ true =
       subst (λ (name : Labels). is_prefix zone.origin name ≡ true) is.owned (first.records is.rr is.among).below_origin in
       ap (λ (here : Option Zone). walk_with alias here (nearest_of (config_for server zone) server alias.target) (leaf_at zone alias.target rtype))
@@ -137,7 +137,7 @@ module _ (server : Labels) (zone : Zone) (first : IsFirstZone zone) where
       → IsOnlyWalk (setting_for server zone followed) alias.owner rtype (0 ∷ 0 ∷ 0 ∷ []) (blackhole_walk server zone.origin alias)
   only_blackhole followed alias rtype other is =
       let owns = owns_blackhole zone alias is in
-      subst (IsOnlyWalk (setting_for server zone followed) alias.owner rtype (0 ∷ 0 ∷ 0 ∷ [])) (walk_of_blackhole followed alias rtype is)
+      subst (IsOnlyWalk (setting_for server zone followed) alias.owner rtype (0 ∷ 0 ∷ 0 ∷ [])) (walk_of_blackhole alias rtype is)
       (only_alias server zone first followed alias.owner alias.target rtype (alias_told zone first alias.owner alias.target rtype other owns))
 
   -- and it shows the blackhole

@@ -1,5 +1,5 @@
 -- What the first shape says of each record of a zone, in parts.
-use Rattle.std.proofs.Common.{◌≡◌, ℕ, ◌≤◌, Bool, true, false, cond, not, List, [], ◌∷◌, codes, length, Contains, Some, None, sym, refl, ap, ◌∙◌, subst, inl, inr, leb-true, eqb-true}
+use Rattle.std.proofs.Common.{◌≡◌, ◌≤◌, Bool, true, false, cond, List, [], ◌∷◌, codes, length, Contains, Some, None, sym, refl, ap, ◌∙◌, subst, inl, inr, leb-true, eqb-true}
 use Rattle.std.specs.List.{list_any}
 use Rattle.std.proofs.lemmas.Bool.{and_parts, not-true}
 use Rattle.dns_data.specs.Label.{label_eq}

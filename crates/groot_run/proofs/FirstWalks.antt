@@ -1,15 +1,11 @@
 -- The walks in a configuration of the first shape: each query has one. It ends at once, or an alias rewrites it and it
 -- ends at the target.
-use Rattle.std.proofs.Common.{◌≡◌, ℕ, ◌+◌, Bool, true, false, cond, ◌&&◌, List, [], ◌∷◌, map, reverse, Contains, Option, Some, None, sym, refl, ap, ◌∙◌, subst, inl, inr, true≢false}
-use Rattle.std.specs.Prelude.{if◌then◌else◌, is_some, option_map, option_and_then}
-use Rattle.std.specs.List.{find}
+use Rattle.std.proofs.Common.{◌≡◌, Bool, true, false, List, [], ◌∷◌, map, Some, None, sym, refl, ap, ◌∙◌, subst, inl, inr}
+use Rattle.std.specs.Prelude.{if◌then◌else◌, is_some}
 use Rattle.std.proofs.lemmas.Bool.{cases_Bool}
-use Rattle.std.proofs.lemmas.List.Sorted.{IsPermutation-reverse, IsPermutation-sym, Contains-permutation}
-use Rattle.dns_data.specs.Name.{Labels, is_prefix, name_eq}
+use Rattle.dns_data.specs.Name.{Labels, is_prefix}
 use Rattle.dns_data.specs.declared.rdata.Rdata.{Rdata}
 use Rattle.dns_data.specs.declared.rr_type.RrType.{RrType}
-use Rattle.net_model.specs.declared.config.Config.{Config}
-use Rattle.net_model.specs.declared.config.Server.{Server}
 use Rattle.net_model.specs.declared.config.Zone.{Zone}
 use Rattle.net_model.specs.declared.found.Found.TheVariants as found_as
 use Rattle.net_model.specs.declared.place.Place.{Place}
@@ -19,18 +15,19 @@ use Rattle.net_model.specs.declared.walk.Leaf.TheVariants.{Answer, NoData, NxDom
 use Rattle.net_model.specs.declared.walk.State.{State}
 use Rattle.net_model.specs.declared.walk.Walk.{Walk}
 use Rattle.net_model.specs.Lookup.{answer_of}
-use Rattle.net_model.specs.Nearest.{server_named, zone_with_origin, nearest, nearest_of}
+use Rattle.net_model.specs.Nearest.{nearest_of}
 use Rattle.net_model.specs.Order.{in_order}
-use Rattle.net_model.specs.Prefix.{prefixes}
-use Rattle.net_model.specs.Step.{Setting, Branch, Go, End, arrived, rewritten, after_lookup, in_zone, next}
+use Rattle.net_model.specs.Step.{Setting, Go, End, arrived, rewritten, after_lookup, in_zone, next}
 use Rattle.net_model.specs.Zone.{exists_in, data_at, data_cmp}
-use Rattle.groot_run.specs.FirstShape.{one_zone}
 use Rattle.groot_run.specs.Outcome.{default_rewrites}
-use Rattle.groot_run.proofs.FirstLookup.{OwnsAlias, alias_for, alias_tells, plain_found, found_plain, found_alias, target_unaliased}
+use Rattle.groot_run.proofs.FirstAliases.{OwnsAlias, alias_for, alias_tells, found_plain, found_alias, target_unaliased}
+use Rattle.groot_run.proofs.FirstNearest.{config_for, nearest_inside, nearest_outside}
 use Rattle.groot_run.proofs.FirstRecords.{IsFirstZone}
 use Rattle.groot_run.proofs.OnlyWalk.{IsOnlyWalk, ends_only, goes_only, begins_only}
-use Rattle.groot_run.proofs.Searches.{find_none, find_some}
-use Rattle.groot_run.proofs.SortedTree.{same_names, is_prefix_tells, is_prefix_told, prefixes_have, from_prefixes}
+
+-- what the walks of the zone's configuration are read in, while these servers are followed
+abbrev pub setting_for : Labels → Zone → List Labels → Setting
+setting_for server zone followed = record { config = config_for server zone; rewrites = default_rewrites; followed = followed }
 
 -- the end of a walk at a name whose data of the type are these
 abbrev pub leaf_of : List Rdata → Leaf
@@ -45,64 +42,6 @@ leaf_inside zone name rtype = if exists_in zone name then leaf_of (in_order data
 abbrev pub leaf_at : Zone → Labels → RrType → Leaf
 leaf_at zone name rtype = if is_prefix zone.origin name then leaf_inside zone name rtype else Outside
 
--- the configuration of a server that holds the zone
-abbrev pub config_for : Labels → Zone → Config
-config_for server zone = one_zone server zone.origin zone.rrs
-
--- and what its walks are read in, while these servers are followed
-abbrev pub setting_for : Labels → Zone → List Labels → Setting
-setting_for server zone followed = record { config = config_for server zone; rewrites = default_rewrites; followed = followed }
-
--- ---- the zone in which a name is looked up
-
-module _ (server : Labels) (zone : Zone) where
-  abbrev holder : Server
-  holder = record { name = server; zones = zone ∷ [] }
-
-  server_known : server_named (config_for server zone) server ≡ Some holder
-  server_known = ap (λ (b : Bool). cond b (Some holder) None) ((same_names server server).1 refl)
-
-  -- the server has the one zone for the name or none
-  at_holder : (name : Labels) → nearest_of (config_for server zone) server name ≡ nearest holder name
-  at_holder name = ap (option_and_then (λ (s : Server). nearest s name)) server_known
-
-  abbrev is_origin : Labels → Bool
-  is_origin above = is_some (zone_with_origin holder above)
-
-  origin_tells : (above : Labels) → is_origin above ≡ true → (zone_with_origin holder above ≡ Some zone) × (zone.origin ≡ above)
-  origin_tells above is = by (name_eq zone.origin above) refl is where
-    by : (b : Bool) → name_eq zone.origin above ≡ b → is_some (cond b (Some zone) None) ≡ true → (cond b (Some zone) None ≡ Some zone) × (zone.origin ≡ above)
-    by true e is = (refl, (same_names zone.origin above).0 e)
-    by false e is = cc
-
-  -- the zone has the names at or below its origin
-  pub nearest_inside : (name : Labels) → is_prefix zone.origin name ≡ true → nearest_of (config_for server zone) server name ≡ Some zone
-  nearest_inside name inside =
-      let among : Contains (reverse (prefixes name)) zone.origin =
-      Contains-permutation (prefixes name) (reverse (prefixes name)) zone.origin (IsPermutation-reverse (prefixes name))
-      (prefixes_have name zone.origin (is_prefix_tells zone.origin name inside)) in
-      let passes : is_origin zone.origin ≡ true =
-      ap (λ (b : Bool). is_some (cond b (Some zone) None)) ((same_names zone.origin zone.origin).1 refl) in
-      let longest = find_some is_origin (reverse (prefixes name)) zone.origin among passes in
-      at_holder name ∙ ap (option_and_then (zone_with_origin holder)) longest.1 ∙ (origin_tells longest.0 longest.2).0
-
-  -- and no others
-  pub nearest_outside : (name : Labels) → is_prefix zone.origin name ≡ false → nearest_of (config_for server zone) server name ≡ None
-  nearest_outside name outside =
-      at_holder name ∙ ap (option_and_then (zone_with_origin holder)) (find_none is_origin (reverse (prefixes name)) not_origin)
-    where
-      not_origin : (above : Labels) → Contains (reverse (prefixes name)) above → is_origin above ≡ false
-      not_origin above has =
-          elim (cases_Bool (is_origin above)) [
-            | inl is ↦ (
-                let among = Contains-permutation (reverse (prefixes name)) (prefixes name) above
-                (IsPermutation-sym (prefixes name) (reverse (prefixes name)) (IsPermutation-reverse (prefixes name))) has in
-                let begins : is_prefix above name ≡ true = is_prefix_told above name (from_prefixes name above among) in
-                let same : zone.origin ≡ above = (origin_tells above is).1 in
-                absurd (true≢false (sym begins ∙ ap (λ (x : Labels). is_prefix x name) (sym same) ∙ outside)))
-            | inr not ↦ not
-          ]
-
 -- ---- one step
 
 -- what a zone has for a name ends the walk
@@ -112,82 +51,94 @@ leaf_after setting state origin true [] = refl
 leaf_after setting state origin true (first ∷ rest) = refl
 leaf_after setting state origin false rdata = refl
 
-module _ (server : Labels) (zone : Zone) (first : IsFirstZone zone) (followed : List Labels) where
-  -- the state at a name
-  abbrev pub at : Labels → Bool → ℕ → Option Place → State
-  at name carried used last = arrived (config_for server zone) name carried used last server
-
-  -- where no alias rewrites the query, the walk ends
-  pub plain_step : (name : Labels) (carried : Bool) (used : ℕ) (last : Option Place) (rtype : RrType) → alias_for zone name rtype ≡ None
-      → next (setting_for server zone followed) rtype (at name carried used last) ≡ End None (leaf_at zone name rtype) ∷ []
-  plain_step name carried used last rtype none =
-      elim (cases_Bool (is_prefix zone.origin name)) [
-        | inl inside ↦
-            ap (in_zone (setting_for server zone followed) rtype (at name carried used last)) (nearest_inside server zone name inside)
-            ∙ ap (after_lookup (setting_for server zone followed) (at name carried used last) zone.origin) (found_plain zone first name rtype none)
-            ∙ leaf_after (setting_for server zone followed) (at name carried used last) zone.origin (exists_in zone name) (in_order data_cmp (data_at zone name rtype))
-            ∙ ap (λ (b : Bool). End None (if b then leaf_inside zone name rtype else Outside) ∷ []) (sym inside)
-        | inr outside ↦
-            ap (in_zone (setting_for server zone followed) rtype (at name carried used last)) (nearest_outside server zone name outside)
-            ∙ ap (λ (b : Bool). End None (if b then leaf_inside zone name rtype else Outside) ∷ []) (sym outside)
-      ]
+module _ (server : Labels) (zone : Zone) where
+  -- the state in which a query begins
+  abbrev pub begun : Labels → State
+  begun query = arrived (config_for server zone) query true 0 None server
 
   -- the place at which an alias of the name rewrites
   abbrev pub place_of : Labels → Place
   place_of name = record { server = server; zone = zone.origin; owner = name }
+
+  -- the state to which an alias of the query's name leads
+  abbrev pub led : Labels → Labels → State
+  led query target = arrived (config_for server zone) target false 1 (Some (place_of query)) server
+
+  -- the walk of a query that no alias rewrites
+  abbrev pub plain_walk : Labels → RrType → Walk
+  plain_walk query rtype = record { states = begun query ∷ []; hops = []; leaf = leaf_at zone query rtype }
+
+  -- the walk of a query that an alias of its name rewrites
+  abbrev pub alias_walk : Labels → Labels → RrType → Walk
+  alias_walk query target rtype =
+      record {
+        states = begun query ∷ led query target ∷ [];
+        hops = Rewrite (place_of query) false target ∷ [];
+        leaf = leaf_at zone target rtype;
+      }
+
+module _ (server : Labels) (zone : Zone) (first : IsFirstZone zone) (followed : List Labels) where
+  abbrev setting : Setting
+  setting = setting_for server zone followed
+
+  -- at the server a query that no alias rewrites ends
+  plain_step : (rtype : RrType) (state : State) → state.server ≡ server → alias_for zone state.name rtype ≡ None
+      → next setting rtype state ≡ End None (leaf_at zone state.name rtype) ∷ []
+  plain_step rtype state here none =
+      ap (λ (s : Labels). in_zone setting rtype state (nearest_of setting.config s state.name)) here
+      ∙ elim (cases_Bool (is_prefix zone.origin state.name)) [
+        | inl inside ↦
+            ap (in_zone setting rtype state) (nearest_inside server zone state.name inside)
+            ∙ ap (after_lookup setting state zone.origin) (found_plain zone first state.name rtype none)
+            ∙ leaf_after setting state zone.origin (exists_in zone state.name) (in_order data_cmp (data_at zone state.name rtype))
+            ∙ ap (λ (b : Bool). End None (if b then leaf_inside zone state.name rtype else Outside) ∷ []) (sym inside)
+        | inr outside ↦
+            ap (in_zone setting rtype state) (nearest_outside server zone state.name outside)
+            ∙ ap (λ (b : Bool). End None (if b then leaf_inside zone state.name rtype else Outside) ∷ []) (sym outside)
+      ]
+
+  -- a rewritten name is asked for at the same server, which is the only one
+  same_server : (query target : Labels)
+      → rewritten setting.config (begun server zone query) (place_of server zone query) false target
+      ≡ Go (Rewrite (place_of server zone query) false target) (led server zone query target) ∷ []
+  same_server query target = by (is_some (nearest_of setting.config server target)) where
+    by : (b : Bool) → map (λ s. Go (Rewrite (place_of server zone query) false target)
+        (arrived setting.config target false 1 (Some (place_of server zone query)) s)) (if b then server ∷ [] else server ∷ [])
+        ≡ Go (Rewrite (place_of server zone query) false target) (led server zone query target) ∷ []
+    by true = refl
+    by false = refl
 
   -- an owner is in the zone
   alias_inside : (name target : Labels) → OwnsAlias zone name target → is_prefix zone.origin name ≡ true
   alias_inside name target owns =
       subst (λ (owner : Labels). is_prefix zone.origin owner ≡ true) owns.owned (first.records owns.rr owns.among).below_origin
 
-  -- the rewritten name is asked for at the same server, which is the only one
-  same_server : (state : State) (place : Place) (to : Labels) → state.server ≡ server
-      → rewritten (config_for server zone) state place false to
-      ≡ Go (Rewrite place false to) (arrived (config_for server zone) to (state.carried && false) (state.used + 1) (Some place) server) ∷ []
-  same_server state place to here = by (is_some (nearest_of (config_for server zone) state.server to)) where
-    by : (b : Bool) → map (λ s. Go (Rewrite place false to) (arrived (config_for server zone) to (state.carried && false) (state.used + 1) (Some place) s))
-        (if b then state.server ∷ [] else server ∷ [])
-        ≡ Go (Rewrite place false to) (arrived (config_for server zone) to (state.carried && false) (state.used + 1) (Some place) server) ∷ []
-    by true = ap (λ (s : Labels). Go (Rewrite place false to) (arrived (config_for server zone) to (state.carried && false) (state.used + 1) (Some place) s) ∷ []) here
-    by false = refl
-
-  -- an alias leads to its target
-  pub alias_step : (name target : Labels) (rtype : RrType) → alias_for zone name rtype ≡ Some target
-      → next (setting_for server zone followed) rtype (at name true 0 None)
-      ≡ Go (Rewrite (place_of name) false target) (at target false 1 (Some (place_of name))) ∷ []
-  alias_step name target rtype e =
-      ap (in_zone (setting_for server zone followed) rtype (at name true 0 None))
-      (nearest_inside server zone name (alias_inside name target (alias_tells zone name rtype target e)))
-      ∙ ap (after_lookup (setting_for server zone followed) (at name true 0 None) zone.origin) (found_alias zone first name rtype target e)
-      ∙ same_server (at name true 0 None) (place_of name) target refl
+  -- so a query that an alias rewrites is led to its target
+  alias_step : (query target : Labels) (rtype : RrType) → alias_for zone query rtype ≡ Some target
+      → next setting rtype (begun server zone query) ≡ Go (Rewrite (place_of server zone query) false target) (led server zone query target) ∷ []
+  alias_step query target rtype e =
+      ap (in_zone setting rtype (begun server zone query))
+      (nearest_inside server zone query (alias_inside query target (alias_tells zone query rtype target e)))
+      ∙ ap (after_lookup setting (begun server zone query) zone.origin) (found_alias zone first query rtype target e)
+      ∙ same_server query target
 
   -- ---- walks
 
-  -- the walk of a query that no alias rewrites
-  abbrev pub plain_walk : Labels → RrType → Walk
-  plain_walk query rtype = record { states = at query true 0 None ∷ []; hops = []; leaf = leaf_at zone query rtype }
-
-  -- the walk of a query that an alias of its name rewrites
-  abbrev pub alias_walk : Labels → Labels → RrType → Walk
-  alias_walk query target rtype =
-      record {
-        states = at query true 0 None ∷ at target false 1 (Some (place_of query)) ∷ [];
-        hops = Rewrite (place_of query) false target ∷ [];
-        leaf = leaf_at zone target rtype;
-      }
-
+  -- a query that no alias rewrites has one walk, of one state
   pub only_plain : (query : Labels) (rtype : RrType) → alias_for zone query rtype ≡ None
-      → IsOnlyWalk (setting_for server zone followed) query rtype (0 ∷ 0 ∷ []) (plain_walk query rtype)
+      → IsOnlyWalk setting query rtype (0 ∷ 0 ∷ []) (plain_walk server zone query rtype)
   only_plain query rtype none =
-      begins_only (setting_for server zone followed) query rtype (at query true 0 None) (0 ∷ []) (plain_walk query rtype) refl
-      (ends_only (setting_for server zone followed) rtype (at query true 0 None) None (leaf_at zone query rtype) (plain_step query true 0 None rtype none))
+      begins_only setting query rtype (begun server zone query) (0 ∷ []) (plain_walk server zone query rtype) refl
+      (ends_only setting rtype (begun server zone query) None (leaf_at zone query rtype)
+      (plain_step rtype (begun server zone query) refl none))
 
+  -- a query that an alias rewrites has one walk, of two states
   pub only_alias : (query target : Labels) (rtype : RrType) → alias_for zone query rtype ≡ Some target
-      → IsOnlyWalk (setting_for server zone followed) query rtype (0 ∷ 0 ∷ 0 ∷ []) (alias_walk query target rtype)
+      → IsOnlyWalk setting query rtype (0 ∷ 0 ∷ 0 ∷ []) (alias_walk server zone query target rtype)
   only_alias query target rtype e =
-      begins_only (setting_for server zone followed) query rtype (at query true 0 None) (0 ∷ 0 ∷ []) (alias_walk query target rtype) refl
-      (goes_only (setting_for server zone followed) rtype (at query true 0 None) (Rewrite (place_of query) false target)
-      (at target false 1 (Some (place_of query))) (0 ∷ []) _ (alias_step query target rtype e)
-      (ends_only (setting_for server zone followed) rtype (at target false 1 (Some (place_of query))) None (leaf_at zone target rtype)
-      (plain_step target false 1 (Some (place_of query)) rtype (target_unaliased zone first query target rtype (alias_tells zone query rtype target e)))))
+      begins_only setting query rtype (begun server zone query) (0 ∷ 0 ∷ []) (alias_walk server zone query target rtype) refl
+      (goes_only setting rtype (begun server zone query) (Rewrite (place_of server zone query) false target)
+      (led server zone query target) (0 ∷ []) _ (alias_step query target rtype e)
+      (ends_only setting rtype (led server zone query target) None (leaf_at zone target rtype)
+      (plain_step rtype (led server zone query target) refl
+      (target_unaliased zone first query target rtype (alias_tells zone query rtype target e)))))

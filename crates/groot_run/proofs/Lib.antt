@@ -1,10 +1,13 @@
+pub mod BlackholeEntry
 pub mod BlackholeReport
 pub mod Directories
 pub mod FewRecords
+pub mod FirstAliases
 pub mod FirstBlackholes
 pub mod FirstGround
 pub mod FirstLabel
 pub mod FirstLookup
+pub mod FirstNearest
 pub mod FirstRecords
 pub mod FirstTree
 pub mod FirstWalks

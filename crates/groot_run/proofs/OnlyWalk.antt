@@ -1,8 +1,8 @@
 -- A query whose states have one branch each has one walk.
-use Rattle.std.proofs.Common.{◌≡◌, ℕ, zero, suc, Bool, true, false, List, [], ◌∷◌, length, map, Option, Some, None, refl, ap, sym, ◌∙◌, subst, arith}
-use Rattle.std.specs.Prelude.{slice_get, ◌==◌, option_map, option_and_then}
-use Rattle.std.specs.Option.{option_to_list}
+use Rattle.std.proofs.Common.{◌≡◌, ℕ, zero, suc, true, List, [], ◌∷◌, length, Option, Some, None, refl, ap, sym, ◌∙◌, subst, arith}
 use Rattle.std.specs.List.{AllByRecursion}
+use Rattle.std.specs.Option.{option_to_list}
+use Rattle.std.specs.Prelude.{slice_get, ◌==◌, option_map, option_and_then}
 use Rattle.std.proofs.lemmas.Bool.{eqb-true}
 use Rattle.std.proofs.lemmas.Option.{same_Some, cond_some}
 use Rattle.dns_data.specs.Name.{Labels}
@@ -27,32 +27,31 @@ pub record IsOnlyWalk (setting : Setting) (query : Labels) (rtype : RrType) (num
   pub is_walk : walk_along setting query rtype numbers ≡ Some walk
   pub only : (others : List ℕ) (other : Walk) → walk_along setting query rtype others ≡ Some other → others ≡ numbers
 
--- ---- one branch
+-- ---- one item
 
--- an item of a list with one item is its first
-alone_at : {A : Type 0} (xs : List A) (x : A) (number : ℕ) (y : A) → xs ≡ x ∷ [] → slice_get xs number ≡ Some y → (number ≡ 0) × (y ≡ x)
-alone_at {A = A} xs x number y alone at = by number (sym (ap (λ (list : List A). slice_get list number) alone) ∙ at) where
-  by : (number : ℕ) → slice_get (x ∷ []) number ≡ Some y → (number ≡ 0) × (y ≡ x)
-  by zero at = (refl, sym (same_Some x y at))
-  by (suc number) at = cc
+-- where a number of a list with one item leads on, the number is 0
+only_number : {A B : Type 0} (on : Option A → Option B) (items : List A) (item : A) (number : ℕ) (found : B)
+    → on None ≡ None → items ≡ item ∷ [] → on (slice_get items number) ≡ Some found → (number ≡ 0) × (on (Some item) ≡ Some found)
+only_number {A = A} on items item number found nowhere alone is =
+    by number (sym (ap (λ (list : List A). on (slice_get list number)) alone) ∙ is)
+  where
+    by : (number : ℕ) → on (slice_get (item ∷ []) number) ≡ Some found → (number ≡ 0) × (on (Some item) ≡ Some found)
+    by zero is = (refl, is)
+    by (suc number) is = cc
 
--- a walk takes some branch
-some_branch : (state : State) (is_last : Bool) (on : State → Option Walk) (branch : Option Branch) (walk : Walk)
-    → branched state is_last on branch ≡ Some walk → (taken : Branch) × (branch ≡ Some taken)
-some_branch state is_last on None walk is = cc
-some_branch state is_last on (Some taken) walk is = (taken, refl)
-
--- where the state has one branch, its number is 0, and the walk takes it
+-- so a walk from a state with one branch takes it, by the number 0
 one_branch : (setting : Setting) (rtype : RrType) (state : State) (branch : Branch) (number : ℕ) (numbers : List ℕ) (walk : Walk)
     → next setting rtype state ≡ branch ∷ [] → walk_from setting rtype (number ∷ numbers) state ≡ Some walk
     → (number ≡ 0) × (branched state (length numbers == 0) (walk_from setting rtype numbers) (Some branch) ≡ Some walk)
 one_branch setting rtype state branch number numbers walk alone is =
-    let taken = some_branch state (length numbers == 0) (walk_from setting rtype numbers) (slice_get (next setting rtype state) number) walk is in
-    let place = alone_at (next setting rtype state) branch number taken.0 alone taken.1 in (
-      place.0,
-      ap (branched state (length numbers == 0) (walk_from setting rtype numbers))
-          (sym (taken.1 ∙ ap (λ (b : Branch). Some b) place.1)) ∙ is,
-    )
+    only_number (branched state (length numbers == 0) (walk_from setting rtype numbers)) (next setting rtype state) branch number walk refl alone is
+
+-- and a walk of a query with one start begins there
+one_start : (setting : Setting) (query : Labels) (rtype : RrType) (state : State) (number : ℕ) (numbers : List ℕ) (walk : Walk)
+    → start setting.config query ≡ state ∷ [] → walk_along setting query rtype (number ∷ numbers) ≡ Some walk
+    → (number ≡ 0) × (walk_from setting rtype numbers state ≡ Some walk)
+one_start setting query rtype state number numbers walk alone is =
+    only_number (option_and_then (walk_from setting rtype numbers)) (start setting.config query) state number walk refl alone is
 
 -- ---- walks
 
@@ -115,19 +114,12 @@ begins_only setting query rtype state numbers walk alone from =
       only = only;
     }
   where
-    begun : (others : List ℕ) (begin : Option State) (other : Walk) → option_and_then (walk_from setting rtype others) begin ≡ Some other
-        → (at : State) × (begin ≡ Some at) × (walk_from setting rtype others at ≡ Some other)
-    begun others None other is = cc
-    begun others (Some at) other is = (at, refl, is)
-
     only : (others : List ℕ) (other : Walk) → walk_along setting query rtype others ≡ Some other → others ≡ 0 ∷ numbers
     only [] other is = cc
     only (number ∷ others) other is =
-        let at = begun others (slice_get (start setting.config query) number) other is in
-        let place = alone_at (start setting.config query) state number at.0 alone at.1 in
-        let first : number ≡ 0 = place.0 in
-        let same : others ≡ numbers =
-        from.only others other (subst (λ (s : State). walk_from setting rtype others s ≡ Some other) place.1 at.2) in
+        let begun = one_start setting query rtype state number others other alone is in
+        let first : number ≡ 0 = begun.0 in
+        let same : others ≡ numbers = from.only others other begun.1 in
         cc
 
 -- ---- what the one walk shows

@@ -1,8 +1,7 @@
 -- What a search of a list by a test finds, and what a filter leaves.
-use Rattle.std.proofs.Common.{◌≡◌, ℕ, zero, suc, ◌<◌, Bool, true, false, cond, ◌||◌, List, [], ◌∷◌, length, Contains, filter, Option, Some, None, sym, refl, ap, ◌∙◌, subst, inl, inr, arith, true≢false}
+use Rattle.std.proofs.Common.{◌≡◌, Bool, true, false, cond, List, [], ◌∷◌, length, Contains, filter, Option, Some, None, sym, refl, ap, ◌∙◌, inl, inr, arith, true≢false}
 use Rattle.std.specs.List.{find, list_any, list_all, filter_map, cons_option}
 use Rattle.std.proofs.lemmas.Bool.{and_parts, or_cases, or_from, or_left, or_right, or_parts}
-use Rattle.std.proofs.lemmas.Option.{same_Some}
 use Rattle.groot_run.proofs.Membership.{none_in_nil, has_first, has_later, first_or_later}
 
 module _ {A : Type 0} (test : A → Bool) where
