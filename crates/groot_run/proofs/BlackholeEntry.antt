@@ -77,8 +77,8 @@ module _ (server : Labels) (zone : Zone) (first : IsFirstZone zone) where
       let short = subst (λ (name : Labels). wire_octets name ≤ 200) is.owned (first.records is.rr is.among).short in omega arith
 
   -- only the query for an alias's owner shows its blackhole
-  owner_is_query : (alias : Alias) (query : Labels) (rtype : RrType) → ShowsIn config default_rewrites query rtype (Blackhole (alias_place server zone.origin alias))
-      → query ≡ alias.owner
+  owner_is_query : (alias : Alias) (query : Labels) (rtype : RrType)
+      → ShowsIn config default_rewrites query rtype (Blackhole (alias_place server zone.origin alias)) → query ≡ alias.owner
   owner_is_query alias query rtype shown =
       let other = shown_is_alias server zone first query rtype (alias_place server zone.origin alias) shown in
       sym other.2 ∙ ap (λ (place : Place). place.owner) other.3

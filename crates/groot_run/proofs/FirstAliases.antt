@@ -109,7 +109,8 @@ module _ (zone : Zone) (first : IsFirstZone zone) where
       cc
 
   -- an alias that a name owns rewrites a query of each type but CNAME
-  pub alias_told : (name target : Labels) (rtype : RrType) → type_eq rtype types.Cname ≡ false → OwnsAlias zone name target → alias_for zone name rtype ≡ Some target
+  pub alias_told : (name target : Labels) (rtype : RrType) → type_eq rtype types.Cname ≡ false → OwnsAlias zone name target
+      → alias_for zone name rtype ≡ Some target
   alias_told name target rtype other owns =
       let found = some_first (targets_at zone name types.Cname) target (target_among zone name target owns) in
       let same : found.0 ≡ target = one_target name found.0 target (target_of_alias zone name found.0 found.1) owns in
@@ -153,10 +154,12 @@ module _ (zone : Zone) (first : IsFirstZone zone) where
       ∙ ap (λ (target : Option Labels). if exists_in zone name then aliased zone name rtype target else NxDomain) none
 
   -- an alias rewrites the query to its target
-  pub found_alias : (name : Labels) (rtype : RrType) (target : Labels) → alias_for zone name rtype ≡ Some target → found zone name rtype ≡ Rewrite false name target
+  pub found_alias : (name : Labels) (rtype : RrType) (target : Labels) → alias_for zone name rtype ≡ Some target
+      → found zone name rtype ≡ Rewrite false name target
   found_alias name rtype target e =
       let owns = alias_tells zone name rtype target e in
-      let exists : exists_in zone name ≡ true = subst (λ (owner : Labels). exists_in zone owner ≡ true) owns.owned (owner_exists zone first owns.rr owns.among) in
+      let exists : exists_in zone name ≡ true =
+      subst (λ (owner : Labels). exists_in zone owner ≡ true) owns.owned (owner_exists zone first owns.rr owns.among) in
       own_records_decide zone first name rtype
       ∙ ap (λ (b : Bool). if b then at_name zone name rtype else NxDomain) exists
       ∙ ap (aliased zone name rtype) e

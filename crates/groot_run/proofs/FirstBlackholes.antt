@@ -25,7 +25,7 @@ use Rattle.groot_run.specs.Outcome.{default_rewrites}
 use Rattle.groot_run.proofs.FirstAliases.{OwnsAlias, alias_for, alias_tells, alias_told}
 use Rattle.groot_run.proofs.FirstNearest.{config_for, nearest_inside}
 use Rattle.groot_run.proofs.FirstRecords.{IsFirstZone}
-use Rattle.groot_run.proofs.FirstWalks.{leaf_of, leaf_inside, leaf_at, setting_for, plain_walk, alias_walk, only_plain, only_alias}
+use Rattle.groot_run.proofs.FirstWalks.{leaf_of, leaf_inside, leaf_at, setting_for, begun, led, plain_walk, alias_walk, only_plain, only_alias}
 use Rattle.groot_run.proofs.OnlyWalk.{IsOnlyWalk, only_walk_shows}
 
 -- ---- ends
@@ -111,17 +111,18 @@ module _ (server : Labels) (zone : Zone) (first : IsFirstZone zone) where
         let is = alias_shows query target rtype place (alias_tells zone query rtype target e) shows in
         (record { owner = query; target = target }, is.0, refl, is.1)
 
-  -- the walk of an alias that is a blackhole
+  -- the walk of an alias, where its names are looked up in these zones and it ends so
   abbrev walk_with : Alias → Option Zone → Option Zone → Leaf → Walk
   walk_with alias here there leaf =
       record {
-        states = record { server = server; name = alias.owner; carried = true; cut = 0; used = 0; last = None; zone = option_map (λ (z : Zone). z.origin) here }
-            ∷ record { server = server; name = alias.target; carried = false; cut = 0; used = 1; last = Some (alias_place server zone.origin alias); zone = option_map (λ (z : Zone). z.origin) there }
+        states = record (begun server zone alias.owner) { zone = option_map (λ (z : Zone). z.origin) here }
+            ∷ record (led server zone alias.owner alias.target) { zone = option_map (λ (z : Zone). z.origin) there }
             ∷ [];
         hops = Rewrite (alias_place server zone.origin alias) false alias.target ∷ [];
         leaf = leaf;
       }
 
+  -- that of a blackhole
   walk_of_blackhole : (alias : Alias) (rtype : RrType) → IsBlackhole zone alias
       → alias_walk server zone alias.owner alias.target rtype ≡ blackhole_walk server zone.origin alias
   walk_of_blackhole alias rtype is =

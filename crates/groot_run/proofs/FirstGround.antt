@@ -56,7 +56,8 @@ module _ (server : Labels) (first : Rr) (rest : List Rr) (shape : is_first_shape
   owners_twice = ap (map (λ (rr : Rr). rr.owner)) (append-nil (first ∷ rest))
 
   -- a prefix of an owner is in the ground
-  pub ground_has : (owner above : Labels) → Contains (map (λ rr. rr.owner) (first ∷ rest)) owner → Begins above owner → Contains (ground_of config).names above
+  pub ground_has : (owner above : Labels) → Contains (map (λ rr. rr.owner) (first ∷ rest)) owner → Begins above owner
+      → Contains (ground_of config).names above
   ground_has owner above has begins =
       has_later [] (flat_map prefixes (origins_and_owners config)) above
       (flat_map_has prefixes (origins_and_owners config) owner above
@@ -65,7 +66,8 @@ module _ (server : Labels) (first : Rr) (rest : List Rr) (shape : is_first_shape
       (prefixes_have owner above begins))
 
   -- and each of its names is one
-  pub from_ground : (above : Labels) → Contains (ground_of config).names above → (owner : Labels) × Contains (map (λ rr. rr.owner) (first ∷ rest)) owner × Begins above owner
+  pub from_ground : (above : Labels) → Contains (ground_of config).names above
+      → (owner : Labels) × Contains (map (λ rr. rr.owner) (first ∷ rest)) owner × Begins above owner
   from_ground above has =
       elim (first_or_later [] (flat_map prefixes (origins_and_owners config)) above has) [
         | inl same ↦ (first.owner, has_first first.owner (map (λ (rr : Rr). rr.owner) rest), (first.owner, sym (ap (λ (x : Labels). x ++ first.owner) same)))

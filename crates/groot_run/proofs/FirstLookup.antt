@@ -46,7 +46,8 @@ module _ (zone : Zone) (first : IsFirstZone zone) where
         | inr none ↦ and_right (nat_lt (length zone.origin) (length above)) (owns zone above types.Ns) none
       ]
     where
-      at_origin : (rr : Rr) × Contains zone.rrs rr × (is_of above types.Ns rr ≡ true) → (nat_lt (length zone.origin) (length above) && owns zone above types.Ns) ≡ false
+      at_origin : (rr : Rr) × Contains zone.rrs rr × (is_of above types.Ns rr ≡ true)
+          → (nat_lt (length zone.origin) (length above) && owns zone above types.Ns) ≡ false
       at_origin (rr, among, is) =
           let parts = and_parts (name_eq rr.owner above) (has_type types.Ns rr.rdata) is in
           let owner : rr.owner ≡ above = (same_names rr.owner above).0 parts.0 in

@@ -36,7 +36,8 @@ module _ (server : Labels) (zone : Zone) where
 
   origin_tells : (above : Labels) → is_origin above ≡ true → (zone_with_origin holder above ≡ Some zone) × (zone.origin ≡ above)
   origin_tells above is = by (name_eq zone.origin above) refl is where
-    by : (b : Bool) → name_eq zone.origin above ≡ b → is_some (cond b (Some zone) None) ≡ true → (cond b (Some zone) None ≡ Some zone) × (zone.origin ≡ above)
+    by : (b : Bool) → name_eq zone.origin above ≡ b → is_some (cond b (Some zone) None) ≡ true
+        → (cond b (Some zone) None ≡ Some zone) × (zone.origin ≡ above)
     by true e is = (refl, (same_names zone.origin above).0 e)
     by false e is = cc
 

@@ -135,6 +135,7 @@ how_made config is = by is.server is.rrs is.made where
   by : (server : Labels) (rrs : List Rr) → config_of server rrs ≡ Some config → IsMade config
   by server [] e = cc
   by server (first ∷ rest) e = decided (is_first_shape (first ∷ rest)) refl e where
-    decided : (b : Bool) → is_first_shape (first ∷ rest) ≡ b → cond b (Some (one_zone server first.owner (first ∷ rest))) None ≡ Some config → IsMade config
+    decided : (b : Bool) → is_first_shape (first ∷ rest) ≡ b
+        → cond b (Some (one_zone server first.owner (first ∷ rest))) None ≡ Some config → IsMade config
     decided true shape e = record { server = server; first = first; rest = rest; made = cc; shape = shape }
     decided false shape e = cc

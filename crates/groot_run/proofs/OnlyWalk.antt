@@ -64,7 +64,8 @@ ends_only setting rtype state hop leaf alone =
       only = only;
     }
   where
-    last : (numbers : List ℕ) (walk : Walk) → branched state (length numbers == 0) (walk_from setting rtype numbers) (Some (End hop leaf)) ≡ Some walk → numbers ≡ []
+    last : (numbers : List ℕ) (walk : Walk)
+        → branched state (length numbers == 0) (walk_from setting rtype numbers) (Some (End hop leaf)) ≡ Some walk → numbers ≡ []
     last [] walk is = refl
     last (number ∷ numbers) walk is =
         absurd (omega (arith, eqb-true (length (number ∷ numbers)) 0 (cond_some (length (number ∷ numbers) == 0) _ walk is).0))
