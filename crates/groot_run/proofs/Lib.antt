@@ -1,6 +1,7 @@
 pub mod BlackholeEntry
 pub mod BlackholeReport
 pub mod Directories
+pub mod DistinctRecords
 pub mod FewRecords
 pub mod FirstAliases
 pub mod FirstBlackholes
@@ -20,5 +21,6 @@ pub mod OnlyWalk
 pub mod Pieces
 pub mod Searches
 pub mod SortedTree
+pub mod IdenticalTexts
 pub mod Json
 pub mod LastDot
