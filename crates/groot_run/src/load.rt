@@ -43,6 +43,7 @@ pub fn load<F: Files>(alloc: Global, files: &mut F, meta: &str) -> Result<Config
 /// The octets of the file of this name.
 fn read_file<F: Files>(alloc: Global, files: &mut F, name: &str) -> Result<Vec<u8>, LoadFault>
     ensures gives { IfSome (F.held files.old) (λ held. GivesFile held name.now result) }
+    ensures short { IfOk result (λ octets. length octets.items ≤ most_octets) }
     ensures cause { FailedAt (F.faults files.old) (F.faults files.new) result }
     ensures same_bytes { F.held files.new ≡ F.held files.old }
     ensures never_fall { NoneFell (F.faults files.old) (F.faults files.new) }
