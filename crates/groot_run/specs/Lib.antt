@@ -15,10 +15,12 @@ pub mod Conf
 pub mod FirstForm
 pub mod FirstShape
 pub mod Blackholes
+pub mod Aliases
 pub mod Job
 pub mod Metadata
 pub mod Report
 pub mod ReportText
+pub mod ReportParts
 pub mod Outcome
 pub use Rattle.io_edges.specs.Counts
 pub use Rattle.io_edges.specs.Files
@@ -26,3 +28,4 @@ pub mod Whole
 pub mod Loading
 pub mod Ending
 pub mod SortedTree
+pub mod SortedNames

@@ -3,13 +3,16 @@
 //! cause in the words, in what the files give or in a count of failures that rose.
 #![tactic(auto)]
 
+mod aliases;
 mod ending;
+mod entry;
 mod fault;
 mod files;
 mod job;
 mod load;
 mod metadata;
 mod output;
+mod owners;
 mod report;
 mod run;
 mod shape;

@@ -2,7 +2,7 @@
 
 ghost use Rattle.std.specs.Prelude.{◌≡◌, ◌≤◌, IfOk, IfSome, map, length};
 ghost use Rattle.std.specs.List.{list_all};
-ghost use Rattle.groot_run.specs.FirstForm.{is_token, soa_of, soa_with, ns_of, a_of, data_of, record_of, record_of_line, records_from, records_of};
+ghost use Rattle.groot_run.specs.FirstForm.{is_token, soa_of, soa_with, ns_of, cname_of, a_of, data_of, record_of, record_of_line, records_from, records_of};
 
 use crate::token::{is_plain, read_address, read_name, read_number, split};
 use dns_data::{List, Name, NoMemory, Rdata, Rr};
@@ -98,6 +98,8 @@ fn read_data(alloc: Global, word: &[u8], fields: &[&[u8]]) -> Result<Option<Rdat
         read_soa(alloc, fields)
     } else if word == b"NS".as_slice() {
         read_ns(alloc, fields)
+    } else if word == b"CNAME".as_slice() {
+        read_cname(alloc, fields)
     } else if word == b"A".as_slice() {
         read_a(alloc, fields)
     } else {
@@ -147,6 +149,16 @@ fn read_ns(alloc: Global, fields: &[&[u8]]) -> Result<Option<Rdata>, NoMemory>
         return Ok(None);
     };
     Ok(read_name(alloc, target)?.map(Rdata::Ns))
+}
+
+/// The data of a CNAME record (RFC 1035 section 3.3.1).
+fn read_cname(alloc: Global, fields: &[&[u8]]) -> Result<Option<Rdata>, NoMemory>
+    ensures { IfOk result (λ found. found ≡ cname_of (map (λ field. field.now) fields.now)) }
+{
+    let [target] = fields else {
+        return Ok(None);
+    };
+    Ok(read_name(alloc, target)?.map(Rdata::Cname))
 }
 
 /// The data of an A record (RFC 1035 section 3.4.1).

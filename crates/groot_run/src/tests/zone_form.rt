@@ -32,7 +32,6 @@ fn line_out_of_form_is_not_read_yet(rt: HostRuntime) -> Result<(), Fail> {
 fn type_out_of_form_is_not_read_yet(rt: HostRuntime) -> Result<(), Fail> {
     let cases = [
         "a.t. 60 DNAME b.t.\n",
-        "a.t. 60 CNAME b.t.\n",
         "a.t. 60 MX 10 b.t.\n",
         "a.t. 60 a 10.0.0.1\n",
         "a.t. 60 IN A 10.0.0.1\n",
