@@ -18,10 +18,12 @@ pub mod Conf
 pub mod ServerName
 pub mod FirstShape
 pub mod Blackholes
+pub mod Aliases
 pub mod Job
 pub mod Metadata
 pub mod Report
 pub mod ReportText
+pub mod ReportParts
 pub mod Outcome
 pub use Rattle.io_edges.specs.Counts
 pub use Rattle.io_edges.specs.Files
@@ -29,3 +31,4 @@ pub mod Whole
 pub mod Loading
 pub mod Ending
 pub mod SortedTree
+pub mod SortedNames

@@ -3,8 +3,10 @@
 //! cause in the words, in what the files give or in a count of failures that rose.
 #![tactic(auto)]
 
+mod aliases;
 mod code;
 mod ending;
+mod entry;
 mod fault;
 mod files;
 mod identical;
@@ -12,6 +14,7 @@ mod job;
 mod load;
 mod metadata;
 mod output;
+mod owners;
 mod report;
 mod run;
 mod server_name;

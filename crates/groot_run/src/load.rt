@@ -11,16 +11,13 @@ use crate::fault::LoadFault;
 use crate::files::{WholeFault, read_whole};
 use crate::identical::distinct_records;
 use crate::metadata::{Metadata, read_metadata};
-use crate::shape::one_zone;
+use crate::shape::{MOST_RECORDS, one_zone};
 use crate::zone_file::read_zone;
 use dns_data::{NoMemory, Text};
 use io_edges::Files;
 use master_read::TextFault;
 use net_model::Config;
 use std::alloc::Global;
-
-/// How many records a zone of the first shape may have.
-const MOST_RECORDS: usize = 500;
 
 /// The configuration that a metadata file and its zone file give.
 pub fn load<F: Files>(alloc: Global, files: &mut F, meta: &str) -> Result<Config, LoadFault>

@@ -16,7 +16,7 @@ use crate::fault::LoadFault;
 use crate::job::check_job;
 use crate::load::load;
 use crate::output::{tell, write_all};
-use crate::report::clean_report;
+use crate::report::report;
 use crate::status::Status;
 use io_edges::{Files, Gate, Sink};
 use net_model::Config;
@@ -113,11 +113,12 @@ fn write_report<O: Sink>(alloc: Global, config: &Config, out: &mut O) -> Status
     ensures silent { IsTrue (writes_nothing result) → Keeps (O.taken out.old) (O.taken out.new) }
     ensures no_budget { (result ≢ Status.Classes) × (result ≢ Status.States) × (result ≢ Status.Walks) }
 {
-    let Ok(text) = clean_report(alloc, config) else {
+    let Ok(written) = report(alloc, config) else {
         return Status::NoMemory;
     };
-    match write_all(out, text.as_slice()) {
-        Ok(()) => Status::Clean,
+    match write_all(out, written.text.as_slice()) {
+        Ok(()) if written.entries == 0 => Status::Clean,
+        Ok(()) => Status::Faults,
         Err(_) => Status::WriteFault,
     }
 }

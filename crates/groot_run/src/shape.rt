@@ -1,21 +1,29 @@
 //! Configurations of the first shape.
 
-ghost use Rattle.std.specs.Prelude.{◌≡◌, ◌≤◌, length, codes, IfOk};
+ghost use Rattle.std.specs.Prelude.{◌≡◌, ◌∷◌, [], codes, map, IfOk, IsPermutation, IsSorted};
 ghost use Rattle.std.specs.List.{list_any, list_all};
 ghost use Rattle.dns_data.specs.Label.{label_eq};
-ghost use Rattle.dns_data.specs.RrType.{type_eq};
+ghost use Rattle.dns_data.specs.Name.{name_cmp};
 ghost use Rattle.dns_data.specs.Rdata.{has_type};
-ghost use Rattle.groot_run.specs.FirstShape.{config_of, is_plain_owner, is_plain_record, is_first_shape};
+ghost use Rattle.groot_run.specs.Aliases.{alias_of, is_alone};
+ghost use Rattle.groot_run.specs.FirstShape.{config_of, is_plain_owner, is_plain_data, is_plain_record, is_plain_alias, is_first_shape, IsFirstConfig};
+ghost use Rattle.net_model.specs.Nearest.{server_names};
+ghost use Rattle.net_model.specs.Reading.{records, zones};
 
-use dns_data::{List, Name, NoMemory, Rr, RrType};
+use crate::aliases::{Alias, aliases_of};
+use crate::owners::{has, is_once, owners_in_order};
+use dns_data::{List, Name, NoMemory, Rdata, Rr, RrType};
 use net_model::{Config, Server, Zone};
 use std::alloc::Global;
+
+/// How many records a zone of the first shape may have.
+pub(crate) const MOST_RECORDS: usize = 500;
 
 /// The configuration of one zone on one server, or `None` where the records aren't of the first shape.
 pub fn one_zone(alloc: Global, server: Name, rrs: List<Rr>) -> Result<Option<Config>, NoMemory>
     ensures { IfOk result (λ found. found ≡ config_of server rrs) }
 {
-    if !is_first(rrs.items()) {
+    if !is_first(alloc, rrs.items())? {
         return Ok(None);
     }
     let [first, ..] = rrs.items() else {
@@ -34,16 +42,39 @@ pub fn one_zone(alloc: Global, server: Name, rrs: List<Rr>) -> Result<Option<Con
     Ok(Some(Config { tops, servers }))
 }
 
-/// Whether the records are those of a zone of the first shape.
-fn is_first(rrs: &[Rr]) -> bool
-    ensures { result ≡ is_first_shape rrs.now }
+/// The name of the only server of a configuration of the first shape.
+pub(crate) fn only_server(config: &Config) -> &Name
+    requires { IsFirstConfig config.now }
+    ensures { server_names config.now ≡ result.now ∷ [] }
+{
+    &config.servers.items()[0].name
+}
+
+/// The only zone of a configuration of the first shape.
+pub(crate) fn only_zone(config: &Config) -> &Zone
+    requires { IsFirstConfig config.now }
+    ensures zones { zones config.now ≡ result.now ∷ [] }
+    ensures records { result.now.rrs ≡ records config.now }
+{
+    &config.servers.items()[0].zones.items()[0]
+}
+
+/// Whether the records are those of a zone of the first shape. It sorts references to the owners, and searches among
+/// them once or twice for each alias.
+fn is_first(alloc: Global, rrs: &[Rr]) -> Result<bool, NoMemory>
+    ensures { IfOk result (λ first. first ≡ is_first_shape rrs.now) }
 {
     let [first, rest @ ..] = rrs else {
-        return false;
+        return Ok(false);
     };
-    is_of(first, RrType::Soa)
-        && has_plain_owner(&first.owner, first)
-        && are_plain(&first.owner, rest)
+    if rrs.len() > MOST_RECORDS
+        || !is_of(first, RrType::Soa)
+        || !has_plain_owner(&first.owner, first)
+        || !are_plain(&first.owner, rest)
+    {
+        return Ok(false);
+    }
+    have_plain_aliases(alloc, rrs)
 }
 
 /// Whether the record is of the type.
@@ -75,7 +106,7 @@ fn has_asterisk(name: &Name) -> bool
     false
 }
 
-/// Whether all of the records are address records or NS records at the origin, in plain owners.
+/// Whether all of the records may stand behind the zone's SOA record.
 fn are_plain(origin: &Name, rrs: &[Rr]) -> bool
     ensures { result ≡ list_all (is_plain_record origin.now) rrs.now }
 {
@@ -87,10 +118,69 @@ fn are_plain(origin: &Name, rrs: &[Rr]) -> bool
     true
 }
 
-/// Whether the record is an address record or an NS record at the origin, in a plain owner.
+/// Whether the record may stand behind the zone's SOA record.
 fn is_plain(origin: &Name, rr: &Rr) -> bool
     ensures { result ≡ is_plain_record origin.now rr.now }
 {
-    has_plain_owner(origin, rr)
-        && (is_of(rr, RrType::A) || (is_of(rr, RrType::Ns) && rr.owner == *origin))
+    has_plain_owner(origin, rr) && has_plain_data(origin, rr)
+}
+
+/// Whether the record is no SOA and no DNAME record, and an NS record only at the origin.
+fn has_plain_data(origin: &Name, rr: &Rr) -> bool
+    ensures { result ≡ is_plain_data origin.now rr.now.owner rr.now.rdata }
+{
+    match &rr.rdata {
+        Rdata::Soa { .. } | Rdata::Dname(_) => false,
+        Rdata::Ns(_) => rr.owner == *origin,
+        _ => true,
+    }
+}
+
+/// Whether each alias's owner owns no other record, and its target owns no alias.
+fn have_plain_aliases(alloc: Global, rrs: &[Rr]) -> Result<bool, NoMemory>
+    ensures { IfOk result (λ plain. plain ≡ list_all (λ rr. is_plain_alias rrs.now rr.owner rr.rdata) rrs.now) }
+{
+    let aliases = aliases_of(alloc, rrs)?;
+    let owners = owners_in_order(alloc, rrs)?;
+    let sources = sources_in_order(alloc, aliases.as_slice())?;
+    Ok(are_alone(
+        aliases.as_slice(),
+        owners.as_slice(),
+        sources.as_slice(),
+    ))
+}
+
+/// The owners of aliases in the order of names.
+fn sources_in_order<'a>(alloc: Global, aliases: &[Alias<'a>]) -> Result<Vec<&'a Name>, NoMemory>
+    ensures same { IfOk result (λ sources.
+        IsPermutation (map (λ alias. alias.owner.now) aliases.now) (map (λ source. source.now) sources.items)) }
+    ensures sorted { IfOk result (λ sources. IsSorted name_cmp (map (λ source. source.now) sources.items)) }
+{
+    let mut sources = sources_of(alloc, aliases)?;
+    sources.sort()?;
+    Ok(sources)
+}
+
+/// The owners of aliases.
+fn sources_of<'a>(alloc: Global, aliases: &[Alias<'a>]) -> Result<Vec<&'a Name>, NoMemory>
+    ensures { IfOk result (λ sources. sources.items ≡ map (λ alias. alias.owner) aliases.now) }
+{
+    Ok(aliases.iter().map(|alias| alias.owner).collect(alloc)?)
+}
+
+/// Whether each alias's owner is once among the owners, and its target isn't among the owners of aliases, which both
+/// stand in order.
+fn are_alone(aliases: &[Alias], owners: &[&Name], sources: &[&Name]) -> bool
+    requires owners { IsSorted name_cmp (map (λ owner. owner.now) owners.now) }
+    requires sources { IsSorted name_cmp (map (λ source. source.now) sources.now) }
+    ensures { result ≡ list_all
+        (is_alone (map (λ owner. owner.now) owners.now) (map (λ source. source.now) sources.now))
+        (map alias_of aliases.now) }
+{
+    for alias in aliases {
+        if !is_once(owners, alias.owner) || has(sources, alias.target) {
+            return false;
+        }
+    }
+    true
 }

@@ -1,5 +1,6 @@
 //! Whole runs over files and outputs in memory.
 
+mod aliases;
 mod failures;
 mod first_path;
 mod master_files;
