@@ -1,0 +1,6 @@
+pub mod Fault
+pub mod Numbers
+pub mod Times
+pub mod Addresses
+pub mod Texts
+pub mod Forms

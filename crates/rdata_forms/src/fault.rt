@@ -1,0 +1,53 @@
+//! Why tokens are no data.
+
+ghost use Rattle.std.specs.Prelude.{◌≡◌};
+ghost use Rattle.rdata_forms.specs.declared.fault.RdataFault.TheVariants as rdata_fault;
+
+use dns_data::{NameFault, NoMemory};
+use std::alloc::{AllocError, AllocFailed};
+use thiserror::Error;
+
+/// Why tokens are no data of a type.
+#[derive(Clone, Copy, Debug, PartialEq, Eq, Error)]
+pub enum RdataFault {
+    #[error("the type has another number of fields")]
+    FieldCount,
+    #[error("a field is no number, no time or no tag")]
+    BadNumber,
+    #[error("a field is no address")]
+    BadAddress,
+    #[error("a field is no name")]
+    BadName(NameFault),
+    #[error("a text has too many octets")]
+    TextTooLong,
+    #[error("the generic form has no length or other than so many octets")]
+    BadHex,
+    #[error("the type has a form of its own in place of the generic one")]
+    GenericKnown,
+    #[error("no memory")]
+    NoMemory,
+}
+
+impl From<AllocError> for RdataFault {
+    ghost from_gives = { λ _ fault. fault ≡ rdata_fault.NoMemory };
+
+    fn from(_fault: AllocError) -> RdataFault {
+        RdataFault::NoMemory
+    }
+}
+
+impl<T: Drop> From<AllocFailed<T>> for RdataFault {
+    ghost from_gives = { λ _ fault. fault ≡ rdata_fault.NoMemory };
+
+    fn from(_fault: AllocFailed<T>) -> RdataFault {
+        RdataFault::NoMemory
+    }
+}
+
+impl From<NoMemory> for RdataFault {
+    ghost from_gives = { λ _ fault. fault ≡ rdata_fault.NoMemory };
+
+    fn from(_fault: NoMemory) -> RdataFault {
+        RdataFault::NoMemory
+    }
+}
