@@ -107,4 +107,4 @@ settled_now finished fault origin room text h = rw append-nil at (h [] (λ _. re
 pub met : (held : ReaderHeld) (fault : TextFault) (origin : Labels) (room : ℕ) (text : List ℕ) → held.fault ≡ Some fault → ReaderStandsFor held origin room text → FaultIs fault (zone_text origin room text)
 met held fault origin room text is stands =
     let settle = rw is at stands.agrees in
-    rw (← stands.room_is) (settled_now false fault origin held.progress.room text settle)
+    rw (← stands.room_is) (settled_now false fault origin held.progress.room text settle.1)
