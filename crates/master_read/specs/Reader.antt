@@ -1,7 +1,7 @@
 -- What a reader holds, and for which text it stands.
 use Rattle.std.specs.Prelude.{◌≡◌, ◌≢◌, ℕ, ◌-◌, ◌^◌, ◌<◌, ◌≤◌, List, [], ◌++◌, length, Bool, true, false, Option, Some, None, Ok, IfSome}
 use Rattle.dns_data.specs.Name.{Labels}
-use Rattle.master_lex.specs.Holding.{StandsFor as LexerStandsFor}
+use Rattle.master_lex.specs.Holding.{StandsFor as LexerStandsFor, entries_in}
 use Rattle.master_lex.specs.declared.entry.Entry.{Entry}
 use Rattle.master_read.specs.Fault.{FaultIs, TellsOfText}
 use Rattle.master_read.specs.ZoneText.{no_records, with_entries, zone_text}
@@ -26,15 +26,19 @@ abbrev pub HasRead : Progress → Labels → List ℕ → Type 0
 HasRead progress origin text =
     (taken : List Entry) × (LexerStandsFor progress.lexer text taken × (with_entries progress.room (no_records origin) taken ≡ Ok progress.records))
 
+-- all entries of the text under this origin were taken, and these are their records
+abbrev pub HasReadAll : Progress → Labels → List ℕ → Type 0
+HasReadAll progress origin text = with_entries progress.room (no_records origin) (entries_in true text) ≡ Ok progress.records
+
 -- the text's fault is settled, however the text goes on, if it hasn't ended
 abbrev pub IsSettled : Bool → TextFault → Labels → ℕ → List ℕ → Type 0
 IsSettled finished fault origin room text =
     (more : List ℕ) → (finished ≡ true → more ≡ []) → FaultIs fault (zone_text origin room (text ++ more))
 
--- by the fault that was met, or none
+-- by the fault that was met, or none: where memory ran out, the reader stands for no text
 abbrev pub StandsBy : Option TextFault → Progress → Labels → List ℕ → Type 0
 StandsBy None progress origin text = HasRead progress origin text
-StandsBy (Some fault) progress origin text = IsSettled false fault origin progress.room text
+StandsBy (Some fault) progress origin text = (fault ≢ NoMemory) × IsSettled false fault origin progress.room text
 
 -- the reader was fed the text, whose names stand below the origin, and has room for so many records
 pub record StandsFor (held : Held) (origin : Labels) (room : ℕ) (text : List ℕ) : Type 0 where
