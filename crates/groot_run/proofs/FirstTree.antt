@@ -19,7 +19,8 @@ use Rattle.groot_run.specs.SortedTree.{new_prefixes, tree_after, tree_of}
 use Rattle.groot_run.proofs.Membership.{has_first, from_map}
 use Rattle.groot_run.proofs.NameOrder.{Begins, UpTo, Before, names_total, pairs_from_rising}
 use Rattle.groot_run.proofs.SortedTree.{InOrder, rising_tree, tree_has, from_tree, length-new_prefixes}
-use Rattle.groot_run.proofs.FirstGround.{named_among, among_named, plain_records, how_made, no_redirections, ground_has, from_ground}
+use Rattle.groot_run.proofs.FirstGround.{named_among, among_named, no_redirections, ground_has, from_ground}
+use Rattle.groot_run.proofs.FirstRecords.{first_zone, how_made}
 use Rattle.groot_run.proofs.FreeLabel.{free_label}
 use Rattle.groot_run.proofs.FirstLabel.{first_unnamed}
 
@@ -84,7 +85,7 @@ module _ (server : Labels) (first : Rr) (rest : List Rr) (shape : is_first_shape
   owner_short : (name : Labels) → Contains sorted name → wire_octets name ≤ 200
   owner_short name has =
       let found = from_map (λ (rr : Rr). rr.owner) (first ∷ rest) name (is_owner name has) in
-      subst (λ (x : Labels). wire_octets x ≤ 200) found.2 (plain_records first rest shape found.0 found.1).short
+      subst (λ (x : Labels). wire_octets x ≤ 200) found.2 ((first_zone first rest shape).records found.0 found.1).short
 
   -- the tree's names are those of the ground, and short
   named_by_tree : (above : Labels) → Contains (tree_of sorted) above → Contains ground.names above × (wire_octets above ≤ 200)
