@@ -46,8 +46,9 @@ pub(crate) fn report(alloc: Global, config: &Config) -> Result<Written, NoMemory
         server: only_server(config),
         origin: &zone.origin,
     };
-    let aliases = blackholes(alloc, zone)?;
-    let text = text_of(alloc, &size, home, aliases.as_slice())?;
+    let lost = blackholes(alloc, zone)?;
+    let aliases = lost.as_slice();
+    let text = text_of(alloc, &size, home, aliases)?;
     Ok(Written {
         text,
         entries: aliases.len(),

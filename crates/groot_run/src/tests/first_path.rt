@@ -29,7 +29,7 @@ fn zone_without_aliases_is_clean(rt: HostRuntime) -> Result<(), Fail> {
 #[test]
 fn zone_out_of_shape_is_not_read_yet(rt: HostRuntime) -> Result<(), Fail> {
     let cases = [
-        "t. 60 SOA ns.t. h.t. 1 2 3 4 5\n",
+        "t. 60 SOA ns.t. h.t. 2 2 3 4 5\n",
         "c.t. 60 NS ns.t.\n",
         "*.t. 60 A 10.0.0.1\n",
         "a.*.t. 60 A 10.0.0.1\n",
