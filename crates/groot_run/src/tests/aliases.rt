@@ -53,9 +53,6 @@ fn aliases_out_of_shape_are_not_read_yet(rt: HostRuntime) -> Result<(), Fail> {
         "a.t. 60 A 10.0.0.1\na.t. 60 CNAME b.t.\n",
         "a.t. 60 CNAME b.t.\na.t. 60 CNAME c.t.\n",
         "t. 60 CNAME b.t.\n",
-        "a.t. 60 CNAME\n",
-        "a.t. 60 CNAME b.t. c.t.\n",
-        "a.t. 60 CNAME b\n",
     ];
     for lines in cases {
         lines_not_yet(&rt, rt.alloc(), lines)?;

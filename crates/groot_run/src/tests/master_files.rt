@@ -113,6 +113,7 @@ fn codes_of_data(rt: HostRuntime) -> Result<(), Fail> {
     let cases = [
         ("x.t. 60 A 10.0.0.256\n", "t.zone:3: bad-address\n"),
         ("x.t. 60 A 10.0.0.01\n", "t.zone:3: bad-address\n"),
+        ("x.t. 60 CNAME b.t. c.t.\n", "t.zone:3: field-count\n"),
         (
             "x.t. 60 A 10.0.0.1\nx.t. 60 MX mail\n",
             "t.zone:4: field-count\n",
