@@ -1,2 +1,10 @@
 pub mod Digits
+pub mod HexTokens
+pub mod Groups
+pub mod Hexadecimal
+pub mod Named
+pub mod Pieces
 pub mod Seconds
+pub mod StartOfAuthority
+pub mod Strings
+pub mod TwoSides
