@@ -17,3 +17,6 @@ pub use fault::{TextCause, TextFault};
 pub use laws::{front_is_whole, read_by_the_cut};
 pub use reader::ZoneReader;
 pub use zone_text::ZoneText;
+
+#[cfg(test)]
+mod tests;

@@ -44,12 +44,12 @@ took_next f g (token ∷ tokens) e =
     let is_ttl = is_none f.ttl && begins_with_digit token.raw in
     let unquoted : Result Front TextCause = if is_ttl then with_ttl f tokens (time_of token.raw) else by_class in
     elim (if_cases token.quoted (Ok f) unquoted (Ok g) e) [
-      inl quoted ↦ nothing cc
-    | inr plain ↦ elim (if_cases is_ttl (with_ttl f tokens (time_of token.raw)) by_class (Ok g) plain.1) [
-        inl ttl ↦ took_ttl f g tokens (time_of token.raw) (none_is f.ttl (begins_with_digit token.raw) ttl.0) ttl.1
-      | inr other ↦ elim (if_cases f.class (Ok f) (with_class f tokens (class_word token.raw)) (Ok g) other.1) [
-          inl set ↦ nothing cc
-        | inr unset ↦ took_class f g tokens (class_word token.raw) unset.0 unset.1
+      | inl quoted ↦ nothing cc
+      | inr plain ↦ elim (if_cases is_ttl (with_ttl f tokens (time_of token.raw)) by_class (Ok g) plain.1) [
+        | inl ttl ↦ took_ttl f g tokens (time_of token.raw) (none_is f.ttl (begins_with_digit token.raw) ttl.0) ttl.1
+        | inr other ↦ elim (if_cases f.class (Ok f) (with_class f tokens (class_word token.raw)) (Ok g) other.1) [
+          | inl set ↦ nothing cc
+          | inr unset ↦ took_class f g tokens (class_word token.raw) unset.0 unset.1
         ]
       ]
     ]
