@@ -55,3 +55,8 @@ TellsOfText text_faults.NoMemory = Unit {0}
 abbrev pub TellsOfEntry : EntryFault → Type 0
 TellsOfEntry (entry_faults.Cause cause) = tells_of_text cause ≡ true
 TellsOfEntry entry_faults.NoMemory = Unit {0}
+
+-- the step answers what the definition says, unless memory ran out
+abbrev pub StepAnswers : {T : Type 0} → Result T EntryFault → Result T TextCause → Type 0
+StepAnswers (Ok value) said = said ≡ Ok value
+StepAnswers (Err fault) said = CauseIs fault said

@@ -1,7 +1,7 @@
 -- What a reader holds, and for which text it stands.
 use Rattle.std.specs.Prelude.{◌≡◌, ◌≢◌, ℕ, ◌-◌, ◌^◌, ◌<◌, ◌≤◌, List, [], ◌++◌, length, Bool, true, false, Option, Some, None, Ok, IfSome}
 use Rattle.dns_data.specs.Name.{Labels}
-use Rattle.master_lex.specs.Holding.{StandsFor as LexerStandsFor}
+use Rattle.master_lex.specs.Holding.{StandsFor as LexerStandsFor, entries_in}
 use Rattle.master_lex.specs.declared.entry.Entry.{Entry}
 use Rattle.master_read.specs.Fault.{FaultIs, TellsOfText}
 use Rattle.master_read.specs.ZoneText.{no_records, with_entries, zone_text}
@@ -25,6 +25,10 @@ pub record IsSound (held : Held) : Type 0 where
 abbrev pub HasRead : Progress → Labels → List ℕ → Type 0
 HasRead progress origin text =
     (taken : List Entry) × (LexerStandsFor progress.lexer text taken × (with_entries progress.room (no_records origin) taken ≡ Ok progress.records))
+
+-- all entries of the text under this origin were taken, and these are their records
+abbrev pub HasReadAll : Progress → Labels → List ℕ → Type 0
+HasReadAll progress origin text = with_entries progress.room (no_records origin) (entries_in true text) ≡ Ok progress.records
 
 -- the text's fault is settled, however the text goes on, if it hasn't ended
 abbrev pub IsSettled : Bool → TextFault → Labels → ℕ → List ℕ → Type 0

@@ -2,11 +2,14 @@
 #![tactic(auto)]
 
 mod context;
+mod directive;
 mod fault;
+mod front;
 mod laws;
 mod progress;
 mod reader;
 mod records;
+mod rr;
 mod words;
 mod zone_text;
 

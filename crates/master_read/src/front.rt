@@ -1,0 +1,87 @@
+//! What stands in front of a record's type.
+
+ghost use Rattle.std.specs.Prelude.{◌≡◌, true, Ok, Err, IfErr, MatchResult};
+ghost use Rattle.master_read.specs.Entries.{begins_with_digit, one_more, front_in};
+ghost use Rattle.master_read.specs.Fault.{tells_of_text};
+
+use crate::fault::TextCause;
+use crate::words::{ClassWord, class_word};
+use master_lex::Token;
+use rdata_forms::read_ttl;
+
+/// What stood in front of a record's type so far, behind the owner.
+#[derive(Clone, Copy, Debug)]
+pub struct Front<'a> {
+    /// The TTL, in seconds.
+    pub ttl: Option<u32>,
+    /// Whether the class stood there.
+    pub has_class: bool,
+    /// The tokens from there on.
+    pub tokens: &'a [Token],
+}
+
+/// What stands in front of the type: a TTL and a class, in either order, each at most once.
+#[tactic(auto, unfolding(crate::specs::Entries::front_in))]
+pub fn read_front(tokens: &[Token]) -> Result<Front<'_>, TextCause>
+    ensures answers { MatchResult result
+        (λ front. front_in tokens.now ≡ Ok (record { ttl = front.ttl; class = front.has_class; tokens = front.tokens.now }))
+        (λ cause. front_in tokens.now ≡ Err cause) }
+    ensures tells { IfErr result (λ cause. tells_of_text cause ≡ true) }
+{
+    let front = one_more(Front {
+        ttl: None,
+        has_class: false,
+        tokens,
+    })?;
+    one_more(front)
+}
+
+/// The same with the next token, if it is a TTL or a class and none such stood there.
+#[tactic(auto, unfolding(crate::specs::Entries::one_more))]
+fn one_more(front: Front<'_>) -> Result<Front<'_>, TextCause>
+    ensures answers { MatchResult result
+        (λ more. one_more (record { ttl = front.entry.ttl; class = front.entry.has_class; tokens = front.entry.tokens.now })
+            ≡ Ok (record { ttl = more.ttl; class = more.has_class; tokens = more.tokens.now }))
+        (λ cause. one_more (record { ttl = front.entry.ttl; class = front.entry.has_class; tokens = front.entry.tokens.now }) ≡ Err cause) }
+    ensures tells { IfErr result (λ cause. tells_of_text cause ≡ true) }
+{
+    let [token, tokens @ ..] = front.tokens else {
+        return Ok(front);
+    };
+    if token.quoted {
+        return Ok(front);
+    }
+    let word = token.raw.items();
+    if front.ttl.is_none() && begins_with_digit(word) {
+        return match read_ttl(word) {
+            Some(ttl) => Ok(Front {
+                ttl: Some(ttl),
+                has_class: front.has_class,
+                tokens,
+            }),
+            None => Err(TextCause::BadTtl),
+        };
+    }
+    if front.has_class {
+        return Ok(front);
+    }
+    match class_word(word) {
+        Some(ClassWord::In) => Ok(Front {
+            ttl: front.ttl,
+            has_class: true,
+            tokens,
+        }),
+        Some(ClassWord::NotIn) => Err(TextCause::NotIn),
+        None => Ok(front),
+    }
+}
+
+/// Whether the first octet is a digit.
+fn begins_with_digit(octets: &[u8]) -> bool
+    ensures { result ≡ begins_with_digit octets.now }
+{
+    match octets {
+        [] => false,
+        [octet, ..] => octet.is_ascii_digit(),
+    }
+}

@@ -1,0 +1,220 @@
+//! Records.
+
+ghost use Rattle.std.specs.Prelude.{◌≡◌, ◌≢◌, true, map, Result, Ok, Err, IfOk, IfErr, OnOk, MatchResult};
+ghost use Rattle.dns_data.specs.Octet.{raised};
+ghost use Rattle.rdata_forms.specs.Fault.{Answers as DataAnswers};
+ghost use Rattle.master_read.specs.Context.{behind_record};
+ghost use Rattle.master_read.specs.Entries.{owner_of, written_owner, behind_owner, type_said, data_of, data_by, as_data, own_ttl, made_of, record_of};
+ghost use Rattle.master_read.specs.Fault.{CauseIs, StepAnswers, TellsOfEntry, tells_of_text};
+
+use crate::context::Context;
+use crate::fault::{EntryFault, TextCause};
+use crate::front::read_front;
+use crate::words::{TypeWord, type_word};
+use dns_data::{List, Name, NameFault, NoMemory, Octets, Rdata, Rr};
+use master_lex::{Entry, Token};
+use rdata_forms::{RdataFault, read_other, read_rdata};
+use std::alloc::Global;
+
+/// The record of a record entry, or `None` where its type is dropped. What it leaves for the next entry goes
+/// into the context.
+#[tactic(auto, unfolding(crate::specs::Entries::record_of))]
+pub fn read_record(
+    alloc: Global,
+    context: &mut Context,
+    entry: &Entry,
+) -> Result<Option<Rr>, EntryFault>
+    ensures ok { IfOk result (λ rr. record_of context.old entry.now ≡ Ok (record { context = context.new; rr = rr })) }
+    ensures fault { IfErr result (λ fault. CauseIs fault (record_of context.old entry.now)) }
+    ensures tells { IfErr result TellsOfEntry }
+{
+    let owner = read_owner(alloc, context, entry)?;
+    let front = read_front(behind_owner(entry))?;
+    let rdata = read_data(alloc, front.tokens, &context.origin)?;
+    leave(alloc, context, entry, &owner, front.ttl)?;
+    Ok(with_ttl(context, owner, front.ttl, entry.line, rdata)?)
+}
+
+/// The owner of a record entry.
+#[tactic(auto, unfolding(crate::specs::Entries::owner_of))]
+fn read_owner(alloc: Global, context: &Context, entry: &Entry) -> Result<Name, EntryFault>
+    ensures answers { StepAnswers result (owner_of context.now entry.now) }
+    ensures tells { IfErr result TellsOfEntry }
+{
+    if !entry.blank_start {
+        return written_owner(alloc, context, entry.tokens.items());
+    }
+    match &context.owner {
+        Some(owner) => Ok(owner.copy(alloc)?),
+        None => Err(EntryFault::Cause(TextCause::NoOwner)),
+    }
+}
+
+/// The owner that the first token gives.
+fn written_owner(alloc: Global, context: &Context, tokens: &[Token]) -> Result<Name, EntryFault>
+    ensures answers { StepAnswers result (written_owner context.now tokens.now) }
+    ensures tells { IfErr result TellsOfEntry }
+{
+    let [token, ..] = tokens else {
+        return Err(EntryFault::Cause(TextCause::NoType));
+    };
+    match Name::from_text(alloc, token.raw.items(), &context.origin) {
+        Ok(owner) => Ok(owner),
+        Err(NameFault::NoMemory) => Err(EntryFault::NoMemory),
+        Err(fault) => Err(EntryFault::Cause(TextCause::BadOwner(fault))),
+    }
+}
+
+/// The tokens behind the owner.
+fn behind_owner(entry: &Entry) -> &[Token]
+    ensures { result.now ≡ behind_owner entry.now }
+{
+    match entry.tokens.items() {
+        [_, tokens @ ..] if !entry.blank_start => tokens,
+        tokens => tokens,
+    }
+}
+
+/// The data behind the type's word, or `None` where the type is dropped.
+#[tactic(auto, unfolding(crate::specs::Entries::data_of))]
+fn read_data(
+    alloc: Global,
+    tokens: &[Token],
+    origin: &Name,
+) -> Result<Option<Rdata>, EntryFault>
+    ensures answers { StepAnswers result (data_of tokens.now origin.now) }
+    ensures tells { IfErr result TellsOfEntry }
+{
+    let [word, fields @ ..] = tokens else {
+        return Err(EntryFault::Cause(TextCause::NoType));
+    };
+    let said = type_said(word)?;
+    data_by(alloc, said, word, fields, origin)
+}
+
+/// What the token where the type stands says.
+#[tactic(auto, unfolding(crate::specs::Entries::type_said))]
+fn type_said(token: &Token) -> Result<TypeWord, TextCause>
+    ensures answers { result ≡ type_said token.now }
+    ensures tells { IfErr result (λ cause. tells_of_text cause ≡ true) }
+{
+    if token.quoted {
+        return Err(TextCause::UnknownType);
+    }
+    type_word(token.raw.items()).ok_or(TextCause::UnknownType)
+}
+
+/// The data of a type, or `None` where it is dropped.
+fn data_by(
+    alloc: Global,
+    said: TypeWord,
+    word: &Token,
+    fields: &[Token],
+    origin: &Name,
+) -> Result<Option<Rdata>, EntryFault>
+    ensures answers { StepAnswers result (data_by said word.now fields.now origin.now) }
+    ensures tells { IfErr result TellsOfEntry }
+{
+    match said {
+        TypeWord::Known(rtype) => kept(read_rdata(alloc, rtype, fields, origin)),
+        TypeWord::Other => {
+            let upper = upper_case(alloc, word.raw.items())?;
+            kept(read_other(alloc, upper.items(), fields))
+        }
+        TypeWord::Dropped => Ok(None),
+    }
+}
+
+/// What the reading of data gave, as a record's.
+fn kept(rdata: Result<Rdata, RdataFault>) -> Result<Option<Rdata>, EntryFault>
+    requires named { rdata ≢ Err (RdataFault.BadName NameFault.NoMemory) }
+    ensures answers { (said : Result Rdata RdataFault) → DataAnswers rdata said → StepAnswers result (as_data said) }
+    ensures tells { IfErr result TellsOfEntry }
+{
+    match rdata {
+        Ok(rdata) => Ok(Some(rdata)),
+        Err(RdataFault::NoMemory) => Err(EntryFault::NoMemory),
+        Err(fault) => Err(EntryFault::Cause(TextCause::Rdata(fault))),
+    }
+}
+
+/// The octets with a to z raised to A to Z.
+fn upper_case(alloc: Global, octets: &[u8]) -> Result<Octets, NoMemory>
+    ensures { IfOk result (λ upper. upper ≡ map raised octets.now) }
+{
+    Ok(List::from_vec(
+        octets.iter().map(|octet| raised(*octet)).collect(alloc)?,
+    ))
+}
+
+/// The octet, raised to A to Z where it is one of a to z.
+fn raised(octet: u8) -> u8
+    ensures { result ≡ raised octet }
+{
+    octet.to_ascii_uppercase()
+}
+
+/// Puts what stands in front of a record's type into the context.
+#[tactic(auto, using(crate::proofs::Steps::last_owner_is))]
+fn leave(
+    alloc: Global,
+    context: &mut Context,
+    entry: &Entry,
+    owner: &Name,
+    ttl: Option<u32>,
+) -> Result<(), NoMemory>
+    requires { owner_of context.old entry.now ≡ Ok owner.now }
+    ensures { OnOk result (context.new ≡ behind_record context.old owner.now ttl) }
+{
+    context.stated_ttl = ttl.or(context.stated_ttl);
+    if entry.blank_start {
+        return Ok(());
+    }
+    context.owner = Some(owner.copy(alloc)?);
+    Ok(())
+}
+
+/// The record with these data, or `None` where its type is dropped. A TTL that the data say themselves counts as
+/// stated where they give the record's.
+#[tactic(auto, unfolding(crate::specs::Entries::made_of))]
+fn with_ttl(
+    context: &mut Context,
+    owner: Name,
+    stated: Option<u32>,
+    line: u32,
+    rdata: Option<Rdata>,
+) -> Result<Option<Rr>, TextCause>
+    ensures answers { MatchResult result
+        (λ rr. made_of context.old owner stated line rdata ≡ Ok (record { context = context.new; rr = rr }))
+        (λ cause. made_of context.old owner stated line rdata ≡ Err cause) }
+    ensures tells { IfErr result (λ cause. tells_of_text cause ≡ true) }
+{
+    let Some(rdata) = rdata else {
+        return Ok(None);
+    };
+    let own = own_ttl(&rdata);
+    let inherited = context.default_ttl.or(context.stated_ttl);
+    let Some(ttl) = stated.or(inherited.or(own)) else {
+        return Err(TextCause::NoTtl);
+    };
+    if inherited.is_none() {
+        context.stated_ttl = own;
+    }
+    Ok(Some(Rr {
+        owner,
+        ttl,
+        rdata,
+        file: 0,
+        line,
+    }))
+}
+
+/// The TTL that data say themselves: the MINIMUM of an SOA.
+fn own_ttl(rdata: &Rdata) -> Option<u32>
+    ensures { result ≡ own_ttl rdata.now }
+{
+    match rdata {
+        Rdata::Soa { minimum, .. } => Some(*minimum),
+        _ => None,
+    }
+}
