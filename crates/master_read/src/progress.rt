@@ -3,11 +3,13 @@
 ghost use Rattle.std.specs.Prelude.{◌≡◌, ◌≤◌, ◌<◌, ◌+◌, ◌-◌, ◌^◌, ℕ, List, ◌++◌, length, true, false, Ok, IfOk, IfErr, OnOk};
 ghost use Rattle.dns_data.specs.Name.{Labels};
 ghost use Rattle.master_lex.specs.Holding.{fault_in};
-ghost use Rattle.master_read.specs.Fault.{TellsOfText};
+ghost use Rattle.master_read.specs.Fault.{Answers, TellsOfText};
 ghost use Rattle.master_read.specs.Reader.{HasRead, HasReadAll, IsSettled};
+ghost use Rattle.master_read.specs.ZoneText.{zone_text};
 
-use crate::fault::TextFault;
+use crate::fault::{TextCause, TextFault};
 use crate::records::Records;
+use crate::zone_text::ZoneText;
 use master_lex::{LexFault, Lexer, TakeFault, Taken};
 use std::alloc::Global;
 
@@ -66,6 +68,30 @@ impl Progress {
                 Err(TakeFault::Lex { line, kind }) => return Ok(Some(LexFault { line, kind })),
                 Err(TakeFault::NoMemory) => return Err(TextFault::NoMemory),
             }
+        }
+    }
+
+    /// The records of the text, which has ended, or its first fault.
+    pub fn finish(mut self, alloc: Global) -> Result<ZoneText, TextFault>
+        requires { self.lexer.finished ≡ false }
+        ensures answers { (origin : Labels) (text : List ℕ) → HasRead self origin text → Answers result (zone_text origin self.room text) }
+        ensures tells { IfErr result TellsOfText }
+    {
+        self.lexer.finish();
+        match self.read_ready(alloc)? {
+            None => {
+                let Progress {
+                    lexer: _,
+                    records,
+                    room: _,
+                } = self;
+                Ok(records.into_text())
+            }
+            Some(fault) => Err(TextFault::At {
+                file: 0,
+                line: fault.line,
+                cause: TextCause::Lex(fault.kind),
+            }),
         }
     }
 }

@@ -1,6 +1,6 @@
 //! The reader.
 
-ghost use Rattle.std.specs.Prelude.{◌≡◌, ◌+◌, ◌-◌, ◌^◌, ◌<◌, ℕ, List, [], ◌++◌, length, Err, IfErr, IsErr, OnOk, OnErr};
+ghost use Rattle.std.specs.Prelude.{◌≡◌, ◌↔◌, ◌+◌, ◌-◌, ◌^◌, ◌<◌, ℕ, List, [], ◌++◌, length, Err, IfErr, IsErr, OnOk, OnErr};
 ghost use Rattle.dns_data.specs.Name.{Labels};
 ghost use Rattle.master_read.specs.Fault.{Answers, TellsOfText};
 ghost use Rattle.master_read.specs.Reader.{StandsFor, HasFailed};
@@ -63,18 +63,25 @@ impl ZoneReader {
 
     /// Takes the next piece of the text. After an error, which comes again at each call, the reader gives no
     /// records. After a fault of the text the rest is passed over.
-    pub fn feed(&mut self, alloc: Global, _piece: &[u8]) -> Result<(), NoMemory>
-        requires short { self.old.fed + length _piece.now < 2 ^ 32 - 1 }
+    pub fn feed(&mut self, alloc: Global, piece: &[u8]) -> Result<(), NoMemory>
+        requires short { self.old.fed + length piece.now < 2 ^ 32 - 1 }
         ensures stands { (origin : Labels) (room : ℕ) (text : List ℕ) → StandsFor self.old origin room text
-            → OnOk result (StandsFor self.new origin room (text ++ _piece.now)) }
-        ensures fed { self.new.fed ≡ self.old.fed + length _piece.now }
+            → OnOk result (StandsFor self.new origin room (text ++ piece.now)) }
+        ensures fed { self.new.fed ≡ self.old.fed + length piece.now }
         ensures failed { OnErr result (HasFailed self.new) }
         ensures stays_failed { HasFailed self.old → IsErr result }
     {
-        self.fed += _piece.len() as u32;
-        self.fault = Some(TextFault::NoMemory);
-        let _ = alloc;
-        Err(NoMemory)
+        self.fed += piece.len() as u32;
+        if let Some(fault) = self.fault {
+            return unless_failed(fault);
+        }
+        match self.progress.feed(alloc, piece) {
+            Ok(()) => Ok(()),
+            Err(fault) => {
+                self.fault = Some(fault);
+                unless_failed(fault)
+            }
+        }
     }
 
     /// The records of the text, or its first fault.
@@ -84,7 +91,24 @@ impl ZoneReader {
         ensures failed { HasFailed self → result ≡ Err TextFault.NoMemory }
         ensures tells { IfErr result TellsOfText }
     {
-        let _ = alloc;
-        Err(TextFault::NoMemory)
+        let ZoneReader {
+            progress,
+            fed: _,
+            fault,
+        } = self;
+        match fault {
+            Some(fault) => Err(fault),
+            None => progress.finish(alloc),
+        }
+    }
+}
+
+/// Whether more of the text may be taken after this fault: `NoMemory` comes again, and any other is kept for the end.
+fn unless_failed(fault: TextFault) -> Result<(), NoMemory>
+    ensures { IsErr result ↔ (fault ≡ TextFault.NoMemory) }
+{
+    match fault {
+        TextFault::At { .. } => Ok(()),
+        TextFault::NoMemory => Err(NoMemory),
     }
 }

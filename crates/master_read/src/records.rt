@@ -1,13 +1,14 @@
 //! What was read of a text so far.
 
-ghost use Rattle.std.specs.Prelude.{◌≡◌, Ok, IfErr, OnOk};
+ghost use Rattle.std.specs.Prelude.{◌≡◌, None, Ok, IfErr, OnOk};
 ghost use Rattle.master_read.specs.Fault.{CauseIs, FaultIs, TellsOfEntry, TellsOfText};
-ghost use Rattle.master_read.specs.ZoneText.{at_line, with_entry, with_made};
+ghost use Rattle.master_read.specs.ZoneText.{at_line, with_entry, with_made, ended};
 
 use crate::context::Context;
 use crate::directive::{is_directive, read_directive};
 use crate::fault::{EntryFault, TextCause, TextFault};
 use crate::rr::read_record;
+use crate::zone_text::ZoneText;
 use dns_data::{List, Rr};
 use master_lex::Entry;
 use std::alloc::Global;
@@ -69,5 +70,17 @@ impl Records {
             Some(rr) => Ok(self.rrs.push(rr)?),
             None => Ok(()),
         }
+    }
+
+    /// The records, and how many record entries there were.
+    pub fn into_text(self) -> ZoneText
+        ensures { ended None self ≡ Ok result }
+    {
+        let Records {
+            context: _,
+            rrs,
+            seen,
+        } = self;
+        ZoneText { rrs, seen }
     }
 }

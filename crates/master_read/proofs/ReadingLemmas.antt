@@ -1,0 +1,110 @@
+-- The entries of a text, read one after another.
+use Rattle.std.proofs.Common.{◌≡◌, ℕ, Bool, true, false, List, [], ◌∷◌, ◌++◌, length, drop, refl, sym, ap, ◌∙◌, append_assoc, Option, Some, None}
+use Rattle.std.specs.Prelude.{Result, Ok, Err, MatchBool}
+use Rattle.std.proofs.lemmas.List.{append-nil}
+use Rattle.dns_data.specs.Name.{Labels}
+use Rattle.master_lex.specs.Holding.{Held, Remains, StandsFor, run, empty, last_entry, entries_in, fault_in}
+use Rattle.master_lex.specs.declared.entry.Entry.{Entry}
+use Rattle.master_lex.specs.declared.fault.LexFault.{LexFault}
+use Rattle.master_lex.proofs.Values.{entries_begin}
+use Rattle.master_read.specs.Entries.{◌>>=◌}
+use Rattle.master_read.specs.Fault.{FaultIs}
+use Rattle.master_read.specs.Reader.{IsSettled, HasReadAll, Held as ReaderHeld, StandsFor as ReaderStandsFor}
+use Rattle.master_read.specs.ZoneText.{no_records, with_entry, at_line, with_entries, ended, zone_of_entries, zone_text}
+use Rattle.master_read.specs.declared.fault.TextFault.{TextFault}
+use Rattle.master_read.specs.declared.fault.TextFault.TheVariants.{At, NoMemory}
+use Rattle.master_read.specs.declared.progress.Progress.{Progress}
+use Rattle.master_read.specs.declared.records.Records.{Records}
+
+-- one step more, and then all that follows
+one_step : {A B F : Type 0} (first : Result A F) (f g : A → Result B F) (h : B → Result B F) → ((a : A) → f a ≡ (g a >>= h)) → (first >>= f) ≡ ((first >>= g) >>= h)
+one_step (Ok a) f g h same = same a
+one_step (Err fault) f g h same = refl
+
+-- entries and others behind them
+with_entries-append : (room : ℕ) (so_far : Records) (xs ys : List Entry) → with_entries room so_far (xs ++ ys) ≡ (with_entries room so_far xs >>= (λ records. with_entries room records ys))
+unfolding with_entries
+with_entries-append room so_far [] ys = refl
+with_entries-append room so_far (x ∷ xs) ys =
+    one_step (at_line x.line (with_entry room so_far x)) (λ records. with_entries room records (xs ++ ys)) (λ records. with_entries room records xs)
+        (λ records. with_entries room records ys) (λ records. with_entries-append room records xs ys)
+
+-- one entry more that has a record
+pub with_one_more : (room : ℕ) (so_far records more : Records) (xs : List Entry) (entry : Entry) → with_entries room so_far xs ≡ Ok records
+    → at_line entry.line (with_entry room records entry) ≡ Ok more → with_entries room so_far (xs ++ entry ∷ []) ≡ Ok more
+unfolding with_entries
+with_one_more room so_far records more xs entry e made =
+    with_entries-append room so_far xs (entry ∷ [])
+    ∙ ap (λ (r : Result Records TextFault). r >>= (λ records'. with_entries room records' (entry ∷ []))) e
+    ∙ ap (λ (r : Result Records TextFault). r >>= (λ records'. with_entries room records' [])) made
+
+-- one entry more that has a fault
+with_fault : (room : ℕ) (so_far records : Records) (fault : TextFault) (xs : List Entry) (entry : Entry) (ys : List Entry) → with_entries room so_far xs ≡ Ok records
+    → at_line entry.line (with_entry room records entry) ≡ Err fault → with_entries room so_far (xs ++ entry ∷ ys) ≡ Err fault
+unfolding with_entries
+with_fault room so_far records fault xs entry ys e made =
+    with_entries-append room so_far xs (entry ∷ ys)
+    ∙ ap (λ (r : Result Records TextFault). r >>= (λ records'. with_entries room records' (entry ∷ ys))) e
+    ∙ ap (λ (r : Result Records TextFault). r >>= (λ records'. with_entries room records' ys)) made
+
+-- the entries that were taken are the first of the text, however it goes on, if it hasn't ended
+first_by : (finished : Bool) (held : Held) (text : List ℕ) (taken : List Entry)
+    → MatchBool finished (Remains held text taken) (run empty text ≡ record held.state { ready = taken ++ held.state.ready })
+    → (more : List ℕ) → (finished ≡ true → more ≡ []) → (others : List Entry) × (entries_in true (text ++ more) ≡ taken ++ others)
+first_by true held text taken remains more none = (
+  held.state.ready ++ last_entry held.state,
+  ap (λ (octets : List ℕ). entries_in true (text ++ octets)) (none refl) ∙ ap (λ (octets : List ℕ). entries_in true octets) (append-nil text)
+      ∙ remains.entries ∙ append_assoc taken held.state.ready (last_entry held.state),
+)
+first_by false held text taken same more none =
+    let begins = entries_begin text more in (
+      held.state.ready ++ begins.0,
+      begins.1 ∙ ap (λ (entries : List Entry). entries ++ begins.0) (ap (λ s. s.ready) same) ∙ append_assoc taken held.state.ready begins.0,
+    )
+
+taken_first : (held : Held) (text : List ℕ) (taken : List Entry) → StandsFor held text taken
+    → (more : List ℕ) → (held.finished ≡ true → more ≡ []) → (others : List Entry) × (entries_in true (text ++ more) ≡ taken ++ others)
+taken_first held text taken stands = first_by held.finished held text taken stands.agrees
+
+-- the fault of an entry is that of the text
+fault_of_text : (origin : Labels) (room : ℕ) (text : List ℕ) (fault : TextFault) → with_entries room (no_records origin) (entries_in true text) ≡ Err fault → zone_text origin room text ≡ Err fault
+unfolding zone_text zone_of_entries
+fault_of_text origin room text fault e = ap (λ (r : Result Records TextFault). r >>= ended (fault_in true text)) e
+
+fault_by : (origin : Labels) (room : ℕ) (text : List ℕ) (records : Records) (entry : Entry) (taken others : List Entry) → entries_in true text ≡ (taken ++ entry ∷ []) ++ others
+    → with_entries room (no_records origin) taken ≡ Ok records → (fault : TextFault) → FaultIs fault (at_line entry.line (with_entry room records entry)) → FaultIs fault (zone_text origin room text)
+fault_by origin room text records entry taken others begins read NoMemory h = tt
+fault_by origin room text records entry taken others begins read (At file line cause) h =
+    fault_of_text origin room text (At file line cause)
+        (ap (with_entries room (no_records origin)) (begins ∙ append_assoc taken (entry ∷ []) others)
+        ∙ with_fault room (no_records origin) records (At file line cause) taken entry others read h)
+
+-- where the next entry has a fault, it is settled
+pub settled : (held : Held) (text : List ℕ) (taken : List Entry) (entry : Entry) (origin : Labels) (room : ℕ) (records : Records) → StandsFor held text (taken ++ entry ∷ [])
+    → with_entries room (no_records origin) taken ≡ Ok records → (fault : TextFault) → FaultIs fault (at_line entry.line (with_entry room records entry)) → IsSettled held.finished fault origin room text
+settled held text taken entry origin room records stands read fault h more none =
+    let first = taken_first held text (taken ++ entry ∷ []) stands more none in
+    fault_by origin room (text ++ more) records entry taken first.0 first.1 read fault h
+
+-- the records and the fault of a text are those of all its entries and of what is behind them
+zone_text_is : (origin : Labels) (room : ℕ) (text : List ℕ) (records : Records) → with_entries room (no_records origin) (entries_in true text) ≡ Ok records
+    → zone_text origin room text ≡ ended (fault_in true text) records
+unfolding zone_text zone_of_entries
+zone_text_is origin room text records e = ap (λ (r : Result Records TextFault). r >>= ended (fault_in true text)) e
+
+-- where all entries of a text were read, this is what it gives
+pub text_read : (progress : Progress) (origin : Labels) (room : ℕ) (text : List ℕ) (fault : Option LexFault) → progress.room ≡ room → HasReadAll progress origin text
+    → fault ≡ fault_in true text → zone_text origin room text ≡ ended fault progress.records
+text_read progress origin room text fault same all is =
+    ap (λ (n : ℕ). zone_text origin n text) (sym same) ∙ zone_text_is origin progress.room text progress.records all
+    ∙ ap (λ (f : Option LexFault). ended f progress.records) (sym is)
+
+-- a fault that is settled is that of the text as it stands
+pub settled_now : (finished : Bool) (fault : TextFault) (origin : Labels) (room : ℕ) (text : List ℕ) → IsSettled finished fault origin room text → FaultIs fault (zone_text origin room text)
+settled_now finished fault origin room text h = rw append-nil at (h [] (λ _. refl))
+
+-- the fault that a reader met is that of the text
+pub met : (held : ReaderHeld) (fault : TextFault) (origin : Labels) (room : ℕ) (text : List ℕ) → held.fault ≡ Some fault → ReaderStandsFor held origin room text → FaultIs fault (zone_text origin room text)
+met held fault origin room text is stands =
+    let settle = rw is at stands.agrees in
+    rw (← stands.room_is) (settled_now false fault origin held.progress.room text settle)
