@@ -1,2 +1,3 @@
 pub mod Digits
 pub mod Seconds
+mod Worked
