@@ -1,3 +1,4 @@
 pub mod Digits
 pub mod Seconds
 mod Worked
+mod Drawn
