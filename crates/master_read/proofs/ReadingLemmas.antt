@@ -27,7 +27,7 @@ unfolding with_entries
 with_entries-append room so_far [] ys = refl
 with_entries-append room so_far (x ∷ xs) ys =
     one_step (at_line x.line (with_entry room so_far x)) (λ records. with_entries room records (xs ++ ys)) (λ records. with_entries room records xs)
-        (λ records. with_entries room records ys) (λ records. with_entries-append room records xs ys)
+    (λ records. with_entries room records ys) (λ records. with_entries-append room records xs ys)
 
 -- one entry more that has a record
 pub with_one_more : (room : ℕ) (so_far records more : Records) (xs : List Entry) (entry : Entry) → with_entries room so_far xs ≡ Ok records
@@ -76,8 +76,8 @@ fault_by : (origin : Labels) (room : ℕ) (text : List ℕ) (records : Records) 
 fault_by origin room text records entry taken others begins read NoMemory h = tt
 fault_by origin room text records entry taken others begins read (At file line cause) h =
     fault_of_text origin room text (At file line cause)
-        (ap (with_entries room (no_records origin)) (begins ∙ append_assoc taken (entry ∷ []) others)
-        ∙ with_fault room (no_records origin) records (At file line cause) taken entry others read h)
+    (ap (with_entries room (no_records origin)) (begins ∙ append_assoc taken (entry ∷ []) others)
+    ∙ with_fault room (no_records origin) records (At file line cause) taken entry others read h)
 
 -- where the next entry has a fault, it is settled
 pub settled : (held : Held) (text : List ℕ) (taken : List Entry) (entry : Entry) (origin : Labels) (room : ℕ) (records : Records) → StandsFor held text (taken ++ entry ∷ [])
@@ -107,4 +107,4 @@ settled_now finished fault origin room text h = rw append-nil at (h [] (λ _. re
 pub met : (held : ReaderHeld) (fault : TextFault) (origin : Labels) (room : ℕ) (text : List ℕ) → held.fault ≡ Some fault → ReaderStandsFor held origin room text → FaultIs fault (zone_text origin room text)
 met held fault origin room text is stands =
     let settle = rw is at stands.agrees in
-    rw (← stands.room_is) (settled_now false fault origin held.progress.room text settle)
+    rw (← stands.room_is) (settled_now false fault origin held.progress.room text settle.1)

@@ -35,10 +35,10 @@ abbrev pub IsSettled : Bool → TextFault → Labels → ℕ → List ℕ → Ty
 IsSettled finished fault origin room text =
     (more : List ℕ) → (finished ≡ true → more ≡ []) → FaultIs fault (zone_text origin room (text ++ more))
 
--- by the fault that was met, or none
+-- by the fault that was met, or none: where memory ran out, the reader stands for no text
 abbrev pub StandsBy : Option TextFault → Progress → Labels → List ℕ → Type 0
 StandsBy None progress origin text = HasRead progress origin text
-StandsBy (Some fault) progress origin text = IsSettled false fault origin progress.room text
+StandsBy (Some fault) progress origin text = (fault ≢ NoMemory) × IsSettled false fault origin progress.room text
 
 -- the reader was fed the text, whose names stand below the origin, and has room for so many records
 pub record StandsFor (held : Held) (origin : Labels) (room : ℕ) (text : List ℕ) : Type 0 where

@@ -57,11 +57,7 @@ pub fn read_directive(
 
 /// Puts the name of an `$ORIGIN` into the context (RFC 1035 section 5.1).
 #[tactic(auto, unfolding(crate::specs::Entries::origin_directive))]
-fn read_origin(
-    alloc: Global,
-    context: &mut Context,
-    arguments: &[Token],
-) -> Result<(), EntryFault>
+fn read_origin(alloc: Global, context: &mut Context, arguments: &[Token]) -> Result<(), EntryFault>
     ensures ok { OnOk result (origin_directive context.old arguments.now ≡ Ok context.new) }
     ensures fault { IfErr result (λ fault. CauseIs fault (origin_directive context.old arguments.now)) }
     ensures tells { IfErr result TellsOfEntry }

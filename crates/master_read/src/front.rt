@@ -41,7 +41,7 @@ pub fn read_front(tokens: &[Token]) -> Result<Front<'_>, TextCause>
 fn one_more(front: Front<'_>) -> Result<Front<'_>, TextCause>
     ensures answers { MatchResult result
         (λ more. one_more (record { ttl = front.entry.ttl; class = front.entry.has_class; tokens = front.entry.tokens.now })
-            ≡ Ok (record { ttl = more.ttl; class = more.has_class; tokens = more.tokens.now }))
+        ≡ Ok (record { ttl = more.ttl; class = more.has_class; tokens = more.tokens.now }))
         (λ cause. one_more (record { ttl = front.entry.ttl; class = front.entry.has_class; tokens = front.entry.tokens.now }) ≡ Err cause) }
     ensures tells { IfErr result (λ cause. tells_of_text cause ≡ true) }
 {

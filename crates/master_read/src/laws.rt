@@ -1,8 +1,10 @@
 //! What the definitions say of each text.
 
-ghost use Rattle.std.specs.Prelude.{◌≡◌, ℕ, List};
+ghost use Rattle.std.specs.Prelude.{◌≡◌, ℕ, List, Ok};
 ghost use Rattle.dns_data.specs.Name.{Labels};
 ghost use Rattle.master_lex.specs.Spelling.{Cut, IsCut, entries_of_cut};
+ghost use Rattle.master_lex.specs.declared.entry.Token.{Token};
+ghost use Rattle.master_read.specs.Entries.{Front, front_in, one_more};
 ghost use Rattle.master_read.specs.ZoneText.{zone_of_entries, zone_text};
 
 /// The records of a text are those of the entries of its cut into spellings, and its fault is the first of
@@ -10,4 +12,10 @@ ghost use Rattle.master_read.specs.ZoneText.{zone_of_entries, zone_text};
 pub fn read_by_the_cut()
     ensures { (origin : Labels) (room : ℕ) (text : List ℕ) (cut : Cut) → IsCut text cut
         → zone_text origin room text ≡ zone_of_entries origin room (entries_of_cut cut) cut.fault }
+{}
+
+/// What is taken in front of a type is all that may be: the word behind it is neither a further TTL nor a further
+/// class.
+pub fn front_is_whole()
+    ensures { (tokens : List Token) (front : Front) → front_in tokens ≡ Ok front → one_more front ≡ Ok front }
 {}

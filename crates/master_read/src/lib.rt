@@ -14,6 +14,9 @@ mod words;
 mod zone_text;
 
 pub use fault::{TextCause, TextFault};
-pub use laws::read_by_the_cut;
+pub use laws::{front_is_whole, read_by_the_cut};
 pub use reader::ZoneReader;
 pub use zone_text::ZoneText;
+
+#[cfg(test)]
+mod tests;

@@ -1,6 +1,6 @@
 //! The reader.
 
-ghost use Rattle.std.specs.Prelude.{◌≡◌, ◌↔◌, ◌+◌, ◌-◌, ◌^◌, ◌<◌, ℕ, List, [], ◌++◌, length, Err, IfErr, IsErr, OnOk, OnErr};
+ghost use Rattle.std.specs.Prelude.{◌≡◌, ◌≢◌, ◌+◌, ◌-◌, ◌^◌, ◌<◌, ℕ, List, [], ◌++◌, length, Err, IfErr, IsErr, OnOk, OnErr};
 ghost use Rattle.dns_data.specs.Name.{Labels};
 ghost use Rattle.master_read.specs.Fault.{Answers, TellsOfText};
 ghost use Rattle.master_read.specs.Reader.{StandsFor, HasFailed};
@@ -105,7 +105,9 @@ impl ZoneReader {
 
 /// Whether more of the text may be taken after this fault: `NoMemory` comes again, and any other is kept for the end.
 fn unless_failed(fault: TextFault) -> Result<(), NoMemory>
-    ensures { IsErr result ↔ (fault ≡ TextFault.NoMemory) }
+    ensures ok { OnOk result (fault ≢ TextFault.NoMemory) }
+    ensures err { OnErr result (fault ≡ TextFault.NoMemory) }
+    ensures failed { fault ≡ TextFault.NoMemory → IsErr result }
 {
     match fault {
         TextFault::At { .. } => Ok(()),

@@ -77,11 +77,7 @@ fn behind_owner(entry: &Entry) -> &[Token]
 
 /// The data behind the type's word, or `None` where the type is dropped.
 #[tactic(auto, unfolding(crate::specs::Entries::data_of))]
-fn read_data(
-    alloc: Global,
-    tokens: &[Token],
-    origin: &Name,
-) -> Result<Option<Rdata>, EntryFault>
+fn read_data(alloc: Global, tokens: &[Token], origin: &Name) -> Result<Option<Rdata>, EntryFault>
     ensures answers { StepAnswers result (data_of tokens.now origin.now) }
     ensures tells { IfErr result TellsOfEntry }
 {
@@ -142,9 +138,7 @@ fn kept(rdata: Result<Rdata, RdataFault>) -> Result<Option<Rdata>, EntryFault>
 fn upper_case(alloc: Global, octets: &[u8]) -> Result<Octets, NoMemory>
     ensures { IfOk result (λ upper. upper ≡ map raised octets.now) }
 {
-    Ok(List::from_vec(
-        octets.iter().map(|octet| raised(*octet)).collect(alloc)?,
-    ))
+    Ok(List::from_vec(octets.iter().map(|octet| raised(*octet)).collect(alloc)?))
 }
 
 /// The octet, raised to A to Z where it is one of a to z.

@@ -11,7 +11,7 @@ returns-in_err-read_ready-clause-answers c origin text begun =
     let read : HasRead (record c.args.self { lexer = c.finish.new.self }) origin text = (begun.0, (c.finish.ensures.stands text begun.0 begun.1.0, begun.1.1)) in
     let fault = c.in_err-read_ready.field-0.0 in
     let here : FaultIs fault (zone_text origin c.args.self.room text) =
-        settled_now c.finish.new.self.finished fault origin c.args.self.room text (c.in_err-read_ready.ensures.fault origin text read) in
+    settled_now c.finish.new.self.finished fault origin c.args.self.room text (c.in_err-read_ready.ensures.fault origin text read) in
     search (rules, here)
 
 pub returns-in-None-clause-answers : goal.returns-in-None-clause-answers

@@ -12,12 +12,11 @@ use Rattle.master_read.proofs.progress.Progress.read_ready.Goals as goal
 pub loop-entry-preserved : goal.loop-entry-preserved
 loop-entry-preserved c = record {
   read = λ origin text begun.
-    let read = c.loop-entry.invariant.read origin text begun in
-    let stands = rw c.in-Ok-Entry.field-0-is at (c.in-Ok-Entry.ensures.stands text read.0 read.1.0) in
-    (
-      read.0 ++ c.in-Ok-Entry.entry ∷ [],
-      (stands, with_one_more c.loop-entry.self.room (no_records origin) c.loop-entry.self.records c.read.new.self read.0 c.in-Ok-Entry.entry read.1.1 c.in_ok-read-in-Ok-Entry.ensures.ok),
-    );
+      let read = c.loop-entry.invariant.read origin text begun in
+      let stands = rw c.in-Ok-Entry.field-0-is at (c.in-Ok-Entry.ensures.stands text read.0 read.1.0) in (
+        read.0 ++ c.in-Ok-Entry.entry ∷ [],
+        (stands, with_one_more c.loop-entry.self.room (no_records origin) c.loop-entry.self.records c.read.new.self read.0 c.in-Ok-Entry.entry read.1.1 c.in_ok-read-in-Ok-Entry.ensures.ok),
+      );
   finished = c.take.ensures.finished ∙ c.loop-entry.invariant.finished;
   fed = c.take.ensures.fed ∙ c.loop-entry.invariant.fed;
   room = c.loop-entry.invariant.room;
@@ -30,7 +29,7 @@ returns-in_err-read-in-Ok-Entry-clause-fault c origin text begun =
     let fault = c.in_err-read-in-Ok-Entry.field-0.0 in
     let settle = settled c.take.new.self text read.0 c.in-Ok-Entry.entry origin c.loop-entry.self.room c.loop-entry.self.records stands read.1.1 fault c.in_err-read-in-Ok-Entry.ensures.fault in
     let here : IsSettled c.args.self.now.lexer.finished fault origin c.args.self.now.room text =
-        rw (← c.loop-entry.invariant.room, ← c.loop-entry.invariant.finished, ← c.take.ensures.finished) settle in
+    rw (← c.loop-entry.invariant.room, ← c.loop-entry.invariant.finished, ← c.take.ensures.finished) settle in
     search (rules, here)
 
 pub returns-in-Ok-More-clause-read : goal.returns-in-Ok-More-clause-read
