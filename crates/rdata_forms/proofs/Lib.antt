@@ -1,6 +1,6 @@
 pub mod Digits
-pub mod HexTokens
 pub mod Groups
+pub mod HexTokens
 pub mod Hexadecimal
 pub mod Named
 pub mod Pieces

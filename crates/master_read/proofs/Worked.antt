@@ -1,0 +1,11 @@
+-- Worked values of the definitions. Each is a theorem: a false one stops the check.
+pub mod Words
+mod TypeWords
+mod ClassWords
+mod Directives
+mod Fronts
+mod Owners
+mod RecordTtls
+mod RecordFaults
+mod Counting
+mod Files

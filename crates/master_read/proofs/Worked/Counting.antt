@@ -1,0 +1,117 @@
+-- How entries follow one another: the records so far, their number, and the room for them.
+use Rattle.std.specs.Prelude.{◌≡◌, refl, ℕ, List, [], ◌∷◌, Some, None, Ok, Err}
+use Rattle.dns_data.specs.Name.{Labels}
+use Rattle.dns_data.specs.declared.rdata.Rdata.TheVariants.{A, Ns}
+use Rattle.dns_data.specs.declared.rdata.Rr.{Rr}
+use Rattle.master_lex.specs.declared.entry.Entry.{Entry}
+use Rattle.master_lex.specs.declared.fault.LexKind.TheVariants.{OpenParen}
+use Rattle.rdata_forms.specs.declared.fault.RdataFault.TheVariants.{BadAddress}
+use Rattle.master_read.specs.Entries.{record_of, owner_of, front_in, one_more, type_said, data_of, made_of, directive_of, origin_directive, ttl_directive}
+use Rattle.master_read.specs.Words.{type_word, class_word, is_among}
+use Rattle.master_read.specs.ZoneText.{no_records, with_entry, with_entries, zone_of_entries}
+use Rattle.master_read.specs.declared.fault.TextCause.TheVariants.{BadDirective, NoOwner, Rdata as BadData, NoTtl, TooMany, Lex}
+use Rattle.master_read.specs.declared.records.Records.{Records}
+use Rattle.master_read.proofs.Worked.Words.{context_with, entry, faulty, indented, name, reads, rr, tokens}
+
+-- a record of t. with this line
+abbrev ns : ℕ → Rr
+ns line = rr (name "t") 60 (Ns (name "ns.t")) line
+
+-- one record was read of so many entries
+abbrev one_of : ℕ → Records
+one_of seen = record { context = context_with [] None (Some 60) (Some (name "t")); rrs = ns 1 ∷ []; seen = seen }
+
+-- a record counts
+a_record : with_entry 3 (no_records []) (entry 1 (tokens "t. 60 NS ns.t.")) ≡ Ok (one_of 1)
+unfolding with_entry record_of owner_of front_in one_more type_said data_of made_of type_word class_word is_among
+a_record = refl
+
+-- a dropped one too
+a_dropped_record : with_entry 3 (one_of 1) (indented 2 (tokens "RRSIG NS")) ≡ Ok (one_of 2)
+unfolding with_entry record_of owner_of front_in one_more type_said data_of made_of type_word class_word is_among
+a_dropped_record = refl
+
+-- where there is no room it is one too many, dropped or not
+no_room : with_entry 2 (one_of 2) (indented 3 (tokens "A 10.0.0.1")) ≡ Err TooMany
+unfolding with_entry record_of owner_of front_in one_more type_said data_of made_of type_word class_word is_among
+no_room = refl
+
+no_room_for_a_dropped_record : with_entry 2 (one_of 2) (indented 3 (tokens "RRSIG NS")) ≡ Err TooMany
+unfolding with_entry record_of owner_of front_in one_more type_said data_of made_of type_word class_word is_among
+no_room_for_a_dropped_record = refl
+
+no_room_at_all : with_entry 0 (no_records []) (entry 1 (tokens "t. 60 NS ns.t.")) ≡ Err TooMany
+unfolding with_entry record_of owner_of front_in one_more type_said data_of made_of type_word class_word is_among
+no_room_at_all = refl
+
+-- its other faults come first
+bad_data_without_room : with_entry 2 (one_of 2) (indented 3 (tokens "A 10.0.0.256")) ≡ Err (BadData BadAddress)
+unfolding with_entry record_of owner_of front_in one_more type_said data_of type_word class_word is_among
+bad_data_without_room = refl
+
+no_ttl_without_room : with_entry 0 (no_records []) (entry 1 (tokens "t. NS ns.t.")) ≡ Err NoTtl
+unfolding with_entry record_of owner_of front_in one_more type_said data_of made_of type_word class_word is_among
+no_ttl_without_room = refl
+
+-- a directive takes no room
+a_directive_without_room :
+    with_entry 0 (no_records []) (entry 1 (tokens "$ORIGIN t."))
+    ≡ Ok (record { context = context_with (name "t") None None None; rrs = []; seen = 0 })
+unfolding with_entry directive_of origin_directive
+a_directive_without_room = refl
+
+-- entries, each in the context that those before it leave
+abbrev few : List Entry
+few =
+    entry 1 (tokens "$ORIGIN t.")
+    ∷ entry 2 (tokens "@ 60 NS ns")
+    ∷ entry 3 (tokens "$TTL 1m")
+    ∷ entry 5 (tokens "$ORIGIN a")
+    ∷ indented 6 (tokens "RRSIG NS")
+    ∷ indented 8 (tokens "7 A 10.0.0.1")
+    ∷ entry 9 (tokens "@ A 10.0.0.2")
+    ∷ []
+
+-- their records: the owner isn't changed by a directive, and `$TTL` goes before the last stated TTL
+abbrev few_records : List Rr
+few_records =
+    rr (name "t") 60 (Ns (name "ns.t")) 2
+    ∷ rr (name "t") 7 (A (10 ∷ 0 ∷ 0 ∷ 1 ∷ [])) 8
+    ∷ rr (name "a.t") 60 (A (10 ∷ 0 ∷ 0 ∷ 2 ∷ [])) 9
+    ∷ []
+
+in_order : zone_of_entries [] 4 few None ≡ reads few_records 4
+unfolding zone_of_entries with_entries with_entry record_of owner_of front_in one_more type_said data_of made_of type_word class_word is_among directive_of origin_directive ttl_directive
+in_order = refl
+
+-- the fault of the first entry that has one, at its line
+one_too_many : zone_of_entries [] 3 few None ≡ faulty 9 TooMany
+unfolding zone_of_entries with_entries with_entry record_of owner_of front_in one_more type_said data_of made_of type_word class_word is_among directive_of origin_directive ttl_directive
+one_too_many = refl
+
+two_too_many : zone_of_entries [] 1 few None ≡ faulty 6 TooMany
+unfolding zone_of_entries with_entries with_entry record_of owner_of front_in one_more type_said data_of made_of type_word class_word is_among directive_of origin_directive ttl_directive
+two_too_many = refl
+
+-- the fault of a spelling comes behind the entries
+behind_the_entries : zone_of_entries [] 4 few (Some (record { line = 12; kind = OpenParen })) ≡ faulty 12 (Lex OpenParen)
+unfolding zone_of_entries with_entries with_entry record_of owner_of front_in one_more type_said data_of made_of type_word class_word is_among directive_of origin_directive ttl_directive
+behind_the_entries = refl
+
+before_the_spelling : zone_of_entries [] 3 few (Some (record { line = 12; kind = OpenParen })) ≡ faulty 9 TooMany
+unfolding zone_of_entries with_entries with_entry record_of owner_of front_in one_more type_said data_of made_of type_word class_word is_among directive_of origin_directive ttl_directive
+before_the_spelling = refl
+
+-- a directive leaves no owner
+no_owner_behind_a_directive :
+    zone_of_entries [] 4 (entry 1 (tokens "$ORIGIN t.") ∷ indented 2 (tokens "60 NS ns") ∷ []) None ≡ faulty 2 NoOwner
+unfolding zone_of_entries with_entries with_entry record_of owner_of directive_of origin_directive
+no_owner_behind_a_directive = refl
+
+a_bad_directive : zone_of_entries [] 4 (entry 7 (tokens "$TTL") ∷ []) None ≡ faulty 7 BadDirective
+unfolding zone_of_entries with_entries with_entry directive_of ttl_directive
+a_bad_directive = refl
+
+nothing : zone_of_entries [] 0 [] None ≡ reads [] 0
+unfolding zone_of_entries with_entries
+nothing = refl

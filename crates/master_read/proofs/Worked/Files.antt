@@ -1,0 +1,189 @@
+-- The records of whole texts.
+use Rattle.std.specs.Prelude.{◌≡◌, refl, ℕ, List, [], ◌∷◌, ◌++◌, codes}
+use Rattle.dns_data.specs.declared.rdata.Rdata.TheVariants.{A, Ns, Soa, Mx, Txt, Other}
+use Rattle.dns_data.specs.declared.rdata.Rr.{Rr}
+use Rattle.master_lex.specs.Octets.{kind}
+use Rattle.master_lex.specs.Passing.{passed}
+use Rattle.master_lex.specs.declared.fault.LexKind.TheVariants.{OpenParen, OpenQuote, StrayClose, BadEscape}
+use Rattle.rdata_forms.specs.declared.fault.RdataFault.TheVariants.{FieldCount, BadAddress}
+use Rattle.master_read.specs.Entries.{record_of, owner_of, front_in, one_more, type_said, data_of, made_of, directive_of, origin_directive, ttl_directive}
+use Rattle.master_read.specs.Words.{type_word, type_numbered, class_word, is_among}
+use Rattle.master_read.specs.ZoneText.{with_entry, with_entries, zone_of_entries, zone_text}
+use Rattle.master_read.specs.declared.fault.TextCause.TheVariants.{BadDirective, NotSupported, Lex, Rdata as BadData, NoTtl, TooMany}
+use Rattle.master_read.proofs.Worked.Words.{faulty, lines, name, reads, rr}
+
+-- RFC 1035 section 5.3: the file that defines the zone ISI.EDU, without its last line
+abbrev isi_edu : List ℕ
+isi_edu = lines
+    (codes "@   IN  SOA     VENERA      Action\\.domains ("
+    ∷ codes "                                 20     ; SERIAL"
+    ∷ codes "                                 7200   ; REFRESH"
+    ∷ codes "                                 600    ; RETRY"
+    ∷ codes "                                 3600000; EXPIRE"
+    ∷ codes "                                 60)    ; MINIMUM"
+    ∷ []
+    ∷ codes "        NS      A.ISI.EDU."
+    ∷ codes "        NS      VENERA"
+    ∷ codes "        NS      VAXA"
+    ∷ codes "        MX      10      VENERA"
+    ∷ codes "        MX      20      VAXA"
+    ∷ []
+    ∷ codes "A       A       26.3.0.103"
+    ∷ []
+    ∷ codes "VENERA  A       10.1.0.52"
+    ∷ codes "        A       128.9.0.32"
+    ∷ []
+    ∷ codes "VAXA    A       10.2.0.27"
+    ∷ codes "        A       128.9.0.33"
+    ∷ []
+    ∷ [])
+
+-- its records, all with the MINIMUM of the start of authority
+abbrev isi_edu_records : List Rr
+isi_edu_records =
+    rr (name "isi.edu") 60
+    (Soa (name "venera.isi.edu") (codes "edu" ∷ codes "isi" ∷ codes "action.domains" ∷ []) 20 7200 600 3600000 60) 1
+    ∷ rr (name "isi.edu") 60 (Ns (name "a.isi.edu")) 8
+    ∷ rr (name "isi.edu") 60 (Ns (name "venera.isi.edu")) 9
+    ∷ rr (name "isi.edu") 60 (Ns (name "vaxa.isi.edu")) 10
+    ∷ rr (name "isi.edu") 60 (Mx 10 (name "venera.isi.edu")) 11
+    ∷ rr (name "isi.edu") 60 (Mx 20 (name "vaxa.isi.edu")) 12
+    ∷ rr (name "a.isi.edu") 60 (A (26 ∷ 3 ∷ 0 ∷ 103 ∷ [])) 14
+    ∷ rr (name "venera.isi.edu") 60 (A (10 ∷ 1 ∷ 0 ∷ 52 ∷ [])) 16
+    ∷ rr (name "venera.isi.edu") 60 (A (128 ∷ 9 ∷ 0 ∷ 32 ∷ [])) 17
+    ∷ rr (name "vaxa.isi.edu") 60 (A (10 ∷ 2 ∷ 0 ∷ 27 ∷ [])) 19
+    ∷ rr (name "vaxa.isi.edu") 60 (A (128 ∷ 9 ∷ 0 ∷ 33 ∷ [])) 20
+    ∷ []
+
+isi_edu_reads : zone_text (name "isi.edu") 11 isi_edu ≡ reads isi_edu_records 11
+unfolding zone_text zone_of_entries with_entries with_entry record_of owner_of front_in one_more type_said data_of made_of type_word class_word is_among directive_of passed kind
+isi_edu_reads = refl
+
+isi_edu_without_room : zone_text (name "isi.edu") 10 isi_edu ≡ faulty 20 TooMany
+unfolding zone_text zone_of_entries with_entries with_entry record_of owner_of front_in one_more type_said data_of made_of type_word class_word is_among directive_of passed kind
+isi_edu_without_room = refl
+
+-- its last line includes another file
+isi_edu_includes : zone_text (name "isi.edu") 11 (isi_edu ++ codes "$INCLUDE <SUBSYS>ISI-MAILBOXES.TXT") ≡ faulty 22 NotSupported
+unfolding zone_text zone_of_entries with_entries with_entry record_of owner_of front_in one_more type_said data_of made_of type_word class_word is_among directive_of passed kind
+isi_edu_includes = refl
+
+-- a file as a server's documentation prints one
+abbrev by_hand : List ℕ
+by_hand = lines
+    (codes "$TTL 1d"
+    ∷ codes "$ORIGIN example.com."
+    ∷ codes "@   IN  SOA ns1 hostmaster ("
+    ∷ codes "            2024010101 ; serial"
+    ∷ codes "            3h 15m 1w 1h )"
+    ∷ codes "    IN  NS  ns1"
+    ∷ codes "ns1     A   192.0.2.1"
+    ∷ codes "www 300 IN A 192.0.2.2"
+    ∷ codes "    IN 300 TXT \"v=x; y\" \"two\""
+    ∷ codes "mail    MX  10 ns1"
+    ∷ codes "www RRSIG A 8 3 300 20240101000000 20231201000000 1 example.com. abcd"
+    ∷ [])
+
+abbrev by_hand_records : List Rr
+by_hand_records =
+    rr (name "example.com") 86400
+    (Soa (name "ns1.example.com") (name "hostmaster.example.com") 2024010101 10800 900 604800 3600) 3
+    ∷ rr (name "example.com") 86400 (Ns (name "ns1.example.com")) 6
+    ∷ rr (name "ns1.example.com") 86400 (A (192 ∷ 0 ∷ 2 ∷ 1 ∷ [])) 7
+    ∷ rr (name "www.example.com") 300 (A (192 ∷ 0 ∷ 2 ∷ 2 ∷ [])) 8
+    ∷ rr (name "www.example.com") 300 (Txt (codes "v=x; y" ∷ codes "two" ∷ [])) 9
+    ∷ rr (name "mail.example.com") 86400 (Mx 10 (name "ns1.example.com")) 10
+    ∷ []
+
+by_hand_reads : zone_text [] 1000000 by_hand ≡ reads by_hand_records 7
+unfolding zone_text zone_of_entries with_entries with_entry record_of owner_of front_in one_more type_said data_of made_of type_word class_word is_among directive_of origin_directive ttl_directive passed kind
+by_hand_reads = refl
+
+-- a file as a server writes one
+abbrev by_server : List ℕ
+by_server = lines
+    (codes "$ORIGIN ."
+    ∷ codes "$TTL 86400 ; 1 day"
+    ∷ codes "example.com IN SOA ns1.example.com. hostmaster.example.com. ("
+    ∷ codes "            2024010101 ; serial"
+    ∷ codes "            10800 900 604800 3600 )"
+    ∷ codes "    NS  ns1.example.com."
+    ∷ codes "$ORIGIN example.com."
+    ∷ codes "ns1 A   192.0.2.1"
+    ∷ codes "    TYPE65534 \\# 5 ( 0800010001 )"
+    ∷ [])
+
+abbrev by_server_records : List Rr
+by_server_records =
+    rr (name "example.com") 86400
+    (Soa (name "ns1.example.com") (name "hostmaster.example.com") 2024010101 10800 900 604800 3600) 3
+    ∷ rr (name "example.com") 86400 (Ns (name "ns1.example.com")) 6
+    ∷ rr (name "ns1.example.com") 86400 (A (192 ∷ 0 ∷ 2 ∷ 1 ∷ [])) 8
+    ∷ rr (name "ns1.example.com") 86400 (Other (codes "TYPE65534") (codes "\\#" ∷ codes "5" ∷ codes "0800010001" ∷ [])) 9
+    ∷ []
+
+by_server_reads : zone_text [] 4 by_server ≡ reads by_server_records 4
+unfolding zone_text zone_of_entries with_entries with_entry record_of owner_of front_in one_more type_said data_of made_of type_word type_numbered class_word is_among directive_of origin_directive ttl_directive passed kind
+by_server_reads = refl
+
+-- two records
+abbrev head : List ℕ
+head = lines (codes "t. 60 SOA ns.t. h.t. 1 2 3 4 5" ∷ codes "t. 60 NS ns.t." ∷ [])
+
+abbrev head_records : List Rr
+head_records = rr (name "t") 60 (Soa (name "ns.t") (name "h.t") 1 2 3 4 5) 1 ∷ rr (name "t") 60 (Ns (name "ns.t")) 2 ∷ []
+
+head_reads : zone_text [] 2 head ≡ reads head_records 2
+unfolding zone_text zone_of_entries with_entries with_entry record_of owner_of front_in one_more type_said data_of made_of type_word class_word is_among passed kind
+head_reads = refl
+
+-- a third for which there is no room
+one_too_many : zone_text [] 2 (head ++ codes "x.t. 60 A 10.0.0.1") ≡ faulty 3 TooMany
+unfolding zone_text zone_of_entries with_entries with_entry record_of owner_of front_in one_more type_said data_of made_of type_word class_word is_among passed kind
+one_too_many = refl
+
+-- a third with bad data
+a_bad_address : zone_text [] 3 (head ++ codes "x.t. 60 A 10.0.0.256") ≡ faulty 3 (BadData BadAddress)
+unfolding zone_text zone_of_entries with_entries with_entry record_of owner_of front_in one_more type_said data_of made_of type_word class_word is_among passed kind
+a_bad_address = refl
+
+-- a text that was cut off
+cut_off : zone_text [] 9 (codes "t. 60 SOA ns.t. h.t.") ≡ faulty 1 (BadData FieldCount)
+unfolding zone_text zone_of_entries with_entries with_entry record_of owner_of front_in one_more type_said data_of type_word class_word is_among passed kind
+cut_off = refl
+
+-- texts without an entry
+empty : zone_text [] 0 [] ≡ reads [] 0
+unfolding zone_text zone_of_entries with_entries
+empty = refl
+
+remarks_alone : zone_text [] 0 (codes "; (\n \t\r\n ( ) ; \"\n") ≡ reads [] 0
+unfolding zone_text zone_of_entries with_entries passed kind
+remarks_alone = refl
+
+-- the fault of a spelling comes at its own line, and behind that of an entry before it
+open_at_the_end : zone_text [] 9 (head ++ codes "\nt. 60 TXT ( a\n( b )\n") ≡ faulty 4 (Lex OpenParen)
+unfolding zone_text zone_of_entries with_entries with_entry record_of owner_of front_in one_more type_said data_of made_of type_word class_word is_among passed kind
+open_at_the_end = refl
+
+a_quote_left_open : zone_text [] 9 (codes "t. 60 TXT (\n\"a\n\")") ≡ faulty 2 (Lex OpenQuote)
+unfolding zone_text zone_of_entries with_entries passed kind
+a_quote_left_open = refl
+
+a_fault_before_the_spelling : zone_text [] 9 (codes "t. NS ns.t.\nt. 60 TXT )") ≡ faulty 1 NoTtl
+unfolding zone_text zone_of_entries with_entries with_entry record_of owner_of front_in one_more type_said data_of made_of type_word class_word is_among passed kind
+a_fault_before_the_spelling = refl
+
+a_spelling_before_a_fault : zone_text [] 9 (codes "t. 60 TXT )\nt. NS ns.t.\n") ≡ faulty 1 (Lex StrayClose)
+unfolding zone_text zone_of_entries with_entries passed kind
+a_spelling_before_a_fault = refl
+
+-- in the same entry the spelling counts
+the_spelling_counts : zone_text [] 9 (codes "a..b 1x CH \\25") ≡ faulty 1 (Lex BadEscape)
+unfolding zone_text zone_of_entries with_entries passed kind
+the_spelling_counts = refl
+
+-- an entry's line is that of its first token
+behind_a_parenthesis : zone_text [] 9 (codes "(\n\n$TTL )") ≡ faulty 3 BadDirective
+unfolding zone_text zone_of_entries with_entries with_entry directive_of ttl_directive passed kind
+behind_a_parenthesis = refl
