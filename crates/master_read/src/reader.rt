@@ -1,6 +1,6 @@
 //! The reader.
 
-ghost use Rattle.std.specs.Prelude.{◌≡◌, ◌≢◌, ◌↔◌, ◌+◌, ◌-◌, ◌^◌, ◌<◌, ℕ, List, [], ◌++◌, length, Err, IfErr, IsErr, OnOk, OnErr};
+ghost use Rattle.std.specs.Prelude.{◌≡◌, ◌≢◌, ◌+◌, ◌-◌, ◌^◌, ◌<◌, ℕ, List, [], ◌++◌, length, Err, IfErr, IsErr, OnOk, OnErr};
 ghost use Rattle.dns_data.specs.Name.{Labels};
 ghost use Rattle.master_read.specs.Fault.{Answers, TellsOfText};
 ghost use Rattle.master_read.specs.Reader.{StandsFor, HasFailed};
@@ -39,8 +39,7 @@ impl ZoneReader {
     /// The reader that was fed nothing. Names without a final dot stand below the origin, and the text may have
     /// `room` record entries. It takes no memory.
     pub fn new(alloc: Global, origin: Name, room: u32) -> ZoneReader
-        ensures stands { StandsFor result origin room [] }
-        ensures whole { HasFailed result → ⊥ }
+        ensures { StandsFor result origin room [] }
     {
         ZoneReader {
             progress: Progress {
@@ -69,7 +68,7 @@ impl ZoneReader {
         ensures stands { (origin : Labels) (room : ℕ) (text : List ℕ) → StandsFor self.old origin room text
             → OnOk result (StandsFor self.new origin room (text ++ piece.now)) }
         ensures fed { self.new.fed ≡ self.old.fed + length piece.now }
-        ensures failed { IsErr result ↔ HasFailed self.new }
+        ensures failed { OnErr result (HasFailed self.new) }
         ensures stays_failed { HasFailed self.old → IsErr result }
     {
         self.fed += piece.len() as u32;

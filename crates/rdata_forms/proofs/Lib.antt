@@ -1,3 +1,5 @@
+mod Drawn
+mod Worked
 pub mod Digits
 pub mod Groups
 pub mod HexTokens

@@ -8,4 +8,4 @@ pub returns : goal.returns
 returns c =
     subst (λ (origin : Labels). Answers c.finish.result (zone_text origin 1000000 c.args.octets.now)) c.root.ensures
     (c.finish.ensures.answers c.root.result 1000000 c.args.octets.now
-    (c.in_default.ensures.stands c.root.result 1000000 [] c.new-reader.ensures.stands))
+    (c.in_default.ensures.stands c.root.result 1000000 [] c.new-reader.ensures))
