@@ -1,12 +1,10 @@
 -- Examples, which the definitions compute.
-use Rattle.std.proofs.Common.{◌≡◌, ◌++◌, [], ◌∷◌, refl, codes, Ok, Err, Some, None}
+use Rattle.std.proofs.Common.{◌≡◌, ℕ, List, [], ◌∷◌, true, false, refl, codes, Ok, Some, None}
 use Rattle.dns_data.specs.declared.rr_type.RrType.TheVariants.{Ns, Soa, Caa}
 use Rattle.dns_data.specs.declared.rdata.Rdata.TheVariants as data_of
-use Rattle.master_lex.specs.Passing.{passed}
-use Rattle.master_read.specs.Entries.{owner_of, front_in, one_more, type_said, data_of as data_behind, made_of, record_of, origin_directive, ttl_directive, directive_of}
-use Rattle.master_read.specs.ZoneText.{with_entry, with_entries, zone_of_entries, zone_text}
-use Rattle.master_read.specs.declared.fault.TextCause.TheVariants.{NoTtl, TooMany}
-use Rattle.master_read.specs.declared.fault.TextFault.TheVariants.{At}
+use Rattle.master_lex.specs.declared.entry.Token.{Token}
+use Rattle.master_read.specs.Entries.{owner_of, front_in, one_more, type_said, data_of as data_behind, made_of, record_of}
+use Rattle.master_read.specs.ZoneText.{with_entry, with_entries, zone_of_entries}
 use Rattle.master_read.specs.Words.{is_among, type_numbered, type_word, class_word}
 use Rattle.master_read.specs.declared.words.ClassWord.TheVariants.{In, NotIn}
 use Rattle.master_read.specs.declared.words.TypeWord.TheVariants.{Known, Dropped, Other}
@@ -50,12 +48,19 @@ ns : type_word (codes "nS") ≡ Some (Known Ns)
 unfolding type_word is_among type_numbered
 ns = refl
 
--- RFC 1035 section 5.3: two records of one owner, with the TTL that the zone's SOA gives
-venera : zone_text (codes "edu" ∷ codes "isi" ∷ []) 2 (codes "VENERA 60 A 10.1.0.52\n        A       128.9.0.32\n") ≡ Ok (record {
+-- a token without quotes
+abbrev word : List ℕ → Token
+word octets = record { raw = octets; quoted = false }
+
+-- RFC 1035 section 5.3: a second record of one owner, which inherits the owner and the TTL
+vaxa : zone_of_entries (codes "edu" ∷ []) 2 (
+  record { line = 1; blank_start = false; tokens = word (codes "VAXA") ∷ word (codes "60") ∷ word (codes "A") ∷ word (codes "10.2.0.27") ∷ [] }
+  ∷ record { line = 2; blank_start = true; tokens = word (codes "A") ∷ word (codes "128.9.0.33") ∷ [] } ∷ []
+) None ≡ Ok (record {
   rrs =
-    record { owner = codes "edu" ∷ codes "isi" ∷ codes "venera" ∷ []; ttl = 60; rdata = data_of.A (10 ∷ 1 ∷ 0 ∷ 52 ∷ []); file = 0; line = 1 }
-    ∷ record { owner = codes "edu" ∷ codes "isi" ∷ codes "venera" ∷ []; ttl = 60; rdata = data_of.A (128 ∷ 9 ∷ 0 ∷ 32 ∷ []); file = 0; line = 2 } ∷ [];
+    record { owner = codes "edu" ∷ codes "vaxa" ∷ []; ttl = 60; rdata = data_of.A (10 ∷ 2 ∷ 0 ∷ 27 ∷ []); file = 0; line = 1 }
+    ∷ record { owner = codes "edu" ∷ codes "vaxa" ∷ []; ttl = 60; rdata = data_of.A (128 ∷ 9 ∷ 0 ∷ 33 ∷ []); file = 0; line = 2 } ∷ [];
   seen = 2;
 })
-unfolding zone_text zone_of_entries with_entries with_entry record_of owner_of front_in one_more data_behind type_said made_of type_word class_word is_among type_numbered passed
-venera = refl
+unfolding zone_of_entries with_entries with_entry record_of owner_of front_in one_more data_behind type_said made_of type_word class_word is_among type_numbered
+vaxa = refl
