@@ -1,5 +1,5 @@
 -- Digits one after another.
-use Rattle.std.proofs.Common.{◌≡◌, ◌≢◌, ℕ, ◌+◌, ◌*◌, ◌-◌, ◌<◌, ◌≤◌, ◌^◌, zero, suc, List, [], ◌∷◌, length, get_or, drop, cond, eqb, Option, None, refl, ap, sym, ◌∙◌, arith, add-one, drop-cons, lit<}
+use Rattle.std.proofs.Common.{◌≡◌, ◌≢◌, ℕ, ◌+◌, ◌*◌, ◌-◌, ◌<◌, ◌≤◌, ◌^◌, zero, suc, List, [], ◌∷◌, length, get_or, drop, cond, eqb, None, refl, ap, ◌∙◌, arith, add-one, drop-cons, lit<}
 use Rattle.std.proofs.Math.Nat.{pow-succ', pow-le-pow_right}
 use Rattle.dns_data.specs.Octet.{is_digit}
 use Rattle.groot_run.specs.FirstForm.{digits_after, ends_with_dot, address_of_parts}

@@ -1,4 +1,4 @@
-use Rattle.std.proofs.Common.{arith, ◌+◌, ◌≤◌, ◌<◌, ◌^◌, ◌*◌}
+use Rattle.std.proofs.Common.{arith, ◌+◌, ◌≤◌}
 use Rattle.groot_run.proofs.Digits.{digit_fits, nine_digits}
 use Rattle.groot_run.proofs.token.digits_value.Goals as goal
 

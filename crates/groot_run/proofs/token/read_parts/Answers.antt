@@ -1,4 +1,4 @@
-use Rattle.std.proofs.Common.{List, ℕ, map, sym, arith}
+use Rattle.std.proofs.Common.{map, sym, arith}
 use Rattle.std.proofs.lemmas.List.{length-map}
 use Rattle.groot_run.proofs.Digits.{address_of_parts-none}
 use Rattle.groot_run.proofs.token.read_parts.Goals as goal

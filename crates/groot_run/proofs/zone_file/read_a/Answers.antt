@@ -1,4 +1,4 @@
-use Rattle.std.proofs.Common.{◌≢◌, List, ℕ, length, map, sym, arith}
+use Rattle.std.proofs.Common.{◌≢◌, length, map, sym, arith}
 use Rattle.std.proofs.lemmas.List.{length-map}
 use Rattle.groot_run.proofs.Lines.{a_of-none}
 use Rattle.groot_run.proofs.zone_file.read_a.Goals.{in_default-via-then-fields-lt1, in_default-via-else-fields-lt1+else-fields-lt2}

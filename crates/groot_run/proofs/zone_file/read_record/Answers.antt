@@ -1,4 +1,4 @@
-use Rattle.std.proofs.Common.{List, ℕ, map, sym, arith}
+use Rattle.std.proofs.Common.{map, sym, arith}
 use Rattle.std.proofs.lemmas.List.{length-map}
 use Rattle.groot_run.proofs.Lines.{record_of-none}
 use Rattle.groot_run.proofs.zone_file.read_record.Goals as goal
