@@ -1,5 +1,5 @@
 -- A configuration of the first shape has few records.
-use Rattle.std.proofs.Common.{◌≡◌, ℕ, ◌≤◌, ◌∷◌, length, ap, subst, arith, append-nil}
+use Rattle.std.proofs.Common.{◌≡◌, ◌≤◌, ◌∷◌, length, ap, subst, arith, append-nil}
 use Rattle.net_model.specs.declared.config.Config.{Config}
 use Rattle.net_model.specs.Reading.{records}
 use Rattle.groot_run.specs.FirstShape.{one_zone, IsFirstConfig}

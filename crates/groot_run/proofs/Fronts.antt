@@ -1,5 +1,5 @@
 -- What is read piece by piece is a front of what is held.
-use Rattle.std.proofs.Common.{◌≡◌, ℕ, ◌+◌, ◌≤◌, ◌++◌, List, length, take, drop, Option, None, Some, IfSome, subst, sym, ap, ◌∙◌, arith, length-append}
+use Rattle.std.proofs.Common.{◌≡◌, ℕ, ◌+◌, ◌≤◌, ◌++◌, List, length, take, Option, None, Some, IfSome, subst, sym, ap, ◌∙◌, arith, length-append}
 use Rattle.std.proofs.Math.ListN.{length-take}
 use Rattle.std.proofs.Math.Seq.{take-add}
 use Rattle.io_edges.specs.Files.{Held, IfHeld, IsFrontFrom}

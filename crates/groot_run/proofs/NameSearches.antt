@@ -1,12 +1,12 @@
 -- What a search among references to names in order gives.
-use Rattle.std.proofs.Common.{◌≡◌, ℕ, ◌+◌, ◌<◌, ◌≤◌, Bool, true, false, List, [], ◌∷◌, ◌++◌, map, length, get_or, take, drop, Contains, All, IsSorted, is_lt, Ordering, Less, Equal, Greater, Result, Ok, Err, Bor, sym, refl, ap, ◌∙◌, subst, inl, inr, arith, true≢false}
+use Rattle.std.proofs.Common.{◌≡◌, ℕ, ◌+◌, ◌<◌, ◌≤◌, true, false, List, [], ◌∷◌, ◌++◌, map, length, get_or, take, drop, All, IsSorted, is_lt, Greater, Result, Ok, Err, Bor, sym, refl, ap, ◌∙◌, subst, inl, inr, arith}
 use Rattle.std.specs.Prelude.{is_ok}
 use Rattle.std.specs.List.{list_any}
 use Rattle.std.specs.List.Sorted.{IsPartitionedBy, IsPartitionPoint, IsSearchInRange, IsBinarySearchResult}
 use Rattle.std.specs.Ordering.{ordering_reverse}
 use Rattle.std.proofs.lemmas.Bool.{cases_lt}
 use Rattle.std.proofs.lemmas.List.{map-append, take-append-drop, get_or-map, get_or-take, get_or-drop, length-map, length-take-le, length-drop}
-use Rattle.std.proofs.lemmas.List.Elements.{All-map, All-from_all_within}
+use Rattle.std.proofs.lemmas.List.Elements.{All-map}
 use Rattle.std.proofs.lemmas.List.Folds.{list_any_at, list_any_none}
 use Rattle.std.proofs.lemmas.List.Sorted.{ranks_by, sorted_far, searchable_from_sorted}
 use Rattle.dns_data.specs.Name.{Labels, name_cmp, name_eq}
@@ -63,10 +63,10 @@ found xs name (Err i) sorted within holds =
     let parts = holds rises in
     sym (list_any_none (λ (other : Labels). name_eq other name.now) (map now_of xs)
     (All-map (λ (x : Labels). name_eq x name.now ≡ false) now_of xs (λ k d below.
-        elim (cases_lt k i) [
-          | inl lower ↦ before_differs (get_or xs k d).now name.now (parts.0 k d (omega arith) lower)
-          | inr higher ↦ behind_differs (get_or xs k d).now name.now (greater_turned (get_or xs k d).now name.now (parts.1 k d higher below))
-        ])))
+    elim (cases_lt k i) [
+      | inl lower ↦ before_differs (get_or xs k d).now name.now (parts.0 k d (omega arith) lower)
+      | inr higher ↦ behind_differs (get_or xs k d).now name.now (greater_turned (get_or xs k d).now name.now (parts.1 k d higher below))
+    ])))
   where
     greater_turned : (a b : Labels) → name_cmp a b ≡ Greater → Before b a
     greater_turned a b greater = names_total.antisymm b a ∙ ap ordering_reverse greater

@@ -1,8 +1,7 @@
 -- The value of a report on blackholes.
-use Rattle.std.proofs.Common.{◌≡◌, ℕ, false, List, [], ◌∷◌, map, length, sym, refl, ap, ◌∙◌}
+use Rattle.std.proofs.Common.{◌≡◌, ℕ, false, List, [], ◌∷◌, map, length, sym, refl, ◌∙◌}
 use Rattle.std.proofs.lemmas.List.{length-map}
 use Rattle.dns_data.specs.Name.{Labels}
-use Rattle.serde_json.specs.Data.{Data}
 use Rattle.serde_json.specs.Written.{has_float, items_have_float}
 use Rattle.groot_run.specs.Aliases.{alias_of}
 use Rattle.groot_run.specs.Blackholes.{Alias, blackhole_entry, blackhole_entries}

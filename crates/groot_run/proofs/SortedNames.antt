@@ -1,20 +1,18 @@
 -- Names in order: those that don't stand before a name, and what a search for it finds among them.
-use Rattle.std.proofs.Common.{◌≡◌, ℕ, suc, ◌<◌, ◌≤◌, Bool, true, false, cond, not, ◌&&◌, ◌||◌, List, [], ◌∷◌, ◌++◌, map, length, get_or, take, drop, filter, Contains, All, AllPairs, IsSorted, is_lt, is_gt, Ordering, Less, Equal, Greater, Result, Ok, Err, Bor, sym, refl, ap, ◌∙◌, subst, inl, inr, arith, true≢false}
+use Rattle.std.proofs.Common.{◌≡◌, ℕ, suc, Bool, true, false, cond, not, ◌||◌, List, [], ◌∷◌, ◌++◌, length, filter, Contains, IsSorted, is_lt, is_gt, Ordering, Less, Equal, Greater, sym, refl, ap, ◌∙◌, subst, inl, inr, arith, true≢false}
 use Rattle.std.specs.Prelude.{◌==◌}
-use Rattle.std.specs.List.{list_any, HoldsAt}
-use Rattle.std.specs.List.Sorted.{IsPartitionedBy, IsPartitionPoint, IsSearchInRange, IsBinarySearchResult}
+use Rattle.std.specs.List.{list_any}
 use Rattle.std.specs.Ordering.{ordering_reverse, is_eq}
 use Rattle.std.specs.Cmp.Lexicographic.{lists_ties, texts_ties}
 use Rattle.std.proofs.lemmas.Bool.Decides.{nat_tests}
 use Rattle.std.proofs.lemmas.Cmp.{tied_itself}
-use Rattle.std.proofs.lemmas.List.{map-append, take-append-drop}
 use Rattle.std.proofs.lemmas.List.Elements.{All-contains, filter-append}
 use Rattle.std.proofs.lemmas.List.Folds.{list_any-append}
 use Rattle.dns_data.specs.Label.{label_cmp}
 use Rattle.dns_data.specs.Name.{Labels, name_cmp, name_eq, is_prefix}
 use Rattle.groot_run.specs.SortedNames.{is_before, AreNotBefore}
 use Rattle.groot_run.proofs.FirstTree.{in_order}
-use Rattle.groot_run.proofs.Membership.{none_in_nil, has_first, has_later, first_or_later}
+use Rattle.groot_run.proofs.Membership.{none_in_nil, has_first, first_or_later}
 use Rattle.groot_run.proofs.NameOrder.{Begins, UpTo, Before, names_total, prefix_up_to, up_to_before, new_prefix_after}
 use Rattle.groot_run.proofs.Searches.{any_none, filter_none}
 use Rattle.groot_run.proofs.SortedTree.{InOrder, same_names, is_prefix_tells, is_prefix_told}
@@ -162,18 +160,18 @@ module _ (name : Labels) (names rest : List Labels) (sorted : IsSorted name_cmp 
       ap (filter is_name) are.splits
       ∙ filter-append is_name are.front rest
       ∙ ap (λ (xs : List Labels). xs ++ filter is_name rest)
-        (filter_none is_name are.front
-        (any_none is_name are.front (λ other has. before_differs other name (front_before other has))))
+      (filter_none is_name are.front
+      (any_none is_name are.front (λ other has. before_differs other name (front_before other has))))
 
   none_behind : (first : Labels) (more : List Labels) → InOrder first more → Before name first → filter is_name (first ∷ more) ≡ []
   unfolding is_name
   none_behind first more order less =
       filter_none is_name (first ∷ more)
       (any_none is_name (first ∷ more) (λ other has.
-          elim (first_or_later first more other has) [
-            | inl same ↦ behind_differs other name (subst (Before name) same less)
-            | inr later ↦ behind_differs other name (before_up_to name first other less (first_up_to first more order other later))
-          ]))
+      elim (first_or_later first more other has) [
+        | inl same ↦ behind_differs other name (subst (Before name) same less)
+        | inr later ↦ behind_differs other name (before_up_to name first other less (first_up_to first more order other later))
+      ]))
 
   count_in_rest : length (filter is_name names) ≡ length (filter is_name rest)
   count_in_rest = ap (λ (xs : List Labels). length xs) as_in_rest
@@ -193,7 +191,7 @@ module _ (name : Labels) (names rest : List Labels) (sorted : IsSorted name_cmp 
       (count_in_rest
       ∙ ap (λ (xs : List Labels). length (filter is_name xs)) parts
       ∙ ap (λ (xs : List Labels). length xs)
-        (none_behind first more (rest_order first more parts) (stands_behind first name behind other)))
+      (none_behind first more (rest_order first more parts) (stands_behind first name behind other)))
 
   -- where it is, the next one decides
   counts_first : (first : Labels) (more : List Labels) → rest ≡ first ∷ more → name_eq first name ≡ true

@@ -1,7 +1,6 @@
 -- The aliases among a zone's records, those that lead to nothing, and their order.
-use Rattle.std.proofs.Common.{◌≡◌, ℕ, zero, suc, ◌+◌, ◌<◌, ◌≤◌, Bool, true, false, cond, not, ◌&&◌, ◌||◌, List, [], ◌∷◌, ◌++◌, map, length, get_or, take, filter, Contains, AllPairs, IsSorted, IsPermutation, is_lt, is_gt, Ordering, Less, Equal, Greater, Option, Some, None, sym, refl, ap, ◌∙◌, subst, inl, inr, arith, true≢false}
-use Rattle.std.specs.Ordering.{ordering_then}
-use Rattle.std.specs.List.{list_any, list_all, filter_map, cons_option, count_by}
+use Rattle.std.proofs.Common.{◌≡◌, ℕ, zero, suc, ◌+◌, ◌<◌, ◌≤◌, Bool, true, false, cond, not, ◌&&◌, ◌||◌, List, [], ◌∷◌, ◌++◌, map, length, get_or, take, filter, Contains, IsSorted, IsPermutation, is_gt, Ordering, Less, Equal, Greater, Option, Some, None, sym, refl, ap, ◌∙◌, subst, inl, inr, arith, true≢false}
+use Rattle.std.specs.List.{list_any, cons_option}
 use Rattle.std.specs.Option.{option_to_list}
 use Rattle.std.proofs.lemmas.List.{get_or-map, length-map, take_more}
 use Rattle.std.proofs.lemmas.List.Sorted.{ranks_by, sorted_far, list_any-IsPermutation, sum_by-IsPermutation, Contains-permutation, IsPermutation-sym}
@@ -12,15 +11,14 @@ use Rattle.dns_data.specs.Name.{Labels, name_cmp, name_eq, is_prefix}
 use Rattle.dns_data.specs.declared.rdata.Rdata.{Rdata}
 use Rattle.dns_data.specs.declared.rdata.Rdata.TheVariants.{Cname}
 use Rattle.dns_data.specs.declared.rdata.Rr.{Rr}
-use Rattle.dns_data.specs.declared.rr_type.RrType.TheVariants as types
 use Rattle.net_model.specs.declared.config.Zone.{Zone}
-use Rattle.net_model.specs.Zone.{exists_in, is_of}
-use Rattle.groot_run.specs.Aliases.{alias_with, alias_in, aliases_in, leads_nowhere, is_alone}
-use Rattle.groot_run.specs.Blackholes.{Alias, IsBlackhole, AreBlackholes}
-use Rattle.groot_run.specs.FirstShape.{records_at, is_plain_alias, is_first_shape}
+use Rattle.net_model.specs.Zone.{exists_in}
+use Rattle.groot_run.specs.Aliases.{alias_with, alias_in, aliases_in, leads_nowhere}
+use Rattle.groot_run.specs.Blackholes.{Alias, AreBlackholes}
+use Rattle.groot_run.specs.FirstShape.{records_at, is_first_shape}
 use Rattle.groot_run.specs.SortedNames.{is_before}
 use Rattle.groot_run.proofs.FirstRecords.{first_zone}
-use Rattle.groot_run.proofs.Membership.{none_in_nil, has_first, has_later, first_or_later, filter_has, from_filter}
+use Rattle.groot_run.proofs.Membership.{none_in_nil, first_or_later, filter_has, from_filter}
 use Rattle.groot_run.proofs.NameOrder.{UpTo, Before, names_total}
 use Rattle.groot_run.proofs.Searches.{filter_map_has, from_filter_map}
 use Rattle.groot_run.proofs.SortedNames.{one_name, up_to_from}
@@ -229,7 +227,7 @@ module _ (zone : Zone) (shape : is_first_shape zone.rrs ≡ true) (lost : List A
             missing = not-true (exists_in zone alias.target) parts.1;
           },
       λ is. let has = subst (λ (o : Labels). Contains (aliases_in zone.rrs) (record { owner = o; target = alias.target })) is.owned
-                (alias_has zone.rrs is.rr alias.target is.among is.holds) in
+          (alias_has zone.rrs is.rr alias.target is.among is.holds) in
           Contains-permutation among lost alias same
           (filter_has (λ (a : Alias). leads_nowhere zone a.target) (aliases_in zone.rrs) alias has
           (ap (λ (b : Bool). b && not (exists_in zone alias.target)) is.below ∙ ap not is.missing)),

@@ -10,10 +10,9 @@ use Rattle.net_model.specs.declared.fault.Fault.TheVariants.{Blackhole}
 use Rattle.net_model.specs.declared.place.Place.{Place}
 use Rattle.net_model.specs.declared.walk.Hop.TheVariants.{Rewrite}
 use Rattle.net_model.specs.declared.walk.Leaf.TheVariants.{NxDomain}
-use Rattle.net_model.specs.declared.walk.State.{State}
 use Rattle.net_model.specs.declared.walk.Walk.{Walk}
 use Rattle.net_model.specs.Zone.{exists_in}
-use Rattle.groot_run.specs.Report.{Entry, Report}
+use Rattle.groot_run.specs.Report.{Entry}
 
 -- the owner and the target of a CNAME record
 pub record Alias : Type 0 where

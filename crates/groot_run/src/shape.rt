@@ -143,11 +143,7 @@ fn have_plain_aliases(alloc: Global, rrs: &[Rr]) -> Result<bool, NoMemory>
     let aliases = aliases_of(alloc, rrs)?;
     let owners = owners_in_order(alloc, rrs)?;
     let sources = sources_in_order(alloc, aliases.as_slice())?;
-    Ok(are_alone(
-        aliases.as_slice(),
-        owners.as_slice(),
-        sources.as_slice(),
-    ))
+    Ok(are_alone(aliases.as_slice(), owners.as_slice(), sources.as_slice()))
 }
 
 /// The owners of aliases in the order of names.

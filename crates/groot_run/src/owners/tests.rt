@@ -71,7 +71,11 @@ fn names_are_found_among_owners(rt: HostRuntime) -> Result<(), Fail> {
         let name = name(alloc, text)?;
         assert_eq!(rt; has(owners.as_slice(), &name), there, "{text} there");
         assert_eq!(rt; is_once(owners.as_slice(), &name), once, "{text} once");
-        assert_eq!(rt; has_at_or_below(owners.as_slice(), &name), above, "{text} above");
+        assert_eq!(rt;
+            has_at_or_below(owners.as_slice(), &name),
+            above,
+            "{text} above"
+        );
     }
     Ok(())
 }

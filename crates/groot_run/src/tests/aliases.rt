@@ -29,9 +29,21 @@ fn alias_to_an_existing_name_is_clean(rt: HostRuntime) -> Result<(), Fail> {
     let eight = "{\"classes\":8,\"faults\":[],\"names\":4,\"rewrites\":12}\n";
     let six = "{\"classes\":6,\"faults\":[],\"names\":3,\"rewrites\":12}\n";
     let ten = "{\"classes\":10,\"faults\":[],\"names\":5,\"rewrites\":12}\n";
-    reports(&rt, rt.alloc(), "a.t. 60 CNAME b.t.\nb.t. 60 A 10.0.0.1\n", 0, eight)?;
+    reports(
+        &rt,
+        rt.alloc(),
+        "a.t. 60 CNAME b.t.\nb.t. 60 A 10.0.0.1\n",
+        0,
+        eight,
+    )?;
     reports(&rt, rt.alloc(), "a.t. 60 CNAME t.\n", 0, six)?;
-    reports(&rt, rt.alloc(), "a.t. 60 CNAME c.t.\nd.c.t. 60 A 10.0.0.1\n", 0, ten)
+    reports(
+        &rt,
+        rt.alloc(),
+        "a.t. 60 CNAME c.t.\nd.c.t. 60 A 10.0.0.1\n",
+        0,
+        ten,
+    )
 }
 
 // The only server has no zone for the target, so no walk ends in no such name.
@@ -70,11 +82,15 @@ fn push_entry(alloc: Global, text: &mut String, number: u32) -> Result<(), NoMem
     text.push_str(owner.as_str())?;
     text.push_str("\",\"server\":\"ns.t.\",\"zone\":\"t.\"},\"query\":\"")?;
     text.push_str(owner.as_str())?;
-    text.push_str("\",\"repeats\":false,\"type\":\"A\",\"walks\":[[{\"did\":\"cname\",\"name\":\"")?;
+    text.push_str(
+        "\",\"repeats\":false,\"type\":\"A\",\"walks\":[[{\"did\":\"cname\",\"name\":\"",
+    )?;
     text.push_str(owner.as_str())?;
     text.push_str("\",\"owner\":\"")?;
     text.push_str(owner.as_str())?;
-    text.push_str("\",\"server\":\"ns.t.\",\"to\":\"m.t.\",\"zone\":\"t.\"},{\"did\":\"nxdomain\",\"name\":\"m.t.\",\"server\":\"ns.t.\",\"zone\":\"t.\"}]]}")?;
+    text.push_str(
+        "\",\"server\":\"ns.t.\",\"to\":\"m.t.\",\"zone\":\"t.\"},{\"did\":\"nxdomain\",\"name\":\"m.t.\",\"server\":\"ns.t.\",\"zone\":\"t.\"}]]}",
+    )?;
     Ok(())
 }
 

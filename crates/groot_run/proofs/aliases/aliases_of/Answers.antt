@@ -1,8 +1,7 @@
-use Rattle.std.proofs.Common.{List, [], ◌∷◌, ◌++◌, take, append-nil, sym, ap, ◌∙◌}
+use Rattle.std.proofs.Common.{[], ◌∷◌, ◌++◌, take, append-nil, ap}
 use Rattle.std.specs.Option.{option_to_list}
 use Rattle.std.proofs.lemmas.List.{map-append}
-use Rattle.groot_run.specs.Aliases.{alias_of, alias_in, aliases_in}
-use Rattle.groot_run.specs.Blackholes.{Alias}
+use Rattle.groot_run.specs.Aliases.{alias_of, aliases_in}
 use Rattle.groot_run.proofs.ZoneAliases.{aliases_more}
 use Rattle.groot_run.proofs.aliases.aliases_of.Goals.{in-Some+in_ok-push, in_default}
 use Rattle.groot_run.proofs.aliases.aliases_of.Goals as goal

@@ -16,6 +16,6 @@ returns-then-ne c =
           let other : not (name_eq target zone.origin) ≡ true = sym w.ne.ensures ∙ (sym w.value-is ∙ c.if-ne.true) in
           ap not c.has_at_or_below.ensures
           ∙ sym (nowhere_by_owners zone target owners c.requires.same true below
-            ∙ ap (λ (b : Bool). b && not (list_any (is_prefix target) owners)) other))
+          ∙ ap (λ (b : Bool). b && not (list_any (is_prefix target) owners)) other))
       | else-is_prefix_of w ↦ absurd (true≢false (sym c.if-ne.true ∙ (w.value-is ∙ w.if-is_prefix_of.false)))
     ]

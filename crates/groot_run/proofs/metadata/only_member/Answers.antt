@@ -1,4 +1,4 @@
-use Rattle.std.proofs.Common.{◌≡◌, ◌≢◌, length, option_and_then, Some, None, sym, ap, ◌∙◌, arith}
+use Rattle.std.proofs.Common.{◌≢◌, length, option_and_then, sym, ap, ◌∙◌, arith}
 use Rattle.serde_json.specs.Find.{as_array}
 use Rattle.groot_run.specs.Metadata.{only_item}
 use Rattle.groot_run.proofs.Json.{only_item-none}

@@ -1,4 +1,4 @@
-use Rattle.std.proofs.Common.{List, ℕ, Bor, take}
+use Rattle.std.proofs.Common.{List, ℕ, Bor}
 use Rattle.groot_run.proofs.Pieces.{TookFront-pieces}
 use Rattle.groot_run.proofs.output.write_pieces.Goals as goal
 

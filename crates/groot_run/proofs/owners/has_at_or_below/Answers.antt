@@ -1,5 +1,5 @@
 use Rattle.std.proofs.Common.{sym, ◌∙◌}
-use Rattle.groot_run.proofs.NameSearches.{nothing_in, first_in, now_of}
+use Rattle.groot_run.proofs.NameSearches.{nothing_in, first_in}
 use Rattle.groot_run.proofs.SortedNames.{below_none, below_first}
 use Rattle.groot_run.proofs.owners.has_at_or_below.Goals as goal
 

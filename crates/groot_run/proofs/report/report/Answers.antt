@@ -26,5 +26,5 @@ returns c =
       ap length c.as_slice-aliases.ensures.value ∙ as_many_entries server zone.origin lost,
       c.in_ok-text.ensures ∙ ap (λ (aliases : List Borrowed).
           report_text (record { classes = size.classes; names = size.names; rewrites = default_rewrites; entries = blackhole_entries server zone.origin (map alias_of aliases) }))
-        c.as_slice-aliases.ensures.value,
+          c.as_slice-aliases.ensures.value,
     )

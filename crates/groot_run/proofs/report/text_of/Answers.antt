@@ -1,8 +1,6 @@
-use Rattle.std.proofs.Common.{List, map, sym, ap, ◌∙◌}
-use Rattle.serde_json.specs.Data.{Data}
+use Rattle.std.proofs.Common.{map}
 use Rattle.groot_run.specs.Aliases.{alias_of}
 use Rattle.groot_run.specs.Outcome.{default_rewrites}
-use Rattle.groot_run.specs.ReportParts.{report_object}
 use Rattle.groot_run.proofs.ReportValues.{report_without_float}
 use Rattle.groot_run.proofs.report.text_of.Goals as goal
 
