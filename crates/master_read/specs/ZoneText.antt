@@ -1,5 +1,5 @@
 -- The records of a master file's text (RFC 1035 section 5).
-use Rattle.std.specs.Prelude.{ℕ, ◌+◌, nat_le, true, List, [], ◌∷◌, ◌++◌, option_to_list, if◌then◌else◌, Option, Some, None, Result, Ok, Err}
+use Rattle.std.specs.Prelude.{ℕ, not, filter, ◌+◌, nat_le, true, List, [], ◌∷◌, ◌++◌, option_to_list, if◌then◌else◌, Option, Some, None, Result, Ok, Err}
 use Rattle.dns_data.specs.Name.{Labels}
 use Rattle.master_lex.specs.Holding.{entries_in, fault_in}
 use Rattle.master_lex.specs.declared.entry.Entry.{Entry}
@@ -60,3 +60,7 @@ zone_of_entries origin room entries fault = do
 -- the records of a text under an origin, where there is room for so many, or the text's first fault
 unfoldable pub zone_text : Labels → ℕ → List ℕ → Result ZoneText TextFault
 zone_text origin room text = zone_of_entries origin room (entries_in true text) (fault_in true text)
+
+-- the entries that are records and no directives
+abbrev pub record_entries : List Entry → List Entry
+record_entries entries = filter (λ entry. not (is_directive entry)) entries

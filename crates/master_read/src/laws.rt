@@ -1,11 +1,13 @@
 //! What the definitions say of each text.
 
-ghost use Rattle.std.specs.Prelude.{◌≡◌, ℕ, List, Ok};
+ghost use Rattle.std.specs.Prelude.{◌≡◌, ◌≤◌, ℕ, List, length, true, Ok};
 ghost use Rattle.dns_data.specs.Name.{Labels};
 ghost use Rattle.master_lex.specs.Spelling.{Cut, IsCut, entries_of_cut};
 ghost use Rattle.master_lex.specs.declared.entry.Token.{Token};
+ghost use Rattle.master_lex.specs.Holding.{entries_in};
+ghost use Rattle.master_read.specs.declared.zone_text.ZoneText.{ZoneText};
 ghost use Rattle.master_read.specs.Entries.{Front, front_in, one_more};
-ghost use Rattle.master_read.specs.ZoneText.{zone_of_entries, zone_text};
+ghost use Rattle.master_read.specs.ZoneText.{record_entries, zone_of_entries, zone_text};
 
 /// The records of a text are those of the entries of its cut into spellings, and its fault is the first of
 /// theirs: neither the pieces in which the text comes nor the way of the lexer counts.
@@ -18,4 +20,11 @@ pub fn read_by_the_cut()
 /// class.
 pub fn front_is_whole()
     ensures { (tokens : List Token) (front : Front) → front_in tokens ≡ Ok front → one_more front ≡ Ok front }
+{}
+
+/// Where a text has records, `seen` counts its record entries, dropped ones among them, and they are at most as many
+/// as there was room for.
+pub fn seen_counts_record_entries()
+    ensures { (origin : Labels) (room : ℕ) (text : List ℕ) (given : ZoneText) → zone_text origin room text ≡ Ok given
+        → (given.seen ≡ length (record_entries (entries_in true text))) × (given.seen ≤ room) }
 {}
