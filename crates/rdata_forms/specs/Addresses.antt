@@ -34,7 +34,7 @@ pub data Piece : Type 0 where
 
 -- 0 to 9, A to F or a to f
 abbrev pub is_hex : ℕ → Bool
-is_hex octet = is_digit octet || ((nat_le 65 octet && nat_le octet 70) || (nat_le 97 octet && nat_le octet 102))
+is_hex octet = (is_digit octet || (nat_le 65 octet && nat_le octet 70)) || (nat_le 97 octet && nat_le octet 102)
 
 -- the value of a hexadecimal digit
 abbrev pub hex_digit : ℕ → ℕ

@@ -22,7 +22,7 @@ string_of most text = if nat_lt most (length (resolved text)) then Err TextTooLo
 
 -- a letter or a digit
 abbrev pub is_tag_octet : ℕ → Bool
-is_tag_octet octet = is_digit octet || (is_upper octet || is_lower octet)
+is_tag_octet octet = (is_digit octet || is_upper octet) || is_lower octet
 
 -- a property tag: 1 to 255 letters and digits, folded (RFC 8659 section 4.1)
 abbrev pub tag_of : List ℕ → Result (List ℕ) RdataFault

@@ -2,8 +2,15 @@
 #![tactic(auto)]
 
 mod fault;
+mod field;
+mod fields;
+mod generic;
+mod ipv4;
+mod ipv6;
 mod number;
+mod piece;
 mod rdata;
+mod text;
 mod time;
 
 pub use fault::RdataFault;

@@ -1,15 +1,20 @@
 //! The data of records.
 
-ghost use Rattle.std.specs.Prelude.{◌≡◌, ◌≢◌, ◌⊎◌, Err, IfErr};
+ghost use Rattle.std.specs.Prelude.{◌≡◌, ◌≢◌, ◌⊎◌, Err, IfOk, IfErr};
 ghost use Rattle.rdata_forms.specs.Fault.{Answers};
-ghost use Rattle.rdata_forms.specs.Forms.{rdata_of, other_of};
+ghost use Rattle.rdata_forms.specs.Forms.{rdata_of, other_of, fields_of, written};
 
 use crate::fault::RdataFault;
-use dns_data::{Name, NameFault, Rdata, RrType};
+use crate::fields;
+use crate::generic::{is_generic, is_generic_form};
+use dns_data::{List, Name, NameFault, Octets, Rdata, RrType};
 use master_lex::Token;
 use std::alloc::Global;
 
-/// The data of a type that the tokens stand for.
+/// The data of a type that the tokens stand for under an origin. Of several faults it is the first of these:
+/// `GenericKnown` where the first token isn't quoted and reads `\#`; `FieldCount` for another number of tokens than
+/// the type's; then the first from the left of `BadNumber`, `BadAddress`, `BadName` and `TextTooLong`. It is never
+/// `BadHex` (RFC 1035 sections 3.3, 3.4 and 5.1, RFC 3597 section 5).
 pub fn read_rdata(
     alloc: Global,
     rtype: RrType,
@@ -19,13 +24,60 @@ pub fn read_rdata(
     ensures answers { Answers result (rdata_of rtype tokens.now origin.now) }
     ensures named { result ≢ Err (RdataFault.BadName NameFault.NoMemory) }
 {
-    Err(RdataFault::NoMemory)
+    if is_generic(tokens) {
+        return Err(RdataFault::GenericKnown);
+    }
+    read_fields(alloc, rtype, tokens, origin)
 }
 
-/// The data of another type.
+/// The data of a type that the fields stand for under an origin.
+fn read_fields(
+    alloc: Global,
+    rtype: RrType,
+    tokens: &[Token],
+    origin: &Name,
+) -> Result<Rdata, RdataFault>
+    ensures { Answers result (fields_of rtype (written tokens.now) origin.now) }
+{
+    match rtype {
+        RrType::A => fields::read_a(tokens),
+        RrType::Ns => fields::read_ns(alloc, tokens, origin),
+        RrType::Cname => fields::read_cname(alloc, tokens, origin),
+        RrType::Soa => fields::read_soa(alloc, tokens, origin),
+        RrType::Ptr => fields::read_ptr(alloc, tokens, origin),
+        RrType::Hinfo => fields::read_hinfo(alloc, tokens),
+        RrType::Mx => fields::read_mx(alloc, tokens, origin),
+        RrType::Txt => fields::read_txt(alloc, tokens),
+        RrType::Aaaa => fields::read_aaaa(tokens),
+        RrType::Srv => fields::read_srv(alloc, tokens, origin),
+        RrType::Dname => fields::read_dname(alloc, tokens, origin),
+        RrType::Caa => fields::read_caa(alloc, tokens),
+    }
+}
+
+/// The data of another type under its word: the tokens as they are written. It is `BadHex` where the first token
+/// isn't quoted and reads `\#`, and a length of up to 65,535 and exactly so many octets in hexadecimal don't follow
+/// (RFC 3597 section 5).
 pub fn read_other(alloc: Global, word: &[u8], tokens: &[Token]) -> Result<Rdata, RdataFault>
     ensures answers { Answers result (other_of word.now tokens.now) }
     ensures fault { IfErr result (λ fault. (fault ≡ RdataFault.BadHex) ⊎ (fault ≡ RdataFault.NoMemory)) }
 {
-    Err(RdataFault::NoMemory)
+    if is_generic(tokens) && !is_generic_form(tokens) {
+        return Err(RdataFault::BadHex);
+    }
+    let word = Octets::from_octets(alloc, word)?;
+    let tokens = copies(alloc, tokens)?;
+    Ok(Rdata::Other { word, tokens })
+}
+
+/// The tokens as they are written.
+fn copies(alloc: Global, tokens: &[Token]) -> Result<List<Octets>, RdataFault>
+    ensures ok { IfOk result (λ copies. copies ≡ written tokens.now) }
+    ensures err { IfErr result (λ fault. fault ≡ RdataFault.NoMemory) }
+{
+    let mut copies = Vec::with_capacity(alloc, tokens.len())?;
+    for token in tokens {
+        copies.push(token.raw.copy(alloc)?)?;
+    }
+    Ok(List::from_vec(copies))
 }

@@ -1,0 +1,82 @@
+-- The sides of the first `::` of a text.
+use Rattle.std.proofs.Common.{◌≡◌, ◌≢◌, ℕ, ◌+◌, ◌-◌, ◌<◌, ◌≤◌, Bool, true, false, ◌&&◌, suc, zero, List, [], ◌∷◌, ◌++◌, length, get_or, take, drop, cond, eqb, Option, Some, None, option_map, refl, ap, sym, ◌∙◌, ◌⊎◌, inl, inr, arith, add-one, drop-cons, length-drop, append_assoc}
+use Rattle.std.proofs.lemmas.Bool.{cond-true, cond-false, eq-eqb, and_from}
+use Rattle.std.proofs.lemmas.Bool.Decides.{nat_tests}
+use Rattle.std.proofs.lemmas.List.{append-nil}
+use Rattle.std.proofs.Math.Seq.{take-suc}
+use Rattle.rdata_forms.specs.Addresses.{Sides, sides_of, after_octet}
+
+-- the sides, with these octets before them
+abbrev pub after_octets : List ℕ → Sides → Sides
+after_octets octets sides = record { front = octets ++ sides.front; back = sides.back }
+
+-- the two octets at a place and behind it
+pub two_octets : (text : List ℕ) (i at : ℕ) → at ≡ i + 1 → at < length text → drop i text ≡ get_or text i 0 ∷ get_or text at 0 ∷ drop (at + 1) text
+two_octets text i at e lt =
+    let next : suc i ≡ at = omega arith in
+    let after : suc at ≡ at + 1 = omega arith in
+    drop-cons text i 0 (omega arith)
+    ∙ ap (λ (k : ℕ). get_or text i 0 ∷ drop k text) next
+    ∙ ap (λ (rest : List ℕ). get_or text i 0 ∷ rest) (drop-cons text at 0 lt ∙ ap (λ (k : ℕ). get_or text at 0 ∷ drop k text) after)
+
+-- two colons make the sides
+pub sides-here : (first second : ℕ) (rest : List ℕ) → first ≡ 58 → second ≡ 58 → sides_of (first ∷ second ∷ rest) ≡ Some (record { front = []; back = rest })
+sides-here first second rest a b =
+    cond-true (eqb first 58 && eqb second 58) _ _ (and_from (eqb first 58) (eqb second 58) (eq-eqb first 58 a) (eq-eqb second 58 b))
+
+-- other octets stand before the sides
+pub sides-later : (first second : ℕ) (rest : List ℕ) → (first ≡ 58 → second ≡ 58 → ⊥) → sides_of (first ∷ second ∷ rest) ≡ option_map (after_octet first) (sides_of (second ∷ rest))
+sides-later first second rest h = cond-false (eqb first 58 && eqb second 58) _ _ (grind (arith, nat_tests))
+
+-- an octet more stands before the sides
+pub after_one_more : (octets : List ℕ) (octet : ℕ) (sides : Option Sides) → option_map (after_octets octets) (option_map (after_octet octet) sides) ≡ option_map (after_octets (octets ++ octet ∷ [])) sides
+after_one_more octets octet None = refl
+after_one_more octets octet (Some sides) =
+    ap (λ (front : List ℕ). Some (record { front = front; back = sides.back })) (sym (append_assoc octets (octet ∷ []) sides.front))
+
+-- no octet before the sides
+pub after_none : (sides : Option Sides) → option_map (after_octets []) sides ≡ sides
+after_none None = refl
+after_none (Some sides) = refl
+
+-- The sides of a text are those of what is left, with so many octets that were passed before them.
+pub record AreSides (text : List ℕ) (i : ℕ) : Type 0 where
+  pub same : sides_of text ≡ option_map (after_octets (take i text)) (sides_of (drop i text))
+
+-- nothing was passed
+pub are_sides-start : (text : List ℕ) → AreSides text 0
+are_sides-start text = record { same = sym (after_none (sides_of text)) }
+
+-- an octet more was passed
+pub are_sides-next : (text : List ℕ) (i at : ℕ) → at ≡ i + 1 → at < length text → AreSides text i → (get_or text i 0 ≡ 58 → get_or text at 0 ≡ 58 → ⊥) → AreSides text at
+are_sides-next text i at e lt h other =
+    let passed : take at text ≡ take i text ++ get_or text i 0 ∷ [] = let e2 : at ≡ suc i = omega arith in ap (λ (k : ℕ). take k text) e2 ∙ take-suc text i 0 (omega arith) in
+    let one : drop at text ≡ get_or text at 0 ∷ drop (at + 1) text = drop-cons text at 0 lt ∙ ap (λ (k : ℕ). get_or text at 0 ∷ drop k text) (sym (add-one at)) in
+    record {
+      same = h.same
+          ∙ ap (λ (rest : List ℕ). option_map (after_octets (take i text)) (sides_of rest)) (two_octets text i at e lt)
+          ∙ ap (option_map (after_octets (take i text))) (sides-later (get_or text i 0) (get_or text at 0) (drop (at + 1) text) other)
+          ∙ after_one_more (take i text) (get_or text i 0) (sides_of (get_or text at 0 ∷ drop (at + 1) text))
+          ∙ ap (λ (front : List ℕ). option_map (after_octets front) (sides_of (get_or text at 0 ∷ drop (at + 1) text))) (sym passed)
+          ∙ ap (λ (rest : List ℕ). option_map (after_octets (take at text)) (sides_of rest)) (sym one);
+    }
+
+-- the sides stand here
+pub are_sides-found : (text : List ℕ) (i at : ℕ) → at ≡ i + 1 → at < length text → AreSides text i → get_or text i 0 ≡ 58 → get_or text at 0 ≡ 58 → sides_of text ≡ Some (record { front = take i text; back = drop (at + 1) text })
+are_sides-found text i at e lt h first second =
+    h.same
+    ∙ ap (λ (rest : List ℕ). option_map (after_octets (take i text)) (sides_of rest)) (two_octets text i at e lt)
+    ∙ ap (option_map (after_octets (take i text))) (sides-here (get_or text i 0) (get_or text at 0) (drop (at + 1) text) first second)
+    ∙ ap (λ (front : List ℕ). Some (record { front = front; back = drop (at + 1) text })) (append-nil (take i text))
+
+-- one octet has no sides
+short-none : (text : List ℕ) → length text ≤ 1 → sides_of text ≡ None
+short-none [] h = refl
+short-none (x ∷ []) h = refl
+short-none (x ∷ y ∷ rest) h = absurd (omega arith)
+
+-- all was passed
+pub are_sides-end : (text : List ℕ) (i : ℕ) → length text ≤ i + 1 → AreSides text i → sides_of text ≡ None
+are_sides-end text i ge h =
+    let short : length (drop i text) ≤ 1 = omega (arith, length-drop i text) in
+    h.same ∙ ap (option_map (after_octets (take i text))) (short-none (drop i text) short)

@@ -1,0 +1,13 @@
+use Rattle.std.proofs.Common.{◌≡◌, ◌≤◌, ◌++◌, length}
+use Rattle.rdata_forms.specs.Texts.{resolved}
+use Rattle.rdata_forms.proofs.text.read_string.Given as goal
+
+-- the octets so far and those that are left are the string's
+abbrev pub invariant-loop-octet : goal.invariant-loop-octet
+invariant-loop-octet l = record {
+  whole : l.octets.items ++ resolved l.rest ≡ resolved l.text;
+  bound : length l.octets.items ≤ l.most;
+}
+
+abbrev pub decreases-loop-octet : goal.decreases-loop-octet
+decreases-loop-octet l = length l.rest

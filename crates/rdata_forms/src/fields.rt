@@ -1,0 +1,200 @@
+//! The fields of each type of data.
+
+ghost use Rattle.rdata_forms.specs.Fault.{Answers};
+ghost use Rattle.rdata_forms.specs.Forms.{written, one_name, a_of, aaaa_of, ns_of, cname_of, ptr_of, dname_of, times_of, soa_of, hinfo_of, mx_of, txt_of, strings_of, srv_of, caa_of};
+
+use crate::fault::RdataFault;
+use crate::field::{name_field, number_field, string_field, tag_field, time_field};
+use crate::ipv4::read_ipv4;
+use crate::ipv6::read_ipv6;
+use dns_data::{List, Name, Octets, Rdata};
+use master_lex::Token;
+use std::alloc::Global;
+
+/// The times of a start of authority, in seconds (RFC 1035 section 3.3.13).
+#[derive(Clone, Copy)]
+pub struct SoaTimes {
+    pub refresh: u32,
+    pub retry: u32,
+    pub expire: u32,
+    pub minimum: u32,
+}
+
+/// An IPv4 address (RFC 1035 section 3.4.1).
+pub fn read_a(tokens: &[Token]) -> Result<Rdata, RdataFault>
+    ensures { Answers result (a_of (written tokens.now)) }
+{
+    let [address] = tokens else {
+        return Err(RdataFault::FieldCount);
+    };
+    match read_ipv4(address.raw.items()) {
+        Some(address) => Ok(Rdata::A(address)),
+        None => Err(RdataFault::BadAddress),
+    }
+}
+
+/// An IPv6 address (RFC 3596 section 2.4).
+pub fn read_aaaa(tokens: &[Token]) -> Result<Rdata, RdataFault>
+    ensures { Answers result (aaaa_of (written tokens.now)) }
+{
+    let [address] = tokens else {
+        return Err(RdataFault::FieldCount);
+    };
+    match read_ipv6(address.raw.items()) {
+        Some(address) => Ok(Rdata::Aaaa(address)),
+        None => Err(RdataFault::BadAddress),
+    }
+}
+
+/// One name.
+fn read_one_name(alloc: Global, tokens: &[Token], origin: &Name) -> Result<Name, RdataFault>
+    ensures { Answers result (one_name origin.now (written tokens.now)) }
+{
+    let [name] = tokens else {
+        return Err(RdataFault::FieldCount);
+    };
+    name_field(alloc, name, origin)
+}
+
+/// A name server (RFC 1035 section 3.3.11).
+pub fn read_ns(alloc: Global, tokens: &[Token], origin: &Name) -> Result<Rdata, RdataFault>
+    ensures { Answers result (ns_of origin.now (written tokens.now)) }
+{
+    Ok(Rdata::Ns(read_one_name(alloc, tokens, origin)?))
+}
+
+/// A canonical name (RFC 1035 section 3.3.1).
+pub fn read_cname(alloc: Global, tokens: &[Token], origin: &Name) -> Result<Rdata, RdataFault>
+    ensures { Answers result (cname_of origin.now (written tokens.now)) }
+{
+    Ok(Rdata::Cname(read_one_name(alloc, tokens, origin)?))
+}
+
+/// A pointer (RFC 1035 section 3.3.12).
+pub fn read_ptr(alloc: Global, tokens: &[Token], origin: &Name) -> Result<Rdata, RdataFault>
+    ensures { Answers result (ptr_of origin.now (written tokens.now)) }
+{
+    Ok(Rdata::Ptr(read_one_name(alloc, tokens, origin)?))
+}
+
+/// A redirection of a subtree (RFC 6672 section 2.1).
+pub fn read_dname(alloc: Global, tokens: &[Token], origin: &Name) -> Result<Rdata, RdataFault>
+    ensures { Answers result (dname_of origin.now (written tokens.now)) }
+{
+    Ok(Rdata::Dname(read_one_name(alloc, tokens, origin)?))
+}
+
+/// A start of authority: two names, a number and four times (RFC 1035 section 3.3.13).
+pub fn read_soa(alloc: Global, tokens: &[Token], origin: &Name) -> Result<Rdata, RdataFault>
+    ensures { Answers result (soa_of origin.now (written tokens.now)) }
+{
+    let [mname, rname, serial, refresh, retry, expire, minimum] = tokens else {
+        return Err(RdataFault::FieldCount);
+    };
+    let mname = name_field(alloc, mname, origin)?;
+    let rname = name_field(alloc, rname, origin)?;
+    let serial = number_field(serial, u32::MAX)?;
+    let times = read_times(refresh, retry, expire, minimum)?;
+    Ok(Rdata::Soa {
+        mname,
+        rname,
+        serial,
+        refresh: times.refresh,
+        retry: times.retry,
+        expire: times.expire,
+        minimum: times.minimum,
+    })
+}
+
+/// The four times of a start of authority.
+fn read_times(
+    refresh: &Token,
+    retry: &Token,
+    expire: &Token,
+    minimum: &Token,
+) -> Result<SoaTimes, RdataFault>
+    ensures { Answers result (times_of refresh.now.raw retry.now.raw expire.now.raw minimum.now.raw) }
+{
+    Ok(SoaTimes {
+        refresh: time_field(refresh)?,
+        retry: time_field(retry)?,
+        expire: time_field(expire)?,
+        minimum: time_field(minimum)?,
+    })
+}
+
+/// A processor and an operating system (RFC 1035 section 3.3.2).
+pub fn read_hinfo(alloc: Global, tokens: &[Token]) -> Result<Rdata, RdataFault>
+    ensures { Answers result (hinfo_of (written tokens.now)) }
+{
+    let [cpu, os] = tokens else {
+        return Err(RdataFault::FieldCount);
+    };
+    Ok(Rdata::Hinfo {
+        cpu: string_field(alloc, cpu, 255)?,
+        os: string_field(alloc, os, 255)?,
+    })
+}
+
+/// A mail exchange: a number and a name (RFC 1035 section 3.3.9).
+pub fn read_mx(alloc: Global, tokens: &[Token], origin: &Name) -> Result<Rdata, RdataFault>
+    ensures { Answers result (mx_of origin.now (written tokens.now)) }
+{
+    let [preference, exchange] = tokens else {
+        return Err(RdataFault::FieldCount);
+    };
+    Ok(Rdata::Mx {
+        preference: number_field(preference, 65535)? as u16,
+        exchange: name_field(alloc, exchange, origin)?,
+    })
+}
+
+/// One or more texts (RFC 1035 section 3.3.14).
+pub fn read_txt(alloc: Global, tokens: &[Token]) -> Result<Rdata, RdataFault>
+    ensures { Answers result (txt_of (written tokens.now)) }
+{
+    if tokens.is_empty() {
+        return Err(RdataFault::FieldCount);
+    }
+    Ok(Rdata::Txt(read_strings(alloc, tokens)?))
+}
+
+/// Strings.
+fn read_strings(alloc: Global, tokens: &[Token]) -> Result<List<Octets>, RdataFault>
+    ensures { Answers result (strings_of (written tokens.now)) }
+{
+    let mut strings = Vec::with_capacity(alloc, tokens.len())?;
+    for token in tokens {
+        strings.push(string_field(alloc, token, 255)?)?;
+    }
+    Ok(List::from_vec(strings))
+}
+
+/// The place of a service: three numbers and a name (RFC 2782).
+pub fn read_srv(alloc: Global, tokens: &[Token], origin: &Name) -> Result<Rdata, RdataFault>
+    ensures { Answers result (srv_of origin.now (written tokens.now)) }
+{
+    let [priority, weight, port, target] = tokens else {
+        return Err(RdataFault::FieldCount);
+    };
+    Ok(Rdata::Srv {
+        priority: number_field(priority, 65535)? as u16,
+        weight: number_field(weight, 65535)? as u16,
+        port: number_field(port, 65535)? as u16,
+        target: name_field(alloc, target, origin)?,
+    })
+}
+
+/// Which authorities may issue certificates: a number, a tag and a string (RFC 8659 section 4.1).
+pub fn read_caa(alloc: Global, tokens: &[Token]) -> Result<Rdata, RdataFault>
+    ensures { Answers result (caa_of (written tokens.now)) }
+{
+    let [flags, tag, value] = tokens else {
+        return Err(RdataFault::FieldCount);
+    };
+    Ok(Rdata::Caa {
+        flags: number_field(flags, 255)? as u8,
+        tag: tag_field(alloc, tag)?,
+        value: string_field(alloc, value, 1024)?,
+    })
+}
