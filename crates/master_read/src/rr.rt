@@ -31,7 +31,7 @@ pub fn read_record(
     let owner = read_owner(alloc, context, entry)?;
     let front = read_front(behind_owner(entry))?;
     let rdata = read_data(alloc, front.tokens, &context.origin)?;
-    leave(alloc, context, entry, &owner, front.ttl)?;
+    remember(alloc, context, entry, &owner, front.ttl)?;
     Ok(with_ttl(context, owner, front.ttl, entry.line, rdata)?)
 }
 
@@ -150,7 +150,7 @@ fn raised(octet: u8) -> u8
 
 /// Puts what stands in front of a record's type into the context.
 #[tactic(auto, using(crate::proofs::Steps::last_owner_is))]
-fn leave(
+fn remember(
     alloc: Global,
     context: &mut Context,
     entry: &Entry,

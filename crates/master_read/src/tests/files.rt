@@ -57,6 +57,50 @@ seen 4
     check(&rt, rt.alloc(), "other.", 1_000_000, text, expected)
 }
 
+// The example of RFC 1035 section 5.3, read below the origin ISI.EDU.
+#[test]
+fn zone_of_rfc_1035(rt: HostRuntime) -> Result<(), Fail> {
+    let text = "@   IN  SOA     VENERA      Action\\.domains (
+                                 20     ; SERIAL
+                                 7200   ; REFRESH
+                                 600    ; RETRY
+                                 3600000; EXPIRE
+                                 60)    ; MINIMUM
+
+        NS      A.ISI.EDU.
+        NS      VENERA
+        NS      VAXA
+        MX      10      VENERA
+        MX      20      VAXA
+
+A       A       26.3.0.103
+
+VENERA  A       10.1.0.52
+        A       128.9.0.32
+
+VAXA    A       10.2.0.27
+        A       128.9.0.33
+";
+    let expected = "1 isi.edu. 60 SOA venera.isi.edu. action\\.domains.isi.edu. 20 7200 600 3600000 60
+8 isi.edu. 60 NS a.isi.edu.
+9 isi.edu. 60 NS venera.isi.edu.
+10 isi.edu. 60 NS vaxa.isi.edu.
+11 isi.edu. 60 MX 10 venera.isi.edu.
+12 isi.edu. 60 MX 20 vaxa.isi.edu.
+14 a.isi.edu. 60 A 26.3.0.103
+16 venera.isi.edu. 60 A 10.1.0.52
+17 venera.isi.edu. 60 A 128.9.0.32
+19 vaxa.isi.edu. 60 A 10.2.0.27
+20 vaxa.isi.edu. 60 A 128.9.0.33
+seen 11
+";
+    let alloc = rt.alloc();
+    check(&rt, alloc, "ISI.EDU.", 100, text, expected)?;
+    let including = format!(in alloc; "{text}\n$INCLUDE <SUBSYS>ISI-MAILBOXES.TXT\n")?;
+    let refused = "At { file: 0, line: 22, cause: NotSupported }\n";
+    check(&rt, alloc, "ISI.EDU.", 100, including.as_str(), refused)
+}
+
 #[test]
 fn small_zones(rt: HostRuntime) -> Result<(), Fail> {
     let alloc = rt.alloc();
