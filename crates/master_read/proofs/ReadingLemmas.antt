@@ -1,5 +1,5 @@
 -- The entries of a text, read one after another.
-use Rattle.std.proofs.Common.{◌≡◌, ℕ, Bool, true, false, List, [], ◌∷◌, ◌++◌, length, drop, refl, sym, ap, ◌∙◌, append_assoc, Option, Some, None}
+use Rattle.std.proofs.Common.{◌≡◌, ℕ, Bool, true, false, List, [], ◌∷◌, ◌++◌, refl, sym, ap, ◌∙◌, append_assoc, Option, Some}
 use Rattle.std.specs.Prelude.{Result, Ok, Err, MatchBool}
 use Rattle.std.proofs.lemmas.List.{append-nil}
 use Rattle.dns_data.specs.Name.{Labels}

@@ -54,13 +54,13 @@ word octets = record { raw = octets; quoted = false }
 
 -- RFC 1035 section 5.3: a second record of one owner, which inherits the owner and the TTL
 vaxa : zone_of_entries (codes "edu" ∷ []) 2 (
-  record { line = 1; blank_start = false; tokens = word (codes "VAXA") ∷ word (codes "60") ∷ word (codes "A") ∷ word (codes "10.2.0.27") ∷ [] }
-  ∷ record { line = 2; blank_start = true; tokens = word (codes "A") ∷ word (codes "128.9.0.33") ∷ [] } ∷ []
-) None ≡ Ok (record {
-  rrs =
-    record { owner = codes "edu" ∷ codes "vaxa" ∷ []; ttl = 60; rdata = data_of.A (10 ∷ 2 ∷ 0 ∷ 27 ∷ []); file = 0; line = 1 }
-    ∷ record { owner = codes "edu" ∷ codes "vaxa" ∷ []; ttl = 60; rdata = data_of.A (128 ∷ 9 ∷ 0 ∷ 33 ∷ []); file = 0; line = 2 } ∷ [];
-  seen = 2;
-})
+    record { line = 1; blank_start = false; tokens = word (codes "VAXA") ∷ word (codes "60") ∷ word (codes "A") ∷ word (codes "10.2.0.27") ∷ [] }
+    ∷ record { line = 2; blank_start = true; tokens = word (codes "A") ∷ word (codes "128.9.0.33") ∷ [] } ∷ []
+    ) None ≡ Ok (record {
+      rrs =
+          record { owner = codes "edu" ∷ codes "vaxa" ∷ []; ttl = 60; rdata = data_of.A (10 ∷ 2 ∷ 0 ∷ 27 ∷ []); file = 0; line = 1 }
+          ∷ record { owner = codes "edu" ∷ codes "vaxa" ∷ []; ttl = 60; rdata = data_of.A (128 ∷ 9 ∷ 0 ∷ 33 ∷ []); file = 0; line = 2 } ∷ [];
+      seen = 2;
+    })
 unfolding zone_of_entries with_entries with_entry record_of owner_of front_in one_more data_behind type_said made_of type_word class_word is_among type_numbered
 vaxa = refl

@@ -1,6 +1,6 @@
 -- The steps of a record's reading.
-use Rattle.std.proofs.Common.{◌≡◌, true, ok_or, Option, Some, None, refl}
-use Rattle.std.specs.Prelude.{Result, Ok, Err}
+use Rattle.std.proofs.Common.{◌≡◌, true, ok_or, Option, Some, None}
+use Rattle.std.specs.Prelude.{Ok}
 use Rattle.dns_data.specs.Name.{Labels}
 use Rattle.master_lex.specs.declared.entry.Entry.{Entry}
 use Rattle.master_read.specs.Entries.{owner_of}

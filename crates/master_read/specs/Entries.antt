@@ -1,6 +1,6 @@
 -- What one entry of a master file makes in its context: the steps in order, each with its faults
 -- (RFC 1035 section 5.1).
-use Rattle.std.specs.Prelude.{ℕ, Bool, true, false, not, ◌&&◌, ◌||◌, nat_eq, List, [], ◌∷◌, map, drop, codes, is_none, is_some, ok_or, if◌then◌else◌, Option, Some, None, Result, Ok, Err}
+use Rattle.std.specs.Prelude.{ℕ, Bool, true, false, not, ◌&&◌, ◌||◌, nat_eq, List, [], ◌∷◌, map, drop, codes, is_none, ok_or, if◌then◌else◌, Option, Some, None, Result, Ok, Err}
 use Rattle.std.specs.List.{starts_with}
 use Rattle.std.specs.Option.{option_or}
 use Rattle.dns_data.specs.Name.{Labels}
@@ -64,7 +64,7 @@ ttl_directive context [] = Err BadDirective
 ttl_directive context (time ∷ []) = with_default_ttl context (time_of time.raw)
 ttl_directive context (time ∷ next ∷ tokens) = Err BadDirective
 
--- what a directive makes of the context
+-- what a directive makes of the context, by its word
 unfoldable pub directive_of : Context → List Token → Result Context TextCause
 directive_of context [] = Err BadDirective
 directive_of context (word ∷ arguments) =
@@ -80,7 +80,7 @@ abbrev pub as_owner : Result Labels NameFault → Result Labels TextCause
 as_owner (Ok owner) = Ok owner
 as_owner (Err fault) = Err (BadOwner fault)
 
--- the owner that the first token gives
+-- the owner that the first token gives; an entry has a token
 abbrev pub written_owner : Context → List Token → Result Labels TextCause
 written_owner context [] = Err NoType
 written_owner context (token ∷ tokens) = as_owner (name_of_text token.raw context.origin)

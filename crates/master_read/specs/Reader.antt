@@ -1,5 +1,5 @@
 -- What a reader holds, and for which text it stands.
-use Rattle.std.specs.Prelude.{◌≡◌, ◌≢◌, ℕ, ◌-◌, ◌^◌, ◌<◌, ◌≤◌, List, [], ◌++◌, length, Bool, true, false, Option, Some, None, Ok, IfSome}
+use Rattle.std.specs.Prelude.{◌≡◌, ◌≢◌, ℕ, ◌≤◌, List, [], ◌++◌, length, Bool, true, false, Option, Some, None, Ok, IfSome}
 use Rattle.dns_data.specs.Name.{Labels}
 use Rattle.master_lex.specs.Holding.{StandsFor as LexerStandsFor, entries_in}
 use Rattle.master_lex.specs.declared.entry.Entry.{Entry}

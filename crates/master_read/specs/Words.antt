@@ -11,7 +11,7 @@ use Rattle.master_read.specs.declared.words.TypeWord.TheVariants.{Known, Dropped
 use Rattle.master_read.specs.declared.words.ClassWord.{ClassWord}
 use Rattle.master_read.specs.declared.words.ClassWord.TheVariants.{In, NotIn}
 
--- the octets are this word
+-- the octets are this word, in any case
 abbrev pub is_word : List ℕ → List ℕ → Bool
 is_word word octets = pointwise nat_eq (map folded word) (map folded octets)
 

@@ -61,7 +61,7 @@ const OTHERS: [&str; 29] = [
     "ZONEMD",
 ];
 
-/// Whether the octets are this word.
+/// Whether the octets are this word, in any case.
 pub fn is_word(word: &str, octets: &[u8]) -> bool
     ensures { result ≡ is_word word.now octets.now }
 {

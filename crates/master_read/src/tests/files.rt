@@ -81,7 +81,8 @@ VENERA  A       10.1.0.52
 VAXA    A       10.2.0.27
         A       128.9.0.33
 ";
-    let expected = "1 isi.edu. 60 SOA venera.isi.edu. action\\.domains.isi.edu. 20 7200 600 3600000 60
+    let expected =
+        "1 isi.edu. 60 SOA venera.isi.edu. action\\.domains.isi.edu. 20 7200 600 3600000 60
 8 isi.edu. 60 NS a.isi.edu.
 9 isi.edu. 60 NS venera.isi.edu.
 10 isi.edu. 60 NS vaxa.isi.edu.

@@ -1,6 +1,6 @@
 -- The entries and the fault of a text are those of its cut.
 use Rattle.std.proofs.Common.{ap, ◌∙◌, List, Option, true}
-use Rattle.master_lex.specs.Holding.{entries_in, fault_in}
+use Rattle.master_lex.specs.Holding.{fault_in}
 use Rattle.master_lex.specs.Spelling.{entries_of_cut}
 use Rattle.master_lex.specs.declared.entry.Entry.{Entry}
 use Rattle.master_lex.specs.declared.fault.LexFault.{LexFault}

@@ -1,5 +1,5 @@
 -- All entries were read, or a fault was met.
-use Rattle.std.proofs.Common.{◌∙◌, sym, Some, None, rules, true}
+use Rattle.std.proofs.Common.{◌∙◌, sym, Some, None, rules}
 use Rattle.master_read.specs.Fault.{FaultIs}
 use Rattle.master_read.specs.Reader.{HasRead}
 use Rattle.master_read.specs.ZoneText.{zone_text}

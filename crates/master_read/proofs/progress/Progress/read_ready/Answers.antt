@@ -1,9 +1,6 @@
 -- What was taken so far was read; an entry that has a fault settles the text's.
-use Rattle.std.proofs.Common.{◌≡◌, ap, ◌∙◌, Ok, Some, None, [], ◌∷◌, ◌++◌, true, rules}
-use Rattle.std.specs.Prelude.{Err}
-use Rattle.master_lex.specs.Holding.{StandsFor}
-use Rattle.master_lex.specs.declared.taken.Taken.TheVariants as answers
-use Rattle.master_lex.proofs.Values.{taken_all, never_more, taken_to_fault, made_fault}
+use Rattle.std.proofs.Common.{ap, ◌∙◌, Ok, [], ◌∷◌, ◌++◌, rules}
+use Rattle.master_lex.proofs.Values.{taken_all, never_more, taken_to_fault}
 use Rattle.master_read.proofs.ReadingLemmas.{with_one_more, settled}
 use Rattle.master_read.specs.Reader.{IsSettled}
 use Rattle.master_read.specs.ZoneText.{no_records}
