@@ -16,3 +16,6 @@ mod time;
 pub use fault::RdataFault;
 pub use rdata::{read_other, read_rdata};
 pub use time::read_ttl;
+
+#[cfg(test)]
+mod tests;
