@@ -1,10 +1,14 @@
 pub mod Digits
-pub mod HexTokens
+pub mod DottedTexts
+pub mod DoubleColon
 pub mod Groups
 pub mod Hexadecimal
+pub mod HexTokens
 pub mod Named
 pub mod Pieces
+pub mod PieceTexts
 pub mod Seconds
+pub mod Separators
 pub mod StartOfAuthority
 pub mod Strings
 pub mod TwoSides

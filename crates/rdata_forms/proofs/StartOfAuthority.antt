@@ -7,7 +7,7 @@ use Rattle.rdata_forms.specs.Fault.{FaultIs}
 use Rattle.rdata_forms.specs.Forms.{name_in, times_of, soa_of, written}
 use Rattle.rdata_forms.specs.Numbers.{number_of}
 use Rattle.rdata_forms.specs.declared.fault.RdataFault.{RdataFault}
-use Rattle.rdata_forms.specs.declared.fields.SoaTimes.{SoaTimes}
+use Rattle.rdata_forms.specs.declared.forms.SoaTimes.{SoaTimes}
 use Rattle.rdata_forms.proofs.Strings.{fault-first}
 
 -- seven tokens as they are written

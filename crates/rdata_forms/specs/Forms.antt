@@ -15,7 +15,7 @@ use Rattle.rdata_forms.specs.Numbers.{number_of, number_up_to}
 use Rattle.rdata_forms.specs.Times.{time_in}
 use Rattle.rdata_forms.specs.Addresses.{ipv4_in, ipv6_in, is_hex}
 use Rattle.rdata_forms.specs.Texts.{string_of, tag_of}
-use Rattle.rdata_forms.specs.declared.fields.SoaTimes.{SoaTimes}
+use Rattle.rdata_forms.specs.declared.forms.SoaTimes.{SoaTimes}
 use Rattle.rdata_forms.specs.declared.fault.RdataFault.{RdataFault}
 use Rattle.rdata_forms.specs.declared.fault.RdataFault.TheVariants.{FieldCount, BadName, BadHex, GenericKnown}
 
