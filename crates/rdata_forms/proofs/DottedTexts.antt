@@ -1,10 +1,9 @@
 -- The texts of IPv4 addresses.
-use Rattle.std.proofs.Common.{◌≡◌, ◌⊎◌, ℕ, ◌+◌, ◌-◌, ◌*◌, ◌<◌, ◌≤◌, ◌^◌, Bool, true, false, not, ◌&&◌, ◌||◌, zero, suc, List, [], ◌∷◌, ◌++◌, length, get_or, cond, eqb, leb, ltb, Option, Some, None, refl, ap, sym, subst, ◌∙◌, inl, inr, arith, codes, rules, lit<}
-use Rattle.std.specs.Prelude.{◌==◌}
+use Rattle.std.proofs.Common.{◌≡◌, ◌⊎◌, ℕ, ◌<◌, Bool, true, false, ◌&&◌, zero, suc, List, [], ◌∷◌, length, get_or, eqb, leb, ltb, Option, Some, None, refl, ap, sym, subst, ◌∙◌, inl, inr, arith, rules, lit<}
 use Rattle.std.specs.Fmt.{decimal}
 use Rattle.std.specs.List.{list_all}
 use Rattle.std.proofs.lemmas.Bool.{cond-true, cond-false, eq-eqb, ne_eqb, leb-true, le-leb, ltb-true, lt-ltb, and_parts, and_from, cases_Bool, both_ways}
-use Rattle.std.proofs.lemmas.Option.{cond_some, option_and_then_some}
+use Rattle.std.proofs.lemmas.Option.{cond_some}
 use Rattle.std.proofs.lemmas.Str.Parse.{IsNumeralModel, numerals_by_fold}
 use Rattle.std.proofs.lemmas.Fmt.{digits_decimal, digits_value-decimal, decimal-digits_value, decimal_digit, decimal_nonempty, first_decimal, length-decimal-le}
 use Rattle.dns_data.specs.Octet.{is_digit}
@@ -12,7 +11,7 @@ use Rattle.dns_data.specs.DataText.{separated, data_text}
 use Rattle.dns_data.specs.declared.rdata.Rdata.TheVariants.{A}
 use Rattle.rdata_forms.specs.Numbers.{digits_after, is_digits, number_up_to}
 use Rattle.rdata_forms.specs.Addresses.{◌>>=◌, IsIpv4Text, is_octet, has_leading_zero, part_of, ipv4_of_parts, ipv4_of, split_on}
-use Rattle.rdata_forms.proofs.Separators.{Lacks, AllLack, lacks-append, separated-split, split-separated}
+use Rattle.rdata_forms.proofs.Separators.{Lacks, lacks-append, separated-split, split-separated}
 
 -- digits as std reads them
 own : IsNumeralModel (λ ds. list_all is_digit ds ≡ true) (digits_after 0)
@@ -46,7 +45,7 @@ part-complete n lt =
     let small : leb (digits_after 0 text) 255 ≡ true = le-leb (digits_after 0 text) 255 (omega arith) in
     cond-false (has_leading_zero text) _ _ (decimal-leads n lt)
     ∙ cond-true ((is_digits text && leb (length text) 3) && leb (digits_after 0 text) 255) _ _
-      (and_from (is_digits text && leb (length text) 3) _ (and_from (is_digits text) _ (and_from (leb 1 (length text)) _ some digits) short) small)
+    (and_from (is_digits text && leb (length text) 3) _ (and_from (is_digits text) _ (and_from (leb 1 (length text)) _ some digits) short) small)
     ∙ ap (λ (x : ℕ). Some x) value
 
 -- what is read is a number up to 255 that is written so
@@ -63,9 +62,10 @@ part-sound text n h = by_lead (cases_Bool (has_leading_zero text)) where
       let digits = and_parts (leb 1 (length text)) _ ((and_parts (is_digits text) _ tests.0).0) in
       let small = leb-true (digits_after 0 text) 255 tests.1 in
       let some = leb-true 1 (length text) digits.0 in
-      let value : digits_after 0 text ≡ n = parts.1 in
-      (omega (arith, small, value),
-       ap decimal (sym value) ∙ decimal-digits_value own text digits.1 (omega arith) (alone text (omega arith) free) (omega arith))
+      let value : digits_after 0 text ≡ n = parts.1 in (
+        omega (arith, small, value),
+        ap decimal (sym value) ∙ decimal-digits_value own text digits.1 (omega arith) (alone text (omega arith) free) (omega arith),
+      )
 
 -- digits lack what is no digit
 pub tested-lack : (test : ℕ → Bool) (c : ℕ) (text : List ℕ) → test c ≡ false → list_all test text ≡ true → Lacks c text
@@ -117,11 +117,11 @@ parts-sound (p ∷ q ∷ r ∷ s ∷ []) address h =
     (record {
       four = refl;
       octets = and_from (ltb n.a 256) _ (lt-ltb n.a 256 a.0) (and_from (ltb n.b 256) _ (lt-ltb n.b 256 b.0)
-        (and_from (ltb n.c 256) _ (lt-ltb n.c 256 c.0) (and_from (ltb n.d 256) _ (lt-ltb n.d 256 d.0) refl)));
+          (and_from (ltb n.c 256) _ (lt-ltb n.c 256 c.0) (and_from (ltb n.d 256) _ (lt-ltb n.d 256 d.0) refl)));
       written = ap (λ (t : List ℕ). separated (46 ∷ []) (t ∷ q ∷ r ∷ s ∷ [])) (sym a.1)
-        ∙ ap (λ (t : List ℕ). separated (46 ∷ []) (decimal n.a ∷ t ∷ r ∷ s ∷ [])) (sym b.1)
-        ∙ ap (λ (t : List ℕ). separated (46 ∷ []) (decimal n.a ∷ decimal n.b ∷ t ∷ s ∷ [])) (sym c.1)
-        ∙ ap (λ (t : List ℕ). separated (46 ∷ []) (decimal n.a ∷ decimal n.b ∷ decimal n.c ∷ t ∷ [])) (sym d.1);
+          ∙ ap (λ (t : List ℕ). separated (46 ∷ []) (decimal n.a ∷ t ∷ r ∷ s ∷ [])) (sym b.1)
+          ∙ ap (λ (t : List ℕ). separated (46 ∷ []) (decimal n.a ∷ decimal n.b ∷ t ∷ s ∷ [])) (sym c.1)
+          ∙ ap (λ (t : List ℕ). separated (46 ∷ []) (decimal n.a ∷ decimal n.b ∷ decimal n.c ∷ t ∷ [])) (sym d.1);
     })
 parts-sound (p ∷ q ∷ r ∷ s ∷ t ∷ parts) address h = absurd cc
 
@@ -141,10 +141,14 @@ dotted-lacks c (x ∷ y ∷ z ∷ w ∷ []) digit dot n ok =
     let two = and_parts (ltb y 256) _ one.1 in
     let three = and_parts (ltb z 256) _ two.1 in
     let four = and_parts (ltb w 256) _ three.1 in
-    lacks-append c (decimal x) _ (decimal-lacks c x digit (ltb-true x 256 one.0))
-    (dot, lacks-append c (decimal y) _ (decimal-lacks c y digit (ltb-true y 256 two.0))
-    (dot, lacks-append c (decimal z) _ (decimal-lacks c z digit (ltb-true z 256 three.0))
-    (dot, lacks-append c (decimal w) _ (decimal-lacks c w digit (ltb-true w 256 four.0)) tt)))
+    lacks-append c (decimal x) _ (decimal-lacks c x digit (ltb-true x 256 one.0)) (
+      dot,
+      lacks-append c (decimal y) _ (decimal-lacks c y digit (ltb-true y 256 two.0)) (
+        dot,
+        lacks-append c (decimal z) _ (decimal-lacks c z digit (ltb-true z 256 three.0))
+            (dot, lacks-append c (decimal w) _ (decimal-lacks c w digit (ltb-true w 256 four.0)) tt),
+      ),
+    )
 dotted-lacks c (x ∷ y ∷ z ∷ w ∷ v ∷ address) digit dot n ok = absurd (omega arith)
 
 -- an address is worked out of its own text
@@ -163,7 +167,7 @@ own-text (a ∷ b ∷ c ∷ d ∷ []) n ok =
     let lc = ltb-true c 256 three.0 in
     let ld = ltb-true d 256 four.0 in
     ap ipv4_of_parts (split-separated 46 (decimal a) (decimal b ∷ decimal c ∷ decimal d ∷ [])
-      (decimal-lacks 46 a refl la, (decimal-lacks 46 b refl lb, (decimal-lacks 46 c refl lc, (decimal-lacks 46 d refl ld, tt)))))
+    (decimal-lacks 46 a refl la, (decimal-lacks 46 b refl lb, (decimal-lacks 46 c refl lc, (decimal-lacks 46 d refl ld, tt)))))
     ∙ ap (λ (o : Option ℕ). four_of o (part_of (decimal b)) (part_of (decimal c)) (part_of (decimal d))) (part-complete a la)
     ∙ ap (λ (o : Option ℕ). four_of (Some a) o (part_of (decimal c)) (part_of (decimal d))) (part-complete b lb)
     ∙ ap (λ (o : Option ℕ). four_of (Some a) (Some b) o (part_of (decimal d))) (part-complete c lc)

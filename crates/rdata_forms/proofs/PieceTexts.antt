@@ -1,7 +1,7 @@
 -- The texts of IPv6 addresses.
-use Rattle.std.proofs.Common.{◌≡◌, ◌⊎◌, ℕ, ◌+◌, ◌-◌, ◌<◌, ◌≤◌, Bool, true, false, ◌&&◌, suc, List, [], ◌∷◌, ◌++◌, length, map, replicate, cond, eqb, leb, Option, Some, None, option_map, refl, ap, sym, subst, ◌∙◌, inl, inr, arith, codes}
+use Rattle.std.proofs.Common.{◌≡◌, ◌⊎◌, ℕ, ◌+◌, ◌-◌, ◌<◌, Bool, true, false, ◌&&◌, List, [], ◌∷◌, ◌++◌, length, map, replicate, cond, eqb, leb, Option, Some, None, option_map, refl, ap, sym, ◌∙◌, inl, inr, arith}
 use Rattle.std.specs.Fmt.{decimal}
-use Rattle.std.specs.List.{list_all, flat_map, slice_index}
+use Rattle.std.specs.List.{list_all, slice_index}
 use Rattle.std.proofs.lemmas.Bool.{false≢true, cond-true, cond-false, eq-eqb, ne_eqb, eqb-true, leb-true, le-leb, and_parts, and_right, cases_Bool}
 use Rattle.std.proofs.lemmas.Option.{cond_some}
 use Rattle.std.proofs.lemmas.List.{append-nil, length-map, length-append}
@@ -133,21 +133,21 @@ pieces-sound ends [] octets h = record { pieces = []; well_formed = tt; written 
 pieces-sound ends (text ∷ []) octets h = last-sound ends text octets h
 pieces-sound ends (text ∷ next ∷ texts) octets h =
     joined (group_of text) (octets_of_pieces ends (next ∷ texts)) refl (λ others e. pieces-sound ends (next ∷ texts) others e) h where
-  put : (group others : List ℕ) → group_of text ≡ Some group → FromPieces ends (next ∷ texts) others → group ++ others ≡ octets → FromPieces ends (text ∷ next ∷ texts) octets
-  put group others e rest same =
-      let parts = cond_some (is_group text) (group_octets text) group e in
-      let some : 0 < length rest.pieces = omega (arith, ap length rest.written, length-map rest.pieces piece_text) in
-      record {
-        pieces = Group text ∷ rest.pieces;
-        well_formed = more-pieces ends (Group text) rest.pieces parts.0 some rest.well_formed;
-        written = ap (λ (l : List (List ℕ)). text ∷ l) rest.written;
-        all = ap (λ (l : List ℕ). l ++ pieces_octets rest.pieces) parts.1 ∙ ap (λ (l : List ℕ). group ++ l) rest.all ∙ same;
-      }
+      put : (group others : List ℕ) → group_of text ≡ Some group → FromPieces ends (next ∷ texts) others → group ++ others ≡ octets → FromPieces ends (text ∷ next ∷ texts) octets
+      put group others e rest same =
+          let parts = cond_some (is_group text) (group_octets text) group e in
+          let some : 0 < length rest.pieces = omega (arith, ap length rest.written, length-map rest.pieces piece_text) in
+          record {
+            pieces = Group text ∷ rest.pieces;
+            well_formed = more-pieces ends (Group text) rest.pieces parts.0 some rest.well_formed;
+            written = ap (λ (l : List (List ℕ)). text ∷ l) rest.written;
+            all = ap (λ (l : List ℕ). l ++ pieces_octets rest.pieces) parts.1 ∙ ap (λ (l : List ℕ). group ++ l) rest.all ∙ same;
+          }
 
-  joined : (g o : Option (List ℕ)) → group_of text ≡ g → ((others : List ℕ) → o ≡ Some others → FromPieces ends (next ∷ texts) others) → (g >>= λ group. o >>= λ others. Some (group ++ others)) ≡ Some octets → FromPieces ends (text ∷ next ∷ texts) octets
-  joined None o e ih k = absurd cc
-  joined (Some group) None e ih k = absurd cc
-  joined (Some group) (Some others) e ih k = put group others e (ih others refl) (inside (group ++ others) octets k)
+      joined : (g o : Option (List ℕ)) → group_of text ≡ g → ((others : List ℕ) → o ≡ Some others → FromPieces ends (next ∷ texts) others) → (g >>= λ group. o >>= λ others. Some (group ++ others)) ≡ Some octets → FromPieces ends (text ∷ next ∷ texts) octets
+      joined None o e ih k = absurd cc
+      joined (Some group) None e ih k = absurd cc
+      joined (Some group) (Some others) e ih k = put group others e (ih others refl) (inside (group ++ others) octets k)
 
 -- What is worked out of a text comes from pieces.
 record FromText (ends : Bool) (text octets : List ℕ) : Type 0 where
@@ -202,8 +202,8 @@ short-sound text address sides (Some front) (Some back) split ef eb h =
       written = split ∙ ap (λ (l : List ℕ). l ++ (58 ∷ 58 ∷ sides.back)) before.written ∙ ap (λ (l : List ℕ). pieces_text before.pieces ++ (58 ∷ 58 ∷ l)) behind.written;
       room = omega (arith, ap length before.all, ap length behind.all, le);
       stands_for = sym parts.1
-        ∙ ap (λ (l : List ℕ). l ++ (replicate (16 - (length l + length back)) 0 ++ back)) (sym before.all)
-        ∙ ap (λ (l : List ℕ). pieces_octets before.pieces ++ (replicate (16 - (length (pieces_octets before.pieces) + length l)) 0 ++ l)) (sym behind.all);
+          ∙ ap (λ (l : List ℕ). l ++ (replicate (16 - (length l + length back)) 0 ++ back)) (sym before.all)
+          ∙ ap (λ (l : List ℕ). pieces_octets before.pieces ++ (replicate (16 - (length (pieces_octets before.pieces) + length l)) 0 ++ l)) (sym behind.all);
     }
 
 -- a text of which an address is worked out stands for it
@@ -236,8 +236,8 @@ ipv6-complete text address (inr h) =
     let back = pieces_octets h.back in
     let sides : Sides = record { front = pieces_text h.front; back = pieces_text h.back } in
     let found : sides_of text ≡ Some sides =
-      ap sides_of h.written ∙ pieces-before false h.front (58 ∷ 58 ∷ pieces_text h.back) h.front_well_formed
-      ∙ ap (λ (l : List ℕ). Some (record { front = l; back = pieces_text h.back })) (append-nil (pieces_text h.front)) in
+    ap sides_of h.written ∙ pieces-before false h.front (58 ∷ 58 ∷ pieces_text h.back) h.front_well_formed
+    ∙ ap (λ (l : List ℕ). Some (record { front = l; back = pieces_text h.back })) (append-nil (pieces_text h.front)) in
     ap (ipv6_of_sides text) found
     ∙ ap (λ (o : Option (List ℕ)). o >>= λ f. side_of true (pieces_text h.back) >>= λ b. if_short f b) (side-complete false h.front h.front_well_formed)
     ∙ ap (λ (o : Option (List ℕ)). o >>= λ b. if_short front b) (side-complete true h.back h.back_well_formed)

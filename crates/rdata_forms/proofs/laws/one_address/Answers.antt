@@ -1,5 +1,5 @@
 -- That an address is worked out exactly where a text stands for it, so for at most one.
-use Rattle.std.proofs.Common.{◌≡◌, Some, sym, ◌∙◌}
+use Rattle.std.proofs.Common.{sym, ◌∙◌}
 use Rattle.rdata_forms.proofs.DottedTexts.{ipv4-sound, ipv4-complete}
 use Rattle.rdata_forms.proofs.PieceTexts.{ipv6-sound, ipv6-complete, inside}
 use Rattle.rdata_forms.proofs.laws.one_address.Goals as goal

@@ -1,7 +1,5 @@
-use Rattle.std.proofs.Common.{◌≡◌, ◌<◌, ◌+◌, ◌*◌, ◌-◌, Bool, true, false, Some, get_or, sym, ap, ◌∙◌, arith}
-use Rattle.std.proofs.lemmas.Grind.{common_steps}
+use Rattle.std.proofs.Common.{◌≡◌, ◌<◌, ◌+◌, ◌*◌, ◌-◌, true, false, get_or, sym, ◌∙◌, arith}
 use Rattle.dns_data.specs.Octet.{is_digit}
-use Rattle.rdata_forms.specs.Times.{with_digit, group_of}
 use Rattle.rdata_forms.proofs.Digits.{too_large}
 use Rattle.rdata_forms.proofs.Seconds.{time_from-stopped, under_way-digit, under_way-letter}
 use Rattle.rdata_forms.proofs.times.read_ttl.Goals as goal
