@@ -1,11 +1,10 @@
 -- Digits one after another.
-use Rattle.std.proofs.Common.{◌≡◌, ◌≢◌, ℕ, ◌+◌, ◌*◌, ◌-◌, ◌<◌, ◌≤◌, ◌&&◌, ◌⊎◌, Bool, true, false, suc, List, [], ◌∷◌, length, get_or, drop, cond, leb, nat_le, Option, Some, None, refl, ap, sym, ◌∙◌, inl, inr, arith, add-one, drop-cons, if◌then◌else◌}
-use Rattle.std.proofs.lemmas.Bool.{and_parts, and_from, and_cases, and_left, and_right, cond-true, cond-false, leb-true, leb-false, le-leb, lt-leb, cases_Bool}
-use Rattle.std.proofs.lemmas.Bool.Decides.{nat_tests}
+use Rattle.std.proofs.Common.{◌≡◌, ℕ, ◌+◌, ◌*◌, ◌-◌, ◌<◌, ◌≤◌, ◌&&◌, ◌⊎◌, Bool, true, false, List, [], ◌∷◌, length, get_or, drop, cond, nat_le, Option, Some, None, ap, sym, ◌∙◌, inl, inr, arith, add-one, drop-cons, if◌then◌else◌}
+use Rattle.std.proofs.lemmas.Bool.{and_from, and_right, cond-false, leb-false, le-leb, lt-leb, cases_Bool}
 use Rattle.std.proofs.Math.Bool.{and-true}
 use Rattle.std.specs.List.{list_all}
 use Rattle.dns_data.specs.Octet.{is_digit}
-use Rattle.rdata_forms.specs.Numbers.{digits_after, is_digits, number_up_to}
+use Rattle.rdata_forms.specs.Numbers.{digits_after, number_up_to}
 
 -- the number that digits make behind others of this value, if it is at most this
 abbrev pub number_from : ℕ → ℕ → List ℕ → Option ℕ
@@ -49,10 +48,6 @@ number_from-stop most value c cs h =
       | inr no_digit ↦ number_from-other most value c cs no_digit
     ]
 
--- where nothing is left the value is the number
-pub number_from-end : (most value : ℕ) → value ≤ most → number_from most value [] ≡ Some value
-number_from-end most value h = cond-true (nat_le value most) _ _ (le-leb value most h)
-
 -- the octet at a place
 pub number_from-at : (most value : ℕ) (text : List ℕ) (i : ℕ) → i < length text → number_from most value (drop i text) ≡ number_from most value (get_or text i 0 ∷ drop (i + 1) text)
 number_from-at most value text i h = ap (number_from most value) (drop-cons text i 0 h ∙ ap (λ (k : ℕ). get_or text i 0 ∷ drop k text) (sym (add-one i)))
@@ -65,20 +60,6 @@ number_up_to-from digits most text some short =
     ∙ ap (λ (b : Bool). cond ((list_all is_digit text && b) && nat_le value most) (Some value) None) (le-leb (length text) digits short)
     ∙ ap (λ (b : Bool). cond (b && nat_le value most) (Some value) None) (and-true (list_all is_digit text))
 
--- another length is no number's
-pub number_up_to-empty : (digits most : ℕ) → number_up_to digits most [] ≡ None
-number_up_to-empty digits most = refl
-
-pub number_up_to-long : (digits most : ℕ) (text : List ℕ) → digits < length text → number_up_to digits most text ≡ None
-number_up_to-long digits most text long =
-    cond-false ((is_digits text && nat_le (length text) digits) && nat_le (digits_after 0 text) most) _ _
-    (and_left (is_digits text && nat_le (length text) digits) _ (and_right (is_digits text) _ (lt-leb (length text) digits long)))
-
 -- no number where the octet at a place can't go on
 pub number_from-stopped : (most value : ℕ) (text : List ℕ) (i : ℕ) → i < length text → ((is_digit (get_or text i 0) && nat_le (value * 10 + (get_or text i 0 - 48)) most) ≡ true → ⊥) → number_from most value (drop i text) ≡ None
 number_from-stopped most value text i lt h = number_from-at most value text i lt ∙ number_from-stop most value (get_or text i 0) (drop (i + 1) text) h
-
--- the number goes on with the octet at a place
-pub number_from-next : (most value : ℕ) (text : List ℕ) (i : ℕ) → i < length text → (is_digit (get_or text i 0) && nat_le (value * 10 + (get_or text i 0 - 48)) most) ≡ true → number_from most value (drop i text) ≡ number_from most (value * 10 + (get_or text i 0 - 48)) (drop (i + 1) text)
-number_from-next most value text i lt h =
-    number_from-at most value text i lt ∙ number_from-digit most value (get_or text i 0) (drop (i + 1) text) ((and_parts (is_digit (get_or text i 0)) _ h).0)

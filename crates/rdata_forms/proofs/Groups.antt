@@ -1,6 +1,6 @@
 -- The octets of an IPv6 address.
-use Rattle.std.proofs.Common.{◌≡◌, ℕ, ◌+◌, ◌-◌, ◌<◌, ◌≤◌, Bool, true, false, suc, zero, List, [], ◌∷◌, ◌++◌, length, drop, replicate, cond, eqb, leb, Option, Some, None, option_map, IfSome, refl, ap, sym, subst, ◌∙◌, arith, append_assoc, length-append}
-use Rattle.std.proofs.lemmas.Bool.{cond-true, cond-false, eq-eqb, le-leb, lt-leb}
+use Rattle.std.proofs.Common.{◌≡◌, ℕ, ◌+◌, ◌-◌, ◌<◌, ◌≤◌, Bool, List, [], ◌∷◌, ◌++◌, length, drop, replicate, eqb, leb, Option, Some, None, option_map, IfSome, refl, ap, sym, subst, ◌∙◌, arith, append_assoc, length-append}
+use Rattle.std.proofs.lemmas.Bool.{cond-true, eq-eqb, le-leb}
 use Rattle.std.proofs.lemmas.List.{length-replicate, drop-replicate}
 use Rattle.rdata_forms.specs.Addresses.{◌>>=◌, split_on, group_of, octets_of_pieces, octets_of, if_whole, if_short, ipv4_of_parts}
 use Rattle.rdata_forms.proofs.Pieces.{split-some}
@@ -9,11 +9,11 @@ use Rattle.rdata_forms.proofs.Pieces.{split-some}
 pub short_is_whole : (front back : List ℕ) → length front + length back ≤ 14 → if_whole (front ++ drop (length front + length back) (replicate 16 0) ++ back) ≡ if_short front back
 short_is_whole front back room =
     let n = length front + length back in
+    let all : length (front ++ (replicate (16 - n) 0 ++ back)) ≡ 16 =
+    omega (arith, length-append front (replicate (16 - n) 0 ++ back), length-append (replicate (16 - n) 0) back, length-replicate {A = ℕ} (16 - n) 0) in
     let zeros : drop n (replicate 16 0) ≡ replicate (16 - n) 0 = drop-replicate {X = ℕ} n 16 0 in
     let same : front ++ drop n (replicate 16 0) ++ back ≡ front ++ (replicate (16 - n) 0 ++ back) =
     ap (λ (l : List ℕ). front ++ l ++ back) zeros ∙ append_assoc front (replicate {A = ℕ} (16 - n) 0) back in
-    let all : length (front ++ (replicate (16 - n) 0 ++ back)) ≡ 16 =
-    omega (arith, length-append front (replicate (16 - n) 0 ++ back), length-append (replicate (16 - n) 0) back, length-replicate {A = ℕ} (16 - n) 0) in
     ap if_whole same ∙ cond-true (eqb (length (front ++ (replicate (16 - n) 0 ++ back))) 16) _ _ (eq-eqb _ 16 all) ∙ sym (cond-true (leb n 14) _ _ (le-leb n 14 room))
 
 -- more than four parts are no IPv4 address

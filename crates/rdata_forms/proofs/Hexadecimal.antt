@@ -1,5 +1,5 @@
 -- Hexadecimal digits one after another.
-use Rattle.std.proofs.Common.{◌≡◌, ℕ, ◌+◌, ◌*◌, ◌-◌, ◌<◌, ◌≤◌, ◌^◌, ◌&&◌, Bool, true, false, suc, List, [], ◌∷◌, length, get_or, drop, cond, Option, Some, None, refl, ap, sym, ◌∙◌, arith, add-one, drop-cons, lit<}
+use Rattle.std.proofs.Common.{◌≡◌, ℕ, ◌+◌, ◌*◌, ◌<◌, ◌≤◌, ◌^◌, true, List, cond, Option, Some, None, ap, ◌∙◌, arith, add-one, lit<}
 use Rattle.std.proofs.Math.Nat.{pow-succ', pow-le-pow_right}
 use Rattle.std.proofs.lemmas.Bool.Decides.{nat_tests}
 use Rattle.std.specs.List.{list_all}
@@ -21,11 +21,3 @@ hex_fits value digit i lt small =
 -- four digits stay below 65,536
 pub four_digits : (i : ℕ) → i ≤ 4 → 16 ^ i ≤ 65536
 four_digits i le = pow-le-pow_right (lit< tt) le
-
--- the value goes on with the digit at a place
-pub hex_from-next : (value : ℕ) (text : List ℕ) (i : ℕ) → i < length text → is_hex (get_or text i 0) ≡ true → hex_from value (drop i text) ≡ hex_from (value * 16 + hex_digit (get_or text i 0)) (drop (i + 1) text)
-hex_from-next value text i lt h =
-    let c = get_or text i 0 in
-    let rest = drop (i + 1) text in
-    ap (hex_from value) (drop-cons text i 0 lt ∙ ap (λ (k : ℕ). c ∷ drop k text) (sym (add-one i)))
-    ∙ ap (λ (b : Bool). cond (b && list_all is_hex rest) (Some (hex_after (value * 16 + hex_digit c) rest)) None) h

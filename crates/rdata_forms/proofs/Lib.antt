@@ -1,12 +1,16 @@
-mod Drawn
-mod Worked
 pub mod Digits
+pub mod DottedTexts
+pub mod DoubleColon
+mod Drawn
 pub mod Groups
 pub mod HexTokens
 pub mod Hexadecimal
 pub mod Named
+pub mod PieceTexts
 pub mod Pieces
 pub mod Seconds
+pub mod Separators
 pub mod StartOfAuthority
 pub mod Strings
 pub mod TwoSides
+mod Worked

@@ -1,11 +1,11 @@
 -- The format never speaks of want of memory.
-use Rattle.std.proofs.Common.{◌≡◌, ℕ, ◌+◌, Bool, true, false, List, [], ◌∷◌, ◌++◌, length, reverse, cond, eqb, leb, ltb, map, ◌&&◌, nat_eq, codes, Option, Some, None, Result, Ok, Err, refl, ap, subst}
+use Rattle.std.proofs.Common.{◌≡◌, ℕ, Bool, true, false, List, [], ◌∷◌, ◌++◌, length, reverse, cond, eqb, leb, ltb, map, ◌&&◌, nat_eq, codes, Option, Some, None, Result, Ok, Err, ap, subst}
 use Rattle.std.specs.Option.{ok_or}
 use Rattle.std.specs.List.{list_all}
 use lib.Pointwise.{pointwise}
 use Rattle.dns_data.specs.Octet.{folded}
 use Rattle.dns_data.specs.Name.{Labels, wire_octets}
-use Rattle.dns_data.specs.Spelling.{Sign, Dot, Octet, Broken, Spelled, signs, spelled, after_label, if_short, placed, name_of_text}
+use Rattle.dns_data.specs.Spelling.{Sign, Dot, Octet, Broken, Spelled, signs, spelled, after_label, placed, name_of_text}
 use Rattle.dns_data.specs.declared.fault.NameFault.{NameFault}
 use Rattle.dns_data.specs.declared.fault.NameFault.TheVariants as name_fault
 use Rattle.dns_data.specs.declared.rr_type.RrType.{RrType}
@@ -18,7 +18,7 @@ use Rattle.rdata_forms.specs.Forms.{◌>>=◌, name_in, as_bad_name, one_name, s
 use Rattle.rdata_forms.specs.Fault.{Answers, FaultIs}
 use Rattle.dns_data.specs.declared.rdata.Rdata.TheVariants as data_of
 use Rattle.rdata_forms.specs.declared.fault.RdataFault.{RdataFault}
-use Rattle.rdata_forms.specs.declared.fault.RdataFault.TheVariants.{FieldCount, BadNumber, BadAddress, BadName, TextTooLong, BadHex, GenericKnown}
+use Rattle.rdata_forms.specs.declared.fault.RdataFault.TheVariants.{FieldCount, BadNumber, BadAddress, BadName, TextTooLong}
 
 -- a name's reading doesn't end for want of memory
 abbrev pub Spells : {T : Type 0} → Result T NameFault → Type 0

@@ -1,12 +1,12 @@
 -- The seconds of a time, octet by octet.
-use Rattle.std.proofs.Common.{◌≡◌, ℕ, ◌+◌, ◌*◌, ◌-◌, ◌<◌, ◌≤◌, Bool, true, false, List, [], ◌∷◌, length, get_or, drop, cond, Option, Some, None, option_map, option_and_then, refl, ap, sym, ◌∙◌, ◌⊎◌, inl, inr, leb, arith, add-one, add_assoc, drop-cons}
-use Rattle.std.proofs.lemmas.Bool.{cond-true, cond-false, lt-leb, leb-true, leb-false, cases_Bool, and_parts}
+use Rattle.std.proofs.Common.{◌≡◌, ℕ, ◌+◌, ◌*◌, ◌-◌, ◌<◌, ◌≤◌, Bool, true, false, List, [], ◌∷◌, length, get_or, drop, cond, Option, Some, None, option_map, option_and_then, refl, ap, sym, ◌∙◌, leb, arith, add-one, add_assoc, drop-cons}
+use Rattle.std.proofs.lemmas.Bool.{cond-true, cond-false, lt-leb, leb-true, and_parts}
 use Rattle.std.proofs.lemmas.Option.{cond_some}
 use Rattle.std.proofs.Math.Nat.{mul-le-mul_left}
-use Rattle.std.specs.Prelude.{if◌then◌else◌, ◌==◌, ◌&&◌, nat_le, IfSome}
+use Rattle.std.specs.Prelude.{◌==◌, ◌&&◌, nat_le, IfSome}
 use Rattle.std.specs.Option.{unwrap_or}
 use Rattle.dns_data.specs.Octet.{is_digit, folded}
-use Rattle.rdata_forms.specs.Times.{unit_of, with_digit, group_of, at_end, seconds_after, if_ttl, time_of}
+use Rattle.rdata_forms.specs.Times.{unit_of, with_digit, group_of, seconds_after, if_ttl, time_of}
 
 -- the time that these seconds and the rest of a text make
 abbrev pub time_from : ℕ → Bool → Option ℕ → List ℕ → Option ℕ
@@ -75,29 +75,12 @@ time_from-large seconds grouped value text large =
     added None h = tt
     added (Some others) h = omega arith
 
--- a group that doesn't read makes no time
-pub group_then-none : (seconds : ℕ) (others : Option ℕ) → group_then seconds None others ≡ None
-group_then-none seconds others = refl
-
 -- a group that reads goes to the seconds
 pub group_then-some : (seconds group : ℕ) (text : List ℕ) → group_then seconds (Some group) (seconds_after true None text) ≡ time_from (seconds + group) true None text
 group_then-some seconds group text = added (seconds_after true None text) where
   added : (o : Option ℕ) → group_then seconds (Some group) o ≡ option_and_then if_ttl (option_map (λ others. seconds + group + others) o)
   added None = refl
   added (Some others) = ap if_ttl (sym (add_assoc seconds group others))
-
--- with too many seconds the groups behind don't help
-pub group_then-large : (seconds group : ℕ) (others : Option ℕ) → 2147483647 < seconds + group → group_then seconds (Some group) others ≡ None
-group_then-large seconds group None large = refl
-group_then-large seconds group (Some others) large = if_ttl-large (seconds + group) (Some (seconds + (group + others))) large (omega arith)
-
--- what a group makes of the seconds decides whether there is a time
-pub group_then-refused : (seconds : ℕ) (group others : Option ℕ) → option_and_then if_ttl (option_map (λ sum. seconds + sum) group) ≡ None → group_then seconds group others ≡ None
-group_then-refused seconds None others h = refl
-group_then-refused seconds (Some group) others h = by_size (cases_Bool (leb (seconds + group) 2147483647)) where
-  by_size : (leb (seconds + group) 2147483647 ≡ true) ⊎ (leb (seconds + group) 2147483647 ≡ false) → group_then seconds (Some group) others ≡ None
-  by_size (inl small) = let some : Some (seconds + group) ≡ None = sym (cond-true (leb (seconds + group) 2147483647) (Some (seconds + group)) None small) ∙ h in cc
-  by_size (inr large) = group_then-large seconds group others (leb-false (seconds + group) 2147483647 large)
 
 pub group_then-taken : (seconds sum : ℕ) (group : Option ℕ) (text : List ℕ) → option_and_then if_ttl (option_map (λ more. seconds + more) group) ≡ Some sum → group_then seconds group (seconds_after true None text) ≡ time_from sum true None text
 group_then-taken seconds sum None text h = cc

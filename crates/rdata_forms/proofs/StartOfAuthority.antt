@@ -1,5 +1,5 @@
 -- The fields of a start of authority.
-use Rattle.std.proofs.Common.{◌≡◌, ℕ, List, [], ◌∷◌, length, get_or, Result, Ok, Err, refl, ap, sym, arith}
+use Rattle.std.proofs.Common.{◌≡◌, ℕ, List, [], ◌∷◌, length, get_or, Ok, arith}
 use Rattle.dns_data.specs.Name.{Labels}
 use Rattle.dns_data.specs.declared.rdata.Rdata.TheVariants.{Soa}
 use Rattle.master_lex.specs.declared.entry.Token.{Token}
@@ -7,7 +7,7 @@ use Rattle.rdata_forms.specs.Fault.{FaultIs}
 use Rattle.rdata_forms.specs.Forms.{name_in, times_of, soa_of, written}
 use Rattle.rdata_forms.specs.Numbers.{number_of}
 use Rattle.rdata_forms.specs.declared.fault.RdataFault.{RdataFault}
-use Rattle.rdata_forms.specs.declared.fields.SoaTimes.{SoaTimes}
+use Rattle.rdata_forms.specs.declared.forms.SoaTimes.{SoaTimes}
 use Rattle.rdata_forms.proofs.Strings.{fault-first}
 
 -- seven tokens as they are written

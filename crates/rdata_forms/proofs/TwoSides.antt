@@ -1,8 +1,7 @@
 -- The sides of the first `::` of a text.
-use Rattle.std.proofs.Common.{◌≡◌, ◌≢◌, ℕ, ◌+◌, ◌-◌, ◌<◌, ◌≤◌, Bool, true, false, ◌&&◌, suc, zero, List, [], ◌∷◌, ◌++◌, length, get_or, take, drop, cond, eqb, Option, Some, None, option_map, refl, ap, sym, ◌∙◌, ◌⊎◌, inl, inr, arith, add-one, drop-cons, length-drop, append_assoc}
-use Rattle.std.proofs.lemmas.Bool.{cond-true, cond-false, eq-eqb, and_from}
+use Rattle.std.proofs.Common.{◌≡◌, ℕ, ◌+◌, ◌<◌, ◌≤◌, ◌&&◌, suc, List, [], ◌∷◌, ◌++◌, length, get_or, take, drop, eqb, Option, Some, None, option_map, refl, ap, sym, ◌∙◌, arith, add-one, drop-cons, length-drop, append_assoc}
+use Rattle.std.proofs.lemmas.Bool.{cond-false}
 use Rattle.std.proofs.lemmas.Bool.Decides.{nat_tests}
-use Rattle.std.proofs.lemmas.List.{append-nil}
 use Rattle.std.proofs.Math.Seq.{take-suc}
 use Rattle.rdata_forms.specs.Addresses.{Sides, sides_of, after_octet}
 
@@ -18,11 +17,6 @@ two_octets text i at e lt =
     drop-cons text i 0 (omega arith)
     ∙ ap (λ (k : ℕ). get_or text i 0 ∷ drop k text) next
     ∙ ap (λ (rest : List ℕ). get_or text i 0 ∷ rest) (drop-cons text at 0 lt ∙ ap (λ (k : ℕ). get_or text at 0 ∷ drop k text) after)
-
--- two colons make the sides
-pub sides-here : (first second : ℕ) (rest : List ℕ) → first ≡ 58 → second ≡ 58 → sides_of (first ∷ second ∷ rest) ≡ Some (record { front = []; back = rest })
-sides-here first second rest a b =
-    cond-true (eqb first 58 && eqb second 58) _ _ (and_from (eqb first 58) (eqb second 58) (eq-eqb first 58 a) (eq-eqb second 58 b))
 
 -- other octets stand before the sides
 pub sides-later : (first second : ℕ) (rest : List ℕ) → (first ≡ 58 → second ≡ 58 → ⊥) → sides_of (first ∷ second ∷ rest) ≡ option_map (after_octet first) (sides_of (second ∷ rest))
@@ -43,10 +37,6 @@ after_none (Some sides) = refl
 pub record AreSides (text : List ℕ) (i : ℕ) : Type 0 where
   pub same : sides_of text ≡ option_map (after_octets (take i text)) (sides_of (drop i text))
 
--- nothing was passed
-pub are_sides-start : (text : List ℕ) → AreSides text 0
-are_sides-start text = record { same = sym (after_none (sides_of text)) }
-
 -- an octet more was passed
 pub are_sides-next : (text : List ℕ) (i at : ℕ) → at ≡ i + 1 → at < length text → AreSides text i → (get_or text i 0 ≡ 58 → get_or text at 0 ≡ 58 → ⊥) → AreSides text at
 are_sides-next text i at e lt h other =
@@ -60,14 +50,6 @@ are_sides-next text i at e lt h other =
           ∙ ap (λ (front : List ℕ). option_map (after_octets front) (sides_of (get_or text at 0 ∷ drop (at + 1) text))) (sym passed)
           ∙ ap (λ (rest : List ℕ). option_map (after_octets (take at text)) (sides_of rest)) (sym one);
     }
-
--- the sides stand here
-pub are_sides-found : (text : List ℕ) (i at : ℕ) → at ≡ i + 1 → at < length text → AreSides text i → get_or text i 0 ≡ 58 → get_or text at 0 ≡ 58 → sides_of text ≡ Some (record { front = take i text; back = drop (at + 1) text })
-are_sides-found text i at e lt h first second =
-    h.same
-    ∙ ap (λ (rest : List ℕ). option_map (after_octets (take i text)) (sides_of rest)) (two_octets text i at e lt)
-    ∙ ap (option_map (after_octets (take i text))) (sides-here (get_or text i 0) (get_or text at 0) (drop (at + 1) text) first second)
-    ∙ ap (λ (front : List ℕ). Some (record { front = front; back = drop (at + 1) text })) (append-nil (take i text))
 
 -- one octet has no sides
 short-none : (text : List ℕ) → length text ≤ 1 → sides_of text ≡ None

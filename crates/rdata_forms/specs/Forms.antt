@@ -1,6 +1,6 @@
 -- The data of each type, from the tokens behind the type's word (RFC 1035 sections 3.3, 3.4 and 5.1, RFC 3597
 -- section 5). The number of tokens is looked at first, then the fields from left to right.
-use Rattle.std.specs.Prelude.{ℕ, ◌*◌, Bool, true, false, ◌&&◌, not, nat_eq, nat_le, List, [], ◌∷◌, map, length, drop, codes, Option, Some, None, Result, Ok, Err, if◌then◌else◌, ◌==◌}
+use Rattle.std.specs.Prelude.{ℕ, ◌*◌, Bool, false, ◌&&◌, not, nat_eq, List, [], ◌∷◌, map, length, codes, Option, Some, None, Result, Ok, Err, if◌then◌else◌, ◌==◌}
 use Rattle.std.specs.List.{list_all, concat}
 use lib.Pointwise.{pointwise}
 use Rattle.dns_data.specs.Name.{Labels}
@@ -15,7 +15,7 @@ use Rattle.rdata_forms.specs.Numbers.{number_of, number_up_to}
 use Rattle.rdata_forms.specs.Times.{time_in}
 use Rattle.rdata_forms.specs.Addresses.{ipv4_in, ipv6_in, is_hex}
 use Rattle.rdata_forms.specs.Texts.{string_of, tag_of}
-use Rattle.rdata_forms.specs.declared.fields.SoaTimes.{SoaTimes}
+use Rattle.rdata_forms.specs.declared.forms.SoaTimes.{SoaTimes}
 use Rattle.rdata_forms.specs.declared.fault.RdataFault.{RdataFault}
 use Rattle.rdata_forms.specs.declared.fault.RdataFault.TheVariants.{FieldCount, BadName, BadHex, GenericKnown}
 

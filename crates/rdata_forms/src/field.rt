@@ -8,9 +8,9 @@ ghost use Rattle.rdata_forms.specs.Texts.{string_of, tag_of};
 ghost use Rattle.rdata_forms.specs.Forms.{name_in};
 
 use crate::fault::RdataFault;
-use crate::number::read_number;
-use crate::text::{read_string, read_tag};
-use crate::time::read_ttl;
+use crate::numbers::read_number;
+use crate::texts::{read_string, read_tag};
+use crate::times::read_ttl;
 use dns_data::{Name, NameFault, Octets};
 use master_lex::Token;
 use std::alloc::Global;

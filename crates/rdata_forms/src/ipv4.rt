@@ -3,7 +3,7 @@
 ghost use Rattle.std.specs.Prelude.{◌≡◌};
 ghost use Rattle.rdata_forms.specs.Addresses.{part_of, ipv4_of, has_leading_zero};
 
-use crate::number::read_number;
+use crate::numbers::read_number;
 use crate::piece::first_piece;
 
 /// The IPv4 address that the text stands for, or `None` where it stands for none: four numbers up to 255 without

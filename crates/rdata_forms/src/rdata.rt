@@ -5,7 +5,7 @@ ghost use Rattle.rdata_forms.specs.Fault.{Answers};
 ghost use Rattle.rdata_forms.specs.Forms.{rdata_of, other_of, fields_of, written};
 
 use crate::fault::RdataFault;
-use crate::fields;
+use crate::forms;
 use crate::generic::{is_generic, is_generic_form};
 use dns_data::{List, Name, NameFault, Octets, Rdata, RrType};
 use master_lex::Token;
@@ -40,18 +40,18 @@ fn read_fields(
     ensures { Answers result (fields_of rtype (written tokens.now) origin.now) }
 {
     match rtype {
-        RrType::A => fields::read_a(tokens),
-        RrType::Ns => fields::read_ns(alloc, tokens, origin),
-        RrType::Cname => fields::read_cname(alloc, tokens, origin),
-        RrType::Soa => fields::read_soa(alloc, tokens, origin),
-        RrType::Ptr => fields::read_ptr(alloc, tokens, origin),
-        RrType::Hinfo => fields::read_hinfo(alloc, tokens),
-        RrType::Mx => fields::read_mx(alloc, tokens, origin),
-        RrType::Txt => fields::read_txt(alloc, tokens),
-        RrType::Aaaa => fields::read_aaaa(tokens),
-        RrType::Srv => fields::read_srv(alloc, tokens, origin),
-        RrType::Dname => fields::read_dname(alloc, tokens, origin),
-        RrType::Caa => fields::read_caa(alloc, tokens),
+        RrType::A => forms::read_a(tokens),
+        RrType::Ns => forms::read_ns(alloc, tokens, origin),
+        RrType::Cname => forms::read_cname(alloc, tokens, origin),
+        RrType::Soa => forms::read_soa(alloc, tokens, origin),
+        RrType::Ptr => forms::read_ptr(alloc, tokens, origin),
+        RrType::Hinfo => forms::read_hinfo(alloc, tokens),
+        RrType::Mx => forms::read_mx(alloc, tokens, origin),
+        RrType::Txt => forms::read_txt(alloc, tokens),
+        RrType::Aaaa => forms::read_aaaa(tokens),
+        RrType::Srv => forms::read_srv(alloc, tokens, origin),
+        RrType::Dname => forms::read_dname(alloc, tokens, origin),
+        RrType::Caa => forms::read_caa(alloc, tokens),
     }
 }
 

@@ -1,4 +1,4 @@
-use Rattle.std.proofs.Common.{◌≡◌, ◌<◌, true, length, [], Option, Some, None, List, ℕ, Bor, sym, ap, ◌∙◌}
+use Rattle.std.proofs.Common.{sym, ap, ◌∙◌}
 use Rattle.rdata_forms.proofs.Groups.{five_parts}
 use Rattle.rdata_forms.proofs.Pieces.{pieces_behind}
 use Rattle.rdata_forms.specs.Addresses.{ipv4_of_parts}

@@ -1,4 +1,4 @@
-use Rattle.std.proofs.Common.{◌≡◌, ◌+◌, ◌-◌, get_or, subst, sym, arith}
+use Rattle.std.proofs.Common.{◌≡◌, ◌+◌, ◌-◌, get_or, subst, arith}
 use Rattle.rdata_forms.proofs.TwoSides.{AreSides, are_sides-next, are_sides-end}
 use Rattle.rdata_forms.proofs.ipv6.sides.Goals as goal
 use Rattle.rdata_forms.proofs.ipv6.sides.Goals.{else-text-at-eq58-via-then-text-at-eq58+else-text-at-eq58-2, else-text-at-eq58-via-else-text-at-eq58}

@@ -1,6 +1,6 @@
 use Rattle.std.proofs.Common.{drop}
 use Rattle.rdata_forms.proofs.Seconds.{IsUnderWay}
-use Rattle.rdata_forms.proofs.time.read_ttl.Given as goal
+use Rattle.rdata_forms.proofs.times.read_ttl.Given as goal
 
 -- the seconds so far, the digits under way and what is left make the time
 abbrev pub invariant-loop-octet : goal.invariant-loop-octet

@@ -1,11 +1,9 @@
-use Rattle.std.proofs.Common.{◌≡◌, ◌<◌, ◌+◌, ◌*◌, ◌-◌, Bool, true, false, Some, get_or, sym, ap, ◌∙◌, arith}
-use Rattle.std.proofs.lemmas.Grind.{common_steps}
+use Rattle.std.proofs.Common.{◌≡◌, ◌<◌, ◌+◌, ◌*◌, ◌-◌, true, false, get_or, sym, ◌∙◌, arith}
 use Rattle.dns_data.specs.Octet.{is_digit}
-use Rattle.rdata_forms.specs.Times.{with_digit, group_of}
 use Rattle.rdata_forms.proofs.Digits.{too_large}
 use Rattle.rdata_forms.proofs.Seconds.{time_from-stopped, under_way-digit, under_way-letter}
-use Rattle.rdata_forms.proofs.time.read_ttl.Goals as goal
-use Rattle.rdata_forms.proofs.time.read_ttl.Goals.{then-is_ascii_digit+in_ok-with_digit, else-is_ascii_digit+in_ok-value+in_ok-seconds}
+use Rattle.rdata_forms.proofs.times.read_ttl.Goals as goal
+use Rattle.rdata_forms.proofs.times.read_ttl.Goals.{then-is_ascii_digit+in_ok-with_digit, else-is_ascii_digit+in_ok-value+in_ok-seconds}
 
 pub returns-in_err-with_digit-clause-value : goal.returns-in_err-with_digit-clause-value
 returns-in_err-with_digit-clause-value c =

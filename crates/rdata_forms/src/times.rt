@@ -3,7 +3,7 @@
 ghost use Rattle.std.specs.Prelude.{◌≡◌, ◌+◌, ◌≤◌, Some, option_map, option_and_then, IfSome};
 ghost use Rattle.rdata_forms.specs.Times.{time_of, unit_of, group_of, if_ttl};
 
-use crate::number::with_digit;
+use crate::numbers::with_digit;
 
 /// The most seconds of a TTL (RFC 2181 section 8).
 const MOST: u32 = 2147483647;

@@ -1,7 +1,7 @@
 use Rattle.std.proofs.Common.{◌≡◌, drop}
 use Rattle.rdata_forms.specs.Forms.{written, strings_of}
 use Rattle.rdata_forms.proofs.Strings.{behind}
-use Rattle.rdata_forms.proofs.fields.read_strings.Given as goal
+use Rattle.rdata_forms.proofs.forms.read_strings.Given as goal
 
 -- the strings so far and those of the tokens that are left make the whole
 abbrev pub invariant-loop-token : goal.invariant-loop-token

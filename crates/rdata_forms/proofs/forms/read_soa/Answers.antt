@@ -1,8 +1,7 @@
-use Rattle.std.proofs.Common.{◌≡◌, List, ℕ, [], ◌∷◌, arith}
+use Rattle.std.proofs.Common.{arith}
 use Rattle.std.proofs.lemmas.Result.{err_from_is_err_and}
-use Rattle.rdata_forms.specs.Forms.{written}
 use Rattle.rdata_forms.proofs.StartOfAuthority.{seven, serial-fault, times-fault, soa-reads}
-use Rattle.rdata_forms.proofs.fields.read_soa.Goals as goal
+use Rattle.rdata_forms.proofs.forms.read_soa.Goals as goal
 
 pub returns-in_err-serial : goal.returns-in_err-serial
 returns-in_err-serial c =
