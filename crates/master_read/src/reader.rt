@@ -84,7 +84,7 @@ impl ZoneReader {
         }
     }
 
-    /// The records of the text, or its first fault.
+    /// The records of the text, or its first fault. It is `NoMemory` where `feed` has answered so.
     pub fn finish(self, alloc: Global) -> Result<ZoneText, TextFault>
         ensures answers { (origin : Labels) (room : ℕ) (text : List ℕ) → StandsFor self origin room text
             → Answers result (zone_text origin room text) }
