@@ -1,5 +1,5 @@
 -- Texts of addresses, by the relation that says what a text stands for.
-use Rattle.std.specs.Prelude.{◌≡◌, refl, [], ◌∷◌, codes}
+use Rattle.std.specs.Prelude.{refl, [], ◌∷◌, codes}
 use Rattle.std.specs.Fmt.{digits}
 use Rattle.std.proofs.Common.{arith, inl, inr}
 use Rattle.rdata_forms.specs.Addresses.{IsIpv4Text, IsIpv6Text, Group, Dotted}

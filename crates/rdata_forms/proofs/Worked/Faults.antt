@@ -6,7 +6,7 @@ use Rattle.dns_data.specs.declared.rdata.Rdata.TheVariants.{Caa}
 use Rattle.dns_data.specs.declared.rr_type.RrType.TheVariants as types
 use Rattle.rdata_forms.specs.Forms.{rdata_of}
 use Rattle.rdata_forms.specs.declared.fault.RdataFault.TheVariants.{FieldCount, BadNumber, BadAddress, BadName, TextTooLong, GenericKnown}
-use Rattle.rdata_forms.proofs.Worked.Words.{bare, in_quotes, name, token, tokens}
+use Rattle.rdata_forms.proofs.Worked.Words.{bare, in_quotes, token, tokens}
 
 -- RFC 3597 section 5: an address in the generic form, which isn't read for a type that has a form of its own
 a_generic_address : rdata_of types.A (tokens "\\# 4 0A000001") [] ≡ Err GenericKnown

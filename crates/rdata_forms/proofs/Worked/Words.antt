@@ -1,6 +1,6 @@
 -- Words in which worked values are written.
 use Prim.Native.String.{String as Text}
-use Rattle.std.specs.Prelude.{ℕ, false, true, List, [], ◌∷◌, map, reverse, codes}
+use Rattle.std.specs.Prelude.{ℕ, false, true, List, map, reverse, codes}
 use Rattle.dns_data.specs.Name.{Labels}
 use Rattle.master_lex.specs.declared.entry.Token.{Token}
 use Rattle.rdata_forms.specs.Addresses.{split_on}
