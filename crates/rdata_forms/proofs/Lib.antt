@@ -9,6 +9,7 @@ pub mod Pieces
 pub mod PieceTexts
 pub mod Seconds
 pub mod Separators
+pub mod StandardFacts
 pub mod StartOfAuthority
 pub mod Strings
 pub mod TwoSides
