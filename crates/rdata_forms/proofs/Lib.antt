@@ -10,6 +10,7 @@ pub mod PieceTexts
 pub mod Pieces
 pub mod Seconds
 pub mod Separators
+pub mod StandardFacts
 pub mod StartOfAuthority
 pub mod Strings
 pub mod TwoSides

@@ -1,13 +1,13 @@
 //! The data of records, from their tokens (RFC 1035 sections 3.3, 3.4 and 5.1), and times.
 //!
 //! `read_rdata` reads the data of the twelve types, `read_other` keeps those of any other type as their tokens were
-//! written, and `read_ttl` reads a time. A token's octets are passed over a bounded number of times, whatever they
-//! are: twice in a number, a time, a name or a string, four times in an address. Memory is taken for what the data
-//! keep alone, a string in one buffer.
+//! written, and `read_ttl` reads a time. The octets of a number, a time, a name or a string are passed over once,
+//! those of a tag, an IPv4 address or the generic form twice, those of an IPv6 address at most five times. Memory is
+//! taken for what the data keep alone, for a string in one buffer.
 //!
-//! The layer above may rest on this: each call answers exactly what the format says, the first fault from the left
-//! after the generic form and the number of tokens; a call that takes memory may answer want of memory in its place.
-//! What a text of an address stands for is one address at most, and it is the one that is read.
+//! The layer above may rest on this: each call answers what the format says, and of several faults the first: the
+//! generic form of a known type, the number of tokens, then the fields from left to right. A call that takes memory
+//! may answer want of memory in its place. A text stands for at most one address, and that is the one that is read.
 #![tactic(auto)]
 
 mod fault;
