@@ -14,7 +14,8 @@ use std::alloc::Global;
 /// The data of a type that the tokens stand for under an origin. Of several faults it is the first of these:
 /// `GenericKnown` where the first token isn't quoted and reads `\#`; `FieldCount` for another number of tokens than
 /// the type's; then the first from the left of `BadNumber`, `BadAddress`, `BadName` and `TextTooLong`. It is never
-/// `BadHex` (RFC 1035 sections 3.3, 3.4 and 5.1, RFC 3597 section 5).
+/// `BadHex`. A string ends before an escape that spells nothing, which no lexer gives (RFC 1035 sections 3.3, 3.4 and
+/// 5.1, RFC 3597 section 5).
 pub fn read_rdata(
     alloc: Global,
     rtype: RrType,
