@@ -4,7 +4,7 @@ ghost use Rattle.std.specs.Prelude.{◌≡◌, ◌≤◌, ◌<◌, ◌+◌, IfOk
 ghost use Rattle.io_edges.specs.Counts.{NoneFell, Rose};
 ghost use Rattle.io_edges.specs.Files.{IfHeld, IfAbsent};
 ghost use Rattle.groot_run.specs.Conf.{most_octets};
-ghost use Rattle.groot_run.specs.Whole.{IsFront, IsFrontOfHeld};
+ghost use Rattle.groot_run.specs.Whole.{IsFrontOfHeld};
 
 use io_edges::Files;
 use std::alloc::Global;

@@ -1,9 +1,9 @@
 //! From a metadata file's name to a configuration.
 
-ghost use Rattle.std.specs.Prelude.{◌≡◌, ◌≤◌, ◌++◌, ℕ, List, length, IfOk, OnOk, IfSome};
+ghost use Rattle.std.specs.Prelude.{◌≡◌, ◌≤◌, ◌++◌, length, IfOk, OnOk, IfSome};
 ghost use Rattle.std.specs.String.{string_bytes};
 ghost use Rattle.io_edges.specs.Counts.{NoneFell};
-ghost use Rattle.groot_run.specs.Conf.{Contents, conf, joined, directory_of, zone_reading, most_octets};
+ghost use Rattle.groot_run.specs.Conf.{conf, joined, directory_of, zone_reading, most_octets};
 ghost use Rattle.groot_run.specs.FirstShape.{IsFirstConfig};
 ghost use Rattle.groot_run.specs.Loading.{Gives, GivesFile, FailedAt, FailedAtOpened, NeverRead};
 

@@ -1,8 +1,8 @@
 //! Metadata in the first form.
 
-ghost use Rattle.std.specs.Prelude.{◌≡◌, IfOk, codes};
+ghost use Rattle.std.specs.Prelude.{◌≡◌, IfOk};
 ghost use Rattle.std.specs.Option.{option_map, option_and_then};
-ghost use Rattle.groot_run.specs.Metadata.{only_item, items_at, text_at, row_of, meta_of_value, meta_of};
+ghost use Rattle.groot_run.specs.Metadata.{only_item, items_at, row_of, meta_of_value, meta_of};
 ghost use Rattle.serde_json.specs.View.{view};
 
 use crate::server_name::server_name;

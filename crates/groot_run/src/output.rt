@@ -1,6 +1,6 @@
 //! Writing whole texts, and the line on err.
 
-ghost use Rattle.std.specs.Prelude.{◌≡◌, ◌≤◌, ◌++◌, List, ℕ, codes, OnOk, OnErr};
+ghost use Rattle.std.specs.Prelude.{◌≤◌, ◌++◌, codes, OnOk, OnErr};
 ghost use Rattle.std.specs.Io.KnownBytes.{Appends};
 ghost use Rattle.std.specs.List.{flat_map};
 ghost use Rattle.io_edges.specs.Counts.{Rose};

@@ -1,7 +1,7 @@
 //! The report of a configuration, as text.
 
 ghost use Rattle.groot_run.specs.Aliases.{alias_of};
-ghost use Rattle.groot_run.specs.Blackholes.{blackhole_entry, blackhole_entries};
+ghost use Rattle.groot_run.specs.Blackholes.{blackhole_entries};
 ghost use Rattle.groot_run.specs.FirstShape.{IsFirstConfig};
 ghost use Rattle.groot_run.specs.Outcome.{default_rewrites};
 ghost use Rattle.groot_run.specs.Report.{Report, IsReport};
@@ -9,7 +9,7 @@ ghost use Rattle.groot_run.specs.ReportParts.{report_object};
 ghost use Rattle.groot_run.specs.ReportText.{entry_value, report_text};
 ghost use Rattle.serde_json.specs.View.{view};
 ghost use Rattle.serde_json.specs.Written.{has_float, compact_text};
-ghost use Rattle.std.specs.Prelude.{◌≡◌, false, ◌++◌, codes, map, length, vec_len, IfOk};
+ghost use Rattle.std.specs.Prelude.{◌≡◌, false, ◌++◌, codes, map, length, IfOk};
 
 use crate::aliases::{Alias, blackholes};
 use crate::entry::{Home, blackhole};

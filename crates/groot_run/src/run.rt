@@ -1,8 +1,8 @@
 //! The top call.
 
-ghost use Rattle.std.specs.Prelude.{◌≡◌, ◌≢◌, ◌↔◌, ◌⊎◌, ◌≤◌, ℕ, List, map, Option, Some, None, IsTrue, IfSome};
+ghost use Rattle.std.specs.Prelude.{◌≡◌, ◌≢◌, ◌↔◌, ◌⊎◌, ℕ, List, map, Some, None, IsTrue};
 ghost use Rattle.std.specs.Io.KnownBytes.{Keeps};
-ghost use Rattle.io_edges.specs.Counts.{Rose, NoneFell};
+ghost use Rattle.io_edges.specs.Counts.{Rose};
 ghost use Rattle.net_model.specs.declared.config.Config.{Config as Configuration};
 ghost use Rattle.groot_run.specs.Conf.{Contents, conf, Reads, Refuses, Misses, Refusal};
 ghost use Rattle.groot_run.specs.Ending.{ending_status, IsKnownRefusal};

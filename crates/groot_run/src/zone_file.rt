@@ -1,6 +1,6 @@
 //! Zone files.
 
-ghost use Rattle.std.specs.Prelude.{◌≡◌, ◌≤◌, [], length};
+ghost use Rattle.std.specs.Prelude.{◌≤◌, [], length};
 ghost use Rattle.master_read.specs.Fault.{Answers};
 ghost use Rattle.master_read.specs.ZoneText.{zone_text};
 ghost use Rattle.groot_run.specs.Conf.{most_octets, most_records};
