@@ -16,7 +16,7 @@ lex_code kinds.StrayClose = codes "stray-close"
 lex_code kinds.BadEscape = codes "bad-escape"
 lex_code kinds.TokenTooLong = codes "token-too-long"
 
--- the code of a fault in a record's data
+-- the code of a fault in a record's data; want of memory is none, and its word is never printed
 abbrev pub data_code : RdataFault → List ℕ
 data_code data_faults.FieldCount = codes "field-count"
 data_code data_faults.BadNumber = codes "bad-number"
