@@ -8,7 +8,7 @@ use crate::memory::NoMemory;
 use std::alloc::{AllocError, AllocFailed};
 use thiserror::Error;
 
-/// Why octets are no label or a text is no name, in the order of the reading of a text.
+/// Why octets are no label or a text is no name.
 #[derive(Clone, Copy, Debug, PartialEq, Eq, Error)]
 pub enum NameFault {
     #[error("a label has no octet")]

@@ -22,6 +22,7 @@ pub use name::Name;
 pub use printing::rdata_text;
 pub use rdata::{Rdata, Rr};
 pub use rr_type::RrType;
+pub use spelling::escaped_octet;
 pub use text::Text;
 pub use type_set::TypeSet;
 

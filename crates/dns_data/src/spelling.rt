@@ -4,7 +4,7 @@ ghost use Rattle.std.specs.Prelude.{◌≡◌, ◌++◌, ◌<◌, ℕ, List, ◌
 ghost use Rattle.std.specs.String.{string_bytes};
 ghost use Rattle.dns_data.specs.Fault.{Answers, FaultIs};
 ghost use Rattle.dns_data.specs.Octet.{is_digit, three_digit_value, decimal_escape};
-ghost use Rattle.dns_data.specs.Spelling.{Sign, signs, escaped as escaped_signs, spelled, after_label, if_short, name_of_text, octet_text, label_text, name_text};
+ghost use Rattle.dns_data.specs.Spelling.{Sign, signs, escaped, spelled, after_label, name_of_text, octet_text, label_text, name_text};
 
 use crate::fault::NameFault;
 use crate::label::Label;
@@ -110,7 +110,7 @@ fn first_label(alloc: Global, text: &[u8]) -> Result<(Label, Option<&[u8]>), Nam
         let (octet, after) = match *first {
             b'.' if octets.is_empty() => return Err(NameFault::EmptyLabel),
             b'.' => return Ok((Label::from_folded(octets), Some(after))),
-            b'\\' => escaped(after).ok_or(NameFault::BadEscape)?,
+            b'\\' => escaped_octet(after).ok_or(NameFault::BadEscape)?,
             octet => (octet, after),
         };
         if octets.len() >= 63 {
@@ -124,10 +124,10 @@ fn first_label(alloc: Global, text: &[u8]) -> Result<(Label, Option<&[u8]>), Nam
 
 /// The octet for which the text after a backslash stands, and what follows, or `None` where it stands for none
 /// (RFC 1035 section 5.1).
-fn escaped(text: &[u8]) -> Option<(u8, &[u8])>
+pub fn escaped_octet(text: &[u8]) -> Option<(u8, &[u8])>
     ensures signs { MatchOption result
-        (escaped_signs text.now ≡ Sign.Broken ∷ [])
-        (λ first. escaped_signs text.now ≡ Sign.Octet first.0 ∷ signs first.1.now) }
+        (escaped text.now ≡ Sign.Broken ∷ [])
+        (λ first. escaped text.now ≡ Sign.Octet first.0 ∷ signs first.1.now) }
     ensures shorter { IfSome result (λ first. length first.1.now < length text.now) }
 {
     match text {

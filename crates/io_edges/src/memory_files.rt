@@ -1,6 +1,6 @@
 //! Files in memory.
 
-ghost use Rattle.std.specs.Prelude.{◌≡◌, ◌↔◌, ℕ, ◌-◌, ◌<◌, ◌≤◌, List, length, take, drop, min, IsTrue, IsErr, OnOk, OnErr, IfOk};
+ghost use Rattle.std.specs.Prelude.{◌≡◌, ◌↔◌, ℕ, ◌-◌, ◌<◌, ◌≤◌, List, length, drop, min, IsTrue, IsErr, OnOk, OnErr, IfOk};
 ghost use Rattle.io_edges.specs.Counts.{NoneFell, Rose};
 ghost use Rattle.io_edges.specs.Files.{IfHeld, IfAbsent, IsFrontFrom};
 ghost use Rattle.io_edges.specs.MemoryFiles.{held_by, failures_of, next_fails, after_failure, after_call, no_files, with_file};

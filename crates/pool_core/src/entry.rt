@@ -1,3 +1,5 @@
+//! The history of the verdict book.
+
 use crate::event::StopCause;
 
 /// An entry in the history of the verdict book, which knows no worker.

@@ -1,3 +1,5 @@
+//! What workers do.
+
 ghost use Rattle.std.specs.Prelude.{◌≡◌};
 ghost use Rattle.pool_core.specs.Shadow.{entry_of};
 

@@ -1,3 +1,5 @@
+//! Refusals of events.
+
 ghost use Rattle.std.specs.Prelude.{◌≡◌};
 ghost use Rattle.pool_core.specs.declared.fault.StepFault.TheVariants.{NoMemory};
 

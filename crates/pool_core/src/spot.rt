@@ -1,3 +1,5 @@
+//! Where tickets are.
+
 /// Where an issued ticket is, with the number of the worker or of the deque.
 #[derive(Clone, Copy, Debug, PartialEq, Eq)]
 pub enum Spot {
