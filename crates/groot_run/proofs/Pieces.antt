@@ -1,5 +1,5 @@
 -- Texts that are written in pieces.
-use Rattle.std.proofs.Common.{◌≡◌, ℕ, zero, suc, ◌<◌, List, [], ◌∷◌, ◌++◌, length, get_or, take, drop, Option, refl, sym, ap, ◌∙◌, append_assoc, arith}
+use Rattle.std.proofs.Common.{◌≡◌, ℕ, zero, suc, ◌<◌, List, [], ◌∷◌, ◌++◌, length, get_or, take, drop, Option, Result, Ok, Err, OnErr, refl, sym, ap, ◌∙◌, append_assoc, arith}
 use Rattle.std.proofs.KnownBytes.{Appends-trans}
 use Rattle.std.specs.Io.KnownBytes.{Appends}
 use Rattle.std.specs.List.{flat_map}
@@ -27,3 +27,8 @@ TookFront-pieces f xs i d before between after lt taken last =
           ∙ sym (append_assoc earlier last.front (last.rest ++ later))));
       taken = Appends-trans before between after earlier last.front taken last.taken;
     }
+
+-- what holds anyway holds after an error
+pub on_err_anyway : {T E P : Type 0} (r : Result T E) → P → OnErr r P
+on_err_anyway (Ok value) p = tt
+on_err_anyway (Err fault) p = p

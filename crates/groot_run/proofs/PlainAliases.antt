@@ -32,22 +32,22 @@ alias_owner name owner _ rest b e = by (name_eq owner name) where
   by true = e
   by false = e
 
-alias_owners : (name : Labels) (rrs : List Rr)
+owns_alias : (name : Labels) (rrs : List Rr)
     → list_any (λ other. name_eq other name) (map (λ (a : Alias). a.owner) (aliases_in rrs)) ≡ list_any (is_of name types.Cname) rrs
-alias_owners name [] = refl
-alias_owners name (rr ∷ rrs) = alias_owner name rr.owner rr.rdata (aliases_in rrs) _ (alias_owners name rrs)
+owns_alias name [] = refl
+owns_alias name (rr ∷ rrs) = alias_owner name rr.owner rr.rdata (aliases_in rrs) _ (owns_alias name rrs)
 
 -- the test of an alias of these records
 abbrev is_plain : List Rr → Alias → Bool
 is_plain rrs alias = is_plain_alias rrs alias.owner (Cname alias.target)
 
-alone_is_plain : (rrs : List Rr) (owners sources : List Labels) → IsPermutation (map (λ rr. rr.owner) rrs) owners
-    → IsPermutation (map (λ (a : Alias). a.owner) (aliases_in rrs)) sources → (alias : Alias) → is_alone owners sources alias ≡ is_plain rrs alias
-alone_is_plain rrs owners sources same_owners same_sources alias =
+alone_is_plain : (rrs : List Rr) (owners alias_owners : List Labels) → IsPermutation (map (λ rr. rr.owner) rrs) owners
+    → IsPermutation (map (λ (a : Alias). a.owner) (aliases_in rrs)) alias_owners → (alias : Alias) → is_alone owners alias_owners alias ≡ is_plain rrs alias
+alone_is_plain rrs owners alias_owners same_owners same_alias_owners alias =
     let ends =
-    sym (list_any-IsPermutation (λ (other : Labels). name_eq other alias.target) (map (λ (a : Alias). a.owner) (aliases_in rrs)) sources same_sources)
-    ∙ alias_owners alias.target rrs in
-    ap (λ (n : ℕ). (n == 1) && not (list_any (λ other. name_eq other alias.target) sources)) (sorted_owners_at alias.owner rrs owners same_owners)
+    sym (list_any-IsPermutation (λ (other : Labels). name_eq other alias.target) (map (λ (a : Alias). a.owner) (aliases_in rrs)) alias_owners same_alias_owners)
+    ∙ owns_alias alias.target rrs in
+    ap (λ (n : ℕ). (n == 1) && not (list_any (λ other. name_eq other alias.target) alias_owners)) (sorted_owners_at alias.owner rrs owners same_owners)
     ∙ ap (λ (b : Bool). (length (records_at alias.owner rrs) == 1) && not b) ends
 
 all_same : {X : Type 0} (test other : X → Bool) (xs : List X) → ((x : X) → test x ≡ other x) → list_all test xs ≡ list_all other xs
@@ -65,11 +65,11 @@ all_plain : (whole rrs : List Rr) → list_all (is_plain whole) (aliases_in rrs)
 all_plain whole [] = refl
 all_plain whole (rr ∷ rrs) = one_plain whole rr.owner rr.rdata (aliases_in rrs) _ (all_plain whole rrs)
 
-pub plain_by_owners : (rrs : List Rr) (owners sources : List Labels) → IsPermutation (map (λ rr. rr.owner) rrs) owners
-    → IsPermutation (map (λ (a : Alias). a.owner) (aliases_in rrs)) sources
-    → list_all (is_alone owners sources) (aliases_in rrs) ≡ list_all (λ rr. is_plain_alias rrs rr.owner rr.rdata) rrs
-plain_by_owners rrs owners sources same_owners same_sources =
-    all_same (is_alone owners sources) (is_plain rrs) (aliases_in rrs) (alone_is_plain rrs owners sources same_owners same_sources)
+pub plain_by_owners : (rrs : List Rr) (owners alias_owners : List Labels) → IsPermutation (map (λ rr. rr.owner) rrs) owners
+    → IsPermutation (map (λ (a : Alias). a.owner) (aliases_in rrs)) alias_owners
+    → list_all (is_alone owners alias_owners) (aliases_in rrs) ≡ list_all (λ rr. is_plain_alias rrs rr.owner rr.rdata) rrs
+plain_by_owners rrs owners alias_owners same_owners same_alias_owners =
+    all_same (is_alone owners alias_owners) (is_plain rrs) (aliases_in rrs) (alone_is_plain rrs owners alias_owners same_owners same_alias_owners)
     ∙ all_plain rrs rrs
 
 -- the zone's SOA record is no alias

@@ -33,6 +33,6 @@ leads_nowhere zone target = is_prefix zone.origin target && not (exists_in zone 
 
 -- the alias's owner is once among these owners, and its target isn't among these owners of aliases
 abbrev pub is_alone : List Labels → List Labels → Alias → Bool
-is_alone owners sources alias =
+is_alone owners alias_owners alias =
     (length (filter (λ other. name_eq other alias.owner) owners) == 1)
-    && not (list_any (λ other. name_eq other alias.target) sources)
+    && not (list_any (λ other. name_eq other alias.target) alias_owners)

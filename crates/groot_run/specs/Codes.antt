@@ -1,6 +1,5 @@
 -- The codes of refusal: the word that a refusal's line prints for each cause.
 use Rattle.std.specs.Prelude.{ℕ, List, codes}
-use Rattle.dns_data.specs.declared.fault.NameFault.{NameFault}
 use Rattle.master_lex.specs.declared.fault.LexKind.{LexKind}
 use Rattle.master_lex.specs.declared.fault.LexKind.TheVariants as kinds
 use Rattle.rdata_forms.specs.declared.fault.RdataFault.{RdataFault}

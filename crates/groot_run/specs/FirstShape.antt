@@ -1,5 +1,5 @@
 -- The first shape: one zone, without DNAME records, zone cuts, wildcards or chains of aliases.
-use Rattle.std.specs.Prelude.{◌≡◌, length, Bool, true, false, ◌&&◌, not, nat_le, List, [], ◌∷◌, codes, Option, Some, None, if◌then◌else◌, ◌==◌}
+use Rattle.std.specs.Prelude.{◌≡◌, ℕ, length, Bool, true, false, ◌&&◌, not, nat_le, List, [], ◌∷◌, codes, Option, Some, None, if◌then◌else◌, ◌==◌}
 use Rattle.std.specs.List.{list_any, list_all, filter}
 use Rattle.dns_data.specs.Label.{label_eq}
 use Rattle.dns_data.specs.Name.{Labels, wire_octets, is_prefix, name_eq}
@@ -11,10 +11,18 @@ use Rattle.dns_data.specs.declared.rr_type.RrType.TheVariants as types
 use Rattle.net_model.specs.declared.config.Config.{Config}
 use Rattle.net_model.specs.Zone.{is_of}
 
--- the name is at or below the origin, has at most 200 octets and no asterisk label
+-- how many octets an owner may have
+abbrev pub most_owner_octets : ℕ
+most_owner_octets = 200
+
+-- how many records a zone may have
+abbrev pub most_zone_records : ℕ
+most_zone_records = 500
+
+-- the name is at or below the origin, has at most so many octets and no asterisk label
 abbrev pub is_plain_owner : Labels → Labels → Bool
 is_plain_owner origin owner =
-    is_prefix origin owner && nat_le (wire_octets owner) 200 && not (list_any (label_eq (codes "*")) owner)
+    is_prefix origin owner && nat_le (wire_octets owner) most_owner_octets && not (list_any (label_eq (codes "*")) owner)
 
 -- data that may stand behind the zone's SOA record at this owner: NS records at the origin alone, no SOA record and
 -- no DNAME record
@@ -42,7 +50,7 @@ is_plain_alias rrs owner rdata = true
 abbrev pub is_first_shape : List Rr → Bool
 is_first_shape [] = false
 is_first_shape (first ∷ rest) =
-    nat_le (length (first ∷ rest)) 500
+    nat_le (length (first ∷ rest)) most_zone_records
     && has_type types.Soa first.rdata && is_plain_owner first.owner first.owner
     && list_all (is_plain_record first.owner) rest
     && list_all (λ rr. is_plain_alias (first ∷ rest) rr.owner rr.rdata) rest

@@ -2,7 +2,6 @@
 use Rattle.std.specs.Prelude.{ℕ, Bool, ◌&&◌, not, nat_eq, List, length, codes, Option, Some, None, is_none, option_and_then, if◌then◌else◌, ◌==◌}
 use Rattle.std.specs.Str.{is_utf8}
 use lib.Pointwise.{pointwise}
-use Rattle.dns_data.specs.Name.{Labels}
 use Rattle.serde_json.specs.Data.{Data, Items, no_items, item}
 use Rattle.serde_json.specs.Find.{get, as_str, as_array}
 use Rattle.serde_json.specs.Read.{read}

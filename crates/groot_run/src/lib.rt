@@ -1,6 +1,6 @@
 //! The top call: what the program does with its words, its files and its two outputs, and the clauses that say so.
 //! For files that read, the octets on out are exactly the report of their configuration; every other answer has its
-//! cause in the words, in what the files give or in a count of failures that rose.
+//! cause in the words, in what the files give or in a count of failures that rose, or memory ran out.
 #![tactic(auto)]
 
 mod aliases;

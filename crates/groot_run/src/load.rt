@@ -11,7 +11,7 @@ use crate::fault::LoadFault;
 use crate::files::{WholeFault, read_whole};
 use crate::identical::distinct_records;
 use crate::metadata::{Metadata, read_metadata};
-use crate::shape::{MOST_RECORDS, one_zone};
+use crate::shape::{MOST_ZONE_RECORDS, config_of};
 use crate::zone_file::read_zone;
 use dns_data::{NoMemory, Text};
 use io_edges::Files;
@@ -96,10 +96,10 @@ fn configured(
         Err(TextFault::At { line, cause, .. }) => return Err(LoadFault::Text { file, line, cause }),
         Err(TextFault::NoMemory) => return Err(LoadFault::NoMemory),
     };
-    let Some(rrs) = distinct_records(alloc, text.rrs, MOST_RECORDS)? else {
+    let Some(rrs) = distinct_records(alloc, text.rrs, MOST_ZONE_RECORDS)? else {
         return Err(LoadFault::NotYet { file });
     };
-    match one_zone(alloc, metadata.server, rrs)? {
+    match config_of(alloc, metadata.server, rrs)? {
         Some(config) => Ok(config),
         None => Err(LoadFault::NotYet { file }),
     }

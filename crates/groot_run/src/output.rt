@@ -41,9 +41,7 @@ pub fn write_pieces<S: Sink>(sink: &mut S, pieces: &[&[u8]]) -> Result<(), Faile
     ensures never_falls { S.faults sink.old ≤ S.faults sink.new }
 {
     for piece in pieces {
-        if let Err(failed) = write_all(sink, piece) {
-            return Err(failed);
-        }
+        write_all(sink, piece)?;
     }
     Ok(())
 }

@@ -34,7 +34,7 @@ pub(crate) struct Written {
 }
 
 /// The report of a configuration of the first shape, as text that ends with a line feed. Its entries are the zone's
-/// blackholes, since no query shows another fault.
+/// blackholes, the one kind of fault that is looked for.
 pub(crate) fn report(alloc: Global, config: &Config) -> Result<Written, NoMemory>
     requires { IsFirstConfig config.now }
     ensures { IfOk result (λ written. (report : Report) × IsReport config.now default_rewrites report

@@ -22,7 +22,8 @@ use io_edges::{Files, Gate, Sink};
 use net_model::Config;
 use std::alloc::Global;
 
-/// Does what the words after the program's name ask for, and tells on err how it ended.
+/// Does what the words after the program's name ask for, and tells on err how it ended. The gate isn't asked while
+/// one worker judges.
 pub fn groot<F: Files, O: Sink, E: Sink, G: Gate + Sync>(
     alloc: Global,
     words: &[&str],

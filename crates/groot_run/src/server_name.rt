@@ -1,6 +1,7 @@
 //! The names of servers in metadata of the first form.
 
 ghost use Rattle.std.specs.Prelude.{◌≡◌, IfOk};
+ghost use Rattle.std.specs.List.{list_all};
 ghost use Rattle.groot_run.specs.ServerName.{is_plain_octet, is_plain_text, ends_with_dot, absolute_name, server_of};
 
 use dns_data::{Name, NameFault, NoMemory};
@@ -20,15 +21,14 @@ pub fn server_name(alloc: Global, text: &[u8]) -> Result<Option<Name>, NoMemory>
 fn is_plain(text: &[u8]) -> bool
     ensures { result ≡ is_plain_text text.now }
 {
-    if text.is_empty() {
-        return false;
-    }
-    for octet in text {
-        if !may_stand(*octet) {
-            return false;
-        }
-    }
-    true
+    !text.is_empty() && all_may_stand(text)
+}
+
+/// Whether a server's name may have all of the octets.
+fn all_may_stand(text: &[u8]) -> bool
+    ensures { result ≡ list_all is_plain_octet text.now }
+{
+    text.iter().all(|octet| may_stand(*octet))
 }
 
 /// Whether a server's name may have the octet.

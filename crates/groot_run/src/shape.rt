@@ -17,10 +17,13 @@ use net_model::{Config, Server, Zone};
 use std::alloc::Global;
 
 /// How many records a zone of the first shape may have.
-pub(crate) const MOST_RECORDS: usize = 500;
+pub(crate) const MOST_ZONE_RECORDS: usize = 500;
+
+/// How many octets the owner of a record may have, each label with its length and the root counted.
+const MOST_OWNER_OCTETS: u32 = 200;
 
 /// The configuration of one zone on one server, or `None` where the records aren't of the first shape.
-pub fn one_zone(alloc: Global, server: Name, rrs: List<Rr>) -> Result<Option<Config>, NoMemory>
+pub fn config_of(alloc: Global, server: Name, rrs: List<Rr>) -> Result<Option<Config>, NoMemory>
     ensures { IfOk result (λ found. found ≡ config_of server rrs) }
 {
     if !is_first(alloc, rrs.items())? {
@@ -67,7 +70,7 @@ fn is_first(alloc: Global, rrs: &[Rr]) -> Result<bool, NoMemory>
     let [first, rest @ ..] = rrs else {
         return Ok(false);
     };
-    if rrs.len() > MOST_RECORDS
+    if rrs.len() > MOST_ZONE_RECORDS
         || !is_of(first, RrType::Soa)
         || !has_plain_owner(&first.owner, first)
         || !are_plain(&first.owner, rest)
@@ -91,31 +94,25 @@ fn is_of(rr: &Rr, rtype: RrType) -> bool
 fn has_plain_owner(origin: &Name, rr: &Rr) -> bool
     ensures { result ≡ is_plain_owner origin.now rr.now.owner }
 {
-    origin.is_prefix_of(&rr.owner) && rr.owner.octets() <= 200 && !has_asterisk(&rr.owner)
+    origin.is_prefix_of(&rr.owner)
+        && rr.owner.octets() <= MOST_OWNER_OCTETS
+        && !has_asterisk(&rr.owner)
 }
 
 /// Whether the name has an asterisk label.
 fn has_asterisk(name: &Name) -> bool
     ensures { result ≡ list_any (label_eq (codes "*")) name.now }
 {
-    for label in name.items() {
-        if label.items() == b"*".as_slice() {
-            return true;
-        }
-    }
-    false
+    name.items()
+        .iter()
+        .any(|label| label.items() == b"*".as_slice())
 }
 
 /// Whether all of the records may stand behind the zone's SOA record.
 fn are_plain(origin: &Name, rrs: &[Rr]) -> bool
     ensures { result ≡ list_all (is_plain_record origin.now) rrs.now }
 {
-    for rr in rrs {
-        if !is_plain(origin, rr) {
-            return false;
-        }
-    }
-    true
+    rrs.iter().all(|rr| is_plain(origin, rr))
 }
 
 /// Whether the record may stand behind the zone's SOA record.
@@ -142,39 +139,46 @@ fn have_plain_aliases(alloc: Global, rrs: &[Rr]) -> Result<bool, NoMemory>
 {
     let aliases = aliases_of(alloc, rrs)?;
     let owners = owners_in_order(alloc, rrs)?;
-    let sources = sources_in_order(alloc, aliases.as_slice())?;
-    Ok(are_alone(aliases.as_slice(), owners.as_slice(), sources.as_slice()))
+    let alias_owners = alias_owners_in_order(alloc, aliases.as_slice())?;
+    Ok(are_alone(
+        aliases.as_slice(),
+        owners.as_slice(),
+        alias_owners.as_slice(),
+    ))
 }
 
 /// The owners of aliases in the order of names.
-fn sources_in_order<'a>(alloc: Global, aliases: &[Alias<'a>]) -> Result<Vec<&'a Name>, NoMemory>
-    ensures same { IfOk result (λ sources.
-        IsPermutation (map (λ alias. alias.owner.now) aliases.now) (map (λ source. source.now) sources.items)) }
-    ensures sorted { IfOk result (λ sources. IsSorted name_cmp (map (λ source. source.now) sources.items)) }
+fn alias_owners_in_order<'a>(
+    alloc: Global,
+    aliases: &[Alias<'a>],
+) -> Result<Vec<&'a Name>, NoMemory>
+    ensures same { IfOk result (λ alias_owners.
+        IsPermutation (map (λ alias. alias.owner.now) aliases.now) (map (λ owner. owner.now) alias_owners.items)) }
+    ensures sorted { IfOk result (λ alias_owners. IsSorted name_cmp (map (λ owner. owner.now) alias_owners.items)) }
 {
-    let mut sources = sources_of(alloc, aliases)?;
-    sources.sort()?;
-    Ok(sources)
+    let mut alias_owners = alias_owners_of(alloc, aliases)?;
+    alias_owners.sort()?;
+    Ok(alias_owners)
 }
 
 /// The owners of aliases.
-fn sources_of<'a>(alloc: Global, aliases: &[Alias<'a>]) -> Result<Vec<&'a Name>, NoMemory>
-    ensures { IfOk result (λ sources. sources.items ≡ map (λ alias. alias.owner) aliases.now) }
+fn alias_owners_of<'a>(alloc: Global, aliases: &[Alias<'a>]) -> Result<Vec<&'a Name>, NoMemory>
+    ensures { IfOk result (λ alias_owners. alias_owners.items ≡ map (λ alias. alias.owner) aliases.now) }
 {
     Ok(aliases.iter().map(|alias| alias.owner).collect(alloc)?)
 }
 
 /// Whether each alias's owner is once among the owners, and its target isn't among the owners of aliases, which both
 /// stand in order.
-fn are_alone(aliases: &[Alias], owners: &[&Name], sources: &[&Name]) -> bool
+fn are_alone(aliases: &[Alias], owners: &[&Name], alias_owners: &[&Name]) -> bool
     requires owners { IsSorted name_cmp (map (λ owner. owner.now) owners.now) }
-    requires sources { IsSorted name_cmp (map (λ source. source.now) sources.now) }
+    requires alias_owners { IsSorted name_cmp (map (λ owner. owner.now) alias_owners.now) }
     ensures { result ≡ list_all
-        (is_alone (map (λ owner. owner.now) owners.now) (map (λ source. source.now) sources.now))
+        (is_alone (map (λ owner. owner.now) owners.now) (map (λ owner. owner.now) alias_owners.now))
         (map alias_of aliases.now) }
 {
     for alias in aliases {
-        if !is_once(owners, alias.owner) || has(sources, alias.target) {
+        if !is_once(owners, alias.owner) || has(alias_owners, alias.target) {
             return false;
         }
     }

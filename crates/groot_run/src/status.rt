@@ -13,7 +13,7 @@ pub enum Status {
     Faults,
     /// The words ask for nothing that the program does.
     Usage,
-    /// The metadata or a zone file doesn't read.
+    /// The metadata or a zone file is refused.
     Refused,
     /// The class tree has more names than the limit.
     Classes,

@@ -1,9 +1,9 @@
-use Rattle.std.proofs.Common.{◌≡◌, List, length, take, map, sym, ap, ◌∙◌, refl}
+use Rattle.std.proofs.Common.{length, sym, ap, ◌∙◌}
 use Rattle.std.specs.List.{list_any}
 use Rattle.std.proofs.lemmas.List.{map-id}
 use Rattle.std.proofs.lemmas.Iterator.Adapters.{YieldsList-from_vec}
-use Rattle.std.proofs.lemmas.Iterator.Consumers.{YieldsList-so_far, YieldsList-turn, YieldsList-end}
-use Rattle.groot_run.specs.Identical.{is_identical, distinct}
+use Rattle.std.proofs.lemmas.Iterator.Consumers.{YieldsList-so_far, YieldsList-turn}
+use Rattle.groot_run.specs.Identical.{is_identical}
 use Rattle.groot_run.proofs.DistinctRecords.{distinct-kept, distinct-new, distinct-beyond}
 use Rattle.groot_run.proofs.identical.distinct_records.Goals as goal
 

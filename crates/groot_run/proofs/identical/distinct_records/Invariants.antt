@@ -1,4 +1,4 @@
-use Rattle.std.proofs.Common.{◌≡◌, ◌≤◌, length}
+use Rattle.std.proofs.Common.{◌≡◌}
 use Rattle.groot_run.specs.Identical.{distinct}
 use Rattle.groot_run.proofs.identical.distinct_records.Given as goal
 
