@@ -22,6 +22,7 @@ pub mod Membership
 pub mod NameOrder
 pub mod NameSearches
 pub mod OnlyWalk
+pub mod OrderedLists
 pub mod Pieces
 pub mod PlainAliases
 pub mod ReportValues
