@@ -2,6 +2,7 @@ pub mod BlackholeEntry
 pub mod BlackholeReport
 pub mod Directories
 pub mod DistinctRecords
+pub mod FaultOrder
 pub mod FewRecords
 pub mod FirstAliases
 pub mod FirstBlackholes
@@ -29,4 +30,5 @@ pub mod ReportValues
 pub mod Searches
 pub mod SortedNames
 pub mod SortedTree
+pub mod TrialOrder
 pub mod ZoneAliases
