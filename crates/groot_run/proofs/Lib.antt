@@ -22,6 +22,8 @@ pub mod Least
 pub mod Membership
 pub mod NameOrder
 pub mod NameSearches
+pub mod OneEntry
+pub mod OneReport
 pub mod OnlyWalk
 pub mod OrderedLists
 pub mod Pieces
