@@ -2,6 +2,7 @@ pub mod BlackholeEntry
 pub mod BlackholeReport
 pub mod Directories
 pub mod DistinctRecords
+pub mod FaultOrder
 pub mod FewRecords
 pub mod FirstAliases
 pub mod FirstBlackholes
@@ -21,11 +22,15 @@ pub mod Least
 pub mod Membership
 pub mod NameOrder
 pub mod NameSearches
+pub mod OneEntry
+pub mod OneReport
 pub mod OnlyWalk
+pub mod OrderedLists
 pub mod Pieces
 pub mod PlainAliases
 pub mod ReportValues
 pub mod Searches
 pub mod SortedNames
 pub mod SortedTree
+pub mod TrialOrder
 pub mod ZoneAliases

@@ -11,6 +11,7 @@ mod fault;
 mod files;
 mod identical;
 mod job;
+mod laws;
 mod load;
 mod metadata;
 mod output;
@@ -23,6 +24,7 @@ mod status;
 mod tree;
 mod zone_file;
 
+pub use laws::one_report;
 pub use run::groot;
 pub use status::Status;
 

@@ -1,0 +1,80 @@
+-- A configuration has at most one report: its tree has one size, and its faults are listed once, in one order, each with
+-- its one entry.
+use Rattle.std.proofs.Common.{◌≡◌, ℕ, ◌+◌, List, length, Contains, sym, ap, ◌∙◌, subst}
+use Rattle.std.specs.Ordering.{on}
+use Rattle.std.proofs.lemmas.Cmp.{on_total}
+use Rattle.std.proofs.lemmas.List.Elements.{All-contains, All-from_recursion}
+use Rattle.dns_data.specs.Name.{Labels, name_cmp}
+use Rattle.net_model.specs.declared.config.Config.{Config}
+use Rattle.net_model.specs.FaultOrder.{fault_cmp}
+use Rattle.net_model.specs.Reading.{Ground, ground_of}
+use Rattle.net_model.specs.Tree.{IsClassTree, AreBelowClasses}
+use Rattle.groot_run.specs.Report.{Entry, Report, IsEntry, IsShown, IsTreeSize, IsReport}
+use Rattle.groot_run.proofs.FaultOrder.{faults_total}
+use Rattle.groot_run.proofs.Membership.{from_map}
+use Rattle.groot_run.proofs.NameOrder.{names_total}
+use Rattle.groot_run.proofs.OneEntry.{one_entry}
+use Rattle.groot_run.proofs.OrderedLists.{same_rising}
+
+-- ---- the size
+
+module _ (ground : Ground) where
+  -- the class tree is one list
+  one_tree : (a b : List Labels) → IsClassTree ground a → IsClassTree ground b → a ≡ b
+  one_tree a b p q =
+      same_rising name_cmp names_total a b p.ordered q.ordered
+      (λ name has. (q.all name).1 ((p.all name).0 has)) (λ name has. (p.all name).1 ((q.all name).0 has))
+
+  -- and so are the names below which there is a class
+  one_below : (tree a b : List Labels) → AreBelowClasses ground tree a → AreBelowClasses ground tree b → a ≡ b
+  one_below tree a b p q =
+      same_rising name_cmp names_total a b p.ordered q.ordered
+      (λ above has. (q.all above).1 ((p.all above).0 has)) (λ above has. (p.all above).1 ((q.all above).0 has))
+
+  one_size : (names classes names' classes' : ℕ) → IsTreeSize ground names classes → IsTreeSize ground names' classes'
+      → (names ≡ names') × (classes ≡ classes')
+  one_size names classes names' classes' p q =
+      let tree : p.tree ≡ q.tree = one_tree p.tree q.tree p.is_tree q.is_tree in
+      let below : p.below ≡ q.below =
+      one_below q.tree p.below q.below (subst (λ (names : List Labels). AreBelowClasses ground names p.below) tree p.are_below) q.are_below in (
+        p.counts_names ∙ ap length tree ∙ sym q.counts_names,
+        p.counts_classes ∙ ap (λ n. n + length p.below) (ap length tree) ∙ ap (λ n. length q.tree + n) (ap length below) ∙ sym q.counts_classes,
+      )
+
+-- ---- the entries
+
+module _ (config : Config) (rewrites : ℕ) where
+  entry_right : (report : Report) → IsReport config rewrites report → (entry : Entry) → Contains report.entries entry → IsEntry config rewrites entry
+  entry_right report is entry has =
+      All-contains (IsEntry config rewrites) report.entries entry (All-from_recursion (IsEntry config rewrites) report.entries is.each_right) has
+
+  entry_shown : (report : Report) → IsReport config rewrites report → (entry : Entry) → Contains report.entries entry → IsShown config rewrites entry.fault
+  entry_shown report is entry has =
+      let shown = λ (entry : Entry). IsShown config rewrites entry.fault in
+      All-contains shown report.entries entry (All-from_recursion shown report.entries is.each_shown) has
+
+  -- an entry of one report is in the other
+  also_listed : (a b : Report) → IsReport config rewrites a → IsReport config rewrites b → (entry : Entry) → Contains a.entries entry → Contains b.entries entry
+  also_listed a b p q entry has =
+      let found = from_map (λ (entry : Entry). entry.fault) b.entries entry.fault (q.all_shown entry.fault (entry_shown a p entry has)) in
+      let same = one_entry config rewrites found.0 entry (entry_right b q found.0 found.1) (entry_right a p entry has) found.2 in
+      subst (Contains b.entries) same found.1
+
+  -- so both list the same entries
+  one_list : (a b : Report) → IsReport config rewrites a → IsReport config rewrites b → a.entries ≡ b.entries
+  one_list a b p q =
+      same_rising (on (λ (entry : Entry). entry.fault) fault_cmp) (on_total (λ (entry : Entry). entry.fault) faults_total)
+      a.entries b.entries p.ordered q.ordered (also_listed a b p q) (also_listed b a q p)
+
+-- reports with the same fields are one
+same_fields : (a b : Report) → a.classes ≡ b.classes → a.names ≡ b.names → a.rewrites ≡ b.rewrites → a.entries ≡ b.entries → a ≡ b
+same_fields a b classes names rewrites entries =
+    ap (λ x. record a { classes = x }) classes
+    ∙ ap (λ x. record a { classes = b.classes; names = x }) names
+    ∙ ap (λ x. record b { rewrites = x; entries = a.entries }) rewrites
+    ∙ ap (λ x. record b { entries = x }) entries
+
+pub one_report : (config : Config) (rewrites : ℕ) (a b : Report) → IsReport config rewrites a → IsReport config rewrites b → a ≡ b
+one_report config rewrites a b p q =
+    let size = one_size (ground_of config) a.names a.classes b.names b.classes p.size q.size in
+    same_fields a b size.1 size.0 (p.limit ∙ sym q.limit) (one_list config rewrites a b p q)
