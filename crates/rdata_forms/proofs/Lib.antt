@@ -13,5 +13,6 @@ pub mod Separators
 pub mod StandardFacts
 pub mod StartOfAuthority
 pub mod Strings
+pub mod TimeTexts
 pub mod TwoSides
 mod Worked

@@ -14,7 +14,7 @@ use Rattle.rdata_forms.specs.Numbers.{number_of, number_up_to}
 use Rattle.rdata_forms.specs.Times.{time_in, time_of}
 use Rattle.rdata_forms.specs.Addresses.{ipv4_in, ipv4_of, ipv6_in, ipv6_of}
 use Rattle.rdata_forms.specs.Texts.{resolved, is_tag_octet, string_of, tag_of}
-use Rattle.rdata_forms.specs.Forms.{◌>>=◌, name_in, as_bad_name, one_name, strings_of, a_of, aaaa_of, times_of, soa_of, hinfo_of, mx_of, txt_of, srv_of, caa_of, fields_of}
+use Rattle.rdata_forms.specs.Forms.{◌>>=◌, name_in, as_bad_name, one_name, strings_of, a_of, aaaa_of, soa_of, hinfo_of, mx_of, txt_of, srv_of, caa_of, fields_of}
 use Rattle.rdata_forms.specs.Fault.{Answers, FaultIs}
 use Rattle.dns_data.specs.declared.rdata.Rdata.TheVariants as data_of
 use Rattle.rdata_forms.specs.declared.fault.RdataFault.{RdataFault}
@@ -122,19 +122,15 @@ reads-aaaa [] = reads-count
 reads-aaaa (field ∷ []) = reads-then (ipv6_in field) _ (reads-or (ipv6_of field) BadAddress (λ h. cc)) (λ address. reads-ok _)
 reads-aaaa (field ∷ next ∷ fields) = reads-count
 
-reads-times : (a b c d : List ℕ) → Reads (times_of a b c d)
-reads-times a b c d =
-    reads-then (time_in a) _ (reads-time a) (λ refresh.
-    reads-then (time_in b) _ (reads-time b) (λ retry.
-    reads-then (time_in c) _ (reads-time c) (λ expire.
-    reads-then (time_in d) _ (reads-time d) (λ minimum. reads-ok _))))
-
 reads-soa : (origin : Labels) (fields : List (List ℕ)) → Reads (soa_of origin fields)
 reads-soa origin (a ∷ b ∷ c ∷ d ∷ e ∷ f ∷ g ∷ []) =
     reads-then (name_in origin a) _ (reads-name origin a) (λ mname.
     reads-then (name_in origin b) _ (reads-name origin b) (λ rname.
     reads-then (number_of 4294967295 c) _ (reads-number 4294967295 c) (λ serial.
-    reads-then (times_of d e f g) _ (reads-times d e f g) (λ times. reads-ok _))))
+    reads-then (time_in d) _ (reads-time d) (λ refresh.
+    reads-then (time_in e) _ (reads-time e) (λ retry.
+    reads-then (time_in f) _ (reads-time f) (λ expire.
+    reads-then (time_in g) _ (reads-time g) (λ minimum. reads-ok _)))))))
 reads-soa origin fields = reads-count
 
 reads-hinfo : (fields : List (List ℕ)) → Reads (hinfo_of fields)

@@ -15,7 +15,6 @@ use Rattle.rdata_forms.specs.Numbers.{number_of, number_up_to}
 use Rattle.rdata_forms.specs.Times.{time_in}
 use Rattle.rdata_forms.specs.Addresses.{ipv4_in, ipv6_in, is_hex}
 use Rattle.rdata_forms.specs.Texts.{string_of, tag_of}
-use Rattle.rdata_forms.specs.declared.forms.SoaTimes.{SoaTimes}
 use Rattle.rdata_forms.specs.declared.fault.RdataFault.{RdataFault}
 use Rattle.rdata_forms.specs.declared.fault.RdataFault.TheVariants.{FieldCount, BadName, BadHex, GenericKnown}
 
@@ -77,23 +76,17 @@ dname_of origin fields = do
   target ← one_name origin fields
   Ok (data_of.Dname target)
 
--- the four times of a start of authority
-abbrev pub times_of : List ℕ → List ℕ → List ℕ → List ℕ → Result SoaTimes RdataFault
-times_of a b c d = do
-  refresh ← time_in a
-  retry ← time_in b
-  expire ← time_in c
-  minimum ← time_in d
-  Ok (record { refresh = refresh; retry = retry; expire = expire; minimum = minimum })
-
 -- a start of authority: two names, a number and four times (RFC 1035 section 3.3.13)
 abbrev pub soa_of : Labels → List (List ℕ) → Result Rdata RdataFault
 soa_of origin (a ∷ b ∷ c ∷ d ∷ e ∷ f ∷ g ∷ []) = do
   mname ← name_in origin a
   rname ← name_in origin b
   serial ← number_of 4294967295 c
-  times ← times_of d e f g
-  Ok (data_of.Soa mname rname serial times.refresh times.retry times.expire times.minimum)
+  refresh ← time_in d
+  retry ← time_in e
+  expire ← time_in f
+  minimum ← time_in g
+  Ok (data_of.Soa mname rname serial refresh retry expire minimum)
 soa_of origin fields = Err FieldCount
 
 -- a processor and an operating system (RFC 1035 section 3.3.2)

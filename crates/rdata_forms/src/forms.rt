@@ -1,7 +1,7 @@
 //! The fields of each type of data.
 
 ghost use Rattle.rdata_forms.specs.Fault.{Answers};
-ghost use Rattle.rdata_forms.specs.Forms.{written, one_name, a_of, aaaa_of, ns_of, cname_of, ptr_of, dname_of, times_of, soa_of, hinfo_of, mx_of, txt_of, strings_of, srv_of, caa_of};
+ghost use Rattle.rdata_forms.specs.Forms.{written, one_name, a_of, aaaa_of, ns_of, cname_of, ptr_of, dname_of, soa_of, hinfo_of, mx_of, txt_of, strings_of, srv_of, caa_of};
 
 use crate::fault::RdataFault;
 use crate::field::{name_field, number_field, string_field, tag_field, time_field};
@@ -10,15 +10,6 @@ use crate::ipv6::read_ipv6;
 use dns_data::{List, Name, Octets, Rdata};
 use master_lex::Token;
 use std::alloc::Global;
-
-/// The times of a start of authority, in seconds (RFC 1035 section 3.3.13).
-#[derive(Clone, Copy)]
-pub struct SoaTimes {
-    pub refresh: u32,
-    pub retry: u32,
-    pub expire: u32,
-    pub minimum: u32,
-}
 
 /// An IPv4 address (RFC 1035 section 3.4.1).
 pub fn read_a(tokens: &[Token]) -> Result<Rdata, RdataFault>
@@ -91,31 +82,10 @@ pub fn read_soa(alloc: Global, tokens: &[Token], origin: &Name) -> Result<Rdata,
     let [mname, rname, serial, refresh, retry, expire, minimum] = tokens else {
         return Err(RdataFault::FieldCount);
     };
-    let mname = name_field(alloc, mname, origin)?;
-    let rname = name_field(alloc, rname, origin)?;
-    let serial = number_field(serial, u32::MAX)?;
-    let times = read_times(refresh, retry, expire, minimum)?;
     Ok(Rdata::Soa {
-        mname,
-        rname,
-        serial,
-        refresh: times.refresh,
-        retry: times.retry,
-        expire: times.expire,
-        minimum: times.minimum,
-    })
-}
-
-/// The four times of a start of authority.
-fn read_times(
-    refresh: &Token,
-    retry: &Token,
-    expire: &Token,
-    minimum: &Token,
-) -> Result<SoaTimes, RdataFault>
-    ensures { Answers result (times_of refresh.now.raw retry.now.raw expire.now.raw minimum.now.raw) }
-{
-    Ok(SoaTimes {
+        mname: name_field(alloc, mname, origin)?,
+        rname: name_field(alloc, rname, origin)?,
+        serial: number_field(serial, u32::MAX)?,
         refresh: time_field(refresh)?,
         retry: time_field(retry)?,
         expire: time_field(expire)?,

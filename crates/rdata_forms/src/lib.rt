@@ -1,13 +1,14 @@
-//! The data of records, from their tokens (RFC 1035 sections 3.3, 3.4 and 5.1), and times.
+//! The data of records, from their tokens (RFC 1035 sections 3.3, 3.4 and 5.1), numbers and times.
 //!
 //! `read_rdata` reads the data of the twelve types, `read_other` keeps those of any other type as their tokens were
-//! written, and `read_ttl` reads a time. The octets of a number, a time, a name or a string are passed over once,
-//! those of a tag, an IPv4 address or the generic form twice, those of an IPv6 address at most five times. Memory is
-//! taken for what the data keep alone, for a string in one buffer.
+//! written, `read_number` reads a number and `read_ttl` a time. Octets are passed over once, those of a tag, an IPv4
+//! address or the generic form twice, those of an IPv6 address at most five times. Memory is taken for what the data
+//! keep alone, for a string in one buffer.
 //!
 //! The layer above may rest on this: each call answers what the format says, and of several faults the first: the
 //! generic form of a known type, the number of tokens, then the fields from left to right. A call that takes memory
-//! may answer want of memory in its place. A text stands for at most one address, and that is the one that is read.
+//! may answer want of memory in its place. A text stands for at most one address and for at most one time, and that
+//! is the one that is read.
 #![tactic(auto)]
 
 mod fault;
@@ -24,7 +25,8 @@ mod texts;
 mod times;
 
 pub use fault::RdataFault;
-pub use laws::one_address;
+pub use laws::{one_address, one_time};
+pub use numbers::read_number;
 pub use rdata::{read_other, read_rdata};
 pub use times::read_ttl;
 

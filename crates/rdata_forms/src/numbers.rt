@@ -4,8 +4,9 @@ ghost use Rattle.std.specs.Prelude.{◌≡◌, ◌&&◌, ◌+◌, ◌-◌, ◌*�
 ghost use Rattle.rdata_forms.specs.Numbers.{number_up_to};
 ghost use Rattle.dns_data.specs.Octet.{is_digit};
 
-/// The number that the text writes with at most so many digits, in one pass, or `None` where the text is none or
-/// the number is above `most` (RFC 1035 section 5.1).
+/// The number that the text writes, in one pass: one to `digits` decimal digits, leading zeros among them, and
+/// nothing else. It is `None` where the text is no such number or the number is above `most`. It takes no memory
+/// (RFC 1035 section 5.1).
 pub fn read_number(text: &[u8], digits: usize, most: u32) -> Option<u32>
     ensures { result ≡ number_up_to digits most text.now }
 {

@@ -3,9 +3,6 @@ use Rattle.std.specs.Prelude.{◌≡◌, refl, [], ◌∷◌, codes, Some, None}
 use Rattle.rdata_forms.specs.Addresses.{ipv4_of, ipv6_of}
 
 -- IPv4: four numbers with dots between
-isi_edu : ipv4_of (codes "26.3.0.103") ≡ Some (26 ∷ 3 ∷ 0 ∷ 103 ∷ [])
-isi_edu = refl
-
 zeros : ipv4_of (codes "0.0.0.0") ≡ Some (0 ∷ 0 ∷ 0 ∷ 0 ∷ [])
 zeros = refl
 
@@ -49,47 +46,7 @@ hexadecimal = refl
 a_space : ipv4_of (codes "10.0.0.1 ") ≡ None
 a_space = refl
 
--- IPv6: the texts that RFC 4291 section 2.2 prints
-eight_groups :
-    ipv6_of (codes "ABCD:EF01:2345:6789:ABCD:EF01:2345:6789")
-    ≡ Some (171 ∷ 205 ∷ 239 ∷ 1 ∷ 35 ∷ 69 ∷ 103 ∷ 137 ∷ 171 ∷ 205 ∷ 239 ∷ 1 ∷ 35 ∷ 69 ∷ 103 ∷ 137 ∷ [])
-eight_groups = refl
-
-unicast_whole :
-    ipv6_of (codes "2001:DB8:0:0:8:800:200C:417A")
-    ≡ Some (32 ∷ 1 ∷ 13 ∷ 184 ∷ 0 ∷ 0 ∷ 0 ∷ 0 ∷ 0 ∷ 8 ∷ 8 ∷ 0 ∷ 32 ∷ 12 ∷ 65 ∷ 122 ∷ [])
-unicast_whole = refl
-
-unicast :
-    ipv6_of (codes "2001:DB8::8:800:200C:417A")
-    ≡ Some (32 ∷ 1 ∷ 13 ∷ 184 ∷ 0 ∷ 0 ∷ 0 ∷ 0 ∷ 0 ∷ 8 ∷ 8 ∷ 0 ∷ 32 ∷ 12 ∷ 65 ∷ 122 ∷ [])
-unicast = refl
-
-multicast :
-    ipv6_of (codes "FF01::101") ≡ Some (255 ∷ 1 ∷ 0 ∷ 0 ∷ 0 ∷ 0 ∷ 0 ∷ 0 ∷ 0 ∷ 0 ∷ 0 ∷ 0 ∷ 0 ∷ 0 ∷ 1 ∷ 1 ∷ [])
-multicast = refl
-
-loopback : ipv6_of (codes "::1") ≡ Some (0 ∷ 0 ∷ 0 ∷ 0 ∷ 0 ∷ 0 ∷ 0 ∷ 0 ∷ 0 ∷ 0 ∷ 0 ∷ 0 ∷ 0 ∷ 0 ∷ 0 ∷ 1 ∷ [])
-loopback = refl
-
-unspecified : ipv6_of (codes "::") ≡ Some (0 ∷ 0 ∷ 0 ∷ 0 ∷ 0 ∷ 0 ∷ 0 ∷ 0 ∷ 0 ∷ 0 ∷ 0 ∷ 0 ∷ 0 ∷ 0 ∷ 0 ∷ 0 ∷ [])
-unspecified = refl
-
-with_an_ipv4_address :
-    ipv6_of (codes "0:0:0:0:0:0:13.1.68.3")
-    ≡ Some (0 ∷ 0 ∷ 0 ∷ 0 ∷ 0 ∷ 0 ∷ 0 ∷ 0 ∷ 0 ∷ 0 ∷ 0 ∷ 0 ∷ 13 ∷ 1 ∷ 68 ∷ 3 ∷ [])
-with_an_ipv4_address = refl
-
-mapped :
-    ipv6_of (codes "::FFFF:129.144.52.38")
-    ≡ Some (0 ∷ 0 ∷ 0 ∷ 0 ∷ 0 ∷ 0 ∷ 0 ∷ 0 ∷ 0 ∷ 0 ∷ 255 ∷ 255 ∷ 129 ∷ 144 ∷ 52 ∷ 38 ∷ [])
-mapped = refl
-
-an_ipv4_address_alone :
-    ipv6_of (codes "::13.1.68.3") ≡ Some (0 ∷ 0 ∷ 0 ∷ 0 ∷ 0 ∷ 0 ∷ 0 ∷ 0 ∷ 0 ∷ 0 ∷ 0 ∷ 0 ∷ 13 ∷ 1 ∷ 68 ∷ 3 ∷ [])
-an_ipv4_address_alone = refl
-
--- `::` may stand for one group, at the end too, and zeros may stand before a group's digits
+-- IPv6: `::` may stand for one group, at the end too, and zeros may stand before a group's digits
 one_group_at_the_end :
     ipv6_of (codes "1:2:3:4:5:6:7::") ≡ Some (0 ∷ 1 ∷ 0 ∷ 2 ∷ 0 ∷ 3 ∷ 0 ∷ 4 ∷ 0 ∷ 5 ∷ 0 ∷ 6 ∷ 0 ∷ 7 ∷ 0 ∷ 0 ∷ [])
 one_group_at_the_end = refl

@@ -15,10 +15,7 @@ zero = refl
 leading_zeros : time_of (codes "000000000000000060") ≡ Some 60
 leading_zeros = refl
 
--- the most that a TTL may have (RFC 2181 section 8)
-the_most : time_of (codes "2147483647") ≡ Some 2147483647
-the_most = refl
-
+-- more than a TTL may have (RFC 2181 section 8)
 one_more_than_the_most : time_of (codes "2147483648") ≡ None
 one_more_than_the_most = refl
 

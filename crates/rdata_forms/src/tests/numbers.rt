@@ -1,10 +1,35 @@
 //! Names, numbers and times.
 
 use super::check;
-use crate::read_ttl;
+use crate::{read_number, read_ttl};
 use dns_data::RrType;
 use std::process::Abort;
 use std::test::Fail;
+
+#[test]
+fn numbers_within_their_bounds(rt: HostRuntime) -> Result<(), Fail> {
+    let rows = [
+        ("0", 1, 0, Some(0)),
+        ("65535", 5, 65535, Some(65535)),
+        ("65536", 5, 65535, None),
+        ("00007", 5, 65535, Some(7)),
+        ("000007", 5, 65535, None),
+        ("4294967295", 10, u32::MAX, Some(u32::MAX)),
+        ("4294967296", 10, u32::MAX, None),
+        ("", 5, 65535, None),
+        ("7", 0, 65535, None),
+        ("7a", 5, 65535, None),
+        ("-7", 5, 65535, None),
+    ];
+    for (text, digits, most, number) in rows {
+        assert_eq!(rt;
+            read_number(text.as_bytes(), digits, most),
+            number,
+            "{text:?}"
+        );
+    }
+    Ok(())
+}
 
 #[test]
 fn times(rt: HostRuntime) -> Result<(), Fail> {
