@@ -1,4 +1,5 @@
--- The texts of times: what each stands for, in seconds, and how that is worked out (RFC 2181 section 8).
+-- The texts of times: what each stands for, in seconds, and how that is worked out. Groups with letters are an
+-- extension that name servers share; the limit is that of RFC 2181 section 8.
 use Rattle.std.specs.Prelude.{◌≡◌, ◌⊎◌, ℕ, ◌+◌, ◌-◌, ◌*◌, ◌≤◌, ◌<◌, Bool, true, false, ◌&&◌, nat_le, List, [], ◌∷◌, ◌++◌, length, Option, Some, None, option_map, option_and_then, Result, if◌then◌else◌, ◌==◌}
 use Rattle.std.specs.List.{list_all, flat_map, sum_by}
 use Rattle.std.specs.Option.{is_some, ok_or, unwrap_or}
@@ -50,7 +51,7 @@ pub record IsGroupsText (text : List ℕ) (seconds : ℕ) : Type 0 where
   pub stands_for : seconds ≡ sum_by group_seconds groups
 
 -- A text stands for a time: digits alone, or one or more groups of digits with a letter behind each. It has at
--- most 2,147,483,647 seconds.
+-- most 2,147,483,647 seconds (RFC 2181 section 8).
 pub record IsTimeText (text : List ℕ) (seconds : ℕ) : Type 0 where
   pub written : IsSecondsText text seconds ⊎ IsGroupsText text seconds
   pub within : seconds ≤ 2147483647

@@ -13,8 +13,7 @@ pub fn one_address()
     ensures one_ipv6 { (text a b : List ℕ) → IsIpv6Text text a → IsIpv6Text text b → a ≡ b }
 {}
 
-/// A time is worked out of a text exactly where the text stands for it, and a text stands for at most one time
-/// (RFC 2181 section 8).
+/// A time is worked out of a text exactly where the text stands for it, and a text stands for at most one time.
 pub fn one_time()
     ensures time { (text : List ℕ) (seconds : ℕ) → (time_of text ≡ Some seconds) ↔ IsTimeText text seconds }
     ensures one_time { (text : List ℕ) (a b : ℕ) → IsTimeText text a → IsTimeText text b → a ≡ b }

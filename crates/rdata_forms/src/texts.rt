@@ -1,14 +1,12 @@
 //! Strings and tags.
 
-ghost use Rattle.std.specs.Prelude.{◌≡◌, ◌<◌, ◌&&◌, ◌∷◌, [], length, nat_le, IsTrue, IfSome, SomeIff, MatchOption};
+ghost use Rattle.std.specs.Prelude.{◌≡◌, ◌<◌, ◌∷◌, [], length, IfSome, MatchOption};
 ghost use Rattle.std.specs.List.{list_all};
-ghost use Rattle.dns_data.specs.Octet.{is_digit, three_digit_value};
-ghost use Rattle.dns_data.specs.Spelling.{Sign, signs, escaped as escaped_signs};
 ghost use Rattle.rdata_forms.specs.Fault.{Answers};
 ghost use Rattle.rdata_forms.specs.Texts.{resolved, string_of, is_tag_octet, tag_of};
 
 use crate::fault::RdataFault;
-use dns_data::Octets;
+use dns_data::{Octets, escaped_octet};
 use std::alloc::Global;
 
 /// The string that the text of a token stands for, in one pass into one buffer, or `TextTooLong` where it has more
@@ -34,36 +32,10 @@ fn first_octet(text: &[u8]) -> Option<(u8, &[u8])>
     ensures shorter { IfSome result (λ first. length first.1.now < length text.now) }
 {
     match text {
-        [b'\\', after @ ..] => escaped(after),
+        [b'\\', after @ ..] => escaped_octet(after),
         [octet, after @ ..] => Some((*octet, after)),
         [] => None,
     }
-}
-
-/// The octet for which the text after a backslash stands, and what follows, or `None` where it stands for none
-/// (RFC 1035 section 5.1).
-fn escaped(text: &[u8]) -> Option<(u8, &[u8])>
-    ensures signs { MatchOption result
-        (escaped_signs text.now ≡ Sign.Broken ∷ [])
-        (λ first. escaped_signs text.now ≡ Sign.Octet first.0 ∷ signs first.1.now) }
-    ensures shorter { IfSome result (λ first. length first.1.now < length text.now) }
-{
-    match text {
-        [a, b, c, after @ ..] if a.is_ascii_digit() => Some((three_digits(*a, *b, *c)?, after)),
-        [octet, after @ ..] if !octet.is_ascii_digit() => Some((*octet, after)),
-        _ => None,
-    }
-}
-
-/// The octet whose number these three digits are.
-fn three_digits(a: u8, b: u8, c: u8) -> Option<u8>
-    ensures { SomeIff result (IsTrue (is_digit a && is_digit b && is_digit c && nat_le (three_digit_value a b c) 255)) (three_digit_value a b c) }
-{
-    if !(a.is_ascii_digit() && b.is_ascii_digit() && c.is_ascii_digit()) {
-        return None;
-    }
-    let value = u16::from(a - b'0') * 100 + u16::from(b - b'0') * 10 + u16::from(c - b'0');
-    u8::try_from(value).ok()
 }
 
 /// The property tag that the text writes, folded: `TextTooLong` where it has more than 255 octets, else `BadNumber`

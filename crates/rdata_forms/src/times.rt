@@ -9,8 +9,8 @@ use crate::numbers::with_digit;
 const MOST: u32 = 2147483647;
 
 /// The seconds of a time, in one pass: digits alone, or groups of digits with a letter w, d, h, m or s in either
-/// case behind each, which are added. It is `None` where the text is no time or has more than 2,147,483,647
-/// seconds. It takes no memory (RFC 2181 section 8).
+/// case behind each, which are added; the letters are an extension that name servers share. It is `None` where the
+/// text is no time or has more than 2,147,483,647 seconds (RFC 2181 section 8). It takes no memory.
 pub fn read_ttl(text: &[u8]) -> Option<u32>
     ensures value { result ≡ time_of text.now }
     ensures within { IfSome result (λ seconds. seconds ≤ 2147483647) }
