@@ -1,11 +1,12 @@
 -- The words of types, classes and directives, which are read without regard to case
 -- (RFC 1035 sections 3.2 and 5.1, RFC 3597 section 5).
-use Rattle.std.specs.Prelude.{ℕ, ◌+◌, ◌-◌, ◌*◌, Bool, ◌||◌, nat_eq, nat_le, nat_lt, List, [], ◌∷◌, map, length, take, drop, codes, find, option_map, ◌==◌, if◌then◌else◌, Option, Some, None}
+use Rattle.std.specs.Prelude.{ℕ, Bool, ◌||◌, nat_eq, List, [], ◌∷◌, map, length, take, drop, codes, find, option_map, ◌==◌, if◌then◌else◌, Option, Some, None}
 use Rattle.std.specs.List.{list_any}
 use lib.Pointwise.{pointwise}
-use Rattle.dns_data.specs.Octet.{is_digit, folded}
+use Rattle.dns_data.specs.Octet.{folded}
 use Rattle.dns_data.specs.RrType.{number_of, types, type_of_word}
 use Rattle.dns_data.specs.declared.rr_type.RrType.{RrType}
+use Rattle.rdata_forms.specs.Numbers.{number_up_to}
 use Rattle.master_read.specs.declared.words.TypeWord.{TypeWord}
 use Rattle.master_read.specs.declared.words.TypeWord.TheVariants.{Known, Dropped, Other}
 use Rattle.master_read.specs.declared.words.ClassWord.{ClassWord}
@@ -32,25 +33,10 @@ other_words =
     ∷ codes "OPENPGPKEY" ∷ codes "RP" ∷ codes "SMIMEA" ∷ codes "SPF" ∷ codes "SSHFP" ∷ codes "SVCB" ∷ codes "TLSA"
     ∷ codes "URI" ∷ codes "ZONEMD" ∷ []
 
--- the value of digits behind this value, or none where another octet stands among them
-abbrev pub value_from : ℕ → List ℕ → Option ℕ
-value_from value [] = Some value
-value_from value (octet ∷ octets) = if is_digit octet then value_from (value * 10 + (octet - 48)) octets else None
-
--- the number, if it has two octets
-abbrev pub if_small : Option ℕ → Option ℕ
-if_small None = None
-if_small (Some number) = if nat_le number 65535 then Some number else None
-
--- the number of one to five digits, up to 65,535
-abbrev pub number_of_digits : List ℕ → Option ℕ
-number_of_digits octets =
-    if (length octets == 0) || nat_lt 5 (length octets) then None else if_small (value_from 0 octets)
-
--- the number of one to five digits behind a word
+-- the number of one to five digits, up to 65,535, behind a word
 abbrev pub number_behind : List ℕ → List ℕ → Option ℕ
 number_behind word octets =
-    if is_word word (take (length word) octets) then number_of_digits (drop (length word) octets) else None
+    if is_word word (take (length word) octets) then number_up_to 5 65535 (drop (length word) octets) else None
 
 -- the type that is one of the twelve, or one whose records are kept under the word
 abbrev pub known_or_other : Option RrType → TypeWord

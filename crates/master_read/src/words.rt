@@ -1,9 +1,10 @@
 //! The words of types, classes and directives.
 
-ghost use Rattle.std.specs.Prelude.{◌≡◌, ◌≤◌, map, length};
-ghost use Rattle.master_read.specs.Words.{is_word, is_among, type_word, type_with, type_numbered, class_word, number_behind, number_of_digits, value_from};
+ghost use Rattle.std.specs.Prelude.{◌≡◌, map};
+ghost use Rattle.master_read.specs.Words.{is_word, is_among, type_word, type_with, type_numbered, class_word, number_behind};
 
 use dns_data::RrType;
+use rdata_forms::read_number;
 
 /// What a type's word says.
 #[derive(Clone, Copy, Debug, PartialEq, Eq)]
@@ -140,30 +141,5 @@ fn number_behind(word: &str, octets: &[u8]) -> Option<u16>
     if !is_word(word, front) {
         return None;
     }
-    number_of(digits)
-}
-
-/// The number of one to five digits, up to 65,535, or `None` where the octets are none such.
-fn number_of(digits: &[u8]) -> Option<u16>
-    ensures { result ≡ number_of_digits digits.now }
-{
-    if digits.is_empty() || digits.len() > 5 {
-        return None;
-    }
-    u16::try_from(value_of(digits)?).ok()
-}
-
-/// The value of up to five digits, or `None` where another octet stands among them.
-fn value_of(digits: &[u8]) -> Option<u32>
-    requires { length digits.now ≤ 5 }
-    ensures { result ≡ value_from 0 digits.now }
-{
-    let mut value = 0;
-    for octet in digits {
-        if !octet.is_ascii_digit() {
-            return None;
-        }
-        value = value * 10 + u32::from(*octet - b'0');
-    }
-    Some(value)
+    Some(read_number(digits, 5, 65535)? as u16)
 }

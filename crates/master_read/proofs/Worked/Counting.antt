@@ -1,6 +1,5 @@
 -- How entries follow one another: the records so far, their number, and the room for them.
 use Rattle.std.specs.Prelude.{◌≡◌, refl, ℕ, List, [], ◌∷◌, Some, None, Ok, Err}
-use Rattle.dns_data.specs.Name.{Labels}
 use Rattle.dns_data.specs.declared.rdata.Rdata.TheVariants.{A, Ns}
 use Rattle.dns_data.specs.declared.rdata.Rr.{Rr}
 use Rattle.master_lex.specs.declared.entry.Entry.{Entry}
