@@ -1,8 +1,8 @@
 //! The records of a master file (RFC 1035 section 5), from octets that come in pieces.
 //!
 //! A `ZoneReader` is fed pieces, and gives the records in order with their lines, or the first fault of the text
-//! with its line. It reads each entry as soon as it is whole and keeps its record alone, and behind a fault it
-//! passes the rest over.
+//! with its line. It reads the entries of each piece and keeps their records alone, and behind a fault it passes the
+//! rest over.
 //!
 //! The layer above may rest on this: what `finish` answers is what the definition `zone_text` says of all that was
 //! fed, so neither the pieces nor the way of the lexer count; the definition is that of the entries of the text's
@@ -10,8 +10,9 @@
 //! lies in a name or in data is never want of memory.
 //!
 //! Costs: each octet is passed over by the lexer once, and by the reading of its entry a bounded number of times.
-//! A record takes memory for its data and its owner, and its owner is kept once more where its line names one. No
-//! memory is taken for an octet, or for the comparison of a word.
+//! The entries of one piece are held until they are read, so a large text is best fed in pieces. A record takes
+//! memory for its data and its owner, and the last owner is kept once more. None is taken for the comparison of a
+//! word.
 #![tactic(auto)]
 
 mod context;

@@ -41,10 +41,8 @@ impl Progress {
         if self.lexer.feed(alloc, piece).is_err() {
             return Err(TextFault::NoMemory);
         }
-        match self.read_ready(alloc) {
-            Ok(_) => Ok(()),
-            Err(fault) => Err(fault),
-        }
+        self.read_ready(alloc)?;
+        Ok(())
     }
 
     /// Reads the entries that the lexer has to give, and answers the fault in the spelling of the next one, if

@@ -31,7 +31,7 @@ pub fn read_record(
     let owner = read_owner(alloc, context, entry)?;
     let front = read_front(behind_owner(entry))?;
     let rdata = read_data(alloc, front.tokens, &context.origin)?;
-    remember(alloc, context, entry, &owner, front.ttl)?;
+    let owner = remember(alloc, context, entry, owner, front.ttl)?;
     Ok(with_ttl(context, owner, front.ttl, entry.line, rdata)?)
 }
 
@@ -148,24 +148,27 @@ fn raised(octet: u8) -> u8
     octet.to_ascii_uppercase()
 }
 
-/// Puts what stands in front of a record's type into the context.
+/// Puts what stands in front of a record's type into the context, and gives the owner for the record.
 #[tactic(auto, using(crate::proofs::Steps::last_owner_is))]
 fn remember(
     alloc: Global,
     context: &mut Context,
     entry: &Entry,
-    owner: &Name,
+    owner: Name,
     ttl: Option<u32>,
-) -> Result<(), NoMemory>
-    requires { owner_of context.old entry.now ≡ Ok owner.now }
-    ensures { OnOk result (context.new ≡ behind_record context.old owner.now ttl) }
+) -> Result<Name, NoMemory>
+    requires { owner_of context.old entry.now ≡ Ok owner }
+    ensures owner { IfOk result (λ given. given ≡ owner) }
+    ensures context { OnOk result (context.new ≡ behind_record context.old owner ttl) }
 {
     context.stated_ttl = ttl.or(context.stated_ttl);
     if entry.blank_start {
-        return Ok(());
+        return Ok(owner);
     }
-    context.owner = Some(owner.copy(alloc)?);
-    Ok(())
+    // The record keeps the copy, which has no more room than it needs.
+    let given = owner.copy(alloc)?;
+    context.owner = Some(owner);
+    Ok(given)
 }
 
 /// The record with these data, or `None` where its type is dropped. A TTL that the data say themselves counts as
