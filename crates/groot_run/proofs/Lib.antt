@@ -15,6 +15,7 @@ pub mod FirstTree
 pub mod FirstWalks
 pub mod FreeLabel
 pub mod Fronts
+pub mod IdenticalRecords
 pub mod IdenticalTexts
 pub mod Json
 pub mod LastDot

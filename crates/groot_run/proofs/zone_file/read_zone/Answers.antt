@@ -10,8 +10,7 @@ loop-rest-preserved c =
     let piece = c.split_at.result.0.now in
     let after = c.split_at.result.1.now in
     let cut : piece ++ after ≡ c.loop-rest.rest.now =
-    rw (c.split_at.ensures.front, c.split_at.ensures.back) (take-append-drop _ c.loop-rest.rest.now) in
-    (
+    rw (c.split_at.ensures.front, c.split_at.ensures.back) (take-append-drop _ c.loop-rest.rest.now) in (
       so_far.0 ++ piece,
       (
         c.in_default.ensures.stands [] most_records so_far.0 so_far.1.0,
