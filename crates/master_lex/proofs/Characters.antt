@@ -45,6 +45,17 @@ pub digit_plain : (c : ℕ) → is_digit c ≡ true → kind c ≡ Plain
 unfolding kind
 digit_plain c h = grind (arith, nat_tests)
 
+-- an octet of no other kind is plain
+pub plain_is : (k : OctetKind) → is_plain k ≡ true → k ≡ Plain
+plain_is Plain h = refl
+plain_is Blank h = absurd cc
+plain_is LineFeed h = absurd cc
+plain_is Semicolon h = absurd cc
+plain_is Open h = absurd cc
+plain_is Close h = absurd cc
+plain_is Quote h = absurd cc
+plain_is Backslash h = absurd cc
+
 -- in a token whose octets so far are these, with this escape under way
 abbrev pub in_tok : Bool → List ℕ → Escape → State → State
 in_tok q w e s = record s { raw = w; way = record s.way { mode = InToken q e } }
@@ -162,7 +173,7 @@ some_digit u c n d h = rw (d, le_to (10 * u + (c - 48)) n h) refl
 
 -- one character is passed, where the token stays short enough
 module _ (q : Bool) (s : State) (w next : List ℕ) where
-  itself_run : (c : ℕ) → stands q (kind c) ≡ true → length w < MOST → run (in_tok q w Outside s) (c ∷ next) ≡ run (in_tok q (w ++ c ∷ []) Outside s) next
+  pub itself_run : (c : ℕ) → stands q (kind c) ≡ true → length w < MOST → run (in_tok q w Outside s) (c ∷ next) ≡ run (in_tok q (w ++ c ∷ []) Outside s) next
   itself_run c h l = ap (λ x. run x next) (itself q s w c h ∙ keep_short s w c q Outside Outside l)
 
   pub backslash_run : length w < MOST → run (in_tok q w Outside s) (92 ∷ next) ≡ run (in_tok q (w ++ 92 ∷ []) Begun s) next

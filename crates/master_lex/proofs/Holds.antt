@@ -12,19 +12,15 @@ use Rattle.master_lex.specs.declared.passage.Escape.{Escape}
 use Rattle.master_lex.specs.declared.passage.Escape.TheVariants.{Outside, Begun, One, Two}
 use Rattle.master_lex.specs.declared.passage.TheConstants.{MOST}
 use Rattle.master_lex.specs.Octets.{kind}
-use Rattle.master_lex.specs.Passing.{State, kept, with_mode, token_ended, between_by, passed, HoldsNone, IsTidy}
+use Rattle.master_lex.specs.Passing.{State, kept, with_mode, token_ended, between_by, passed, HoldsNone}
 use Rattle.master_lex.specs.Holding.{run, empty, last_fault, held_fault, fault_in}
-use Rattle.master_lex.proofs.UndoLemmas.{moves}
+use Rattle.master_lex.proofs.UndoLemmas.{moves_far}
 use Rattle.master_lex.proofs.StandsLemmas.{run-append}
 use Rattle.master_lex.proofs.Characters.{kind_close, kind_quote, kind_feed, in_tok, keep_long, keep_short, escaped, two_digits, three_digits, some_digit}
 use Rattle.master_lex.proofs.Failing.{run_faulty}
 use Rattle.master_lex.proofs.Parts.{not_zero}
 
 -- what is held is tidy
-tidy_run : (s : State) (text : List ℕ) → IsTidy s → IsTidy (run s text)
-tidy_run s [] h = h
-tidy_run s (c ∷ cs) h = tidy_run (passed s c) cs (moves s c h).tidy
-
 -- parentheses are closed
 abbrev closing : ℕ → List ℕ
 closing zero = []
@@ -141,7 +137,7 @@ held_by (Faulty f) s fault tidy h = h []
 -- a fault that no later octet can change is held
 pub held_at_once : (text : List ℕ) (fault : LexFault) → ((more : List ℕ) → fault_in true (text ++ more) ≡ Some fault) → fault_in false text ≡ Some fault
 held_at_once text fault h =
-    held_by (run empty text).way.mode (run empty text) fault (tidy_run empty text refl)
+    held_by (run empty text).way.mode (run empty text) fault (moves_far empty text refl).tidy
     (λ more. ap (λ (x : State). last_fault x.way) (sym (run-append empty text more)) ∙ h more)
 
 faulty_by : (m : Mode) (s : State) (fault : LexFault) (more : List ℕ) → held_fault m ≡ Some fault → last_fault (run (with_mode s m) more).way ≡ Some fault

@@ -5,6 +5,8 @@ pub mod FrontLemmas
 pub mod Characters
 pub mod Failing
 pub mod Parts
+pub mod PlainLemmas
+pub mod Reached
 pub mod Cuts
 pub mod Existence
 pub mod Holds

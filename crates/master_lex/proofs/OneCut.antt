@@ -4,13 +4,11 @@ use Rattle.std.proofs.lemmas.List.{length-append}
 use Rattle.master_lex.specs.declared.fault.LexFault.{LexFault}
 use Rattle.master_lex.specs.declared.fault.LexKind.{LexKind}
 use Rattle.master_lex.specs.declared.fault.LexKind.TheVariants.{OpenParen, OpenQuote, StrayClose, BadEscape, TokenTooLong}
-use Rattle.master_lex.specs.declared.octet.OctetKind.{OctetKind}
-use Rattle.master_lex.specs.declared.octet.OctetKind.TheVariants.{Plain, Blank, LineFeed, Semicolon, Open, Close, Quote, Backslash}
 use Rattle.master_lex.specs.declared.passage.TheConstants.{MOST}
 use Rattle.master_lex.specs.Lists.{is_empty}
 use Rattle.master_lex.specs.Octets.{kind}
-use Rattle.master_lex.specs.Spelling.{Character, Itself, Escaped, Coded, spelled, spelled_all, is_plain, is_feed, is_backslash, AllFit, Part, White, Feed, Remark, Opening, Closing, Written, spelled_part, row, Place, start, after, after_all, behind_quote, EndsLine, EndsWord, NoFeed, Fits, IsAllowed, InRow, is_bad, BeginsEscape, FaultStands, Ends, IsCutFrom, Cut, IsCut}
-use Rattle.master_lex.proofs.Characters.{kind_feed, kind_semicolon, kind_open, kind_close, kind_quote, kind_backslash}
+use Rattle.master_lex.specs.Spelling.{Character, Itself, Escaped, Coded, spelled, spelled_all, is_feed, is_backslash, AllFit, Part, White, Feed, Remark, Opening, Closing, Written, spelled_part, row, Place, start, after, after_all, behind_quote, EndsLine, EndsWord, NoFeed, Fits, IsAllowed, InRow, is_bad, BeginsEscape, FaultStands, Ends, IsCutFrom, Cut, IsCut}
+use Rattle.master_lex.proofs.Characters.{plain_is, kind_feed, kind_semicolon, kind_open, kind_close, kind_quote, kind_backslash}
 use Rattle.master_lex.proofs.Cuts.{cut_seen}
 use Rattle.master_lex.proofs.Unique.{NoCharacter, goes, same_all, none_bad, none_behind_word, none_at_line, none_at_quote, none_there, form}
 
@@ -30,16 +28,6 @@ tail_same : (c : ℕ) (xs ys : List ℕ) → c ∷ xs ≡ c ∷ ys → xs ≡ ys
 tail_same c xs ys e = cc
 
 -- where a token without quotes begins the part is one
-plain_is : (k : OctetKind) → is_plain k ≡ true → k ≡ Plain
-plain_is Plain h = refl
-plain_is Blank h = absurd cc
-plain_is LineFeed h = absurd cc
-plain_is Semicolon h = absurd cc
-plain_is Open h = absurd cc
-plain_is Close h = absurd cc
-plain_is Quote h = absurd cc
-plain_is Backslash h = absurd cc
-
 word_part : (cs : List Character) (x : List ℕ) (b : Part) (y : List ℕ) → AllFit false cs → (is_empty cs ≡ false) ⊎ BeginsEscape x → Fits b y → spelled_all cs ++ x ≡ spelled_part b ++ y → (ds : List Character) × (b ≡ Written false ds)
 word_part (Itself c ∷ cs) x b y f some g e = rw (plain_is (kind c) f.0) at (form b y c (spelled_all cs ++ x) g e)
 word_part (Escaped c ∷ cs) x b y f some g e = rw kind_backslash at (form b y 92 (c ∷ (spelled_all cs ++ x)) g e)

@@ -54,7 +54,7 @@ remark_octet : (s : State) (c : ℕ) → is_feed (kind c) ≡ false → passed (
 unfolding passed
 remark_octet s c h = feed_is (kind c) h (with_mode s Comment)
 
-remark_octets : (s : State) (cs next : List ℕ) → NoFeed cs → run (with_mode s Comment) (cs ++ next) ≡ run (with_mode s Comment) next
+pub remark_octets : (s : State) (cs next : List ℕ) → NoFeed cs → run (with_mode s Comment) (cs ++ next) ≡ run (with_mode s Comment) next
 remark_octets s [] next h = refl
 remark_octets s (c ∷ cs) next h = ap (λ x. run x (cs ++ next)) (remark_octet s c h.0) ∙ remark_octets s cs next h.1
 

@@ -1,6 +1,5 @@
 -- What a lexer stands for.
-use Rattle.std.proofs.Common.{◌≡◌, ℕ, ◌+◌, ◌<◌, Bool, true, false, List, [], ◌∷◌, ◌++◌, length, get_or, drop, refl, sym, ap, ◌∙◌, add-one, arith}
-use Rattle.std.proofs.Math.Seq.{drop-cons}
+use Rattle.std.proofs.Common.{◌≡◌, ℕ, ◌+◌, Bool, true, false, List, [], ◌∷◌, ◌++◌, length, drop, refl, sym, ap, ◌∙◌, arith}
 use Rattle.std.proofs.lemmas.List.{length-append, append-nil}
 use Rattle.std.specs.Prelude.{Result, IfOk, OnErr}
 use Rattle.std.proofs.lemmas.Result.{IfOk-weaker, on_err_weaker}
@@ -11,10 +10,6 @@ use Rattle.master_lex.specs.declared.entry.Entry.{Entry}
 use Rattle.master_lex.specs.Passing.{State, passed}
 use Rattle.master_lex.specs.Holding.{run, empty, Held, last_fault, last_entry, entries_in, fault_in, StandsFor, left_answer, answer, given_with, Answers, LastTaken}
 use Rattle.master_lex.proofs.FrontLemmas.{front, front_run}
-
--- one octet more was passed
-pub run_step : (s : State) (octets : List ℕ) (i : ℕ) → i < length octets → run (passed s (get_or octets i 0)) (drop (i + 1) octets) ≡ run s (drop i octets)
-run_step s octets i h = rw (add-one, drop-cons octets i 0) refl
 
 pub run-append : (s : State) (xs ys : List ℕ) → run s (xs ++ ys) ≡ run (run s xs) ys
 run-append s [] ys = refl

@@ -18,6 +18,7 @@ use Rattle.master_lex.specs.Octets.{kind, is_space, is_digit, digit_after}
 use Rattle.master_lex.specs.Lists.{is_empty}
 use Rattle.master_lex.specs.Passing.{State, kept, pushed, failed, token_ended, entry_of, entry_ended, line_ended, between_by, in_word_by, in_quotes_by, escape_begun, second_digit, third_digit, in_token, in_comment_by, passed_by, passed, SameStores, IsHalfway, CanGoOn, HoldsNone, IsTidy}
 use Rattle.master_lex.specs.Undo.{TokensGrew, EntriesGrew, Grew}
+use Rattle.master_lex.specs.Holding.{run}
 
 -- a state is what its parts are
 pub same_state : (s : State) {ready : List Entry} {tokens : List Token} {raw : List ℕ} {way : Way} → ready ≡ s.ready → tokens ≡ s.tokens → raw ≡ s.raw → way ≡ s.way
@@ -192,8 +193,19 @@ pub moves : (s : State) (c : ℕ) → IsTidy s → Moves s (passed s c)
 unfolding passed
 moves s c tidy = moves_by s.way.mode s c tidy tidy
 
-pub moves_to : (s s' : State) (c : ℕ) → s' ≡ passed s c → IsTidy s → Moves s s'
-moves_to s s' c e tidy = rw e (moves s c tidy)
+-- so many octets make this of what is held
+pub record MovesFar (count : ℕ) (s s' : State) : Type 0 where
+  pub grew : (before : State) → Grew before s → Grew before s'
+  pub line : s'.way.line ≤ s.way.line + count
+  pub depth : s'.way.depth ≤ s.way.depth + count
+  pub tidy : IsTidy s'
+
+pub moves_far : (s : State) (octets : List ℕ) → IsTidy s → MovesFar (length octets) s (run s octets)
+moves_far s [] tidy = record { grew = λ before g. g; line = omega arith; depth = omega arith; tidy = tidy }
+moves_far s (c ∷ cs) tidy =
+    let m = moves s c tidy in
+    let r = moves_far (passed s c) cs m.tidy in
+    record { grew = λ before g. r.grew before (m.grew before g); line = omega (arith, m.line, r.line); depth = omega (arith, m.depth, r.depth); tidy = r.tidy }
 
 -- stores that hold the same grew in the same way
 pub same_grew : (before s s' : State) → SameStores s s' → Grew before s → Grew before s'

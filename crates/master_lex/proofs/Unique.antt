@@ -5,8 +5,8 @@ use Rattle.std.proofs.lemmas.List.{append-nil}
 use Rattle.master_lex.specs.declared.octet.OctetKind.{OctetKind}
 use Rattle.master_lex.specs.declared.octet.OctetKind.TheVariants.{Plain, Blank, LineFeed, Semicolon, Open, Close, Quote, Backslash}
 use Rattle.master_lex.specs.Octets.{kind, is_digit}
-use Rattle.master_lex.specs.Spelling.{Character, Itself, Escaped, Coded, spelled, spelled_all, is_plain, is_feed, is_backslash, stands, is_code, fits, AllFit, Part, White, Feed, Remark, Opening, Closing, Written, spelled_part, EndsLine, EndsWord, Fits, is_bad}
-use Rattle.master_lex.proofs.Characters.{kind_feed, kind_semicolon, kind_open, kind_close, kind_quote, kind_backslash, and_true, not_true, code_from, digit_plain}
+use Rattle.master_lex.specs.Spelling.{Character, Itself, Escaped, Coded, spelled, spelled_all, is_feed, is_backslash, stands, is_code, fits, AllFit, Part, White, Feed, Remark, Opening, Closing, Written, spelled_part, EndsLine, EndsWord, Fits, is_bad}
+use Rattle.master_lex.proofs.Characters.{plain_is, kind_feed, kind_semicolon, kind_open, kind_close, kind_quote, kind_backslash, and_true, not_true, code_from, digit_plain}
 
 -- the `\` doesn't stand for itself
 pub itself_not : (q : Bool) (c : ℕ) → stands q (kind c) ≡ true → c ≡ 92 → ⊥
@@ -108,16 +108,6 @@ Form Close c b = b ≡ Closing
 Form Quote c b = (cs : List Character) × (b ≡ Written true cs)
 Form Plain c b = (cs : List Character) × (b ≡ Written false cs)
 Form Backslash c b = (cs : List Character) × (b ≡ Written false cs)
-
-plain_is : (k : OctetKind) → is_plain k ≡ true → k ≡ Plain
-plain_is Plain h = refl
-plain_is Blank h = absurd cc
-plain_is LineFeed h = absurd cc
-plain_is Semicolon h = absurd cc
-plain_is Open h = absurd cc
-plain_is Close h = absurd cc
-plain_is Quote h = absurd cc
-plain_is Backslash h = absurd cc
 
 form_at : (c d : ℕ) (k : OctetKind) (b : Part) → c ≡ d → kind d ≡ k → Form k d b → Form (kind c) c b
 form_at c d k b e f h = rw (e, f) h

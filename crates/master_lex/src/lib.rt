@@ -16,6 +16,7 @@ mod laws;
 mod lexer;
 mod octet;
 mod passage;
+mod plain;
 mod reading;
 mod taken;
 mod undo;

@@ -1,7 +1,9 @@
 //! What single octets mean.
 
-ghost use Rattle.std.specs.Prelude.{◌≡◌, ◌<◌};
+ghost use Rattle.std.specs.Prelude.{◌≡◌, ◌<◌, true, false};
 ghost use Rattle.master_lex.specs.Octets.{kind, is_digit, is_space, digit_after};
+ghost use Rattle.master_lex.specs.Spelling.{stands, is_feed};
+ghost use Rattle.master_lex.specs.Plain.{is_blank};
 
 /// What an octet of a master file means outside quotes and escapes (RFC 1035 section 5.1).
 #[derive(Clone, Copy, Debug, PartialEq, Eq)]
@@ -31,6 +33,43 @@ pub fn kind_of(octet: u8) -> OctetKind
         b'\\' => OctetKind::Backslash,
         _ => OctetKind::Plain,
     }
+}
+
+/// Whether the octet stands for itself in a token without quotes.
+#[tactic(auto, unfolding(crate::specs::Octets::kind))]
+pub fn is_plain_in_word(octet: u8) -> bool
+    ensures { result ≡ stands false (kind octet) }
+{
+    // Nearly all octets of a text are at `*` or above, so that two more tests do for them.
+    if octet >= b'*' {
+        octet != b';' && octet != b'\\'
+    } else {
+        !matches!(octet, b' ' | b'\t' | b'\r' | b'\n' | b'(' | b')' | b'"')
+    }
+}
+
+/// Whether the octet stands for itself in a token in quotes.
+#[tactic(auto, unfolding(crate::specs::Octets::kind))]
+pub fn is_plain_in_quotes(octet: u8) -> bool
+    ensures { result ≡ stands true (kind octet) }
+{
+    !matches!(octet, b'"' | b'\n' | b'\\')
+}
+
+/// Whether the octet is white space outside quotes and escapes.
+#[tactic(auto, unfolding(crate::specs::Octets::kind))]
+pub fn is_blank_octet(octet: u8) -> bool
+    ensures { result ≡ is_blank (kind octet) }
+{
+    matches!(octet, b' ' | b'\t' | b'\r')
+}
+
+/// Whether the octet is a line feed.
+#[tactic(auto, unfolding(crate::specs::Octets::kind))]
+pub fn is_feed_octet(octet: u8) -> bool
+    ensures { result ≡ is_feed (kind octet) }
+{
+    octet == b'\n'
 }
 
 /// Whether the octet is a digit.

@@ -355,8 +355,7 @@ impl Passage {
         }
     }
 
-    /// Passes over octets, one after another. After an error what was held before can be brought
-    /// back.
+    /// Passes over octets. After an error what was held before can be brought back.
     pub fn pass_all(&mut self, alloc: Global, octets: &[u8]) -> Result<(), NoMemory>
         requires tidy { IsTidy (state_of self.old) }
         requires line { self.old.way.line + length octets.now < 2 ^ 32 }
@@ -367,9 +366,14 @@ impl Passage {
         ensures depth { OnOk result (self.new.way.depth ≤ self.old.way.depth + length octets.now) }
         ensures err { OnErr result (Grew (state_of self.old) (state_of self.new)) }
     {
-        for octet in octets {
+        let mut passed = 0;
+        loop {
+            passed += self.pass_plain(&octets[passed..])?;
+            let Some(octet) = octets.get(passed) else {
+                return Ok(());
+            };
             self.pass(alloc, *octet)?;
+            passed += 1;
         }
-        Ok(())
     }
 }

@@ -143,7 +143,7 @@ ns1 A   192.0.2.1
 
 #[test]
 fn entries_without_faults(rt: HostRuntime) -> Result<(), Fail> {
-    let cases: [Case; 19] = [
+    let cases: [Case; 21] = [
         ("an empty file", b"", ""),
         ("blank and comment lines", b"\n\n; c\n  \t\n\r\n;", ""),
         ("parentheses without a token", b"( )\n(\n)\n", ""),
@@ -195,6 +195,16 @@ fn entries_without_faults(rt: HostRuntime) -> Result<(), Fail> {
             "escapes stay as written",
             b"a\\\"b \"c\\\"d\" e\\ f \\;\\(\\)\\\\ \\000\\255 \"\\;\\034\"\n",
             "1 [a\\\"b] \"c\\\"d\" [e\\ f] [\\;\\(\\)\\\\] [\\000\\255] \"\\;\\034\"\n",
+        ),
+        (
+            "plain octets around escapes",
+            b"ab\\.cd\\065ef \"ab c\\\"d e\\065f g\"\n",
+            "1 [ab\\.cd\\065ef] \"ab c\\\"d e\\065f g\"\n",
+        ),
+        (
+            "white space of each kind in a row",
+            b"a \t\r \tb\t\t\n",
+            "1 [a] [b]\n",
         ),
         ("an escaped carriage return", b"a\\\rb\n", "1 [a\\\rb]\n"),
         (
@@ -297,23 +307,25 @@ fn first_faults(rt: HostRuntime) -> Result<(), Fail> {
     Ok(())
 }
 
-// What is taken of a token without quotes of this many `x` and what follows it, after the token's
-// first 100 octets.
-fn long(rt: &impl Abort, alloc: Global, count: usize, tail: &[u8]) -> Result<String, Fail> {
-    let mut text = vec![in alloc; b'x'; count]?;
-    text.extend_from_slice(tail)?;
+// The fault of a text that is fed in pieces of this size, or else how long what is taken shows.
+fn fault_or_len(rt: &impl Abort, alloc: Global, text: &[u8], size: usize) -> Result<String, Fail> {
     assert!(rt; text.len() < 1_000_000, "too long");
-    let taken = shown(alloc, text.as_slice(), 1000)?;
+    assert!(rt; 0 < size, "no size");
+    let taken = shown(alloc, text, size)?;
     match taken.strip_prefix("fault ") {
         Some(fault) => Ok(String::from_str(alloc, fault)?),
         None => Ok(format!(in alloc; "{}", taken.len())?),
     }
 }
 
+// The sizes of pieces for a token of some 131,072 octets: many, and two that are cut in its middle.
+const SIZES: [usize; 2] = [1000, 70_000];
+
 // A token has at most 131,072 octets as written. The fault stands at the octet behind them, and a
 // bad escape counts where its `\` stands before it.
 #[test]
 fn longest_tokens(rt: HostRuntime) -> Result<(), Fail> {
+    let alloc = rt.alloc();
     // The line number, a space, two brackets and the line feed are 5 octets more.
     let cases: [(usize, &[u8], &str); 12] = [
         (131_072, b"\n", "131077"),
@@ -330,8 +342,16 @@ fn longest_tokens(rt: HostRuntime) -> Result<(), Fail> {
         (131_069, b"\\12", "1 4\n"),
     ];
     for (count, tail, expected) in cases {
-        let taken = long(&rt, rt.alloc(), count, tail)?;
-        assert_eq!(rt; taken.as_str(), expected, "{count} and {tail:?}");
+        let mut text = vec![in alloc; b'x'; count]?;
+        text.extend_from_slice(tail)?;
+        for size in SIZES {
+            let taken = fault_or_len(&rt, alloc, text.as_slice(), size)?;
+            assert_eq!(rt;
+                taken.as_str(),
+                expected,
+                "{count} and {tail:?} in pieces of {size}"
+            );
+        }
     }
     Ok(())
 }
@@ -344,15 +364,13 @@ fn longest_quoted_tokens(rt: HostRuntime) -> Result<(), Fail> {
         let mut text = vec![in alloc; b'x'; count]?;
         text.insert(0, b'"')?;
         text.push(b'"')?;
-        assert!(rt; text.len() < 1_000_000, "too long");
-        let taken = shown(alloc, text.as_slice(), 4096)?;
-        let fault = taken.strip_prefix("fault ");
-        match fault {
-            Some(fault) => assert_eq!(rt; fault, expected, "{count} in quotes"),
-            None => {
-                let len = format!(in alloc; "{}", taken.len())?;
-                assert_eq!(rt; len.as_str(), expected, "{count} in quotes");
-            }
+        for size in SIZES {
+            let taken = fault_or_len(&rt, alloc, text.as_slice(), size)?;
+            assert_eq!(rt;
+                taken.as_str(),
+                expected,
+                "{count} in quotes in pieces of {size}"
+            );
         }
     }
     Ok(())

@@ -1,15 +1,11 @@
--- What was passed so far and what is left are the whole.
-use Rattle.std.proofs.Common.{◌≡◌, ◌+◌, ◌≤◌, drop}
-use Rattle.master_lex.specs.Passing.{state_of, IsTidy}
-use Rattle.master_lex.specs.Undo.{Grew}
-use Rattle.master_lex.specs.Holding.{run}
+-- So many octets were passed.
+use Rattle.std.proofs.Common.{◌-◌, length}
+use Rattle.master_lex.specs.Passing.{state_of}
+use Rattle.master_lex.specs.Plain.{PassedFirst}
 use Rattle.master_lex.proofs.passage.Passage.pass_all.Given as goal
 
-abbrev pub invariant-loop-octet : goal.invariant-loop-octet
-invariant-loop-octet l = record {
-  passed : run (state_of l.self) (drop l.octet-index l.octets) ≡ run (state_of l.initial.self) l.octets;
-  tidy : IsTidy (state_of l.self);
-  line : l.self.way.line ≤ l.initial.self.way.line + l.octet-index;
-  depth : l.self.way.depth ≤ l.initial.self.way.depth + l.octet-index;
-  grew : Grew (state_of l.initial.self) (state_of l.self);
-}
+abbrev pub invariant-loop-passed : goal.invariant-loop-passed
+invariant-loop-passed l = PassedFirst (state_of l.fn.self) (state_of l.self) l.octets l.passed
+
+abbrev pub decreases-loop-passed : goal.decreases-loop-passed
+decreases-loop-passed l = length l.octets - l.passed

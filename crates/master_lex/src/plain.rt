@@ -1,0 +1,115 @@
+//! Passing over plain octets at once: those that begin a token or only go on with what is under way.
+
+ghost use Rattle.std.specs.Prelude.{◌≡◌, ◌≤◌, length, not, OnErr, IfOk};
+ghost use Rattle.std.specs.List.{prefix_len};
+ghost use Rattle.master_lex.specs.declared.passage.Mode.TheVariants.{Start, Between};
+ghost use Rattle.master_lex.specs.Octets.{kind};
+ghost use Rattle.master_lex.specs.Passing.{state_of};
+ghost use Rattle.master_lex.specs.Spelling.{stands, is_feed};
+ghost use Rattle.master_lex.specs.Plain.{is_blank, KeptPlain, PassedFirst};
+
+use crate::octet::{is_blank_octet, is_feed_octet, is_plain_in_quotes, is_plain_in_word};
+use crate::passage::{Escape, MOST, Mode, Passage};
+use dns_data::NoMemory;
+
+/// How many octets in front stand for themselves in a token, in quotes or outside.
+fn token_len(octets: &[u8], quoted: bool) -> usize
+    ensures len { result ≡ prefix_len (λ octet. stands quoted (kind octet)) octets.now }
+    ensures within { result ≤ length octets.now }
+{
+    let octets = octets.iter();
+    if quoted {
+        octets
+            .take_while(|octet| is_plain_in_quotes(**octet))
+            .count()
+    } else {
+        octets.take_while(|octet| is_plain_in_word(**octet)).count()
+    }
+}
+
+/// How many octets in front are white space.
+fn blank_len(octets: &[u8]) -> usize
+    ensures len { result ≡ prefix_len (λ octet. is_blank (kind octet)) octets.now }
+    ensures within { result ≤ length octets.now }
+{
+    octets
+        .iter()
+        .take_while(|octet| is_blank_octet(**octet))
+        .count()
+}
+
+/// How many octets stand before the line's end.
+fn line_len(octets: &[u8]) -> usize
+    ensures { result ≡ prefix_len (λ octet. not (is_feed (kind octet))) octets.now }
+{
+    octets
+        .iter()
+        .take_while(|octet| !is_feed_octet(**octet))
+        .count()
+}
+
+impl Passage {
+    /// Puts the octets in front that stand for themselves into a token, which they may begin, as
+    /// many as it has room for, and says how many these are. After an error nothing has changed.
+    fn keep_plain(&mut self, octets: &[u8], quoted: bool) -> Result<usize, NoMemory>
+        ensures ok { IfOk result (KeptPlain (state_of self.old) (state_of self.new) octets.now quoted) }
+        ensures err { OnErr result (state_of self.new ≡ state_of self.old) }
+    {
+        let room = MOST.saturating_sub(self.raw.len());
+        let count = token_len(octets, quoted).min(room);
+        if count > 0 {
+            self.raw.extend_from_slice(&octets[..count])?;
+            self.way.mode = Mode::InToken {
+                quoted,
+                escape: Escape::Outside,
+            };
+        }
+        Ok(count)
+    }
+
+    /// Passes over the plain octets with which an entry begins, and says how many they are. After
+    /// an error nothing has changed.
+    fn begin_entry(&mut self, octets: &[u8]) -> Result<usize, NoMemory>
+        requires { self.old.way.mode ≡ Start }
+        ensures ok { IfOk result (PassedFirst (state_of self.old) (state_of self.new) octets.now) }
+        ensures err { OnErr result (state_of self.new ≡ state_of self.old) }
+    {
+        let count = self.keep_plain(octets, false)?;
+        if count > 0 {
+            self.way.blank_start = false;
+        }
+        Ok(count)
+    }
+
+    /// Passes over white space and the plain octets with which a token begins behind it, and says
+    /// how many they are. After an error nothing has changed.
+    fn begin_word(&mut self, octets: &[u8]) -> Result<usize, NoMemory>
+        requires { self.old.way.mode ≡ Between }
+        ensures ok { IfOk result (PassedFirst (state_of self.old) (state_of self.new) octets.now) }
+        ensures err { OnErr result (state_of self.new ≡ state_of self.old) }
+    {
+        let blank = blank_len(octets);
+        let count = self.keep_plain(&octets[blank..], false)?;
+        Ok(blank + count)
+    }
+
+    /// Passes over the octets in front that begin a token or only go on with what is under way, as
+    /// far as the token has room for them, and says how many they are, which may be none. After an
+    /// error nothing has changed.
+    pub fn pass_plain(&mut self, octets: &[u8]) -> Result<usize, NoMemory>
+        ensures ok { IfOk result (PassedFirst (state_of self.old) (state_of self.new) octets.now) }
+        ensures err { OnErr result (state_of self.new ≡ state_of self.old) }
+    {
+        match self.way.mode {
+            Mode::Start => self.begin_entry(octets),
+            Mode::Between => self.begin_word(octets),
+            Mode::InToken {
+                quoted,
+                escape: Escape::Outside,
+            } => self.keep_plain(octets, quoted),
+            Mode::InToken { .. } => Ok(0),
+            Mode::Comment => Ok(line_len(octets)),
+            Mode::Faulty(_) => Ok(octets.len()),
+        }
+    }
+}
