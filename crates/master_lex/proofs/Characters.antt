@@ -11,7 +11,8 @@ use Rattle.master_lex.specs.declared.passage.Mode.TheVariants.{InToken}
 use Rattle.master_lex.specs.declared.passage.Escape.{Escape}
 use Rattle.master_lex.specs.declared.passage.Escape.TheVariants.{Outside, Begun, One, Two}
 use Rattle.master_lex.specs.declared.passage.TheConstants.{MOST}
-use Rattle.master_lex.specs.Octets.{kind, is_digit, digit_after}
+use Rattle.dns_data.specs.Octet.{is_digit, three_digit_value}
+use Rattle.master_lex.specs.Octets.{kind, digit_after}
 use Rattle.master_lex.specs.Passing.{State, kept, failed, in_word_by, in_quotes_by, escape_begun, second_digit, third_digit, passed}
 use Rattle.master_lex.specs.Holding.{run}
 use Rattle.master_lex.specs.Spelling.{Character, Itself, Escaped, Coded, spelled, spelled_all, stands_in_quotes, is_plain, is_feed, stands, is_code, fits, AllFit}
@@ -166,7 +167,8 @@ code_from a b c h =
     let p = and_true (is_digit a) _ h in
     let q = and_true (is_digit b) _ p.1 in
     let r = and_true (is_digit c) _ q.1 in
-    record { first = p.0; second = q.0; third = r.0; value = le_from _ _ r.1 }
+    let value : three_digit_value a b c ≤ 255 = le_from _ _ r.1 in
+    record { first = p.0; second = q.0; third = r.0; value = omega arith }
 
 pub some_digit : (u c n : ℕ) → is_digit c ≡ true → 10 * u + (c - 48) ≤ n → digit_after u c n ≡ Some (10 * u + (c - 48))
 some_digit u c n d h = rw (d, le_to (10 * u + (c - 48)) n h) refl

@@ -11,7 +11,8 @@ use Rattle.master_lex.specs.declared.octet.OctetKind.{OctetKind}
 use Rattle.master_lex.specs.declared.octet.OctetKind.TheVariants.{Plain, Blank, LineFeed, Semicolon, Open, Close, Quote, Backslash}
 use Rattle.master_lex.specs.declared.passage.TheConstants.{MOST}
 use Rattle.master_lex.specs.Lists.{is_empty}
-use Rattle.master_lex.specs.Octets.{kind, is_digit}
+use Rattle.dns_data.specs.Octet.{is_digit}
+use Rattle.master_lex.specs.Octets.{kind}
 use Rattle.master_lex.specs.Spelling.{Character, Itself, Escaped, Coded, spelled, spelled_all, is_plain, is_feed, is_backslash, stands_in_quotes, stands, fits, AllFit, Part, White, Feed, Remark, Opening, Closing, Written, spelled_part, row, Place, start, after, after_all, behind_quote, EndsLine, EndsWord, NoFeed, Fits, IsAllowed, InRow, is_code_in, is_bad, BeginsEscape, FaultStands, IsCutFrom, Cut, IsCut}
 
 -- the octets of their kinds

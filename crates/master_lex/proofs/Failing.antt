@@ -11,7 +11,8 @@ use Rattle.master_lex.specs.declared.octet.OctetKind.TheVariants.{Plain, Blank, 
 use Rattle.master_lex.specs.declared.passage.Mode.TheVariants.{Faulty}
 use Rattle.master_lex.specs.declared.passage.Escape.TheVariants.{Outside, Begun, One, Two}
 use Rattle.master_lex.specs.declared.passage.TheConstants.{MOST}
-use Rattle.master_lex.specs.Octets.{kind, is_digit, digit_after}
+use Rattle.dns_data.specs.Octet.{is_digit, three_digit_value}
+use Rattle.master_lex.specs.Octets.{kind, digit_after}
 use Rattle.master_lex.specs.Passing.{State, failed, with_mode, escape_begun, second_digit, third_digit, passed}
 use Rattle.master_lex.specs.Holding.{run, last_fault, last_entry}
 use Rattle.master_lex.specs.Spelling.{Character, Itself, Escaped, Coded, spelled, spelled_all, is_feed, is_code, is_code_in, is_bad, fits, AllFit}
@@ -96,7 +97,9 @@ digit_from u c n v h =
     record { digit = r.0; value = le_from _ _ r.1; is = p.1 }
 
 code_to : (a b c : ℕ) → is_digit a ≡ true → is_digit b ≡ true → is_digit c ≡ true → 100 * (a - 48) + 10 * (b - 48) + (c - 48) ≤ 255 → is_code a b c ≡ true
-code_to a b c da db dc l = rw (da, db, dc, le_to _ _ l) refl
+code_to a b c da db dc l =
+    let value : three_digit_value a b c ≤ 255 = omega arith in
+    rw (da, db, dc, le_to (three_digit_value a b c) 255 value) refl
 
 -- what doesn't begin as a code fails
 module _ (q : Bool) (s : State) where

@@ -10,7 +10,8 @@ use Rattle.master_lex.specs.declared.passage.Mode.TheVariants.{Start, Between, C
 use Rattle.master_lex.specs.declared.passage.Escape.{Escape}
 use Rattle.master_lex.specs.declared.passage.Escape.TheVariants.{Outside, Begun, One, Two}
 use Rattle.master_lex.specs.declared.passage.TheConstants.{MOST}
-use Rattle.master_lex.specs.Octets.{kind, is_space, is_digit, digit_after}
+use Rattle.dns_data.specs.Octet.{is_digit}
+use Rattle.master_lex.specs.Octets.{kind, is_space, digit_after}
 use Rattle.master_lex.specs.Lists.{is_empty}
 use Rattle.master_lex.specs.Passing.{State, kept, pushed, failed, token_ended, entry_of, entry_ended, line_ended, between_by, in_word_by, in_quotes_by, escape_begun, second_digit, third_digit, in_token, in_comment_by, passed_by, passed}
 use Rattle.master_lex.specs.Holding.{run}

@@ -4,7 +4,8 @@ use Rattle.std.specs.Prelude.{not}
 use Rattle.std.proofs.lemmas.List.{append-nil}
 use Rattle.master_lex.specs.declared.octet.OctetKind.{OctetKind}
 use Rattle.master_lex.specs.declared.octet.OctetKind.TheVariants.{Plain, Blank, LineFeed, Semicolon, Open, Close, Quote, Backslash}
-use Rattle.master_lex.specs.Octets.{kind, is_digit}
+use Rattle.dns_data.specs.Octet.{is_digit}
+use Rattle.master_lex.specs.Octets.{kind}
 use Rattle.master_lex.specs.Spelling.{Character, Itself, Escaped, Coded, spelled, spelled_all, is_feed, is_backslash, stands, is_code, fits, AllFit, Part, White, Feed, Remark, Opening, Closing, Written, spelled_part, EndsLine, EndsWord, Fits, is_bad}
 use Rattle.master_lex.proofs.Characters.{plain_is, kind_feed, kind_semicolon, kind_open, kind_close, kind_quote, kind_backslash, and_true, not_true, code_from, digit_plain}
 

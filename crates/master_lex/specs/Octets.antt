@@ -1,5 +1,6 @@
 -- What single octets mean (RFC 1035 section 5.1).
 use Rattle.std.specs.Prelude.{ℕ, ◌+◌, ◌-◌, ◌*◌, Bool, ◌&&◌, ◌||◌, ◌==◌, Option, Some, None, nat_le, if◌then◌else◌}
+use Rattle.dns_data.specs.Octet.{is_digit}
 use Rattle.master_lex.specs.declared.octet.OctetKind.{OctetKind}
 use Rattle.master_lex.specs.declared.octet.OctetKind.TheVariants.{Plain, Blank, LineFeed, Semicolon, Open, Close, Quote, Backslash}
 
@@ -18,10 +19,6 @@ kind c =
 -- a space or a tab
 abbrev pub is_space : ℕ → Bool
 is_space c = c == 32 || c == 9
-
--- one of the digits 0 to 9
-abbrev pub is_digit : ℕ → Bool
-is_digit c = nat_le 48 c && nat_le c 57
 
 -- the value with one digit more, where the octet is a digit and the value is within the limit
 abbrev pub digit_after : ℕ → ℕ → ℕ → Option ℕ

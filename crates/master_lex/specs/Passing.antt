@@ -14,7 +14,8 @@ use Rattle.master_lex.specs.declared.passage.Escape.TheVariants.{Outside, Begun,
 use Rattle.master_lex.specs.declared.passage.Passage.{Passage}
 use Rattle.master_lex.specs.declared.passage.TheConstants.{MOST}
 use Rattle.master_lex.specs.Lists.{is_empty}
-use Rattle.master_lex.specs.Octets.{kind, is_space, is_digit, digit_after}
+use Rattle.dns_data.specs.Octet.{is_digit}
+use Rattle.master_lex.specs.Octets.{kind, is_space, digit_after}
 
 -- the whole entries that weren't taken, and the entry under way: its whole tokens, the octets of the
 -- token under way, and how far it has come

@@ -1,5 +1,5 @@
 -- How entries are spelled: the grammar of a master file (RFC 1035 section 5.1).
-use Rattle.std.specs.Prelude.{◌≡◌, ◌⊎◌, ℕ, ◌+◌, ◌-◌, ◌*◌, ◌<◌, ◌≤◌, List, [], ◌∷◌, ◌++◌, length, Bool, true, false, not, ◌&&◌, ◌==◌, nat_le, if◌then◌else◌, Option, Some, None}
+use Rattle.std.specs.Prelude.{◌≡◌, ◌⊎◌, ℕ, ◌+◌, ◌-◌, ◌<◌, ◌≤◌, List, [], ◌∷◌, ◌++◌, length, Bool, true, false, not, ◌&&◌, ◌==◌, nat_le, if◌then◌else◌, Option, Some, None}
 use Rattle.master_lex.specs.declared.entry.Entry.{Entry}
 use Rattle.master_lex.specs.declared.entry.Token.{Token}
 use Rattle.master_lex.specs.declared.fault.LexFault.{LexFault}
@@ -9,7 +9,8 @@ use Rattle.master_lex.specs.declared.octet.OctetKind.{OctetKind}
 use Rattle.master_lex.specs.declared.octet.OctetKind.TheVariants.{Plain, Blank, LineFeed, Semicolon, Open, Close, Quote, Backslash}
 use Rattle.master_lex.specs.declared.passage.TheConstants.{MOST}
 use Rattle.master_lex.specs.Lists.{is_empty}
-use Rattle.master_lex.specs.Octets.{kind, is_space, is_digit}
+use Rattle.dns_data.specs.Octet.{is_digit, three_digit_value}
+use Rattle.master_lex.specs.Octets.{kind, is_space}
 
 -- A character of a token: an octet that stands for itself, an octet behind a `\`, or the three digits
 -- of a value behind a `\`.
@@ -80,7 +81,7 @@ stands true k = stands_in_quotes k
 
 -- the three digits of a value up to 255
 abbrev pub is_code : ℕ → ℕ → ℕ → Bool
-is_code a b c = is_digit a && (is_digit b && (is_digit c && nat_le (100 * (a - 48) + 10 * (b - 48) + (c - 48)) 255))
+is_code a b c = is_digit a && (is_digit b && (is_digit c && nat_le (three_digit_value a b c) 255))
 
 -- what may be in a token: behind a `\` neither a line feed nor a lone digit
 abbrev pub fits : Bool → Character → Bool

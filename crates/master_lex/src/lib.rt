@@ -1,8 +1,8 @@
 //! The entries of a master file (RFC 1035 section 5.1), from octets that come in pieces.
 //!
 //! A `Lexer` is fed pieces, and gives the entries in order with their lines, or the first fault with
-//! its line. It passes over each octet once, and keeps the entries that weren't taken and the entry
-//! under way, and no text.
+//! its line. It passes over each octet once, plain ones in a row together, and keeps the entries that
+//! weren't taken and the entry under way, and no text.
 //!
 //! The layer above may rest on this: a text is cut into spellings in one way, and what a lexer gives
 //! of it are the entries and the fault of this cut, whichever pieces it came in; a piece that is

@@ -1,7 +1,8 @@
 //! What single octets mean.
 
 ghost use Rattle.std.specs.Prelude.{◌≡◌, ◌<◌, true, false};
-ghost use Rattle.master_lex.specs.Octets.{kind, is_digit, is_space, digit_after};
+ghost use Rattle.dns_data.specs.Octet.{is_digit};
+ghost use Rattle.master_lex.specs.Octets.{kind, is_space, digit_after};
 ghost use Rattle.master_lex.specs.Spelling.{stands, is_feed};
 ghost use Rattle.master_lex.specs.Plain.{is_blank};
 
@@ -72,13 +73,6 @@ pub fn is_feed_octet(octet: u8) -> bool
     octet == b'\n'
 }
 
-/// Whether the octet is a digit.
-pub fn is_digit_octet(octet: u8) -> bool
-    ensures { result ≡ is_digit octet }
-{
-    b'0' <= octet && octet <= b'9'
-}
-
 /// Whether the octet is a space or a tab.
 pub fn is_space_octet(octet: u8) -> bool
     ensures { result ≡ is_space octet }
@@ -90,7 +84,7 @@ pub fn is_space_octet(octet: u8) -> bool
 pub fn with_digit(value: u8, octet: u8, limit: u8) -> Option<u8>
     ensures { result ≡ digit_after value octet limit }
 {
-    if !is_digit_octet(octet) {
+    if !octet.is_ascii_digit() {
         return None;
     }
     let more = u16::from(value) * 10 + u16::from(octet - b'0');

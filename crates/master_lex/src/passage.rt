@@ -8,7 +8,7 @@ ghost use Rattle.master_lex.specs.Undo.{Grew};
 
 use crate::entry::{Entry, Token};
 use crate::fault::{LexFault, LexKind};
-use crate::octet::{OctetKind, is_digit_octet, is_space_octet, kind_of, with_digit};
+use crate::octet::{OctetKind, is_space_octet, kind_of, with_digit};
 use dns_data::{List, NoMemory};
 use std::alloc::Global;
 use std::collections::VecDeque;
@@ -288,7 +288,7 @@ impl Passage {
         match (kind_of(octet), with_digit(0, octet, 2)) {
             (OctetKind::LineFeed, _) => self.fail(LexKind::BadEscape),
             (_, Some(value)) => return self.push(octet, quoted, Escape::One(value)),
-            (_, None) if is_digit_octet(octet) => self.fail(LexKind::BadEscape),
+            (_, None) if octet.is_ascii_digit() => self.fail(LexKind::BadEscape),
             (_, None) => return self.keep(octet, quoted, Escape::Outside),
         }
         Ok(())
