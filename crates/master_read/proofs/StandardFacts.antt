@@ -1,66 +1,110 @@
--- Examples, which the definitions compute.
-use Rattle.std.proofs.Common.{◌≡◌, ℕ, List, [], ◌∷◌, true, false, refl, codes, Ok, Some, None}
-use Rattle.dns_data.specs.declared.rr_type.RrType.TheVariants.{Ns, Soa, Caa}
-use Rattle.dns_data.specs.declared.rdata.Rdata.TheVariants as data_of
-use Rattle.master_lex.specs.declared.entry.Token.{Token}
-use Rattle.master_read.specs.Entries.{owner_of, front_in, one_more, type_said, data_of as data_behind, made_of, record_of}
-use Rattle.master_read.specs.ZoneText.{with_entry, with_entries, zone_of_entries}
-use Rattle.master_read.specs.Words.{is_among, type_numbered, type_word, class_word}
+-- What the standards print, and what is read of it.
+use Rattle.std.specs.Prelude.{◌≡◌, refl, ℕ, List, [], ◌∷◌, ◌++◌, map, replicate, codes, Some, None, Err}
+use Rattle.dns_data.specs.declared.rdata.Rdata.TheVariants.{A, Ns, Soa, Mx}
+use Rattle.dns_data.specs.declared.rdata.Rr.{Rr}
+use Rattle.dns_data.specs.declared.rr_type.RrType.TheVariants as types
+use Rattle.master_lex.specs.Octets.{kind}
+use Rattle.master_lex.specs.Passing.{passed}
+use Rattle.rdata_forms.specs.declared.fault.RdataFault.TheVariants.{GenericKnown}
+use Rattle.master_read.specs.Entries.{record_of, owner_of, front_in, one_more, type_said, data_of, made_of, directive_of}
+use Rattle.master_read.specs.Words.{type_word, type_numbered, class_word, is_among}
+use Rattle.master_read.specs.ZoneText.{with_entry, with_entries, zone_of_entries, zone_text}
+use Rattle.master_read.specs.declared.fault.TextCause.TheVariants.{NotIn as OtherClass, NotSupported, Rdata as BadData}
 use Rattle.master_read.specs.declared.words.ClassWord.TheVariants.{In, NotIn}
 use Rattle.master_read.specs.declared.words.TypeWord.TheVariants.{Known, Dropped, Other}
+use Rattle.master_read.proofs.Worked.Words.{context_with, entry, faulty, lines, name, reads, rr, tokens}
 
--- RFC 3597 section 5: the words TYPE and CLASS with a number, and the example's CLASS32 and TYPE731
-soa_by_number : type_word (codes "TYPE6") ≡ Some (Known Soa)
-unfolding type_word is_among type_numbered
-soa_by_number = refl
-
-caa_in_lower_case : type_word (codes "type00257") ≡ Some (Known Caa)
-unfolding type_word is_among type_numbered
-caa_in_lower_case = refl
-
+-- RFC 3597 section 5: types and classes by their numbers
 type_731 : type_word (codes "TYPE731") ≡ Some Other
 unfolding type_word is_among type_numbered
 type_731 = refl
+
+type_62347 : type_word (codes "TYPE62347") ≡ Some Other
+unfolding type_word is_among type_numbered
+type_62347 = refl
+
+type_1 : type_word (codes "TYPE1") ≡ Some (Known types.A)
+unfolding type_word is_among type_numbered
+type_1 = refl
 
 class_32 : class_word (codes "CLASS32") ≡ Some NotIn
 unfolding class_word is_among
 class_32 = refl
 
-class_1 : class_word (codes "Class1") ≡ Some In
+class_1 : class_word (codes "CLASS1") ≡ Some In
 unfolding class_word is_among
 class_1 = refl
 
-no_such_number : type_word (codes "TYPE65536") ≡ None
-unfolding type_word is_among type_numbered
-no_such_number = refl
+-- records of its examples: one of another class, and an address in the generic form
+of_class_32 :
+    record_of (context_with [] (Some 7) None None) (entry 1 (tokens "a.example. CLASS32 TYPE731 \\# 6 abcd ef 01 23 45"))
+    ≡ Err OtherClass
+unfolding record_of owner_of front_in one_more class_word is_among
+of_class_32 = refl
 
--- RFC 4034 section 4, RFC 5155 section 3: NSEC3 is type 50, and NSEC3PARAM, type 51, is another type
-nsec3 : type_word (codes "TYPE50") ≡ Some Dropped
-unfolding type_word is_among type_numbered
-nsec3 = refl
+a_generic_address :
+    record_of (context_with [] (Some 7) None None) (entry 1 (tokens "e.example. IN A \\# 4 0A000001"))
+    ≡ Err (BadData GenericKnown)
+unfolding record_of owner_of front_in one_more data_of type_said type_word class_word is_among
+a_generic_address = refl
 
-nsec3param : type_word (codes "nsec3param") ≡ Some Other
+-- RFC 4034 sections 3 and 4, RFC 5155 sections 3 and 4: the numbers of RRSIG, NSEC and NSEC3, and of NSEC3PARAM
+dropped_by_number : map type_word (codes "TYPE46" ∷ codes "TYPE47" ∷ codes "TYPE50" ∷ []) ≡ replicate 3 (Some Dropped)
+unfolding type_word is_among
+dropped_by_number = refl
+
+nsec3param : type_word (codes "TYPE51") ≡ Some Other
 unfolding type_word is_among type_numbered
 nsec3param = refl
 
--- the word of a type in another case
-ns : type_word (codes "nS") ≡ Some (Known Ns)
-unfolding type_word is_among type_numbered
-ns = refl
+-- RFC 1035 section 5.3: the file that defines the zone ISI.EDU, without its last line
+abbrev pub isi_edu : List ℕ
+isi_edu = lines
+    (codes "@   IN  SOA     VENERA      Action\\.domains ("
+    ∷ codes "                                 20     ; SERIAL"
+    ∷ codes "                                 7200   ; REFRESH"
+    ∷ codes "                                 600    ; RETRY"
+    ∷ codes "                                 3600000; EXPIRE"
+    ∷ codes "                                 60)    ; MINIMUM"
+    ∷ []
+    ∷ codes "        NS      A.ISI.EDU."
+    ∷ codes "        NS      VENERA"
+    ∷ codes "        NS      VAXA"
+    ∷ codes "        MX      10      VENERA"
+    ∷ codes "        MX      20      VAXA"
+    ∷ []
+    ∷ codes "A       A       26.3.0.103"
+    ∷ []
+    ∷ codes "VENERA  A       10.1.0.52"
+    ∷ codes "        A       128.9.0.32"
+    ∷ []
+    ∷ codes "VAXA    A       10.2.0.27"
+    ∷ codes "        A       128.9.0.33"
+    ∷ []
+    ∷ [])
 
--- a token without quotes
-abbrev word : List ℕ → Token
-word octets = record { raw = octets; quoted = false }
+-- its records, all with the MINIMUM of the start of authority
+abbrev isi_edu_records : List Rr
+isi_edu_records =
+    rr (name "isi.edu") 60
+    (Soa (name "venera.isi.edu") (codes "edu" ∷ codes "isi" ∷ codes "action.domains" ∷ []) 20 7200 600 3600000 60) 1
+    ∷ rr (name "isi.edu") 60 (Ns (name "a.isi.edu")) 8
+    ∷ rr (name "isi.edu") 60 (Ns (name "venera.isi.edu")) 9
+    ∷ rr (name "isi.edu") 60 (Ns (name "vaxa.isi.edu")) 10
+    ∷ rr (name "isi.edu") 60 (Mx 10 (name "venera.isi.edu")) 11
+    ∷ rr (name "isi.edu") 60 (Mx 20 (name "vaxa.isi.edu")) 12
+    ∷ rr (name "a.isi.edu") 60 (A (26 ∷ 3 ∷ 0 ∷ 103 ∷ [])) 14
+    ∷ rr (name "venera.isi.edu") 60 (A (10 ∷ 1 ∷ 0 ∷ 52 ∷ [])) 16
+    ∷ rr (name "venera.isi.edu") 60 (A (128 ∷ 9 ∷ 0 ∷ 32 ∷ [])) 17
+    ∷ rr (name "vaxa.isi.edu") 60 (A (10 ∷ 2 ∷ 0 ∷ 27 ∷ [])) 19
+    ∷ rr (name "vaxa.isi.edu") 60 (A (128 ∷ 9 ∷ 0 ∷ 33 ∷ [])) 20
+    ∷ []
 
--- RFC 1035 section 5.3: a second record of one owner, which inherits the owner and the TTL
-vaxa : zone_of_entries (codes "edu" ∷ []) 2 (
-    record { line = 1; blank_start = false; tokens = word (codes "VAXA") ∷ word (codes "60") ∷ word (codes "A") ∷ word (codes "10.2.0.27") ∷ [] }
-    ∷ record { line = 2; blank_start = true; tokens = word (codes "A") ∷ word (codes "128.9.0.33") ∷ [] } ∷ []
-    ) None ≡ Ok (record {
-      rrs =
-          record { owner = codes "edu" ∷ codes "vaxa" ∷ []; ttl = 60; rdata = data_of.A (10 ∷ 2 ∷ 0 ∷ 27 ∷ []); file = 0; line = 1 }
-          ∷ record { owner = codes "edu" ∷ codes "vaxa" ∷ []; ttl = 60; rdata = data_of.A (128 ∷ 9 ∷ 0 ∷ 33 ∷ []); file = 0; line = 2 } ∷ [];
-      seen = 2;
-    })
-unfolding zone_of_entries with_entries with_entry record_of owner_of front_in one_more data_behind type_said made_of type_word class_word is_among type_numbered
-vaxa = refl
+isi_edu_reads : zone_text (name "isi.edu") 11 isi_edu ≡ reads isi_edu_records 11
+unfolding zone_text zone_of_entries with_entries with_entry record_of owner_of front_in one_more type_said data_of made_of type_word class_word is_among directive_of passed kind
+isi_edu_reads = refl
+
+-- its last line includes another file
+isi_edu_includes : zone_text (name "isi.edu") 11 (isi_edu ++ codes "$INCLUDE <SUBSYS>ISI-MAILBOXES.TXT") ≡ faulty 22 NotSupported
+unfolding zone_text zone_of_entries with_entries with_entry record_of owner_of front_in one_more type_said data_of made_of type_word class_word is_among directive_of passed kind
+isi_edu_includes = refl

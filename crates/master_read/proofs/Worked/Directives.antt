@@ -1,5 +1,5 @@
 -- Directives.
-use Rattle.std.specs.Prelude.{◌≡◌, refl, ℕ, [], ◌∷◌, false, true, Some, None, Ok, Err}
+use Rattle.std.specs.Prelude.{◌≡◌, refl, ℕ, [], ◌∷◌, false, true, Some, Ok, Err}
 use Rattle.dns_data.specs.Name.{Labels}
 use Rattle.master_read.specs.Entries.{is_directive, directive_of, origin_directive, ttl_directive}
 use Rattle.master_read.specs.declared.context.Context.{Context}

@@ -9,64 +9,14 @@ use Rattle.rdata_forms.specs.declared.fault.RdataFault.TheVariants.{FieldCount, 
 use Rattle.master_read.specs.Entries.{record_of, owner_of, front_in, one_more, type_said, data_of, made_of, directive_of, origin_directive, ttl_directive}
 use Rattle.master_read.specs.Words.{type_word, type_numbered, class_word, is_among}
 use Rattle.master_read.specs.ZoneText.{with_entry, with_entries, zone_of_entries, zone_text}
-use Rattle.master_read.specs.declared.fault.TextCause.TheVariants.{BadDirective, NotSupported, Lex, Rdata as BadData, NoTtl, TooMany}
+use Rattle.master_read.specs.declared.fault.TextCause.TheVariants.{BadDirective, Lex, Rdata as BadData, NoTtl, TooMany}
+use Rattle.master_read.proofs.StandardFacts.{isi_edu}
 use Rattle.master_read.proofs.Worked.Words.{faulty, lines, name, reads, rr}
 
--- RFC 1035 section 5.3: the file that defines the zone ISI.EDU, without its last line
-abbrev isi_edu : List ℕ
-isi_edu = lines
-    (codes "@   IN  SOA     VENERA      Action\\.domains ("
-    ∷ codes "                                 20     ; SERIAL"
-    ∷ codes "                                 7200   ; REFRESH"
-    ∷ codes "                                 600    ; RETRY"
-    ∷ codes "                                 3600000; EXPIRE"
-    ∷ codes "                                 60)    ; MINIMUM"
-    ∷ []
-    ∷ codes "        NS      A.ISI.EDU."
-    ∷ codes "        NS      VENERA"
-    ∷ codes "        NS      VAXA"
-    ∷ codes "        MX      10      VENERA"
-    ∷ codes "        MX      20      VAXA"
-    ∷ []
-    ∷ codes "A       A       26.3.0.103"
-    ∷ []
-    ∷ codes "VENERA  A       10.1.0.52"
-    ∷ codes "        A       128.9.0.32"
-    ∷ []
-    ∷ codes "VAXA    A       10.2.0.27"
-    ∷ codes "        A       128.9.0.33"
-    ∷ []
-    ∷ [])
-
--- its records, all with the MINIMUM of the start of authority
-abbrev isi_edu_records : List Rr
-isi_edu_records =
-    rr (name "isi.edu") 60
-    (Soa (name "venera.isi.edu") (codes "edu" ∷ codes "isi" ∷ codes "action.domains" ∷ []) 20 7200 600 3600000 60) 1
-    ∷ rr (name "isi.edu") 60 (Ns (name "a.isi.edu")) 8
-    ∷ rr (name "isi.edu") 60 (Ns (name "venera.isi.edu")) 9
-    ∷ rr (name "isi.edu") 60 (Ns (name "vaxa.isi.edu")) 10
-    ∷ rr (name "isi.edu") 60 (Mx 10 (name "venera.isi.edu")) 11
-    ∷ rr (name "isi.edu") 60 (Mx 20 (name "vaxa.isi.edu")) 12
-    ∷ rr (name "a.isi.edu") 60 (A (26 ∷ 3 ∷ 0 ∷ 103 ∷ [])) 14
-    ∷ rr (name "venera.isi.edu") 60 (A (10 ∷ 1 ∷ 0 ∷ 52 ∷ [])) 16
-    ∷ rr (name "venera.isi.edu") 60 (A (128 ∷ 9 ∷ 0 ∷ 32 ∷ [])) 17
-    ∷ rr (name "vaxa.isi.edu") 60 (A (10 ∷ 2 ∷ 0 ∷ 27 ∷ [])) 19
-    ∷ rr (name "vaxa.isi.edu") 60 (A (128 ∷ 9 ∷ 0 ∷ 33 ∷ [])) 20
-    ∷ []
-
-isi_edu_reads : zone_text (name "isi.edu") 11 isi_edu ≡ reads isi_edu_records 11
-unfolding zone_text zone_of_entries with_entries with_entry record_of owner_of front_in one_more type_said data_of made_of type_word class_word is_among directive_of passed kind
-isi_edu_reads = refl
-
+-- the file of the zone ISI.EDU, without room for its last record
 isi_edu_without_room : zone_text (name "isi.edu") 10 isi_edu ≡ faulty 20 TooMany
 unfolding zone_text zone_of_entries with_entries with_entry record_of owner_of front_in one_more type_said data_of made_of type_word class_word is_among directive_of passed kind
 isi_edu_without_room = refl
-
--- its last line includes another file
-isi_edu_includes : zone_text (name "isi.edu") 11 (isi_edu ++ codes "$INCLUDE <SUBSYS>ISI-MAILBOXES.TXT") ≡ faulty 22 NotSupported
-unfolding zone_text zone_of_entries with_entries with_entry record_of owner_of front_in one_more type_said data_of made_of type_word class_word is_among directive_of passed kind
-isi_edu_includes = refl
 
 -- a file as a server's documentation prints one
 abbrev by_hand : List ℕ

