@@ -83,6 +83,13 @@ in_order : zone_of_entries [] 4 few None ≡ reads few_records 4
 unfolding zone_of_entries with_entries with_entry record_of owner_of front_in one_more type_said data_of made_of type_word class_word is_among directive_of origin_directive ttl_directive
 in_order = refl
 
+-- a second record of one owner has the owner and the stated TTL of the first
+two_addresses :
+    zone_of_entries (name "edu") 2 (entry 1 (tokens "VAXA 60 A 10.2.0.27") ∷ indented 2 (tokens "A 128.9.0.33") ∷ []) None
+    ≡ reads (rr (name "vaxa.edu") 60 (A (10 ∷ 2 ∷ 0 ∷ 27 ∷ [])) 1 ∷ rr (name "vaxa.edu") 60 (A (128 ∷ 9 ∷ 0 ∷ 33 ∷ [])) 2 ∷ []) 2
+unfolding zone_of_entries with_entries with_entry record_of owner_of front_in one_more type_said data_of made_of type_word class_word is_among
+two_addresses = refl
+
 -- the fault of the first entry that has one, at its line
 one_too_many : zone_of_entries [] 3 few None ≡ faulty 9 TooMany
 unfolding zone_of_entries with_entries with_entry record_of owner_of front_in one_more type_said data_of made_of type_word class_word is_among directive_of origin_directive ttl_directive
