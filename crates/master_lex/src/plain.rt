@@ -12,6 +12,10 @@ use crate::octet::{is_blank_octet, is_feed_octet, is_plain_in_quotes, is_plain_i
 use crate::passage::{Escape, MOST, Mode, Passage};
 use dns_data::NoMemory;
 
+/// How many octets a token has room for from its start: more than most names, numbers and addresses
+/// have, so that the memory of one serves the next.
+const FIRST_ROOM: usize = 48;
+
 /// How many octets in front stand for themselves in a token, in quotes or outside.
 fn token_len(octets: &[u8], quoted: bool) -> usize
     ensures len { result ≡ prefix_len (λ octet. stands quoted (kind octet)) octets.now }
@@ -57,13 +61,17 @@ impl Passage {
     {
         let room = MOST.saturating_sub(self.raw.len());
         let count = token_len(octets, quoted).min(room);
-        if count > 0 {
-            self.raw.extend_from_slice(&octets[..count])?;
-            self.way.mode = Mode::InToken {
-                quoted,
-                escape: Escape::Outside,
-            };
+        if count == 0 {
+            return Ok(0);
         }
+        if self.raw.is_empty() {
+            self.raw.reserve(count.max(FIRST_ROOM))?;
+        }
+        self.raw.extend_from_slice(&octets[..count])?;
+        self.way.mode = Mode::InToken {
+            quoted,
+            escape: Escape::Outside,
+        };
         Ok(count)
     }
 
