@@ -1,3 +1,4 @@
+pub mod Answers
 pub mod Label
 pub mod Name
 pub mod NameOrder
