@@ -53,7 +53,7 @@ def records_in(path):
 def main():
     groot = sys.argv[1] if len(sys.argv) > 1 else os.path.join(HERE, "..", "crates", "groot", "out", "groot")
     if not os.access(groot, os.X_OK):
-        raise SystemExit(f"reading.py: no program at {groot}; examples/run.sh builds it")
+        raise SystemExit(f"reading.py: no program at {groot}; cases/run.py builds it")
     print(f"{'file':>8} {'program':<16} {'cpu s':>7} {'MiB/s':>7} {'records/s':>10} {'peak MiB':>9} {'cpu ratio':>10} {'memory ratio':>13}")
     for size in (1, 16):
         with tempfile.TemporaryDirectory() as folder:

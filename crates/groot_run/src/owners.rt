@@ -69,6 +69,3 @@ pub(crate) fn is_once(names: &[&Name], name: &Name) -> bool
         [] => false,
     }
 }
-
-#[cfg(test)]
-pub(crate) mod tests;

@@ -20,9 +20,6 @@ use net_model::Config;
 use serde_json::{Value, json};
 use std::alloc::Global;
 
-#[cfg(test)]
-mod tests;
-
 /// The rewrites that a query may use.
 const DEFAULT_REWRITES: u32 = 12;
 

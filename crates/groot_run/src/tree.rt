@@ -63,6 +63,3 @@ fn common_labels(a: &[Label], b: &[Label]) -> usize
     }
     shared
 }
-
-#[cfg(test)]
-mod tests;

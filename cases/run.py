@@ -1,0 +1,220 @@
+#!/usr/bin/env python3
+"""Runs groot on all cases and examples: run.py [--program GROOT] [WORD ..]
+
+It builds the program once, with `rt run` in crates/groot, unless one is given. With words it runs those cases and
+examples alone whose subject is one of them, or whose name has one in it. For each that goes another way than it says, it prints a line and a diff,
+and at last the counts. It ends with status 1 where one is wrong, or where none was found. cases/README.md says how a
+case is written.
+"""
+import difflib
+import os
+import shlex
+import subprocess
+import sys
+import tempfile
+
+HERE = os.path.dirname(os.path.abspath(__file__))
+TOP = os.path.dirname(HERE)
+BUILT = os.path.join(TOP, "crates", "groot", "out", "groot")
+SECONDS = 60
+
+
+def contents(*path):
+    """The octets of a file of the repository."""
+    with open(os.path.join(TOP, *path), "rb") as file:
+        return file.read()
+
+
+HEAD = contents("cases", "head.zone")
+METADATA = contents("cases", "metadata.json")
+USAGE = contents("cases", "usage.txt")
+
+
+class Case:
+    """The words and files of a run, and what it must print and end with. With a folder it runs there, over its files."""
+
+    def __init__(self, name):
+        self.name = name
+        self.words = ["check", "metadata.json"]
+        self.files = {"metadata.json": METADATA, "t.zone": HEAD}
+        self.folder = None
+        self.output = None
+        self.wanted = {}
+
+    def want(self, what, value):
+        if what in self.wanted:
+            raise SystemExit(f"{self.name}: {what} is said twice")
+        self.wanted[what] = value
+
+    def expected(self):
+        """Status, out and err: nothing is printed unless it is said, and a line on err is a refusal's."""
+        if not self.wanted:
+            raise SystemExit(f"{self.name}: it says nothing of what it expects")
+        out, err = self.wanted.get("out", b""), self.wanted.get("err", b"")
+        return self.wanted.get("status", 3 if err else 0), out, err
+
+
+def octets(value):
+    return value.encode() if isinstance(value, str) else value
+
+
+def made(text, name):
+    """The value of a Python expression over the head of a zone and the metadata that most cases have."""
+    value = eval(text, {"HEAD": HEAD, "METADATA": METADATA})
+    return [octets(word) for word in value] if name == "args" else octets(value)
+
+
+def put(case, key, name, text):
+    """Takes a part of a case: its key, what stands behind that on the line, and the lines below."""
+    if key == "lines":
+        case.files["t.zone"] = HEAD + octets(name + "\n" if name else text)
+    elif key == "zone":
+        case.files["t.zone"] = octets(text)
+    elif key == "metadata":
+        case.files["metadata.json"] = octets(name + "\n" if name else text)
+    elif key == "file":
+        case.files[name] = octets(text)
+    elif key == "made" and name == "args":
+        case.words = made(text, name)
+    elif key == "made" and name == "out":
+        case.want("out", made(text, name))
+    elif key == "made":
+        case.files[name] = made(text, name)
+    elif key == "without":
+        del case.files[name]
+    elif key == "args":
+        case.words = shlex.split(name)
+    elif key == "output":
+        case.output = name
+    elif key == "usage":
+        case.want("err", USAGE)
+        case.want("status", 2)
+    elif key == "status":
+        case.want("status", int(name))
+    elif key in ("out", "err"):
+        case.want(key, octets(name + "\n" if name else text))
+    else:
+        raise SystemExit(f"{case.name}: no part of a case is called {key}")
+
+
+def cases_of(path):
+    """The cases of a file, in order."""
+    subject = os.path.splitext(os.path.basename(path))[0]
+    blocks = ("\n" + contents(path).decode()).split("\n== ")
+    for block in blocks[1:]:
+        title, _, parts = block.rstrip("\n").partition("\n")
+        case = Case(f"{subject}/{title.strip()}")
+        for part in ("\n" + parts).split("\n-- ")[1:]:
+            first, _, text = part.partition("\n")
+            key, _, name = first.partition(" ")
+            put(case, key, name, text + "\n" if text else "")
+        yield case
+
+
+def example(name):
+    """An example: its report, or what it says on err, and its status, where it isn't the one of the report."""
+    folder = os.path.join("examples", name)
+    case = Case(folder)
+    case.folder = os.path.join(TOP, folder)
+    beside = lambda file: os.path.exists(os.path.join(case.folder, file))
+    if beside("args"):
+        case.words = contents(folder, "args").decode().splitlines()
+    if beside("report.json"):
+        report = contents(folder, "report.json")
+        case.want("out", report)
+        case.want("status", 0 if b'"faults":[]' in report else 1)
+    if beside("err"):
+        case.want("err", contents(folder, "err"))
+    if beside("status"):
+        case.wanted["status"] = int(contents(folder, "status"))
+    return case
+
+
+def all_cases():
+    for name in sorted(os.listdir(HERE)):
+        if name.endswith(".cases"):
+            yield from cases_of(os.path.join("cases", name))
+    for name in sorted(os.listdir(os.path.join(TOP, "examples"))):
+        if os.path.isdir(os.path.join(TOP, "examples", name)):
+            yield example(name)
+
+
+def is_asked_for(case, words):
+    subject, _, name = case.name.partition("/")
+    return not words or any(word == subject or word in name for word in words)
+
+
+def lay(case, folder):
+    """Puts the files of a case into a folder."""
+    for name, text in case.files.items():
+        path = os.path.join(folder, name)
+        os.makedirs(os.path.dirname(path), exist_ok=True)
+        with open(path, "wb") as file:
+            file.write(text)
+
+
+def run_in(folder, program, case):
+    """Status, out and err of the program in a folder."""
+    out = open(case.output, "wb") if case.output else subprocess.PIPE
+    ended = subprocess.run([program, *case.words], cwd=folder, stdin=subprocess.DEVNULL, stdout=out, stderr=subprocess.PIPE, timeout=SECONDS)
+    return ended.returncode, ended.stdout or b"", ended.stderr
+
+
+def run(program, case):
+    if case.folder:
+        return run_in(case.folder, program, case)
+    with tempfile.TemporaryDirectory() as folder:
+        lay(case, folder)
+        return run_in(folder, program, case)
+
+
+def differences(expected, got):
+    """A line for each way in which a run differs from what is expected of it."""
+    lines = [] if expected[0] == got[0] else [f"status {got[0]} where {expected[0]} is right"]
+    for what, right, own in zip(("out", "err"), expected[1:], got[1:]):
+        right, own = (text.decode(errors="backslashreplace").splitlines(keepends=True) for text in (right, own))
+        for line in difflib.unified_diff(right, own, f"{what} expected", what, n=1):
+            lines.append(line if line.endswith("\n") else line + "\n\\ no line feed at its end")
+    return [line.rstrip("\n")[:2000] for line in lines]
+
+
+def check_the_checker():
+    """A case that is made wrong in its status, on out or on err is told."""
+    right = (1, b"a\n", b"b\n")
+    wrong = [(0, b"a\n", b"b\n"), (1, b"a", b"b\n"), (1, b"", b"b\n"), (1, b"a\n", b"c\n"), (1, b"a\n", b"b\nb\n")]
+    if differences(right, right) or not all(differences(right, other) for other in wrong):
+        raise SystemExit("run.py: it doesn't tell a wrong case")
+
+
+def build():
+    """Proves and builds the program, and gives its path."""
+    ended = subprocess.run(["rt", "run"], cwd=os.path.join(TOP, "crates", "groot"), stdin=subprocess.DEVNULL, capture_output=True)
+    if ended.returncode not in (0, 2) or not os.access(BUILT, os.X_OK):
+        sys.stdout.write((ended.stdout + ended.stderr).decode(errors="replace")[-3000:])
+        raise SystemExit("run.py: the program isn't built")
+    return BUILT
+
+
+def main(words):
+    check_the_checker()
+    program = None
+    if words[:1] == ["--program"] and len(words) > 1:
+        program, words = os.path.abspath(words[1]), words[2:]
+    cases = [case for case in all_cases() if is_asked_for(case, words)]
+    program = program or build()
+    names = [case.name for case in cases]
+    wrong = len(names) - len(set(names))
+    if wrong:
+        print(f"two cases have one name: {sorted(name for name in set(names) if names.count(name) > 1)}")
+    for case in cases:
+        lines = differences(case.expected(), run(program, case))
+        if lines:
+            wrong += 1
+            print(f"WRONG {case.name}: {shlex.join(os.fsdecode(word) for word in case.words)}")
+            print("".join(f"    {line}\n" for line in lines), end="")
+    print(f"cases and examples: {len(cases) - wrong} right, {wrong} wrong")
+    return 0 if cases and not wrong else 1
+
+
+if __name__ == "__main__":
+    sys.exit(main(sys.argv[1:]))
