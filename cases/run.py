@@ -187,9 +187,9 @@ def check_the_checker():
 
 
 def build():
-    """Proves and builds the program, and gives its path."""
+    """Proves and builds the program, and gives its path. Run without words it prints the usage line."""
     ended = subprocess.run(["rt", "run"], cwd=os.path.join(TOP, "crates", "groot"), stdin=subprocess.DEVNULL, capture_output=True)
-    if ended.returncode not in (0, 2) or not os.access(BUILT, os.X_OK):
+    if USAGE not in ended.stderr or not os.access(BUILT, os.X_OK):
         sys.stdout.write((ended.stdout + ended.stderr).decode(errors="replace")[-3000:])
         raise SystemExit("run.py: the program isn't built")
     return BUILT
