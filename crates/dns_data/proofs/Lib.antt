@@ -1,9 +1,16 @@
 pub mod DataFacts
+pub mod DifferentItems
 pub mod Labels
+pub mod LeastItems
+pub mod Membership
+pub mod NameFronts
+pub mod NameOrder
 pub mod Names
+pub mod OrderedLists
 pub mod Pieces
 pub mod Reading
 pub mod RoundTrip
+pub mod Searches
 pub mod Sets
 pub mod StandardFacts
 pub mod Words

@@ -30,14 +30,14 @@ use Rattle.groot_run.specs.Outcome.{default_rewrites}
 use Rattle.groot_run.specs.Report.{repeats, ClassShows, PathsShow, paths_cmp, IsEntry}
 use Rattle.groot_run.proofs.FirstAliases.{target_differs}
 use Rattle.groot_run.proofs.FirstBlackholes.{owns_blackhole, shown_is_alias, only_blackhole, blackhole_walk_shows, owner_shows}
-use Rattle.groot_run.proofs.FirstGround.{among_named}
 use Rattle.groot_run.proofs.FirstNearest.{config_for}
 use Rattle.groot_run.proofs.FirstRecords.{IsFirstZone}
 use Rattle.groot_run.proofs.FirstWalks.{setting_for}
-use Rattle.groot_run.proofs.Membership.{has_later, map_has, flat_map_has}
-use Rattle.groot_run.proofs.NameOrder.{names_total}
 use Rattle.groot_run.proofs.OnlyWalk.{IsOnlyWalk, shown_by_one}
-use Rattle.groot_run.proofs.SortedTree.{prefixes_have}
+use Rattle.net_model.proofs.Naming.{among_named}
+use Rattle.dns_data.proofs.Membership.{has_later, map_has, flat_map_has}
+use Rattle.dns_data.proofs.NameOrder.{names_total}
+use Rattle.net_model.proofs.Prefixes.{prefixes_have}
 
 -- type A has the least number
 a_first : (rtype : RrType) → number_of types.A ≤ number_of rtype
@@ -72,7 +72,7 @@ module _ (server : Labels) (zone : Zone) (first : IsFirstZone zone) where
       (prefixes_have alias.owner alias.owner ([], append-nil alias.owner))))
 
   -- and short
-  pub owner_short : (alias : Alias) → IsBlackhole zone alias → wire_octets alias.owner ≤ 255
+  owner_short : (alias : Alias) → IsBlackhole zone alias → wire_octets alias.owner ≤ 255
   owner_short alias is =
       let short = subst (λ (name : Labels). wire_octets name ≤ 200) is.owned (first.records is.rr is.among).short in omega arith
 
@@ -114,7 +114,7 @@ module _ (server : Labels) (zone : Zone) (first : IsFirstZone zone) where
       → PathsShow (setting_for server zone (server_names config)) alias.owner types.A (Blackhole (alias_place server zone.origin alias)) others walks
       → paths_cmp others ((0 ∷ 0 ∷ 0 ∷ []) ∷ []) ≢ Less
   no_walk_before alias is others walks paths =
-      let one = shown_by_one (setting_for server zone (server_names config)) _ _ (alias_place server zone.origin alias) walks paths.show in
+      let one = shown_by_one (setting_for server zone (server_names config)) (alias_place server zone.origin alias) walks paths.show in
       by others one.0 (paths.are_walks ∙ ap (map (λ (w : Walk). Some w)) one.1)
     where
       by : (others : List (List ℕ)) (walk : Walk)

@@ -7,12 +7,13 @@
 --   shown_is_alias         so a blackhole that a query shows is that of an alias of the query's name
 --   entry_right            the query for the owner with type A shows it first
 --   report_of_blackholes   and the entries of the aliases that are blackholes are the report's
-use Rattle.std.proofs.Common.{◌≡◌, ℕ, ◌<◌, true, List, [], ◌∷◌, map, length, Contains, AllPairs, get_or, Less, sym, refl, ap, ◌∙◌, subst, arith}
+use Rattle.std.proofs.Common.{◌≡◌, ℕ, ◌<◌, true, List, [], ◌∷◌, map, length, All, Contains, AllPairs, get_or, Less, sym, refl, ap, ◌∙◌, subst, arith}
 use Rattle.std.specs.List.{AllByRecursion}
 use Rattle.std.specs.Ordering.{ordering_then}
 use Rattle.std.proofs.lemmas.Cmp.{tied_itself}
 use Rattle.std.proofs.lemmas.List.{length-map, get_or-map}
-use Rattle.dns_data.specs.Name.{Labels, name_cmp}
+use Rattle.std.proofs.lemmas.List.Elements.{All-contains}
+use Rattle.dns_data.specs.Name.{Labels, IsName, name_cmp}
 use Rattle.dns_data.specs.declared.rdata.Rr.{Rr}
 use Rattle.dns_data.specs.declared.rr_type.RrType.TheVariants as types
 use Rattle.net_model.specs.declared.config.Config.{Config}
@@ -27,12 +28,12 @@ use Rattle.groot_run.specs.Blackholes.{Alias, IsBlackhole, AreBlackholes, alias_
 use Rattle.groot_run.specs.FirstShape.{is_first_shape, one_zone, IsFirstConfig}
 use Rattle.groot_run.specs.Outcome.{default_rewrites}
 use Rattle.groot_run.specs.Report.{Entry, is_looked_for, IsEntry, IsShown, IsTreeSize, IsReport}
-use Rattle.groot_run.proofs.BlackholeEntry.{owner_short, entry_right}
+use Rattle.groot_run.proofs.BlackholeEntry.{entry_right}
 use Rattle.groot_run.proofs.FirstBlackholes.{shown_is_alias, owner_shows}
 use Rattle.groot_run.proofs.FirstNearest.{config_for}
 use Rattle.groot_run.proofs.FirstRecords.{IsFirstZone, first_zone, how_made}
-use Rattle.groot_run.proofs.Membership.{has_first, has_later, map_has}
-use Rattle.groot_run.proofs.NameOrder.{names_total}
+use Rattle.dns_data.proofs.Membership.{has_first, has_later, map_has}
+use Rattle.dns_data.proofs.NameOrder.{names_total}
 
 -- ---- lists
 
@@ -69,14 +70,14 @@ module _ (server : Labels) (zone : Zone) (first : IsFirstZone zone) where
   abbrev config : Config
   config = config_for server zone
 
-  -- the blackhole of each entry is shown
-  entry_shown : (alias : Alias) → IsBlackhole zone alias → IsShown config default_rewrites (Blackhole (alias_place server zone.origin alias))
-  entry_shown alias is =
+  -- the blackhole of each entry is shown, where the owners are names
+  entry_shown : All (λ (rr : Rr). IsName rr.owner) zone.rrs → (alias : Alias) → IsBlackhole zone alias → IsShown config default_rewrites (Blackhole (alias_place server zone.origin alias))
+  entry_shown named alias is =
       record {
         looked_for = refl;
         query = alias.owner;
         rtype = types.A;
-        short = owner_short server zone first alias is;
+        is_name = subst IsName is.owned (All-contains (λ (rr : Rr). IsName rr.owner) zone.rrs is.rr named is.among);
         shows = owner_shows server zone first alias types.A refl is;
       }
 
@@ -91,10 +92,10 @@ module _ (server : Labels) (zone : Zone) (first : IsFirstZone zone) where
   shown_has_entry aliases are fault shown = let looked_for : is_looked_for fault ≡ true = shown.looked_for in cc
 
   -- so the entries of the blackholes are the report's
-  report_of_zone : (aliases : List Alias) (names classes : ℕ) → IsTreeSize (ground_of config) names classes → AreBlackholes zone aliases
+  report_of_zone : All (λ (rr : Rr). IsName rr.owner) zone.rrs → (aliases : List Alias) (names classes : ℕ) → IsTreeSize (ground_of config) names classes → AreBlackholes zone aliases
       → IsReport config default_rewrites
       (record { classes = classes; names = names; rewrites = default_rewrites; entries = blackhole_entries server zone.origin aliases })
-  report_of_zone aliases names classes size are =
+  report_of_zone named aliases names classes size are =
       record {
         size = size;
         limit = refl;
@@ -106,7 +107,7 @@ module _ (server : Labels) (zone : Zone) (first : IsFirstZone zone) where
             (λ alias among. entry_right server zone first alias ((are.all alias).0 among));
         each_shown =
             all_images (λ (entry : Entry). IsShown config default_rewrites entry.fault) (blackhole_entry server zone.origin) aliases
-            (λ alias among. entry_shown alias ((are.all alias).0 among));
+            (λ alias among. entry_shown named alias ((are.all alias).0 among));
         all_shown = shown_has_entry aliases are;
       }
 
@@ -130,15 +131,15 @@ parts_of config is = let made = how_made config is in subst IsOf made.made (part
 -- the report of a configuration of the first shape: its blackholes, each by the query for its alias's owner
 pub report_of_blackholes : (config : Config) → IsFirstConfig config → (server : Labels) (zone : Zone)
     → server_names config ≡ server ∷ [] → zones config ≡ zone ∷ []
-    → (aliases : List Alias) (names classes : ℕ)
+    → All (λ (rr : Rr). IsName rr.owner) zone.rrs → (aliases : List Alias) (names classes : ℕ)
     → IsTreeSize (ground_of config) names classes
     → AreBlackholes zone aliases
     → IsReport config default_rewrites
     (record { classes = classes; names = names; rewrites = default_rewrites; entries = blackhole_entries server zone.origin aliases })
-report_of_blackholes config is server zone named held aliases names classes size are =
-    let parts = parts_of config is server zone named held in
+report_of_blackholes config is server zone called held named aliases names classes size are =
+    let parts = parts_of config is server zone called held in
     subst
     (λ (c : Config). IsReport c default_rewrites
     (record { classes = classes; names = names; rewrites = default_rewrites; entries = blackhole_entries server zone.origin aliases })) parts.0
-    (report_of_zone server zone parts.1 aliases names classes
+    (report_of_zone server zone parts.1 named aliases names classes
     (subst (λ (c : Config). IsTreeSize (ground_of c) names classes) (sym parts.0) size) are)

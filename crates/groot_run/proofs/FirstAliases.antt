@@ -22,9 +22,9 @@ use Rattle.net_model.specs.Zone.{is_of, owns, exists_in, target_of, data_at, tar
 use Rattle.groot_run.specs.FirstShape.{records_at}
 use Rattle.groot_run.proofs.FirstLookup.{own_records_decide, owner_exists}
 use Rattle.groot_run.proofs.FirstRecords.{IsFirstZone}
-use Rattle.groot_run.proofs.Membership.{none_in_nil, has_first, from_filter, filter_has, from_map, map_has}
-use Rattle.groot_run.proofs.Searches.{any_has, filter_none, filter_map_has, from_filter_map, same_if_alone}
-use Rattle.groot_run.proofs.SortedTree.{same_names}
+use Rattle.dns_data.proofs.Membership.{none_in_nil, has_first, from_filter, filter_has, from_map, map_has}
+use Rattle.dns_data.proofs.Searches.{any_has, filter_none, filter_map_has, from_filter_map, same_if_alone}
+use Rattle.dns_data.proofs.Names.{name_eq_decides}
 
 -- the target to which an alias of the name rewrites a query of the type
 abbrev pub alias_for : Zone → Labels → RrType → Option Labels
@@ -67,7 +67,7 @@ target_of_alias zone name target e =
     record {
       rr = held.0;
       among = kept.0;
-      owned = (same_names held.0.owner name).0 is.0;
+      owned = (name_eq_decides held.0.owner name).0 is.0;
       holds = alias_data held.0.rdata target (ap target_of held.2 ∙ given.2) is.1;
     }
 
@@ -83,7 +83,7 @@ target_among : (zone : Zone) (name target : Labels) → OwnsAlias zone name targ
 target_among zone name target owns =
     let is : is_of name types.Cname owns.rr ≡ true =
     and_from (name_eq owns.rr.owner name) (has_type types.Cname owns.rr.rdata)
-    ((same_names owns.rr.owner name).1 owns.owned) (ap (has_type types.Cname) owns.holds) in
+    ((name_eq_decides owns.rr.owner name).1 owns.owned) (ap (has_type types.Cname) owns.holds) in
     filter_map_has target_of (data_at zone name types.Cname) owns.rr.rdata target
     (map_has (λ (rr : Rr). rr.rdata) (filter (is_of name types.Cname) zone.rrs) owns.rr
     (filter_has (is_of name types.Cname) zone.rrs owns.rr owns.among is))
@@ -98,7 +98,7 @@ module _ (zone : Zone) (first : IsFirstZone zone) where
 
   among_own : (name target : Labels) (owns : OwnsAlias zone name target) → Contains (records_at name zone.rrs) owns.rr
   among_own name target owns =
-      filter_has (λ (rr : Rr). name_eq rr.owner name) zone.rrs owns.rr owns.among ((same_names owns.rr.owner name).1 owns.owned)
+      filter_has (λ (rr : Rr). name_eq rr.owner name) zone.rrs owns.rr owns.among ((name_eq_decides owns.rr.owner name).1 owns.owned)
 
   -- so a name's aliases have one target
   pub one_target : (name a b : Labels) → OwnsAlias zone name a → OwnsAlias zone name b → a ≡ b
@@ -136,11 +136,11 @@ module _ (zone : Zone) (first : IsFirstZone zone) where
   target_differs name target owns =
       elim (cases_Bool (name_eq name target)) [
         | inl same ↦ (
-            let owner : owns.rr.owner ≡ target = owns.owned ∙ (same_names name target).0 same in
+            let owner : owns.rr.owner ≡ target = owns.owned ∙ (name_eq_decides name target).0 same in
             absurd (true≢false (sym
             (any_has (is_of target types.Cname) zone.rrs owns.rr owns.among
             (and_from (name_eq owns.rr.owner target) (has_type types.Cname owns.rr.rdata)
-            ((same_names owns.rr.owner target).1 owner) (ap (has_type types.Cname) owns.holds)))
+            ((name_eq_decides owns.rr.owner target).1 owner) (ap (has_type types.Cname) owns.holds)))
             ∙ target_ends name target owns)))
         | inr other ↦ other
       ]

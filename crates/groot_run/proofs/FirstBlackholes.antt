@@ -101,11 +101,11 @@ module _ (server : Labels) (zone : Zone) (first : IsFirstZone zone) where
         → (alias : Alias) × IsBlackhole zone alias × (alias.owner ≡ query) × (alias_place server zone.origin alias ≡ place)
     by None e =
         absurd (plain_shows_none query rtype place
-        (only_walk_shows (setting_for server zone shown.followed) _ _ query rtype place (0 ∷ 0 ∷ [])
+        (only_walk_shows (setting_for server zone shown.followed) query rtype place (0 ∷ 0 ∷ [])
         (plain_walk server zone query rtype) shown.shows.walks
         (only_plain server zone first shown.followed query rtype e) shown.shows.are_walks shown.shows.show))
     by (Some target) e =
-        let shows = only_walk_shows (setting_for server zone shown.followed) _ _ query rtype place (0 ∷ 0 ∷ 0 ∷ [])
+        let shows = only_walk_shows (setting_for server zone shown.followed) query rtype place (0 ∷ 0 ∷ 0 ∷ [])
         (alias_walk server zone query target rtype) shown.shows.walks
         (only_alias server zone first shown.followed query target rtype e) shown.shows.are_walks shown.shows.show in
         let is = alias_shows query target rtype place (alias_tells zone query rtype target e) shows in

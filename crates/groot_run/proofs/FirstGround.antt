@@ -12,24 +12,9 @@ use Rattle.net_model.specs.Prefix.{prefixes}
 use Rattle.net_model.specs.Reading.{Redirection, ReadsAlong, Ground, IsNamed, redirection_of, origins_and_owners, ground_of}
 use Rattle.groot_run.specs.FirstShape.{is_first_shape, one_zone}
 use Rattle.groot_run.proofs.FirstRecords.{first_zone}
-use Rattle.groot_run.proofs.Membership.{none_in_nil, has_first, has_later, first_or_later, flat_map_has, from_flat_map}
-use Rattle.groot_run.proofs.NameOrder.{Begins}
-use Rattle.groot_run.proofs.SortedTree.{prefixes_have, from_prefixes}
-
--- without redirections a name reads on to itself alone
-reads_itself : (redirections : List Redirection) → redirections ≡ [] → (name : Labels) (between : List Labels) (last : Labels)
-    → ReadsAlong redirections name between last → name ≡ last
-reads_itself redirections none name [] last e = e
-reads_itself redirections none name (next ∷ rest) last (once, on) =
-    absurd (none_in_nil once.redirection (subst (λ (rs : List Redirection). Contains rs once.redirection) none once.among))
-
--- so the named names are those of the ground
-pub named_among : (ground : Ground) → ground.redirections ≡ [] → (name : Labels) → IsNamed ground name → Contains ground.names name
-named_among ground none name is =
-    subst (Contains ground.names) (sym (reads_itself ground.redirections none name is.reads.0 is.base is.reads.1)) is.among
-
-pub among_named : (ground : Ground) (name : Labels) → Contains ground.names name → IsNamed ground name
-among_named ground name has = record { base = name; among = has; reads = ([], refl) }
+use Rattle.dns_data.proofs.Membership.{none_in_nil, has_first, has_later, first_or_later, flat_map_has, from_flat_map}
+use Rattle.dns_data.proofs.NameFronts.{Begins}
+use Rattle.net_model.proofs.Prefixes.{prefixes_have, from_prefixes}
 
 -- data that are no DNAME record's redirect nothing
 no_redirection : (owner : Labels) (rdata : Rdata) → has_type types.Dname rdata ≡ false → redirection_of owner rdata ≡ []

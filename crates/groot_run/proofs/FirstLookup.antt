@@ -1,5 +1,5 @@
 -- A lookup in a zone of the first shape finds no cut, no redirection and no wildcard: a name's own records decide.
-use Rattle.std.proofs.Common.{◌≡◌, true, false, ◌&&◌, [], ◌∷◌, ◌++◌, length, codes, Contains, nat_lt, nat_le, Option, Some, None, sym, refl, ap, ◌∙◌, append-nil, inl, inr, true≢false, arith, le-ltb}
+use Rattle.std.proofs.Common.{◌≡◌, Bool, true, false, ◌&&◌, [], ◌∷◌, ◌++◌, length, codes, Contains, nat_lt, nat_le, Option, Some, None, sym, refl, ap, ◌∙◌, append-nil, inl, inr, true≢false, arith, le-ltb}
 use Rattle.std.specs.List.{list_any}
 use Rattle.std.specs.Prelude.{if◌then◌else◌}
 use Rattle.std.proofs.lemmas.Bool.{cases_Bool, and_parts, and_from, and_left, and_right, or_from, or_right}
@@ -10,19 +10,14 @@ use Rattle.dns_data.specs.declared.rdata.Rr.{Rr}
 use Rattle.dns_data.specs.declared.rr_type.RrType.{RrType}
 use Rattle.dns_data.specs.declared.rr_type.RrType.TheVariants as types
 use Rattle.net_model.specs.declared.config.Zone.{Zone}
-use Rattle.net_model.specs.declared.found.Found.{Found}
 use Rattle.net_model.specs.declared.found.Found.TheVariants.{NxDomain}
-use Rattle.net_model.specs.Lookup.{zone_cut, dname_owner, closest_encloser, source_of_synthesis, at_name, synthesized, decided, found}
+use Rattle.net_model.specs.Lookup.{zone_cut, dname_owner, closest_encloser, source_of_synthesis, at_name, Deciding, ByRecords, ByNothing, synthesized, decided, deciding, answered, found}
 use Rattle.net_model.specs.Prefix.{prefixes}
 use Rattle.net_model.specs.Zone.{is_of, owns, exists_in}
 use Rattle.groot_run.proofs.FirstRecords.{IsFirstZone}
-use Rattle.groot_run.proofs.NameOrder.{Begins}
-use Rattle.groot_run.proofs.Searches.{from_any, any_has, any_none, find_none}
-use Rattle.groot_run.proofs.SortedTree.{same_names, is_prefix_tells, is_prefix_told}
-
--- the name begins itself
-begins_itself : (name : Labels) → is_prefix name name ≡ true
-begins_itself name = is_prefix_told name name ([], append-nil name)
+use Rattle.dns_data.proofs.NameFronts.{begins_itself, Begins, is_prefix_tells, is_prefix_told}
+use Rattle.dns_data.proofs.Searches.{from_any, any_has, any_none, find_none}
+use Rattle.dns_data.proofs.Names.{name_eq_decides}
 
 -- a name at or below an asterisk label has it
 below_asterisk : (encloser below : Labels) → list_any (label_eq (codes "*")) (source_of_synthesis encloser ++ below) ≡ true
@@ -50,7 +45,7 @@ module _ (zone : Zone) (first : IsFirstZone zone) where
           → (nat_lt (length zone.origin) (length above) && owns zone above types.Ns) ≡ false
       at_origin (rr, among, is) =
           let parts = and_parts (name_eq rr.owner above) (has_type types.Ns rr.rdata) is in
-          let owner : rr.owner ≡ above = (same_names rr.owner above).0 parts.0 in
+          let owner : rr.owner ≡ above = (name_eq_decides rr.owner above).0 parts.0 in
           let same : above ≡ zone.origin = sym owner ∙ (first.records rr among).ns_at_origin parts.1 in
           and_left (nat_lt (length zone.origin) (length above)) (owns zone above types.Ns)
           (le-ltb (length zone.origin) (length above) (omega (arith, ap length same)))
@@ -79,7 +74,7 @@ module _ (zone : Zone) (first : IsFirstZone zone) where
   not_origin encloser =
       elim (cases_Bool (name_eq (source_of_synthesis encloser) zone.origin)) [
         | inl same ↦ absurd (not_below_asterisk encloser zone.origin
-            ([], append-nil (source_of_synthesis encloser) ∙ (same_names (source_of_synthesis encloser) zone.origin).0 same) first.plain_origin)
+            ([], append-nil (source_of_synthesis encloser) ∙ (name_eq_decides (source_of_synthesis encloser) zone.origin).0 same) first.plain_origin)
         | inr other ↦ other
       ]
 
@@ -97,18 +92,25 @@ module _ (zone : Zone) (first : IsFirstZone zone) where
       (and_right (is_prefix zone.origin (source_of_synthesis encloser)) _
       (any_none (λ rr. is_prefix (source_of_synthesis encloser) rr.owner) zone.rrs (not_above encloser)))
 
-  pub no_wildcard : (rtype : RrType) (encloser : Option Labels) → synthesized zone rtype encloser ≡ NxDomain
-  no_wildcard rtype None = refl
-  no_wildcard rtype (Some encloser) = rw (no_source encloser) refl
+  pub no_wildcard : (encloser : Option Labels) → synthesized zone encloser ≡ ByNothing
+  no_wildcard None = refl
+  no_wildcard (Some encloser) = rw (no_source encloser) refl
 
   -- ---- what decides
 
-  -- so a name's own records decide
+  -- so a name's own records decide, or nothing does
+  pub deciding_first : (name : Labels) → deciding zone name ≡ (if exists_in zone name then ByRecords name else ByNothing)
+  deciding_first name =
+      ap (λ (cut : Option Labels). decided zone name cut (dname_owner zone name)) (no_cut name)
+      ∙ ap (decided zone name None) (no_dname_owner name)
+      ∙ ap (λ (d : Deciding). if exists_in zone name then ByRecords name else d) (no_wildcard (closest_encloser zone name))
+
+  -- and they give what is found
   pub own_records_decide : (name : Labels) (rtype : RrType) → found zone name rtype ≡ (if exists_in zone name then at_name zone name rtype else NxDomain)
-  own_records_decide name rtype =
-      ap (λ (cut : Option Labels). decided zone name rtype cut (dname_owner zone name)) (no_cut name)
-      ∙ ap (decided zone name rtype None) (no_dname_owner name)
-      ∙ ap (λ (f : Found). if exists_in zone name then at_name zone name rtype else f) (no_wildcard rtype (closest_encloser zone name))
+  own_records_decide name rtype = ap (answered zone name rtype) (deciding_first name) ∙ by (exists_in zone name) where
+    by : (exists : Bool) → answered zone name rtype (if exists then ByRecords name else ByNothing) ≡ (if exists then at_name zone name rtype else NxDomain)
+    by true = refl
+    by false = refl
 
   -- an owner exists
   pub owner_exists : (rr : Rr) → Contains zone.rrs rr → exists_in zone rr.owner ≡ true

@@ -10,8 +10,10 @@ use Rattle.net_model.specs.declared.config.Zone.{Zone}
 use Rattle.net_model.specs.Nearest.{server_named, zone_with_origin, nearest, nearest_of}
 use Rattle.net_model.specs.Prefix.{prefixes}
 use Rattle.groot_run.specs.FirstShape.{one_zone}
-use Rattle.groot_run.proofs.Searches.{find_none, find_some}
-use Rattle.groot_run.proofs.SortedTree.{same_names, is_prefix_tells, is_prefix_told, prefixes_have, from_prefixes}
+use Rattle.dns_data.proofs.Searches.{find_none, find_some}
+use Rattle.dns_data.proofs.Names.{name_eq_decides}
+use Rattle.dns_data.proofs.NameFronts.{is_prefix_tells, is_prefix_told}
+use Rattle.net_model.proofs.Prefixes.{prefixes_have, from_prefixes}
 
 -- the configuration of a server that holds the zone
 abbrev pub config_for : Labels → Zone → Config
@@ -24,7 +26,7 @@ module _ (server : Labels) (zone : Zone) where
 
   -- it is the one that its name finds
   server_known : server_named (config_for server zone) server ≡ Some holder
-  server_known = ap (λ (b : Bool). cond b (Some holder) None) ((same_names server server).1 refl)
+  server_known = ap (λ (b : Bool). cond b (Some holder) None) ((name_eq_decides server server).1 refl)
 
   -- so a name's nearest zone is one of its zones
   at_holder : (name : Labels) → nearest_of (config_for server zone) server name ≡ nearest holder name
@@ -38,7 +40,7 @@ module _ (server : Labels) (zone : Zone) where
   origin_tells above is = by (name_eq zone.origin above) refl is where
     by : (b : Bool) → name_eq zone.origin above ≡ b → is_some (cond b (Some zone) None) ≡ true
         → (cond b (Some zone) None ≡ Some zone) × (zone.origin ≡ above)
-    by true e is = (refl, (same_names zone.origin above).0 e)
+    by true e is = (refl, (name_eq_decides zone.origin above).0 e)
     by false e is = cc
 
   -- the zone has the names at or below its origin
@@ -48,7 +50,7 @@ module _ (server : Labels) (zone : Zone) where
       Contains-permutation (prefixes name) (reverse (prefixes name)) zone.origin (IsPermutation-reverse (prefixes name))
       (prefixes_have name zone.origin (is_prefix_tells zone.origin name inside)) in
       let passes : is_origin zone.origin ≡ true =
-      ap (λ (b : Bool). is_some (cond b (Some zone) None)) ((same_names zone.origin zone.origin).1 refl) in
+      ap (λ (b : Bool). is_some (cond b (Some zone) None)) ((name_eq_decides zone.origin zone.origin).1 refl) in
       let longest = find_some is_origin (reverse (prefixes name)) zone.origin among passes in
       at_holder name ∙ ap (option_and_then (zone_with_origin holder)) longest.1 ∙ (origin_tells longest.0 longest.2).0
 

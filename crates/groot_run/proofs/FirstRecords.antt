@@ -13,9 +13,9 @@ use Rattle.net_model.specs.declared.config.Config.{Config}
 use Rattle.net_model.specs.declared.config.Zone.{Zone}
 use Rattle.net_model.specs.Zone.{is_of}
 use Rattle.groot_run.specs.FirstShape.{is_plain_owner, is_plain_data, is_plain_record, is_plain_alias, records_at, is_first_shape, one_zone, config_of, IsFirstConfig}
-use Rattle.groot_run.proofs.Membership.{first_or_later}
-use Rattle.groot_run.proofs.Searches.{each_of_all}
-use Rattle.groot_run.proofs.SortedTree.{same_names}
+use Rattle.dns_data.proofs.Membership.{first_or_later}
+use Rattle.dns_data.proofs.Searches.{each_of_all}
+use Rattle.dns_data.proofs.Names.{name_eq_decides}
 
 -- a record of a zone with this origin: its owner is at or below the origin, is short and has no asterisk label; an NS
 -- record is the origin's, and no record is a DNAME record
@@ -47,7 +47,7 @@ plain_no_dname origin owner _ plain = refl
 
 -- plain data of an NS record are the origin's
 plain_ns : (origin owner : Labels) (rdata : Rdata) → is_plain_data origin owner rdata ≡ true → has_type types.Ns rdata ≡ true → owner ≡ origin
-plain_ns origin owner (Ns target) plain is = (same_names owner origin).0 plain
+plain_ns origin owner (Ns target) plain is = (name_eq_decides owner origin).0 plain
 plain_ns origin owner _ plain is = cc
 
 -- data of an SOA record are no DNAME record's, nor an alias's

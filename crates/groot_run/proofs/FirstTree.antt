@@ -1,5 +1,5 @@
 -- The size of the class tree of a configuration of the first shape.
-use Rattle.std.proofs.Common.{◌≡◌, ℕ, suc, ◌+◌, ◌*◌, ◌^◌, ◌<◌, ◌≤◌, true, false, List, [], ◌∷◌, ◌++◌, map, length, Contains, AllPairs, IsSorted, IsPermutation, get_or, is_lt, is_gt, Ordering, Less, Equal, Greater, drop, Bor, ◌-◌, sym, refl, ap, ◌∙◌, subst, inl, inr, arith, le_trans, append-nil, length-append}
+use Rattle.std.proofs.Common.{◌≡◌, ℕ, suc, ◌+◌, ◌*◌, ◌^◌, ◌<◌, ◌≤◌, true, false, List, [], ◌∷◌, ◌++◌, map, length, All, Contains, AllPairs, IsSorted, IsPermutation, get_or, is_lt, is_gt, Ordering, Less, Equal, Greater, drop, Bor, ◌-◌, sym, refl, ap, ◌∙◌, subst, inl, inr, arith, le_trans, append-nil, length-append}
 use Rattle.std.specs.Prelude.{sum_by}
 use Rattle.std.specs.Ordering.{ordering_reverse}
 use Rattle.std.proofs.lemmas.List.{length-map, get_or-map, drop_more}
@@ -7,7 +7,8 @@ use Rattle.std.specs.List.{common_prefix_len}
 use Rattle.std.proofs.lemmas.List.Sums.{sum_by-append, sum_by-cons}
 use Rattle.std.proofs.lemmas.List.Sorted.{IsPermutation-sym, Contains-permutation, length_permutation}
 use Rattle.dns_data.specs.Label.{label_eq}
-use Rattle.dns_data.specs.Name.{Labels, wire_octets, name_cmp}
+use Rattle.std.proofs.lemmas.List.Elements.{All-contains}
+use Rattle.dns_data.specs.Name.{Labels, IsName, wire_octets, name_cmp}
 use Rattle.dns_data.specs.declared.rdata.Rr.{Rr}
 use Rattle.net_model.specs.declared.class.Class.TheVariants.{Below}
 use Rattle.net_model.specs.declared.config.Config.{Config}
@@ -16,36 +17,17 @@ use Rattle.net_model.specs.Reading.{Ground, records, ground_of}
 use Rattle.groot_run.specs.FirstShape.{is_first_shape, one_zone, IsFirstConfig}
 use Rattle.groot_run.specs.Report.{IsTreeSize}
 use Rattle.groot_run.specs.SortedTree.{new_prefixes, tree_after, tree_of}
-use Rattle.groot_run.proofs.Membership.{has_first, from_map}
-use Rattle.groot_run.proofs.NameOrder.{Begins, UpTo, Before, names_total, pairs_from_rising}
 use Rattle.groot_run.proofs.SortedTree.{InOrder, rising_tree, tree_has, from_tree, length-new_prefixes}
-use Rattle.groot_run.proofs.FirstGround.{named_among, among_named, no_redirections, ground_has, from_ground}
+use Rattle.groot_run.proofs.FirstGround.{no_redirections, ground_has, from_ground}
 use Rattle.groot_run.proofs.FirstRecords.{first_zone, how_made}
-use Rattle.groot_run.proofs.FreeLabel.{free_label}
-use Rattle.groot_run.proofs.FirstLabel.{first_unnamed}
+use Rattle.dns_data.proofs.NameOrder.{turned, UpTo, Before, names_total, pairs_from_rising}
+use Rattle.dns_data.proofs.NameFronts.{octets_of_prefix, octets_with_label, Begins}
+use Rattle.dns_data.proofs.Membership.{has_first, from_map, map_has, all_from_contains}
+use Rattle.net_model.proofs.Naming.{named_among, among_named}
+use Rattle.net_model.proofs.FreeLabel.{free_label}
+use Rattle.net_model.proofs.FirstLabel.{first_unnamed}
 
--- octets of a name with labels below it
-wire_below : (above below : Labels) → wire_octets (above ++ below) ≡ wire_octets above + sum_by (λ label. length label + 1) below
-wire_below above below = omega (arith, sum_by-append (λ (label : List ℕ). length label + 1) above below)
-
--- a prefix has no more octets than the name
-wire_prefix : (above name : Labels) → Begins above name → wire_octets above ≤ wire_octets name
-wire_prefix above name (below, e) = omega (arith, wire_below above below, ap wire_octets e)
-
--- a label takes its length and one
-wire_label : (above : Labels) (label : List ℕ) → wire_octets (above ++ label ∷ []) ≡ wire_octets above + (length label + 1)
-wire_label above label = omega (arith, wire_below above (label ∷ []), sum_by-cons (λ (x : List ℕ). length x + 1) label [])
-
--- a name has fewer labels than octets
-pub labels_fewer : (name : Labels) → length name < wire_octets name
-labels_fewer [] = omega arith
-labels_fewer (label ∷ name) = omega (arith, labels_fewer name, sum_by-cons (λ (x : List ℕ). length x + 1) label name)
-
--- names in order, as a sort leaves them
-not_before : (o : Ordering) → is_lt o ≡ is_gt (ordering_reverse o)
-not_before Less = refl
-not_before Equal = refl
-not_before Greater = refl
+-- ---- names in order, as a sort leaves them
 
 one_up : (k : ℕ) → suc k + 1 ≡ suc (k + 1)
 one_up k = omega arith
@@ -53,7 +35,7 @@ one_up k = omega arith
 in_order_after : (first : Labels) (names : List Labels) → IsSorted name_cmp (first ∷ names) → InOrder first names
 in_order_after first [] sorted = tt
 in_order_after first (next ∷ names) sorted = (
-  ap is_gt (names_total.antisymm first next) ∙ sym (not_before (name_cmp next first))
+  ap is_gt (names_total.antisymm first next) ∙ sym (turned (name_cmp next first))
       ∙ sorted 0 [] (omega arith) (omega arith),
   in_order_after next names (λ k d low high.
       subst (λ (m : ℕ). is_lt (name_cmp (get_or (first ∷ next ∷ names) m d) (get_or (next ∷ names) k d)) ≡ false) (one_up k)
@@ -97,7 +79,7 @@ module _ (server : Labels) (first : Rr) (rest : List Rr) (shape : is_first_shape
           subst (λ (x : Labels). wire_octets x ≤ 200) (sym root) (omega arith),
         )
         | inr (name, among, begins) ↦ (
-            let less : wire_octets above ≤ wire_octets name = wire_prefix above name begins in
+            let less : wire_octets above ≤ wire_octets name = octets_of_prefix above name begins in
             (ground_has server first rest shape name above (is_owner name among) begins, le_trans less (owner_short name among)))
       ]
 
@@ -123,7 +105,7 @@ module _ (server : Labels) (first : Rr) (rest : List Rr) (shape : is_first_shape
           → (least : List ℕ) × IsFirstUnnamed ground above least × (length least ≤ length label)
           → (name : Labels) × IsRepresentative ground (Below above) name
       chosen above short label long (least, is_first, fits) =
-          (above ++ least ∷ [], record { label = least; first = is_first; extends = refl; short = omega (arith, wire_label above least) })
+          (above ++ least ∷ [], record { label = least; first = is_first; extends = refl; short = omega (arith, octets_with_label above least) })
 
   pub size_of_tree : IsSorted name_cmp sorted → length (first ∷ rest) ≤ most_records
       → IsTreeSize ground (length (tree_of sorted)) (2 * length (tree_of sorted))
@@ -203,3 +185,14 @@ as_many_owners rrs owners same =
     sym (length-map owners (λ (o : Bor Labels). o.now))
     ∙ length_permutation (map (λ (rr : Rr). rr.owner) rrs) (map (λ (o : Bor Labels). o.now) owners) same
     ∙ length-map rrs (λ (rr : Rr). rr.owner)
+
+-- where all of them are names, so is the owner of each record
+pub owners_named : (rrs : List Rr) (owners : List (Bor Labels)) → IsPermutation (map (λ rr. rr.owner) rrs) (map (λ (o : Bor Labels). o.now) owners)
+    → All (λ (o : Bor Labels). IsName o.now) owners → All (λ (rr : Rr). IsName rr.owner) rrs
+owners_named rrs owners same named = all_from_contains (λ (rr : Rr). IsName rr.owner) rrs each where
+  each : (rr : Rr) → Contains rrs rr → IsName rr.owner
+  each rr has =
+      let among = Contains-permutation (map (λ (r : Rr). r.owner) rrs) (map (λ (o : Bor Labels). o.now) owners) rr.owner same
+      (map_has (λ (r : Rr). r.owner) rrs rr has) in
+      let found = from_map (λ (o : Bor Labels). o.now) owners rr.owner among in
+      subst IsName found.2 (All-contains (λ (o : Bor Labels). IsName o.now) owners found.0 named found.1)

@@ -13,7 +13,7 @@ use Rattle.dns_data.specs.declared.rdata.Rdata.TheVariants.{A, Ns, Cname, Soa, P
 use Rattle.dns_data.specs.declared.rdata.Rr.{Rr}
 use Rattle.groot_run.specs.Identical.{octets_eq, texts_eq, data_eq, is_identical, kept_with, distinct_after, distinct}
 use Rattle.groot_run.proofs.DistinctRecords.{distinct-next}
-use Rattle.groot_run.proofs.SortedTree.{same_names}
+use Rattle.dns_data.proofs.Names.{name_eq_decides}
 
 -- ---- what is equal is one
 
@@ -21,7 +21,7 @@ same_octets : (a b : List ℕ) → octets_eq a b ≡ true → a ≡ b
 same_octets a b e = (bytes_decides a b).0 e
 
 same_texts : (a b : List (List ℕ)) → texts_eq a b ≡ true → a ≡ b
-same_texts a b e = (same_names a b).0 e
+same_texts a b e = (name_eq_decides a b).0 e
 
 same_number : (a b : ℕ) → (a == b) ≡ true → a ≡ b
 same_number a b e = grind (arith, nat_tests)
@@ -76,7 +76,7 @@ octets_itself : (a : List ℕ) → octets_eq a a ≡ true
 octets_itself a = (bytes_decides a a).1 refl
 
 texts_itself : (a : List (List ℕ)) → texts_eq a a ≡ true
-texts_itself a = (same_names a a).1 refl
+texts_itself a = (name_eq_decides a a).1 refl
 
 number_itself : (a : ℕ) → (a == a) ≡ true
 number_itself a = grind (arith, nat_tests)

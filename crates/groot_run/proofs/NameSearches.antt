@@ -11,9 +11,9 @@ use Rattle.std.proofs.lemmas.List.Folds.{list_any_at, list_any_none}
 use Rattle.std.proofs.lemmas.List.Sorted.{ranks_by, sorted_far, searchable_from_sorted}
 use Rattle.dns_data.specs.Name.{Labels, name_cmp, name_eq}
 use Rattle.groot_run.specs.SortedNames.{is_before, AreNotBefore}
-use Rattle.groot_run.proofs.NameOrder.{Before, names_total, up_to_before}
-use Rattle.groot_run.proofs.SortedNames.{one_name, less_from, up_to_from, before_differs, behind_differs}
-use Rattle.groot_run.proofs.SortedTree.{same_names}
+use Rattle.groot_run.proofs.SortedNames.{less_from, up_to_from, before_differs, behind_differs}
+use Rattle.dns_data.proofs.NameOrder.{Before, names_total, up_to_before}
+use Rattle.dns_data.proofs.Names.{same_names, name_eq_decides}
 
 abbrev pub now_of : Bor Labels → Labels
 now_of other = other.now
@@ -56,7 +56,7 @@ pub found : (xs : List (Bor Labels)) (name : Bor Labels) (r : Result ℕ ℕ) �
 found xs name (Ok i) sorted below holds =
     let there : name_eq (get_or (map now_of xs) i name.now) name.now ≡ true =
     ap (λ (x : Labels). name_eq x name.now) (get_or-map now_of xs i name name.now below)
-    ∙ (same_names (get_or xs i name).now name.now).1 (one_name (get_or xs i name).now name.now (holds name)) in
+    ∙ (name_eq_decides (get_or xs i name).now name.now).1 (same_names (get_or xs i name).now name.now (holds name)) in
     sym (list_any_at (λ (other : Labels). name_eq other name.now) (map now_of xs) i name.now (omega (arith, length-map xs now_of)) there)
 found xs name (Err i) sorted within holds =
     let rises = searchable_from_sorted names_total now_of xs name.now (λ k d low high. sorted_now xs sorted k (k + 1) d (omega arith) high) in

@@ -9,15 +9,14 @@ use Rattle.net_model.specs.declared.config.Config.{Config}
 use Rattle.net_model.specs.declared.fault.Fault.{Fault}
 use Rattle.net_model.specs.declared.walk.Walk.{Walk}
 use Rattle.net_model.specs.Class.{class_cmp, IsRepresentative}
-use Rattle.net_model.specs.Learnt.{InLeast, InGreatest}
 use Rattle.net_model.specs.Reading.{ground_of}
 use Rattle.net_model.specs.Shown.{ShowsIn, WalksShow}
 use Rattle.net_model.specs.Step.{Setting}
 use Rattle.net_model.specs.Walk.{path_cmp, walk_along}
 use Rattle.groot_run.specs.Report.{Entry, ClassShows, PathsShow, paths_cmp, IsEntry}
-use Rattle.groot_run.proofs.FaultOrder.{classes_total, one_class, one_type}
-use Rattle.groot_run.proofs.OrderedLists.{exact_lists, neither_before}
-use Rattle.groot_run.proofs.TrialOrder.{one_representative}
+use Rattle.net_model.proofs.FaultOrder.{classes_total, one_class, one_type}
+use Rattle.dns_data.proofs.OrderedLists.{exact_lists, neither_before}
+use Rattle.net_model.proofs.TrialOrder.{one_representative}
 
 paths_total : IsTotalOrder paths_cmp
 paths_total = lists_total nat_list_cmp_total
@@ -36,10 +35,10 @@ same_items (x ∷ xs) (y ∷ ys) e =
     cc
 
 -- walks that show a fault are some walks
-some_walk : (setting : Setting) (in_least in_greatest : Labels → Type 0) (walks : List Walk) (fault : Fault)
-    → WalksShow setting in_least in_greatest walks fault → (first : Walk) × (slice_get walks 0 ≡ Some first)
-some_walk setting in_least in_greatest [] fault show = absurd show
-some_walk setting in_least in_greatest (walk ∷ walks) fault show = (walk, refl)
+some_walk : (setting : Setting) (walks : List Walk) (fault : Fault)
+    → WalksShow setting walks fault → (first : Walk) × (slice_get walks 0 ≡ Some first)
+some_walk setting [] fault show = absurd show
+some_walk setting (walk ∷ walks) fault show = (walk, refl)
 
 -- entries with the same fields are one
 same_fields : (a b : Entry) → a.fault ≡ b.fault → a.rtype ≡ b.rtype → a.query ≡ b.query → a.repeats ≡ b.repeats → a.walks ≡ b.walks → a ≡ b
@@ -104,7 +103,7 @@ module _ (config : Config) (rewrites : ℕ) where
 
   same_repeats : (a b : Entry) → IsEntry config rewrites a → IsEntry config rewrites b → a.walks ≡ b.walks → a.repeats ≡ b.repeats
   same_repeats a b p q walks =
-      let first = some_walk (setting p.followed) (InLeast config rewrites) (InGreatest config rewrites) a.walks a.fault p.walks.show in
+      let first = some_walk (setting p.followed) a.walks a.fault p.walks.show in
       p.repeats first.0 first.1 ∙ sym (q.repeats first.0 (ap (λ (ws : List Walk). slice_get ws 0) (sym walks) ∙ first.1))
 
   -- entries of one fault are one

@@ -10,11 +10,11 @@ use Rattle.net_model.specs.FaultOrder.{fault_cmp}
 use Rattle.net_model.specs.Reading.{Ground, ground_of}
 use Rattle.net_model.specs.Tree.{IsClassTree, AreBelowClasses}
 use Rattle.groot_run.specs.Report.{Entry, Report, IsEntry, IsShown, IsTreeSize, IsReport}
-use Rattle.groot_run.proofs.FaultOrder.{faults_total}
-use Rattle.groot_run.proofs.Membership.{from_map}
-use Rattle.groot_run.proofs.NameOrder.{names_total}
 use Rattle.groot_run.proofs.OneEntry.{one_entry}
-use Rattle.groot_run.proofs.OrderedLists.{same_rising}
+use Rattle.net_model.proofs.FaultOrder.{faults_total}
+use Rattle.dns_data.proofs.Membership.{from_map}
+use Rattle.dns_data.proofs.NameOrder.{names_total}
+use Rattle.dns_data.proofs.OrderedLists.{same_rising}
 
 -- ---- the size
 

@@ -133,18 +133,18 @@ same_walk setting query rtype numbers walk one others other is =
     same_Some other walk (sym is ∙ ap (walk_along setting query rtype) same ∙ one.is_walk)
 
 -- walks that show a blackhole are one walk that does
-pub shown_by_one : (setting : Setting) (in_least in_greatest : Labels → Type 0) (place : Place) (walks : List Walk)
-    → WalksShow setting in_least in_greatest walks (Blackhole place) → (walk : Walk) × (walks ≡ walk ∷ []) × ShowsBlackhole walk place
-shown_by_one setting in_least in_greatest place [] show = absurd show
-shown_by_one setting in_least in_greatest place (walk ∷ []) show = (walk, refl, show)
-shown_by_one setting in_least in_greatest place (walk ∷ other ∷ []) show = absurd show
-shown_by_one setting in_least in_greatest place (walk ∷ other ∷ third ∷ rest) show = absurd show
+pub shown_by_one : (setting : Setting) (place : Place) (walks : List Walk)
+    → WalksShow setting walks (Blackhole place) → (walk : Walk) × (walks ≡ walk ∷ []) × ShowsBlackhole walk place
+shown_by_one setting place [] show = absurd show
+shown_by_one setting place (walk ∷ []) show = (walk, refl, show)
+shown_by_one setting place (walk ∷ other ∷ []) show = absurd show
+shown_by_one setting place (walk ∷ other ∷ third ∷ rest) show = absurd show
 
 -- where a query has one walk, that walk shows each blackhole that the query shows
-pub only_walk_shows : (setting : Setting) (in_least in_greatest : Labels → Type 0) (query : Labels) (rtype : RrType) (place : Place)
+pub only_walk_shows : (setting : Setting) (query : Labels) (rtype : RrType) (place : Place)
     (numbers : List ℕ) (walk : Walk) (walks : List Walk) → IsOnlyWalk setting query rtype numbers walk
-    → AllByRecursion (IsWalk setting query rtype) walks → WalksShow setting in_least in_greatest walks (Blackhole place) → ShowsBlackhole walk place
-only_walk_shows setting in_least in_greatest query rtype place numbers walk walks one are show =
-    let by = shown_by_one setting in_least in_greatest place walks show in
+    → AllByRecursion (IsWalk setting query rtype) walks → WalksShow setting walks (Blackhole place) → ShowsBlackhole walk place
+only_walk_shows setting query rtype place numbers walk walks one are show =
+    let by = shown_by_one setting place walks show in
     let is = subst (AllByRecursion (IsWalk setting query rtype)) by.1 are in
     subst (λ (w : Walk). ShowsBlackhole w place) (same_walk setting query rtype numbers walk one is.0.0 by.0 is.0.1) by.2

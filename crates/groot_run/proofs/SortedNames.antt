@@ -12,17 +12,15 @@ use Rattle.dns_data.specs.Label.{label_cmp}
 use Rattle.dns_data.specs.Name.{Labels, name_cmp, name_eq, is_prefix}
 use Rattle.groot_run.specs.SortedNames.{is_before, AreNotBefore}
 use Rattle.groot_run.proofs.FirstTree.{in_order}
-use Rattle.groot_run.proofs.Membership.{none_in_nil, has_first, first_or_later}
-use Rattle.groot_run.proofs.NameOrder.{Begins, UpTo, Before, names_total, prefix_up_to, up_to_before, new_prefix_after}
-use Rattle.groot_run.proofs.Searches.{any_none, filter_none}
-use Rattle.groot_run.proofs.SortedTree.{InOrder, same_names, is_prefix_tells, is_prefix_told}
+use Rattle.groot_run.proofs.SortedTree.{InOrder}
+use Rattle.dns_data.proofs.Names.{name_eq_decides, same_names}
+use Rattle.dns_data.proofs.OrderedLists.{never_before_itself}
+use Rattle.dns_data.proofs.NameOrder.{turned, UpTo, Before, names_total, prefix_up_to, up_to_before, new_prefix_after}
+use Rattle.dns_data.proofs.Membership.{none_in_nil, has_first, first_or_later}
+use Rattle.dns_data.proofs.NameFronts.{Begins, is_prefix_tells, is_prefix_told}
+use Rattle.dns_data.proofs.Searches.{any_none, filter_none}
 
 -- ---- the order of two names
-
-turned : (o : Ordering) → is_lt o ≡ is_gt (ordering_reverse o)
-turned Less = refl
-turned Equal = refl
-turned Greater = refl
 
 -- the second doesn't stand before the first, so the first doesn't stand behind the second; and the other way round
 pub up_to_from : (a b : Labels) → is_before b a ≡ false → UpTo a b
@@ -31,13 +29,7 @@ up_to_from a b later = ap is_gt (names_total.antisymm a b) ∙ sym (turned (name
 pub from_up_to : (a b : Labels) → UpTo a b → is_before b a ≡ false
 from_up_to a b le = turned (name_cmp b a) ∙ ap is_gt (sym (names_total.antisymm a b)) ∙ le
 
--- names of which neither stands before the other are one
-pub one_name : (a b : Labels) → name_cmp a b ≡ Equal → a ≡ b
-one_name a b tie = (same_names a b).0 (lists_ties label_cmp texts_ties a b ∙ ap is_eq tie)
-
-never_before_itself : (a : Labels) → Before a a → ⊥
-never_before_itself a less = true≢false (sym (ap is_lt less) ∙ ap is_lt (tied_itself names_total a))
-
+-- what the test of standing before tells
 pub less_from : (o : Ordering) → is_lt o ≡ true → o ≡ Less
 less_from Less e = refl
 less_from Equal e = absurd (true≢false (sym e))
@@ -48,33 +40,33 @@ pub before_differs : (a b : Labels) → Before a b → name_eq a b ≡ false
 before_differs a b less = by (name_eq a b) refl where
   by : (same : Bool) → name_eq a b ≡ same → same ≡ false
   by false e = refl
-  by true e = absurd (never_before_itself b (subst (λ (x : Labels). Before x b) ((same_names a b).0 e) less))
+  by true e = absurd (never_before_itself name_cmp names_total b (subst (λ (x : Labels). Before x b) ((name_eq_decides a b).0 e) less))
 
 pub behind_differs : (a b : Labels) → Before b a → name_eq a b ≡ false
 behind_differs a b less = by (name_eq a b) refl where
   by : (same : Bool) → name_eq a b ≡ same → same ≡ false
   by false e = refl
-  by true e = absurd (never_before_itself b (subst (λ (x : Labels). Before b x) ((same_names a b).0 e) less))
+  by true e = absurd (never_before_itself name_cmp names_total b (subst (λ (x : Labels). Before b x) ((name_eq_decides a b).0 e) less))
 
 stands_behind : (a b : Labels) → is_before a b ≡ false → name_eq a b ≡ false → Before b a
 stands_behind a b later other = by (name_cmp b a) refl where
   by : (o : Ordering) → name_cmp b a ≡ o → o ≡ Less
   by Less e = refl
-  by Equal e = absurd (true≢false (sym ((same_names a b).1 (sym (one_name b a e))) ∙ other))
+  by Equal e = absurd (true≢false (sym ((name_eq_decides a b).1 (sym (same_names b a e))) ∙ other))
   by Greater e = absurd (true≢false (sym (ap is_lt (names_total.antisymm a b ∙ ap ordering_reverse e)) ∙ later))
 
 up_to_trans : (a b c : Labels) → UpTo a b → UpTo b c → UpTo a c
 up_to_trans a b c ab bc = by (name_cmp b c) refl bc where
   by : (o : Ordering) → name_cmp b c ≡ o → is_gt o ≡ false → UpTo a c
   by Less e le = ap is_gt (up_to_before a b c ab e)
-  by Equal e le = subst (UpTo a) (one_name b c e) ab
+  by Equal e le = subst (UpTo a) (same_names b c e) ab
   by Greater e le = absurd (true≢false le)
 
 before_up_to : (a b c : Labels) → Before a b → UpTo b c → Before a c
 before_up_to a b c less le = by (name_cmp b c) refl le where
   by : (o : Ordering) → name_cmp b c ≡ o → is_gt o ≡ false → Before a c
   by Less e h = names_total.trans a b c less e
-  by Equal e h = subst (Before a) (one_name b c e) less
+  by Equal e h = subst (Before a) (same_names b c e) less
   by Greater e h = absurd (true≢false h)
 
 twice : (n : ℕ) → (suc (suc n) == 1) ≡ false
@@ -221,7 +213,7 @@ module _ (name : Labels) (names rest : List Labels) (sorted : IsSorted name_cmp 
           ap (λ (b : Bool). suc (length (cond b (second ∷ filter is_name more) (filter is_name more))) == 1) e
           ∙ twice (length (filter is_name more))
       by false e =
-          let le : UpTo name second = subst (λ (x : Labels). UpTo x second) ((same_names first name).0 same) order.0 in
+          let le : UpTo name second = subst (λ (x : Labels). UpTo x second) ((name_eq_decides first name).0 same) order.0 in
           ap (λ (n : ℕ). suc n == 1)
           (ap (λ (xs : List Labels). length xs)
           (none_behind second more order.1 (stands_behind second name (from_up_to name second le) e)))

@@ -7,55 +7,13 @@ use Rattle.dns_data.specs.Label.{label_eq}
 use Rattle.dns_data.specs.Name.{Labels, name_eq, is_prefix}
 use Rattle.net_model.specs.Prefix.{prefixes}
 use Rattle.groot_run.specs.SortedTree.{new_prefixes, tree_after, tree_of}
-use Rattle.groot_run.proofs.Membership.{none_in_nil, has_first, has_later, first_or_later, has_either, filter_has, from_filter, map_has, from_map}
-use Rattle.std.proofs.lemmas.List.Elements.{Contains-append_left, Contains-append_right}
-use Rattle.groot_run.proofs.NameOrder.{Begins, UpTo, Before, Rising, prefix_up_to, up_to_before, new_prefix_after, rising_append, rising_map, rising_filter}
+use Rattle.std.proofs.lemmas.List.Elements.{Contains-append_left, Contains-append_right, Contains-append_cases}
+use Rattle.net_model.proofs.Prefixes.{prefixes_have, from_prefixes, length-prefixes}
+use Rattle.dns_data.proofs.NameFronts.{is_prefix_tells, is_prefix_told, Begins}
+use Rattle.dns_data.proofs.Membership.{none_in_nil, has_first, has_later, first_or_later, filter_has, from_filter, map_has, from_map}
+use Rattle.dns_data.proofs.NameOrder.{UpTo, Before, Rising, prefix_up_to, up_to_before, new_prefix_after, rising_append, rising_map, rising_filter}
 
--- a name's prefixes are the names that begin it
-pub prefixes_have : (name above : Labels) → Begins above name → Contains (prefixes name) above
-prefixes_have [] [] (below, e) = has_first [] []
-prefixes_have [] (label ∷ above) (below, e) = cc
-prefixes_have (label ∷ name) [] (below, e) =
-    has_first [] (map (λ (above : Labels). label ∷ above) (prefixes name))
-prefixes_have (label ∷ name) (first ∷ above) (below, e) =
-    let same : first ≡ label = cc in
-    let rest : above ++ below ≡ name = cc in
-    let has = map_has (λ (above : Labels). label ∷ above) (prefixes name) above (prefixes_have name above (below, rest)) in
-    has_later [] (map (λ (above : Labels). label ∷ above) (prefixes name)) (first ∷ above)
-    (subst (λ (x : List ℕ). Contains (map (λ (above : Labels). label ∷ above) (prefixes name)) (x ∷ above)) (sym same) has)
-
-pub from_prefixes : (name above : Labels) → Contains (prefixes name) above → Begins above name
-from_prefixes [] above has =
-    elim (first_or_later [] [] above has) [
-      | inl same ↦ ([], sym (ap (λ (x : Labels). x ++ []) same))
-      | inr later ↦ absurd (none_in_nil above later)
-    ]
-from_prefixes (label ∷ name) above has =
-    elim (first_or_later [] (map (λ (above : Labels). label ∷ above) (prefixes name)) above has) [
-      | inl same ↦ (label ∷ name, sym (ap (λ (x : Labels). x ++ (label ∷ name)) same))
-      | inr later ↦ (
-          let found = from_map (λ (above : Labels). label ∷ above) (prefixes name) above later in
-          let rest = from_prefixes name found.0 found.1 in
-          (rest.0, sym (ap (λ (x : Labels). x ++ rest.0) found.2) ∙ ap (λ (x : Labels). label ∷ x) rest.1))
-    ]
-
--- the test of equal names
-pub same_names : (a b : Labels) → Decides (name_eq a b) (a ≡ b)
-same_names = pointwise_decides bytes_decides
-
--- the test of a prefix, and what it tells
-pub is_prefix_tells : (above name : Labels) → is_prefix above name ≡ true → Begins above name
-is_prefix_tells above name e =
-    let front : above ≡ take (length above) name = (same_names above (take (length above) name)).0 e in (
-      drop (length above) name,
-      ap (λ (xs : Labels). xs ++ drop (length above) name) front ∙ take-append-drop (length above) name,
-    )
-
-pub is_prefix_told : (above name : Labels) → Begins above name → is_prefix above name ≡ true
-is_prefix_told above name (below, e) =
-    (same_names above (take (length above) name)).1
-    (sym (take_at above below (length above) refl) ∙ ap (take (length above)) e)
-
+-- a name's prefixes stand in order
 pub rising_prefixes : (name : Labels) → Rising (prefixes name)
 rising_prefixes [] = (λ later has. absurd (none_in_nil later has), tt)
 rising_prefixes (label ∷ name) = (
@@ -95,14 +53,16 @@ abbrev pub InOrder : Labels → List Labels → Type 0
 InOrder before [] = Unit {0}
 InOrder before (name ∷ names) = UpTo before name × InOrder name names
 
+-- the names of the tree behind a name stand behind it
 pub tree_stands_after : (before : Labels) (names : List Labels) (above : Labels) → InOrder before names → Contains (tree_after before names) above → Before before above
 tree_stands_after before [] above order has = absurd (none_in_nil above has)
 tree_stands_after before (name ∷ names) above order has =
-    elim (has_either (new_prefixes before name) (tree_after name names) above has) [
+    elim (Contains-append_cases (new_prefixes before name) (tree_after name names) above has) [
       | inl here ↦ (new_between before name above order.0 here).0
       | inr later ↦ up_to_before before name above order.0 (tree_stands_after name names above order.1 later)
     ]
 
+-- and in order
 pub rising_after : (before : Labels) (names : List Labels) → InOrder before names → Rising (tree_after before names)
 rising_after before [] order = tt
 rising_after before (name ∷ names) order =
@@ -115,6 +75,7 @@ rising_after before (name ∷ names) order =
 pub rising_tree : (names : List Labels) → InOrder [] names → Rising (tree_of names)
 rising_tree names order = (λ later has. tree_stands_after [] names later order has, rising_after [] names order)
 
+-- it has each prefix of each name, but for those that begin the name before
 pub tree_after_has : (before : Labels) (names : List Labels) (name above : Labels) → Contains names name → Begins above name → Begins above before ⊎ Contains (tree_after before names) above
 tree_after_has before [] name above has begins = absurd (none_in_nil name has)
 tree_after_has before (first ∷ names) name above has begins =
@@ -146,10 +107,11 @@ tree_has names name above has begins =
     by [] begins = has_first [] (tree_after [] names)
     by (label ∷ above) (below, e) = cc
 
+-- each of its names begins one of the names
 pub from_tree_after : (before : Labels) (names : List Labels) (above : Labels) → Contains (tree_after before names) above → (name : Labels) × Contains names name × Begins above name
 from_tree_after before [] above has = absurd (none_in_nil above has)
 from_tree_after before (first ∷ names) above has =
-    elim (has_either (new_prefixes before first) (tree_after first names) above has) [
+    elim (Contains-append_cases (new_prefixes before first) (tree_after first names) above has) [
       | inl here ↦ (first, has_first first names, (from_new before first above here).0)
       | inr later ↦ (let found = from_tree_after first names above later in (found.0, has_later first names found.0 found.1, found.2))
     ]
@@ -161,12 +123,6 @@ from_tree names above has =
       | inl same ↦ inl (sym same)
       | inr later ↦ inr (from_tree_after [] names above later)
     ]
-
--- a name has one prefix more than labels
-pub length-prefixes : (name : Labels) → length (prefixes name) ≡ length name + 1
-length-prefixes [] = refl
-length-prefixes (label ∷ name) =
-    omega (arith, length-prefixes name, length-map (prefixes name) (λ (above : Labels). label ∷ above))
 
 -- a filter of a mapped list keeps as many items as the filter of the list by the images
 length-filter-map : (test : Labels → Bool) (f : Labels → Labels) (xs : List Labels) → length (filter test (map f xs)) ≡ length (filter (λ x. test (f x)) xs)

@@ -18,11 +18,11 @@ use Rattle.groot_run.specs.Blackholes.{Alias, AreBlackholes}
 use Rattle.groot_run.specs.FirstShape.{records_at, is_first_shape}
 use Rattle.groot_run.specs.SortedNames.{is_before}
 use Rattle.groot_run.proofs.FirstRecords.{first_zone}
-use Rattle.groot_run.proofs.Membership.{none_in_nil, first_or_later, filter_has, from_filter}
-use Rattle.groot_run.proofs.NameOrder.{UpTo, Before, names_total}
-use Rattle.groot_run.proofs.Searches.{filter_map_has, from_filter_map}
-use Rattle.groot_run.proofs.SortedNames.{one_name, up_to_from}
-use Rattle.groot_run.proofs.SortedTree.{same_names}
+use Rattle.groot_run.proofs.SortedNames.{up_to_from}
+use Rattle.dns_data.proofs.Membership.{none_in_nil, first_or_later, filter_has, from_filter}
+use Rattle.dns_data.proofs.NameOrder.{UpTo, Before, names_total}
+use Rattle.dns_data.proofs.Searches.{filter_map_has, from_filter_map}
+use Rattle.dns_data.proofs.Names.{same_names, name_eq_decides}
 
 -- ---- tests of records and of their owners
 
@@ -170,7 +170,7 @@ before_if_other : (a b : Labels) → UpTo a b → (a ≡ b → ⊥) → Before a
 before_if_other a b up other = by (name_cmp a b) refl up where
   by : (o : Ordering) → name_cmp a b ≡ o → is_gt o ≡ false → o ≡ Less
   by Less e h = refl
-  by Equal e h = absurd (other (one_name a b e))
+  by Equal e h = absurd (other (same_names a b e))
   by Greater e h = absurd (true≢false h)
 
 module _ (zone : Zone) (shape : is_first_shape zone.rrs ≡ true) (lost : List Alias)
@@ -206,8 +206,8 @@ module _ (zone : Zone) (shape : is_first_shape zone.rrs ≡ true) (lost : List A
       twice : (first : Alias) → get_or lost i d ≡ first → first.owner ≡ (get_or lost j d).owner → ⊥
       twice first is equal =
           let has = subst (Contains lost) is (Contains-get_or lost i d (omega arith)) in
-          let own = ap (λ (a : Alias). name_eq a.owner first.owner) is ∙ (same_names first.owner first.owner).1 refl in
-          let other = (same_names (get_or lost j d).owner first.owner).1 (sym equal) in
+          let own = ap (λ (a : Alias). name_eq a.owner first.owner) is ∙ (name_eq_decides first.owner first.owner).1 refl in
+          let other = (name_eq_decides (get_or lost j d).owner first.owner).1 (sym equal) in
           let two = kept_two (λ (a : Alias). name_eq a.owner first.owner) lost i j d below inside own other in
           omega (arith, two, one_lost first has)
 

@@ -4,7 +4,7 @@ use Rattle.std.specs.List.{list_any, AllByRecursion}
 use Rattle.std.specs.Cmp.Lexicographic.{slice_cmp}
 use Rattle.std.specs.declared.cmp.Ordering.{Ordering}
 use Rattle.std.specs.declared.cmp.Ordering.TheVariants.{Less}
-use Rattle.dns_data.specs.Name.{Labels, name_eq, wire_octets}
+use Rattle.dns_data.specs.Name.{Labels, IsName, name_eq, wire_octets}
 use Rattle.dns_data.specs.RrType.{number_of}
 use Rattle.dns_data.specs.declared.rr_type.RrType.{RrType}
 use Rattle.net_model.specs.declared.class.Class.{Class}
@@ -16,7 +16,7 @@ use Rattle.net_model.specs.declared.walk.State.{State}
 use Rattle.net_model.specs.declared.walk.Walk.{Walk}
 use Rattle.net_model.specs.Class.{class_cmp, IsRepresentative}
 use Rattle.net_model.specs.FaultOrder.{fault_cmp}
-use Rattle.net_model.specs.Learnt.{IsInForce, InLeast, InGreatest}
+use Rattle.net_model.specs.Learnt.{IsInForce}
 use Rattle.net_model.specs.Reading.{Ground, ground_of, IsNamed}
 use Rattle.net_model.specs.Shown.{ShowsIn, WalksShow}
 use Rattle.net_model.specs.Step.{Setting}
@@ -66,7 +66,7 @@ pub record ClassShows (config : Config) (rewrites : ℕ) (class : Class) (query 
 -- the walks along these lists of branch numbers, in order, are walks of the query that show the fault
 pub record PathsShow (setting : Setting) (query : Labels) (rtype : RrType) (fault : Fault) (paths : List (List ℕ)) (walks : List Walk) : Type 0 where
   pub are_walks : map (walk_along setting query rtype) paths ≡ map Some walks
-  pub show : WalksShow setting (InLeast setting.config setting.rewrites) (InGreatest setting.config setting.rewrites) walks fault
+  pub show : WalksShow setting walks fault
 
 -- the order of walks, and of pairs of walks by the earlier and then the later one
 abbrev pub paths_cmp : List (List ℕ) → List (List ℕ) → Ordering
@@ -86,12 +86,12 @@ pub record IsEntry (config : Config) (rewrites : ℕ) (entry : Entry) : Type 0 w
   pub first_walks : (others : List (List ℕ)) (walks : List Walk) → PathsShow (record { config = config; rewrites = rewrites; followed = followed }) entry.query entry.rtype entry.fault others walks → paths_cmp others paths ≢ Less
   pub repeats : (first : Walk) → slice_get entry.walks 0 ≡ Some first → entry.repeats ≡ repeats first.states
 
--- some query of at most 255 octets shows the fault with one of the twelve types
+-- some query, which is a name, shows the fault with one of the twelve types
 pub record IsShown (config : Config) (rewrites : ℕ) (fault : Fault) : Type 0 where
   pub looked_for : is_looked_for fault ≡ true
   pub query : Labels
   pub rtype : RrType
-  pub short : wire_octets query ≤ 255
+  pub is_name : IsName query
   pub shows : ShowsIn config rewrites query rtype fault
 
 -- the ground's class tree has so many names, and with the classes below them that aren't empty so many classes

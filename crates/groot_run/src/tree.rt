@@ -1,9 +1,10 @@
 //! The size of the class tree of a configuration of the first shape.
 
-ghost use Rattle.std.specs.Prelude.{◌≡◌, ◌≤◌, length, map, IfOk};
+ghost use Rattle.std.specs.Prelude.{◌≡◌, ◌≤◌, length, map, All, IfOk};
 ghost use Rattle.std.specs.List.{common_prefix_len};
 ghost use Rattle.dns_data.specs.Label.{label_eq};
-ghost use Rattle.net_model.specs.Reading.{ground_of};
+ghost use Rattle.dns_data.specs.Name.{IsName};
+ghost use Rattle.net_model.specs.Reading.{records, ground_of};
 ghost use Rattle.groot_run.specs.FirstShape.{IsFirstConfig};
 ghost use Rattle.groot_run.specs.Report.{IsTreeSize};
 ghost use Rattle.groot_run.specs.SortedTree.{tree_of};
@@ -21,11 +22,12 @@ pub(crate) struct TreeSize {
     pub classes: u32,
 }
 
-/// The size of the class tree of a configuration of the first shape. It sorts references to the owners, and
-/// copies no name.
+/// The size of the class tree of a configuration of the first shape, whose owners are names. It sorts references to
+/// the owners, and copies no name.
 pub(crate) fn tree_size(alloc: Global, config: &Config) -> Result<TreeSize, NoMemory>
     requires { IsFirstConfig config.now }
-    ensures { IfOk result (λ size. IsTreeSize (ground_of config.now) size.names size.classes) }
+    ensures size { IfOk result (λ size. IsTreeSize (ground_of config.now) size.names size.classes) }
+    ensures names { IfOk result (λ size. All (λ rr. IsName rr.owner) (records config.now)) }
 {
     let owners = owners_in_order(alloc, only_zone(config).rrs.items())?;
     let names = count_names(owners.as_slice());
@@ -41,6 +43,7 @@ fn count_names(owners: &[&Name]) -> u32
     requires { length owners.now ≤ 1000000 }
     ensures value { result ≡ length (tree_of (map (λ owner. owner.now) owners.now)) }
     ensures within { result ≤ 254000001 }
+    ensures names { All (λ owner. IsName owner.now) owners.now }
 {
     let mut names = 1;
     let mut before: &[Label] = &[];

@@ -23,7 +23,7 @@ use Rattle.net_model.specs.Nearest.{is_configured, is_top, nearest_of, server_na
 use Rattle.net_model.specs.Step.{Setting, Branch, Go, End, may_follow, has_glue, arrived, start, delegated, referred, servers_after, after_lookup, in_zone, next}
 use Rattle.net_model.specs.Walk.{led_on, branched, walk_from, walk_along, IsWalk}
 use Rattle.net_model.specs.Learnt.{IsInForce}
-use Rattle.net_model.proofs.Naming.{name_eq_decides}
+use Rattle.dns_data.proofs.Names.{name_eq_decides}
 
 -- one server more, which is the one that is found or isn't
 one_more : (found_here named_here named_later : Bool) (server : Server) (later : Option Server)

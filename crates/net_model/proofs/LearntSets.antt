@@ -1,18 +1,19 @@
 -- How the sets of learnt addresses are found by computing.
-use Rattle.std.proofs.Common.{◌≡◌, inl, inr, ℕ, zero, suc, Bool, true, false, not, ◌&&◌, List, [], ◌∷◌, length, refl, subst, arith}
+use Rattle.std.proofs.Common.{◌≡◌, ◌↔◌, inl, inr, ℕ, zero, suc, Bool, true, false, not, ◌&&◌, List, [], ◌∷◌, length, filter, refl, sym, ◌∙◌, subst, arith}
+use Rattle.std.proofs.lemmas.Bool.{and_parts}
 use Rattle.std.specs.Prelude.{Contains, Option, Some, None}
-use Rattle.std.specs.List.{list_all}
-use Rattle.std.proofs.lemmas.Map.Views.{Contains-from_any}
+use Rattle.dns_data.proofs.Membership.{none_in_nil}
+use Rattle.dns_data.proofs.Searches.{same_truth, filter_same}
 use Rattle.dns_data.specs.Name.{Labels}
 use Rattle.dns_data.specs.declared.rr_type.RrType.{RrType}
 use Rattle.dns_data.specs.declared.rr_type.RrType.TheVariants as types
 use Rattle.net_model.specs.declared.config.Config.{Config}
 use Rattle.net_model.specs.declared.walk.Walk.{Walk}
-use Rattle.net_model.specs.Learnt.{gives_address, LearnsBy, Learns, IsRound, AfterRounds, InLeast}
+use Rattle.net_model.specs.Learnt.{gives_address, LearnsBy, Learns, IsRound, AfterRounds, IsLeast, IsGreatest, InLeast, InGreatest}
 use Rattle.net_model.specs.Nearest.{server_names}
 use Rattle.net_model.specs.Step.{Setting}
 use Rattle.net_model.specs.Walk.{walk_along}
-use Rattle.net_model.proofs.Naming.{not_both, listed, name_eq_decides, and_first, and_second, is_listed, passed}
+use Rattle.net_model.proofs.Naming.{not_both, listed}
 use Rattle.net_model.proofs.Showing.{all_leaves_pass, walk_passes}
 
 -- the end of the walk with these numbers gives an address
@@ -56,79 +57,93 @@ all_claims setting learnt names rest = false
 
 -- a server is among the learnt ones exactly where its address is learnt
 claimed : (setting : Setting) (learnt : List Labels) (name : Labels) (claim : Learning) → claims setting learnt name claim ≡ true
-    → (Contains learnt name → Learns setting name) × (Learns setting name → Contains learnt name)
+    → (listed learnt name ≡ true) ↔ Learns setting name
 claimed setting learnt name (ByWalk numbers) h = (
-  λ among. inl (gives_by setting name types.A numbers (walk_along setting name types.A numbers) refl (and_second (listed learnt name) _ h)),
-  λ learns. Contains-from_any (λ x y. (name_eq_decides x y).0) name learnt (and_first (listed learnt name) _ h),
+  λ among. inl (gives_by setting name types.A numbers (walk_along setting name types.A numbers) refl (and_parts (listed learnt name) _ h).1),
+  λ learns. (and_parts (listed learnt name) _ h).0,
 )
 claimed setting learnt name (ByNone depth) h = (
-  λ among. absurd (not_both (listed learnt name) (is_listed learnt name among) (and_first (not (listed learnt name)) _ h)),
+  λ among. absurd (not_both (listed learnt name) among (and_parts (not (listed learnt name)) _ h).0),
   λ learns. absurd (elim learns [
-    | inl by_a ↦ gives_not setting name types.A depth (and_first (all_leaves_pass (λ leaf. not (gives_address leaf)) setting name types.A depth) _ (and_second (not (listed learnt name)) _ h)) by_a
-    | inr by_aaaa ↦ gives_not setting name types.Aaaa depth (and_second (all_leaves_pass (λ leaf. not (gives_address leaf)) setting name types.A depth) _ (and_second (not (listed learnt name)) _ h)) by_aaaa
+    | inl by_a ↦ gives_not setting name types.A depth (and_parts (all_leaves_pass (λ leaf. not (gives_address leaf)) setting name types.A depth) _ (and_parts (not (listed learnt name)) _ h).1).0 by_a
+    | inr by_aaaa ↦ gives_not setting name types.Aaaa depth (and_parts (all_leaves_pass (λ leaf. not (gives_address leaf)) setting name types.A depth) _ (and_parts (not (listed learnt name)) _ h).1).1 by_aaaa
   ]),
 )
 
 all_claimed : (setting : Setting) (learnt names : List Labels) (rest : List Learning) → all_claims setting learnt names rest ≡ true
-    → (name : Labels) → Contains names name
-    → (Contains learnt name → Learns setting name) × (Learns setting name → Contains learnt name)
+    → (name : Labels) → Contains names name → (listed learnt name ≡ true) ↔ Learns setting name
 all_claimed setting learnt [] [] h name (k, within, is) = absurd (omega arith)
 all_claimed setting learnt [] (claim ∷ rest) h name among = cc
 all_claimed setting learnt (first ∷ names) [] h name among = cc
 all_claimed setting learnt (first ∷ names) (claim ∷ rest) h name (zero, within, is) =
-    subst (λ (n : Labels). (Contains learnt n → Learns setting n) × (Learns setting n → Contains learnt n)) is
-    (claimed setting learnt first claim (and_first (claims setting learnt first claim) _ h))
+    subst (λ (n : Labels). (listed learnt n ≡ true) ↔ Learns setting n) is
+    (claimed setting learnt first claim (and_parts (claims setting learnt first claim) _ h).0)
 all_claimed setting learnt (first ∷ names) (claim ∷ rest) h name (suc k, within, is) =
-    all_claimed setting learnt names rest (and_second (claims setting learnt first claim) _ h) name (k, omega arith, is)
+    all_claimed setting learnt names rest (and_parts (claims setting learnt first claim) _ h).1 name (k, omega arith, is)
 
--- one round, where all learnt names are servers and each claim is so
+-- one round, where each claim is so and the learnt names are those of the servers of which it is claimed
 pub is_round : (config : Config) (rewrites : ℕ) (followed learnt : List Labels) (rest : List Learning)
-    → (list_all (listed (server_names config)) learnt
-    && all_claims (record { config = config; rewrites = rewrites; followed = followed }) learnt (server_names config) rest) ≡ true
-    → IsRound config rewrites followed learnt
-is_round config rewrites followed learnt rest h name = (
-  λ among.
-      let server : Contains (server_names config) name =
-      Contains-from_any (λ x y. (name_eq_decides x y).0) name (server_names config)
-      (passed (listed (server_names config)) learnt name (is_listed learnt name among) (and_first (list_all (listed (server_names config)) learnt) _ h)) in
-      (server, (all_claimed _ learnt (server_names config) rest (and_second (list_all (listed (server_names config)) learnt) _ h) name server).0 among),
-  λ (server, learns). (all_claimed _ learnt (server_names config) rest (and_second (list_all (listed (server_names config)) learnt) _ h) name server).1 learns,
+    → all_claims (record { config = config; rewrites = rewrites; followed = followed }) learnt (server_names config) rest ≡ true
+    → learnt ≡ filter (listed learnt) (server_names config) → IsRound config rewrites followed learnt
+is_round config rewrites followed learnt rest h are =
+    record {
+      test = listed learnt;
+      tells = all_claimed (record { config = config; rewrites = rewrites; followed = followed }) learnt (server_names config) rest h;
+      are = are;
+    }
+
+-- what is learnt in one round is one list
+pub one_round : (config : Config) (rewrites : ℕ) (followed a b : List Labels) → IsRound config rewrites followed a
+    → IsRound config rewrites followed b → a ≡ b
+one_round config rewrites followed a b one other =
+    one.are
+    ∙ filter_same one.test other.test (server_names config)
+    (λ name among. same_truth (one.test name) (other.test name)
+    (λ h. (other.tells name among).1 ((one.tells name among).0 h))
+    (λ h. (one.tells name among).1 ((other.tells name among).0 h)))
+    ∙ sym other.are
+
+-- and so is what is learnt in so many rounds
+pub one_after_rounds : (config : Config) (rewrites rounds : ℕ) (begin a b : List Labels) → AfterRounds config rewrites rounds begin a
+    → AfterRounds config rewrites rounds begin b → a ≡ b
+one_after_rounds config rewrites zero begin a b one other = one ∙ sym other
+one_after_rounds config rewrites (suc rounds) begin a b (x, before, one) (y, also, other) =
+    one_round config rewrites y a b
+    (subst (λ (names : List Labels). IsRound config rewrites names a) (one_after_rounds config rewrites rounds begin x y before also) one)
+    other
+
+-- so a name is in the least set where it is in a list of it
+pub in_least : (config : Config) (rewrites : ℕ) (learnt : List Labels) → IsLeast config rewrites learnt
+    → (name : Labels) → InLeast config rewrites name ↔ Contains learnt name
+in_least config rewrites learnt least name = (
+  λ (other, is, among). subst (λ (names : List Labels). Contains names name)
+      (one_after_rounds config rewrites (length config.servers) [] other learnt is least) among,
+  λ among. (learnt, least, among),
+)
+
+-- and in the greatest
+pub in_greatest : (config : Config) (rewrites : ℕ) (learnt : List Labels) → IsGreatest config rewrites learnt
+    → (name : Labels) → InGreatest config rewrites name ↔ Contains learnt name
+in_greatest config rewrites learnt greatest name = (
+  λ (other, is, among). subst (λ (names : List Labels). Contains names name)
+      (one_after_rounds config rewrites (length config.servers) (server_names config) other learnt is greatest) among,
+  λ among. (learnt, greatest, among),
 )
 
 -- a round that leads from a set to itself is every further round
 pub after_same_rounds : (config : Config) (rewrites rounds : ℕ) (begin : List Labels) → IsRound config rewrites begin begin
     → AfterRounds config rewrites rounds begin begin
-after_same_rounds config rewrites zero begin same = λ name. (λ h. h, λ h. h)
+after_same_rounds config rewrites zero begin same = refl
 after_same_rounds config rewrites (suc rounds) begin same = (begin, after_same_rounds config rewrites rounds begin same, same)
 
 -- and so from a set that the first round leads to
 pub after_one_round : (config : Config) (rewrites rounds : ℕ) (begin learnt : List Labels) → IsRound config rewrites begin learnt
     → IsRound config rewrites learnt learnt → AfterRounds config rewrites (suc rounds) begin learnt
-after_one_round config rewrites zero begin learnt first same = (begin, λ name. (λ h. h, λ h. h), first)
+after_one_round config rewrites zero begin learnt first same = (begin, refl, first)
 after_one_round config rewrites (suc rounds) begin learnt first same =
     (learnt, after_one_round config rewrites rounds begin learnt first same, same)
 
--- a list without a member is empty
-no_member : (names : List Labels) → ((name : Labels) → Contains names name → ⊥) → names ≡ []
-no_member [] none = refl
-no_member (name ∷ names) none = absurd (none name (0, omega arith, refl))
-
-no_item : (name : Labels) → Contains [] name → ⊥
-no_item name (k, within, is) = absurd (omega arith)
-
--- rounds that begin with no server and learn none end with none
-pub nothing_after_rounds : (config : Config) (rewrites rounds : ℕ) (learnt : List Labels) → IsRound config rewrites [] []
-    → AfterRounds config rewrites rounds [] learnt → learnt ≡ []
-nothing_after_rounds config rewrites zero learnt none after =
-    no_member learnt (λ name among. no_item name ((after name).0 among))
-nothing_after_rounds config rewrites (suc rounds) learnt none (between, before, round) =
-    let empty : between ≡ [] = nothing_after_rounds config rewrites rounds between none before in
-    no_member learnt (λ name among.
-    no_item name ((none name).1 (subst (λ (names : List Labels). Contains (server_names config) name
-    × Learns (record { config = config; rewrites = rewrites; followed = names }) name) empty ((round name).0 among))))
-
--- then no name is in the least set
+-- where no server is learnt with none followed, no name is in the least set
 pub not_in_least : (config : Config) (rewrites : ℕ) (name : Labels) → IsRound config rewrites [] [] → InLeast config rewrites name → ⊥
-not_in_least config rewrites name none (learnt, least, among) =
-    no_item name (subst (λ (names : List Labels). Contains names name)
-    (nothing_after_rounds config rewrites (length config.servers) learnt none least) among)
+not_in_least config rewrites name none is =
+    none_in_nil name ((in_least config rewrites [] (after_same_rounds config rewrites (length config.servers) [] none) name).0 is)

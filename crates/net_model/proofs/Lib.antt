@@ -1,8 +1,14 @@
 mod Drawn
 mod Followed
-mod LearntSets
-mod Naming
 mod Representatives
 mod Showing
 mod Words
 mod Worked
+pub mod FaultOrder
+pub mod FirstLabel
+pub mod FreeLabel
+pub mod Leads
+pub mod LearntSets
+pub mod Naming
+pub mod Prefixes
+pub mod TrialOrder

@@ -2,33 +2,23 @@
 use Rattle.std.proofs.Common.{◌≡◌, inl, inr, ℕ, zero, suc, ◌≤◌, Bool, true, false, not, ◌&&◌, ◌||◌, List, [], ◌∷◌, ◌++◌, length, take, drop, map, refl, sym, ◌∙◌, ap, subst, arith}
 use Rattle.std.specs.Prelude.{Contains, ◌⊎◌, nat_le, if◌then◌else◌}
 use Rattle.std.specs.List.{list_any, list_all}
-use Rattle.std.specs.Cmp.Lexicographic.{pointwise_decides, bytes_decides}
-use Rattle.std.proofs.lemmas.Bool.{or_right, leb-true}
+use Rattle.std.proofs.lemmas.Bool.{and_parts, or_cases, or_right, leb-true}
 use Rattle.std.proofs.lemmas.List.{take_at, drop_at, take-append-drop}
 use Rattle.std.proofs.lemmas.List.Folds.{list_all-map}
 use Rattle.std.proofs.lemmas.Map.Views.{Contains-from_any}
 use Rattle.dns_data.specs.Name.{Labels, name_eq, is_prefix, swap}
+use Rattle.dns_data.proofs.Names.{name_eq_decides}
+use Rattle.dns_data.proofs.Membership.{none_in_nil}
+use Rattle.dns_data.proofs.NameFronts.{is_prefix_told}
+use Rattle.dns_data.proofs.Searches.{each_of_all, from_any, any_has}
 use Rattle.net_model.specs.declared.class.Class.TheVariants.{Exact, Below}
 use Rattle.net_model.specs.Class.{IsClassOf}
 use Rattle.net_model.specs.Prefix.{prefixes}
 use Rattle.net_model.specs.Reading.{Redirection, ReadsOnce, ReadsAlong, Ground, IsNamed}
 
--- names that are one are equal
-pub name_eq_decides : (a b : Labels) → (name_eq a b ≡ true → a ≡ b) × (a ≡ b → name_eq a b ≡ true)
-name_eq_decides = pointwise_decides bytes_decides
-
 -- the name is in the list
 abbrev pub listed : List Labels → Labels → Bool
 listed names name = list_any (name_eq name) names
-
--- both hold
-pub and_first : (a b : Bool) → (a && b) ≡ true → a ≡ true
-and_first true b h = refl
-and_first false b h = cc
-
-pub and_second : (a b : Bool) → (a && b) ≡ true → b ≡ true
-and_second true b h = h
-and_second false b h = cc
 
 -- what every item passes, a listed one passes
 passed_in : (test : Labels → Bool) (names : List Labels) (name : Labels) (here : Bool) (first : Labels)
@@ -36,7 +26,7 @@ passed_in : (test : Labels → Bool) (names : List Labels) (name : Labels) (here
     → (listed names name ≡ true → test name ≡ true) → test name ≡ true
 passed_in test names name true first e h all later =
     let same : name ≡ first = (name_eq_decides name first).0 (sym e) in
-    subst (λ (n : Labels). test n ≡ true) (sym same) (and_first (test first) (list_all test names) all)
+    subst (λ (n : Labels). test n ≡ true) (sym same) (and_parts (test first) (list_all test names) all).0
 passed_in test names name false first e h all later = later h
 
 pub passed : (test : Labels → Bool) (names : List Labels) (name : Labels) → listed names name ≡ true → list_all test names ≡ true
@@ -44,50 +34,22 @@ pub passed : (test : Labels → Bool) (names : List Labels) (name : Labels) → 
 passed test [] name h all = cc
 passed test (first ∷ names) name h all =
     passed_in test names name (name_eq name first) first refl h all
-    (λ later. passed test names name later (and_second (test first) (list_all test names) all))
-
--- what every item passes, an item passes
-item_passes : {X : Type 0} (test : X → Bool) (xs : List X) (x : X) → Contains xs x → list_all test xs ≡ true → test x ≡ true
-item_passes test [] x (k, within, is) all = absurd (omega arith)
-item_passes test (first ∷ xs) x (zero, within, is) all =
-    subst (λ y. test y ≡ true) is (and_first (test first) (list_all test xs) all)
-item_passes test (first ∷ xs) x (suc k, within, is) all =
-    item_passes test xs x (k, omega arith, is) (and_second (test first) (list_all test xs) all)
-
--- one of two holds
-one_of : (a b : Bool) → (a || b) ≡ true → (a ≡ true) ⊎ (b ≡ true)
-one_of true b h = inl refl
-one_of false b h = inr h
-
--- an item that passes
-some_passes : {X : Type 0} (test : X → Bool) (xs : List X) → list_any test xs ≡ true → (x : X) × (Contains xs x × (test x ≡ true))
-some_passes test [] h = cc
-some_passes test (first ∷ xs) h =
-    elim (one_of (test first) (list_any test xs) h) [
-      | inl here ↦ (first, ((0, omega arith, refl), here))
-      | inr there ↦ later (some_passes test xs there)
-    ]
-  where
-    later : ((x : _) × (Contains xs x × (test x ≡ true))) → (x : _) × (Contains (first ∷ xs) x × (test x ≡ true))
-    later (x, ((k, within, is), passes)) = (x, ((suc k, omega arith, is), passes))
+    (λ later. passed test names name later (and_parts (test first) (list_all test names) all).1)
 
 -- an item of a list of names is listed
 pub is_listed : (names : List Labels) (name : Labels) → Contains names name → listed names name ≡ true
-is_listed [] name (k, within, is) = absurd (omega arith)
-is_listed (first ∷ names) name (zero, within, is) = rw ((name_eq_decides name first).1 (sym is)) refl
-is_listed (first ∷ names) name (suc k, within, is) = or_right (name_eq name first) _ (is_listed names name (k, omega arith, is))
+is_listed names name has = any_has (name_eq name) names name has ((name_eq_decides name name).1 refl)
+
+-- and a name that is listed is an item
+pub from_listed : (names : List Labels) (name : Labels) → listed names name ≡ true → Contains names name
+from_listed names name = Contains-from_any (λ a b. (name_eq_decides a b).0) name names
 
 -- a test that holds is not what decides
 then_branch : (test : Bool) (one other : Bool) → test ≡ true → (if test then one else other) ≡ true → one ≡ true
 then_branch true one other h e = e
 then_branch false one other h e = cc
 
--- what begins a name is its prefix, and the other way round
-begins : (above below name : Labels) → name ≡ above ++ below → is_prefix above name ≡ true
-begins above below name e =
-    (name_eq_decides above (take (length above) name)).1
-    (sym (ap (take (length above)) e ∙ take_at above below (length above) refl))
-
+-- a name is its prefix with the rest behind it
 rest_of : (above name : Labels) → is_prefix above name ≡ true → name ≡ above ++ drop (length above) name
 rest_of above name h =
     let front : above ≡ take (length above) name = (name_eq_decides above (take (length above) name)).0 h in
@@ -111,8 +73,8 @@ read_once redirections names name next step within =
     let owner : Labels = step.redirection.owner in
     let target : Labels = step.redirection.target in
     let swapped : listed names (swap name owner target) ≡ true =
-    then_branch (is_prefix owner name) (listed names (swap name owner target)) true (begins owner step.below name step.before)
-    (item_passes _ redirections step.redirection step.among within) in
+    then_branch (is_prefix owner name) (listed names (swap name owner target)) true (is_prefix_told owner name (step.below, sym step.before))
+    (each_of_all _ redirections within step.redirection step.among) in
     let same : swap name owner target ≡ next =
     ap (λ (n : Labels). target ++ drop (length owner) n) step.before
     ∙ ap (λ (n : Labels). target ++ n) (drop_at owner step.below (length owner) refl) ∙ sym step.after in
@@ -124,7 +86,7 @@ read_along ground names all [] name last h is = subst (λ (n : Labels). listed n
 read_along ground names all (next ∷ rest) name last h (once, later) =
     read_along ground names all rest next last
     (read_once ground.redirections names name next once
-    (and_first (reads_within ground.redirections names name) (not (listed ground.names name)) (passed _ names name h all)))
+    (and_parts (reads_within ground.redirections names name) (not (listed ground.names name)) (passed _ names name h all)).0)
     later
 
 -- a test and its opposite don't both hold
@@ -139,8 +101,7 @@ unnamed ground names name all h named =
     let last : listed names named.base ≡ true =
     read_along ground names all named.reads.0 name named.base h named.reads.1 in
     not_both (listed ground.names named.base) (is_listed ground.names named.base named.among)
-    (and_second (reads_within ground.redirections names named.base) (not (listed ground.names named.base))
-    (passed _ names named.base last all))
+    (and_parts (reads_within ground.redirections names named.base) (not (listed ground.names named.base)) (passed _ names named.base last all)).1
 
 -- the name is a base name, or so many readings lead to one
 abbrev pub named_within : ℕ → Ground → Labels → Bool
@@ -152,7 +113,7 @@ named_within (suc depth) ground name =
 
 named_as_base : (ground : Ground) (name : Labels) → listed ground.names name ≡ true → IsNamed ground name
 named_as_base ground name h =
-    record { base = name; among = Contains-from_any (λ x y. (name_eq_decides x y).0) name ground.names h; reads = ([], refl) }
+    record { base = name; among = from_listed ground.names name h; reads = ([], refl) }
 
 one_reading_more : (ground : Ground) (name : Labels) (redirection : Redirection) → Contains ground.redirections redirection
     → is_prefix redirection.owner name ≡ true → IsNamed ground (swap name redirection.owner redirection.target) → IsNamed ground name
@@ -177,30 +138,30 @@ one_reading_more ground name redirection among begins named =
 
 by_reading : (depth : ℕ) (ground : Ground) (name : Labels)
     → ((n : Labels) → named_within depth ground n ≡ true → IsNamed ground n)
-    → ((redirection : Redirection) × (Contains ground.redirections redirection
-    × ((is_prefix redirection.owner name && named_within depth ground (swap name redirection.owner redirection.target)) ≡ true)))
+    → (redirection : Redirection) × Contains ground.redirections redirection
+    × ((is_prefix redirection.owner name && named_within depth ground (swap name redirection.owner redirection.target)) ≡ true)
     → IsNamed ground name
-by_reading depth ground name deeper (redirection, (among, h)) =
-    one_reading_more ground name redirection among (and_first (is_prefix redirection.owner name) _ h)
-    (deeper _ (and_second (is_prefix redirection.owner name) _ h))
+by_reading depth ground name deeper (redirection, among, h) =
+    one_reading_more ground name redirection among (and_parts (is_prefix redirection.owner name) _ h).0
+    (deeper _ (and_parts (is_prefix redirection.owner name) _ h).1)
 
 -- such a name is named
 pub named : (depth : ℕ) (ground : Ground) (name : Labels) → named_within depth ground name ≡ true → IsNamed ground name
 named zero ground name h = named_as_base ground name h
 named (suc depth) ground name h =
-    elim (one_of (listed ground.names name) _ h) [
+    elim (or_cases (listed ground.names name) _ h) [
       | inl base ↦ named_as_base ground name base
-      | inr reads ↦ by_reading depth ground name (λ n k. named depth ground n k) (some_passes _ ground.redirections reads)
+      | inr reads ↦ by_reading depth ground name (λ n k. named depth ground n k) (from_any _ ground.redirections reads)
     ]
 
 -- what all prefixes of a name pass, one of them passes
 prefix_passes : (test : Labels → Bool) (above below : Labels) → list_all test (prefixes (above ++ below)) ≡ true → test above ≡ true
-prefix_passes test [] [] h = and_first (test []) true h
-prefix_passes test [] (label ∷ below) h = and_first (test []) _ h
+prefix_passes test [] [] h = (and_parts (test []) true h).0
+prefix_passes test [] (label ∷ below) h = (and_parts (test []) _ h).0
 prefix_passes test (label ∷ above) below h =
     prefix_passes (λ (name : Labels). test (label ∷ name)) above below
     (sym (list_all-map test (λ (name : Labels). label ∷ name) (prefixes (above ++ below)))
-    ∙ and_second (test []) (list_all test (map (λ (name : Labels). label ∷ name) (prefixes (above ++ below)))) h)
+    ∙ (and_parts (test []) (list_all test (map (λ (name : Labels). label ∷ name) (prefixes (above ++ below)))) h).1)
 
 -- a named name is alone in its class
 pub class_of_named : (depth : ℕ) (ground : Ground) (name : Labels) → named_within depth ground name ≡ true → IsClassOf ground name (Exact name)
@@ -209,7 +170,7 @@ class_of_named depth ground name h = (refl, named depth ground name h)
 not_longer : (ground : Ground) (names : List Labels) (above longer : Labels) → unnamed_all ground names ≡ true
     → (nat_le (length longer) (length above) || listed names longer) ≡ true → IsNamed ground longer → length longer ≤ length above
 not_longer ground names above longer all h is_named =
-    elim (one_of (nat_le (length longer) (length above)) (listed names longer) h) [
+    elim (or_cases (nat_le (length longer) (length above)) (listed names longer) h) [
       | inl short ↦ leb-true (length longer) (length above) short
       | inr unread ↦ absurd (unnamed ground names longer all unread is_named)
     ]
@@ -224,9 +185,9 @@ longer_unnamed ground names above name =
 pub class_below : (depth : ℕ) (ground : Ground) (names : List Labels) (above below : Labels) → named_within depth ground above ≡ true
     → longer_unnamed ground names above (above ++ below) ≡ true → IsClassOf ground (above ++ below) (Below above)
 class_below depth ground names above below h k =
-    let both : (unnamed_all ground names && listed names (above ++ below)) ≡ true = and_first (unnamed_all ground names && listed names (above ++ below)) _ k in
-    let all : unnamed_all ground names ≡ true = and_first (unnamed_all ground names) (listed names (above ++ below)) both in (
-      unnamed ground names (above ++ below) all (and_second (unnamed_all ground names) (listed names (above ++ below)) both),
+    let both : (unnamed_all ground names && listed names (above ++ below)) ≡ true = (and_parts (unnamed_all ground names && listed names (above ++ below)) _ k).0 in
+    let all : unnamed_all ground names ≡ true = (and_parts (unnamed_all ground names) (listed names (above ++ below)) both).0 in (
+      unnamed ground names (above ++ below) all (and_parts (unnamed_all ground names) (listed names (above ++ below)) both).1,
       record {
         below = below;
         prefix = refl;
@@ -234,6 +195,24 @@ class_below depth ground names above below h k =
         longest = λ longer rest e. not_longer ground names above longer all
             (prefix_passes (λ prefix. nat_le (length prefix) (length above) || listed names prefix) longer rest
             (subst (λ (n : Labels). list_all (λ prefix. nat_le (length prefix) (length above) || listed names prefix) (prefixes n) ≡ true) e
-            (and_second (unnamed_all ground names && listed names (above ++ below)) _ k)));
+            (and_parts (unnamed_all ground names && listed names (above ++ below)) _ k).1));
       },
     )
+
+-- ---- grounds without redirections
+
+-- without redirections a name reads on to itself alone
+reads_itself : (redirections : List Redirection) → redirections ≡ [] → (name : Labels) (between : List Labels) (last : Labels)
+    → ReadsAlong redirections name between last → name ≡ last
+reads_itself redirections none name [] last e = e
+reads_itself redirections none name (next ∷ rest) last (once, on) =
+    absurd (none_in_nil once.redirection (subst (λ (rs : List Redirection). Contains rs once.redirection) none once.among))
+
+-- so the named names are those of the ground
+pub named_among : (ground : Ground) → ground.redirections ≡ [] → (name : Labels) → IsNamed ground name → Contains ground.names name
+named_among ground none name is =
+    subst (Contains ground.names) (sym (reads_itself ground.redirections none name is.reads.0 is.base is.reads.1)) is.among
+
+-- and a name of a ground is named
+pub among_named : (ground : Ground) (name : Labels) → Contains ground.names name → IsNamed ground name
+among_named ground name has = record { base = name; among = has; reads = ([], refl) }

@@ -5,7 +5,7 @@ use Rattle.std.specs.Ordering.{nat_cmp, ordering_then}
 use Rattle.std.specs.Cmp.{nat_cmp_is}
 use Rattle.std.specs.declared.cmp.Ordering.{Ordering}
 use Rattle.std.specs.declared.cmp.Ordering.TheVariants.{Less, Equal, Greater}
-use Rattle.std.proofs.lemmas.Bool.{leb-true, lt-ltb, and_right}
+use Rattle.std.proofs.lemmas.Bool.{and_parts, leb-true, lt-ltb, and_right}
 use Rattle.std.proofs.lemmas.Bool.Decides.{leb_tells}
 use Rattle.dns_data.specs.Label.{IsLabel, is_label_octet}
 use Rattle.dns_data.specs.Name.{Labels, wire_octets}
@@ -14,7 +14,7 @@ use Rattle.dns_data.specs.Octet.{is_lower, is_upper, is_digit}
 use Rattle.net_model.specs.declared.class.Class.TheVariants.{Below}
 use Rattle.net_model.specs.Class.{IsRepresentative, octet_rank, trial_cmp}
 use Rattle.net_model.specs.Reading.{Ground, IsNamed}
-use Rattle.net_model.proofs.Naming.{named_within, named, and_first, and_second, unnamed_all, unnamed, listed}
+use Rattle.net_model.proofs.Naming.{named_within, named, unnamed_all, unnamed, listed}
 
 -- neither equal nor greater is less
 not_less : (x y : ℕ) → y ≤ x → nat_cmp x y ≡ Less → ⊥
@@ -67,7 +67,7 @@ earlier_letter y n small h = by_kind (is_lower y) refl
   where
     by_kind : (lower : Bool) → is_lower y ≡ lower → (97 ≤ y) × (y < 97 + n)
     by_kind true e =
-        let low : 97 ≤ y = leb-true 97 y (and_first (nat_le 97 y) (nat_le y 122) e) in
+        let low : 97 ≤ y = leb-true 97 y (and_parts (nat_le 97 y) (nat_le y 122) e).0 in
         let rank : octet_rank y ≡ y - 97 = rw e refl in
         (low, omega (arith, rank))
     by_kind false e =
@@ -104,11 +104,11 @@ letter_named : (depth n : ℕ) (ground : Ground) (above : Labels) (y : ℕ) → 
 letter_named depth zero ground above y h low high = absurd (omega arith)
 letter_named depth (suc n) ground above y h low high =
     elim (leb_tells (suc y) (97 + n)) [
-      | inl (is, lt) ↦ letter_named depth n ground above y (and_second (named_within depth ground (above ++ ((97 + n) ∷ []) ∷ [])) _ h) low lt
+      | inl (is, lt) ↦ letter_named depth n ground above y (and_parts (named_within depth ground (above ++ ((97 + n) ∷ []) ∷ [])) _ h).1 low lt
       | inr (is, le) ↦
           let same : 97 + n ≡ y = omega arith in
           subst (λ (c : ℕ). IsNamed ground (above ++ (c ∷ []) ∷ [])) same
-          (named depth ground _ (and_first (named_within depth ground (above ++ ((97 + n) ∷ []) ∷ [])) _ h))
+          (named depth ground _ (and_parts (named_within depth ground (above ++ ((97 + n) ∷ []) ∷ [])) _ h).0)
     ]
 
 -- the name with the first letter that makes an unnamed name is the representative
@@ -119,9 +119,9 @@ pub below_represented : (depth : ℕ) (ground : Ground) (names : List Labels) (a
     → IsRepresentative ground (Below above) (above ++ (letter ∷ []) ∷ [])
 below_represented depth ground names above letter n is rank small h =
     let three : (unnamed_all ground names && listed names (above ++ (letter ∷ []) ∷ []) && letters_named depth n ground above) ≡ true =
-    and_first _ (nat_le (wire_octets (above ++ (letter ∷ []) ∷ [])) 255) h in
+    (and_parts _ (nat_le (wire_octets (above ++ (letter ∷ []) ∷ [])) 255) h).0 in
     let two : (unnamed_all ground names && listed names (above ++ (letter ∷ []) ∷ [])) ≡ true =
-    and_first _ (letters_named depth n ground above) three in
+    (and_parts _ (letters_named depth n ground above) three).0 in
     let bound : n ≤ 25 = leb-true n 25 small in
     record {
       label = letter ∷ [];
@@ -131,12 +131,12 @@ below_represented depth ground names above letter n is rank small h =
           short = omega arith;
           octets = rw is (letter_is_label n bound);
         };
-        unnamed = unnamed ground names _ (and_first (unnamed_all ground names) _ two) (and_second (unnamed_all ground names) _ two);
+        unnamed = unnamed ground names _ (and_parts (unnamed_all ground names) _ two).0 (and_parts (unnamed_all ground names) _ two).1;
         first = λ other other_is before.
             let (y, (same, low, high)) = tried_before letter n rank (omega arith) other other_is before in
             subst (λ (l : List ℕ). IsNamed ground (above ++ l ∷ [])) (sym same)
-            (letter_named depth n ground above y (and_second (unnamed_all ground names && listed names (above ++ (letter ∷ []) ∷ [])) _ three) low high);
+            (letter_named depth n ground above y (and_parts (unnamed_all ground names && listed names (above ++ (letter ∷ []) ∷ [])) _ three).1 low high);
       };
       extends = refl;
-      short = leb-true _ 255 (and_second (unnamed_all ground names && listed names (above ++ (letter ∷ []) ∷ []) && letters_named depth n ground above) _ h);
+      short = leb-true _ 255 (and_parts (unnamed_all ground names && listed names (above ++ (letter ∷ []) ∷ []) && letters_named depth n ground above) _ h).1;
     }

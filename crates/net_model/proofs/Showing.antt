@@ -1,5 +1,6 @@
 -- How a query is seen to show a fault, or not to.
 use Rattle.std.proofs.Common.{◌≡◌, ℕ, zero, suc, ◌==◌, Bool, true, false, List, [], ◌∷◌, length, refl, ap, subst}
+use Rattle.std.proofs.lemmas.Bool.{and_parts}
 use Rattle.std.specs.Prelude.{Option, Some, None, slice_get, option_map, option_and_then, if◌then◌else◌}
 use Rattle.std.specs.List.{list_all, AllByRecursion}
 use Rattle.dns_data.specs.Name.{Labels}
@@ -15,20 +16,18 @@ use Rattle.net_model.specs.declared.walk.Leaf.TheVariants as leaves
 use Rattle.net_model.specs.declared.walk.State.{State}
 use Rattle.net_model.specs.declared.walk.Walk.{Walk}
 use Rattle.net_model.specs.Class.{IsClassOf}
-use Rattle.net_model.specs.Learnt.{InLeast, InGreatest}
 use Rattle.net_model.specs.Nearest.{server_names}
 use Rattle.net_model.specs.Reading.{ground_of}
 use Rattle.net_model.specs.Shown.{MayShow, WalksShow, ShowsAnswers, ShowsIn}
 use Rattle.net_model.specs.Step.{Setting, Branch, Go, End, start, next}
 use Rattle.net_model.specs.Walk.{led_on, branched, walk_from, walk_along, IsWalk}
-use Rattle.net_model.proofs.Naming.{and_first, and_second}
 use Rattle.net_model.proofs.Words.{following_all}
 
 -- a fault is shown by the walk with these numbers
 pub shown_by : (config : Config) (rewrites : ℕ) (query : Labels) (rtype : RrType) (fault : Fault) (numbers : List ℕ) (walk : Walk)
     → walk_along (following_all config rewrites) query rtype numbers ≡ Some walk
     → MayShow config query rtype fault
-    → WalksShow (following_all config rewrites) (InLeast config rewrites) (InGreatest config rewrites) (walk ∷ []) fault
+    → WalksShow (following_all config rewrites) (walk ∷ []) fault
     → ShowsIn config rewrites query rtype fault
 shown_by config rewrites query rtype fault numbers walk along may show =
     record {
@@ -66,8 +65,8 @@ item_passes : {X : Type 0} (test : X → Bool) (xs : List X) (number : ℕ) (x :
     → test x ≡ true
 item_passes test [] number x all e = cc
 item_passes test (first ∷ xs) zero x all e =
-    let same : first ≡ x = cc in subst (λ y. test y ≡ true) same (and_first (test first) (list_all test xs) all)
-item_passes test (first ∷ xs) (suc number) x all e = item_passes test xs number x (and_second (test first) (list_all test xs) all) e
+    let same : first ≡ x = cc in subst (λ y. test y ≡ true) same (and_parts (test first) (list_all test xs) all).0
+item_passes test (first ∷ xs) (suc number) x all e = item_passes test xs number x (and_parts (test first) (list_all test xs) all).1 e
 
 led_on_passes : (test : Leaf → Bool) (state : State) (hop : Hop) (rest : Option Walk) (walk : Walk) → option_map (led_on state hop) rest ≡ Some walk
     → ((later : Walk) → rest ≡ Some later → test later.leaf ≡ true) → test walk.leaf ≡ true
@@ -124,22 +123,22 @@ abbrev pub isnt_nxdomain : Leaf → Bool
 isnt_nxdomain leaves.NxDomain = false
 isnt_nxdomain leaf = true
 
-no_walk_shows : (setting : Setting) (in_least in_greatest : Labels → Type 0) (query : Labels) (rtype : RrType) (place : Place) (walks : List Walk)
+no_walk_shows : (setting : Setting) (query : Labels) (rtype : RrType) (place : Place) (walks : List Walk)
     → ((walk : Walk) → IsWalk setting query rtype walk → isnt_nxdomain walk.leaf ≡ true)
-    → AllByRecursion (IsWalk setting query rtype) walks → WalksShow setting in_least in_greatest walks (Blackhole place) → ⊥
-no_walk_shows setting in_least in_greatest query rtype place [] none are show = show
-no_walk_shows setting in_least in_greatest query rtype place (walk ∷ []) none are show =
+    → AllByRecursion (IsWalk setting query rtype) walks → WalksShow setting walks (Blackhole place) → ⊥
+no_walk_shows setting query rtype place [] none are show = show
+no_walk_shows setting query rtype place (walk ∷ []) none are show =
     let exists : isnt_nxdomain walk.leaf ≡ true = none walk are.0 in
     let ends : isnt_nxdomain walk.leaf ≡ false = ap isnt_nxdomain show.ends in cc
-no_walk_shows setting in_least in_greatest query rtype place (walk ∷ other ∷ []) none are show = show
-no_walk_shows setting in_least in_greatest query rtype place (walk ∷ other ∷ third ∷ walks) none are show = show
+no_walk_shows setting query rtype place (walk ∷ other ∷ []) none are show = show
+no_walk_shows setting query rtype place (walk ∷ other ∷ third ∷ walks) none are show = show
 
 -- a query of which no walk ends in a name that doesn't exist shows no blackhole
 pub no_blackhole : (config : Config) (rewrites : ℕ) (query : Labels) (rtype : RrType) (place : Place) (depth : ℕ)
     → all_leaves_pass isnt_nxdomain (following_all config rewrites) query rtype depth ≡ true
     → ShowsIn config rewrites query rtype (Blackhole place) → ⊥
 no_blackhole config rewrites query rtype place depth all shown =
-    no_walk_shows _ (InLeast config rewrites) (InGreatest config rewrites) query rtype place shown.shows.walks
+    no_walk_shows _ query rtype place shown.shows.walks
     (λ walk is. walk_passes isnt_nxdomain (following_all config rewrites) query rtype depth all walk
     (subst (λ (names : List Labels). IsWalk (record { config = config; rewrites = rewrites; followed = names }) query rtype walk)
     shown.in_force is))

@@ -1,5 +1,6 @@
 -- Which name servers' addresses can be learnt, and which servers may be followed.
 use Rattle.std.specs.Prelude.{◌≡◌, ◌↔◌, ◌⊎◌, ℕ, zero, suc, Bool, true, false, List, [], length, Contains}
+use Rattle.std.specs.List.{filter}
 use Rattle.dns_data.specs.Name.{Labels}
 use Rattle.dns_data.specs.declared.rr_type.RrType.{RrType}
 use Rattle.dns_data.specs.declared.rr_type.RrType.TheVariants as types
@@ -28,15 +29,17 @@ pub record LearnsBy (setting : Setting) (name : Labels) (rtype : RrType) : Type 
 abbrev pub Learns : Setting → Labels → Type 0
 Learns setting name = LearnsBy setting name types.A ⊎ LearnsBy setting name types.Aaaa
 
--- the names are those of the configured servers whose addresses can be learnt while the first names are followed
-abbrev pub IsRound : Config → ℕ → List Labels → List Labels → Type 0
-IsRound config rewrites followed learnt =
-    (name : Labels) → Contains learnt name ↔ (Contains (server_names config) name
-    × Learns (record { config = config; rewrites = rewrites; followed = followed }) name)
+-- a round: of the names of the configured servers, in their order, those are learnt whose addresses can be learnt
+-- while the first names are followed
+pub record IsRound (config : Config) (rewrites : ℕ) (followed learnt : List Labels) : Type 0 where
+  pub test : Labels → Bool
+  pub tells : (name : Labels) → Contains (server_names config) name
+      → (test name ≡ true) ↔ Learns (record { config = config; rewrites = rewrites; followed = followed }) name
+  pub are : learnt ≡ filter test (server_names config)
 
 -- the names are those after so many rounds
 abbrev pub AfterRounds : Config → ℕ → ℕ → List Labels → List Labels → Type 0
-AfterRounds config rewrites zero begin learnt = (name : Labels) → Contains learnt name ↔ Contains begin name
+AfterRounds config rewrites zero begin learnt = learnt ≡ begin
 AfterRounds config rewrites (suc rounds) begin learnt =
     (between : List Labels) × AfterRounds config rewrites rounds begin between × IsRound config rewrites between learnt
 

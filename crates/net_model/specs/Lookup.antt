@@ -41,6 +41,38 @@ closest_encloser zone name = longest (exists_in zone) name
 abbrev pub source_of_synthesis : Labels → Labels
 source_of_synthesis encloser = encloser ++ codes "*" ∷ []
 
+-- what decides at a name, whatever the type: a zone cut; the owner of a DNAME record, with the record's target; the
+-- owner whose records are the name's, which is the name itself or its source of synthesis; or nothing
+pub data Deciding : Type 0 where
+  ByCut : (cut : Labels) → Deciding
+  ByRedirection : (owner : Labels) (target : Option Labels) → Deciding
+  ByRecords : (owner : Labels) → Deciding
+  ByNothing : Deciding
+
+-- a DNAME record of the owner, the first in file order (RFC 6672 section 2.4)
+abbrev pub by_dname : Zone → Labels → Deciding
+by_dname zone owner = ByRedirection owner (first_name (targets_at zone owner types.Dname))
+
+-- at a name that doesn't exist its source of synthesis stands for it, if there is one (RFC 4592 section 3.3.1)
+abbrev pub synthesized : Zone → Option Labels → Deciding
+synthesized zone None = ByNothing
+synthesized zone (Some encloser) =
+    if exists_in zone (source_of_synthesis encloser) then ByRecords (source_of_synthesis encloser) else ByNothing
+
+-- Of the zone cut and the DNAME owner the shorter one decides, and the cut where they are one name. With neither,
+-- the name's own records do, or those of its wildcard.
+abbrev pub decided : Zone → Labels → Option Labels → Option Labels → Deciding
+decided zone name (Some cut) None = ByCut cut
+decided zone name (Some cut) (Some owner) =
+    if nat_lt (length owner) (length cut) then by_dname zone owner else ByCut cut
+decided zone name None (Some owner) = by_dname zone owner
+decided zone name None None =
+    if exists_in zone name then ByRecords name else synthesized zone (closest_encloser zone name)
+
+-- what decides at the name in the zone
+abbrev pub deciding : Zone → Labels → Deciding
+deciding zone name = decided zone name (zone_cut zone name) (dname_owner zone name)
+
 -- the data of a type, or that there are none
 abbrev pub answer_of : List Rdata → Found
 answer_of [] = NoData
@@ -58,35 +90,22 @@ at_name zone owner rtype =
     aliased zone owner rtype
     (if type_eq rtype types.Cname then None else first_name (targets_at zone owner types.Cname))
 
--- what a DNAME record gives for a name below its owner (RFC 6672 section 2.2)
+-- What a DNAME record gives for a name below its owner (RFC 6672 section 2.2). An owner of one has a target, so the
+-- first line is never reached.
 abbrev pub redirected : Labels → Labels → Option Labels → Found
 redirected name owner None = NxDomain
 redirected name owner (Some target) =
     if nat_le (wire_octets (swap name owner target)) 255 then Rewrite true owner (swap name owner target)
     else TooLong owner
 
--- what a name that doesn't exist gives: its source of synthesis stands for it, if there is one
--- (RFC 4592 section 3.3.1)
-abbrev pub synthesized : Zone → RrType → Option Labels → Found
-synthesized zone rtype None = NxDomain
-synthesized zone rtype (Some encloser) =
-    if exists_in zone (source_of_synthesis encloser)
-    then at_name zone (source_of_synthesis encloser) rtype
-    else NxDomain
-
--- Which of the zone cut and the DNAME owner decides: the shorter one, and the cut where they are one name.
--- With neither, the name's own records do, or those of its wildcard.
-abbrev pub decided : Zone → Labels → RrType → Option Labels → Option Labels → Found
-decided zone name rtype (Some cut) None = Referral cut (ns_names zone cut)
-decided zone name rtype (Some cut) (Some owner) =
-    if nat_lt (length owner) (length cut)
-    then redirected name owner (first_name (targets_at zone owner types.Dname))
-    else Referral cut (ns_names zone cut)
-decided zone name rtype None (Some owner) = redirected name owner (first_name (targets_at zone owner types.Dname))
-decided zone name rtype None None =
-    if exists_in zone name then at_name zone name rtype
-    else synthesized zone rtype (closest_encloser zone name)
+-- what that which decides answers to the name and the type: only records look at the type, and only a redirection at
+-- the name
+abbrev pub answered : Zone → Labels → RrType → Deciding → Found
+answered zone name rtype (ByCut cut) = Referral cut (ns_names zone cut)
+answered zone name rtype (ByRedirection owner target) = redirected name owner target
+answered zone name rtype (ByRecords owner) = at_name zone owner rtype
+answered zone name rtype ByNothing = NxDomain
 
 -- what the zone answers to the name and the type
 abbrev pub found : Zone → Labels → RrType → Found
-found zone name rtype = decided zone name rtype (zone_cut zone name) (dname_owner zone name)
+found zone name rtype = answered zone name rtype (deciding zone name)

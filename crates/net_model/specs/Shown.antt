@@ -75,13 +75,13 @@ pub record ShowsGlueDiffers (config : Config) (walk : Walk) (cut : Cut) : Type 0
 
 -- cyclic dependency (RFC 1034 section 4.2.1): without glue the name server's address is learnt only by way of
 -- name servers of which the same is true
-pub record ShowsCyclic (config : Config) (in_least in_greatest : Labels → Type 0) (walk : Walk) (cut : Cut) : Type 0 where
+pub record ShowsCyclic (setting : Setting) (walk : Walk) (cut : Cut) : Type 0 where
   pub refers : Refers walk cut
-  pub configured : is_configured config cut.ns ≡ true
-  pub no_top : is_top config cut.ns ≡ false
-  pub no_glue : has_glue config cut ≡ false
-  pub learnt_at_most : in_greatest cut.ns
-  pub not_at_least : in_least cut.ns → ⊥
+  pub configured : is_configured setting.config cut.ns ≡ true
+  pub no_top : is_top setting.config cut.ns ≡ false
+  pub no_glue : has_glue setting.config cut ≡ false
+  pub learnt_at_most : InGreatest setting.config setting.rewrites cut.ns
+  pub not_at_least : InLeast setting.config setting.rewrites cut.ns → ⊥
 
 -- rewrite limit: the walk ends where one more rewrite isn't allowed
 abbrev pub ShowsLimit : Walk → Place → Type 0
@@ -110,24 +110,10 @@ abbrev pub ShowsOverlong : Walk → Place → Type 0
 ShowsOverlong walk place = walk.leaf ≡ leaves.Overlong place
 
 -- no address: the walk ends at a name server that isn't in the greatest set
-pub record ShowsNoAddress (in_greatest : Labels → Type 0) (walk : Walk) (cut : Cut) : Type 0 where
+pub record ShowsNoAddress (setting : Setting) (walk : Walk) (cut : Cut) : Type 0 where
   pub behind : EndsBehind walk cut
   pub ends : walk.leaf ≡ leaves.NoAddress cut.ns
-  pub not_at_most : in_greatest cut.ns → ⊥
-
--- A walk shows the fault by itself. Answers that differ take two walks. The two tests tell the names of the
--- servers in the least and in the greatest set of learnt addresses.
-abbrev pub WalkShows : Config → (Labels → Type 0) → (Labels → Type 0) → Walk → Fault → Type 0
-WalkShows config in_least in_greatest walk (faults.Lame cut) = ShowsLame walk cut
-WalkShows config in_least in_greatest walk (faults.Differs cut) = ShowsDiffers config walk cut
-WalkShows config in_least in_greatest walk (faults.NoGlue cut) = ShowsNoGlue config walk cut
-WalkShows config in_least in_greatest walk (faults.GlueDiffers cut) = ShowsGlueDiffers config walk cut
-WalkShows config in_least in_greatest walk (faults.Cyclic cut) = ShowsCyclic config in_least in_greatest walk cut
-WalkShows config in_least in_greatest walk (faults.Limit place) = ShowsLimit walk place
-WalkShows config in_least in_greatest walk (faults.Blackhole place) = ShowsBlackhole walk place
-WalkShows config in_least in_greatest walk (faults.Answers class rtype) = ⊥
-WalkShows config in_least in_greatest walk (faults.Overlong place) = ShowsOverlong walk place
-WalkShows config in_least in_greatest walk (faults.NoAddress cut) = ShowsNoAddress in_greatest walk cut
+  pub not_at_most : InGreatest setting.config setting.rewrites cut.ns → ⊥
 
 -- the query is the representative of its class
 abbrev pub Represents : Config → Labels → Type 0
@@ -141,22 +127,29 @@ MayShow config query rtype (faults.Answers class shown_with) =
 MayShow config query rtype (faults.Overlong place) = Represents config query
 MayShow config query rtype fault = Unit {0}
 
--- walks of the query that show the fault: one by itself, or two with differing answers
-abbrev pub WalksShow : Setting → (Labels → Type 0) → (Labels → Type 0) → List Walk → Fault → Type 0
-WalksShow setting in_least in_greatest (one ∷ other ∷ []) (faults.Answers class rtype) = ShowsAnswers one other
-WalksShow setting in_least in_greatest (walk ∷ []) fault = WalkShows setting.config in_least in_greatest walk fault
-WalksShow setting in_least in_greatest walks fault = ⊥
+-- Walks of the query show the fault: one by itself, but two where answers differ. No other number of walks shows one.
+abbrev pub WalksShow : Setting → List Walk → Fault → Type 0
+WalksShow setting (walk ∷ []) (faults.Lame cut) = ShowsLame walk cut
+WalksShow setting (walk ∷ []) (faults.Differs cut) = ShowsDiffers setting.config walk cut
+WalksShow setting (walk ∷ []) (faults.NoGlue cut) = ShowsNoGlue setting.config walk cut
+WalksShow setting (walk ∷ []) (faults.GlueDiffers cut) = ShowsGlueDiffers setting.config walk cut
+WalksShow setting (walk ∷ []) (faults.Cyclic cut) = ShowsCyclic setting walk cut
+WalksShow setting (walk ∷ []) (faults.Limit place) = ShowsLimit walk place
+WalksShow setting (walk ∷ []) (faults.Blackhole place) = ShowsBlackhole walk place
+WalksShow setting (one ∷ other ∷ []) (faults.Answers class rtype) = ShowsAnswers one other
+WalksShow setting (walk ∷ []) (faults.Overlong place) = ShowsOverlong walk place
+WalksShow setting (walk ∷ []) (faults.NoAddress cut) = ShowsNoAddress setting walk cut
+WalksShow setting walks fault = ⊥
 
 -- the query shows the fault with the type, by some of its walks
-pub record Shows (setting : Setting) (in_least in_greatest : Labels → Type 0) (query : Labels) (rtype : RrType) (fault : Fault) : Type 0 where
+pub record Shows (setting : Setting) (query : Labels) (rtype : RrType) (fault : Fault) : Type 0 where
   pub may : MayShow setting.config query rtype fault
   pub walks : List Walk
   pub are_walks : AllByRecursion (IsWalk setting query rtype) walks
-  pub show : WalksShow setting in_least in_greatest walks fault
+  pub show : WalksShow setting walks fault
 
--- the query shows the fault with the type in the configuration: with the set in force, and the least and
--- greatest sets of learnt addresses
+-- the query shows the fault with the type in the configuration, with the set in force
 pub record ShowsIn (config : Config) (rewrites : ℕ) (query : Labels) (rtype : RrType) (fault : Fault) : Type 0 where
   pub followed : List Labels
   pub in_force : IsInForce config rewrites followed
-  pub shows : Shows (record { config = config; rewrites = rewrites; followed = followed }) (InLeast config rewrites) (InGreatest config rewrites) query rtype fault
+  pub shows : Shows (record { config = config; rewrites = rewrites; followed = followed }) query rtype fault

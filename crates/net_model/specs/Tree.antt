@@ -1,5 +1,6 @@
--- The class tree of a configuration, its size, and the state pairs of a query.
-use Rattle.std.specs.Prelude.{◌≡◌, ◌≢◌, ◌↔◌, ℕ, ◌≤◌, List, Contains, AllPairs}
+-- The class tree of a configuration, the state pairs of a query, and what it is that there are more than so many.
+use Rattle.std.specs.Prelude.{◌≡◌, ◌≢◌, ◌↔◌, ℕ, ◌<◌, ◌≤◌, List, length, Contains, AllPairs}
+use Rattle.std.specs.List.{AllByRecursion}
 use Rattle.std.specs.declared.cmp.Ordering.TheVariants.{Less}
 use Rattle.dns_data.specs.Name.{Labels, wire_octets, name_cmp}
 use Rattle.dns_data.specs.declared.rr_type.RrType.{RrType}
@@ -32,3 +33,10 @@ pub record IsReached (config : Config) (rewrites : ℕ) (query : Labels) (pair :
 pub record AreReached (config : Config) (rewrites : ℕ) (query : Labels) (pairs : List (State × RrType)) : Type 0 where
   pub once : AllPairs (λ a b. a ≢ b) pairs
   pub all : (pair : State × RrType) → Contains pairs pair ↔ IsReached config rewrites query pair
+
+-- more than so many different items are so
+pub record HasMoreThan {X : Type 0} (P : X → Type 0) (most : ℕ) : Type 0 where
+  pub items : List X
+  pub more : most < length items
+  pub differ : AllPairs (λ a b. a ≢ b) items
+  pub each : AllByRecursion P items

@@ -43,7 +43,7 @@ both = ns_q ∷ ns_p ∷ []
 
 -- with no server followed, no address is learnt
 nothing_is_learnt : IsRound circle 12 [] []
-nothing_is_learnt = is_round circle 12 [] [] (ByNone 3 ∷ ByNone 3 ∷ ByNone 3 ∷ []) refl
+nothing_is_learnt = is_round circle 12 [] [] (ByNone 3 ∷ ByNone 3 ∷ ByNone 3 ∷ []) refl refl
 
 -- so the least set is empty
 the_least_set : IsLeast circle 12 []
@@ -53,12 +53,12 @@ the_least_set = after_same_rounds circle 12 3 [] nothing_is_learnt
 both_are_learnt : IsRound circle 12 (server_names circle) both
 both_are_learnt =
     is_round circle 12 (server_names circle) both
-    (ByNone 3 ∷ ByWalk (0 ∷ 0 ∷ 0 ∷ []) ∷ ByWalk (0 ∷ 0 ∷ 0 ∷ []) ∷ []) refl
+    (ByNone 3 ∷ ByWalk (0 ∷ 0 ∷ 0 ∷ []) ∷ ByWalk (0 ∷ 0 ∷ 0 ∷ []) ∷ []) refl refl
 
 -- and so they are with these two followed
 both_are_learnt_again : IsRound circle 12 both both
 both_are_learnt_again =
-    is_round circle 12 both both (ByNone 3 ∷ ByWalk (0 ∷ 0 ∷ 0 ∷ []) ∷ ByWalk (0 ∷ 0 ∷ 0 ∷ []) ∷ []) refl
+    is_round circle 12 both both (ByNone 3 ∷ ByWalk (0 ∷ 0 ∷ 0 ∷ []) ∷ ByWalk (0 ∷ 0 ∷ 0 ∷ []) ∷ []) refl refl
 
 -- so the greatest set has both
 the_greatest_set : IsGreatest circle 12 both

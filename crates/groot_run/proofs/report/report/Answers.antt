@@ -21,8 +21,9 @@ returns c =
     let lost = c.in_ok-lost.lost.items in
     let size = c.in_ok-size.size in (
       record { classes = size.classes; names = size.names; rewrites = default_rewrites; entries = blackhole_entries server zone.origin (map alias_of lost) },
-      report_of_blackholes config c.requires server zone c.only_server.ensures c.only_zone-zone.ensures.zones (map alias_of lost) size.names size.classes
-          c.in_ok-size.ensures c.in_ok-lost.ensures,
+      report_of_blackholes config c.requires server zone c.only_server.ensures c.only_zone-zone.ensures.zones
+          (rw c.only_zone-zone.ensures.records c.in_ok-size.ensures.names) (map alias_of lost) size.names size.classes
+          c.in_ok-size.ensures.size c.in_ok-lost.ensures,
       ap length c.as_slice-aliases.ensures.value ∙ as_many_entries server zone.origin lost,
       c.in_ok-text.ensures ∙ ap (λ (aliases : List Borrowed).
           report_text (record { classes = size.classes; names = size.names; rewrites = default_rewrites; entries = blackhole_entries server zone.origin (map alias_of aliases) }))

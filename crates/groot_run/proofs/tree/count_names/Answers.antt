@@ -1,7 +1,10 @@
-use Rattle.std.proofs.Common.{◌≤◌, length, arith}
-use Rattle.groot_run.proofs.FirstTree.{counted_more, labels_fewer}
+use Rattle.std.proofs.Common.{◌≤◌, length, Bor, subst, arith}
+use Rattle.std.proofs.lemmas.List.Elements.{All-more}
+use Rattle.dns_data.specs.Name.{Labels, IsName}
+use Rattle.groot_run.proofs.FirstTree.{counted_more}
 use Rattle.groot_run.proofs.tree.count_names.Goals as goal
 use Rattle.groot_run.proofs.tree.count_names.Goals.{After-common_labels}
+use Rattle.dns_data.proofs.NameFronts.{labels_fewer}
 
 -- an owner has at most 254 labels
 few_labels : (c : After-common_labels) → length c.items-labels.result.now ≤ 254
@@ -20,4 +23,8 @@ loop-owner-preserved c = record {
       c.args.owners.now c.owner-item.result c.loop-owner-test.true c.owner-item.is c.items-labels.ensures.same c.common_labels.ensures.value
       c.loop-owner.invariant.counted;
   within = omega (arith, few_labels (goal.at.loop-owner-preserved c).After-common_labels);
+  named =
+      All-more (λ (owner : Bor Labels). IsName owner.now) c.args.owners.now c.loop-owner.owner-index c.owner-item.result
+      c.loop-owner-test.true c.loop-owner.invariant.named
+      (subst (λ (owner : Bor Labels). IsName owner.now) c.owner-item.is c.items-labels.ensures.name);
 }

@@ -6,7 +6,7 @@ use Rattle.std.specs.Cmp.Lexicographic.{slice_cmp}
 use Rattle.std.specs.Ordering.{ordering_reverse, ordering_then}
 use Rattle.std.proofs.lemmas.Cmp.{tied_itself}
 use Rattle.std.proofs.lemmas.Map.Lookups.{CmpEqualImpliesEq}
-use Rattle.groot_run.proofs.Membership.{none_in_nil, has_first, has_later, first_or_later}
+use Rattle.dns_data.proofs.Membership.{none_in_nil, has_first, has_later, first_or_later, pairs_first, pairs_rest}
 
 -- ---- orders
 
@@ -43,18 +43,22 @@ module _ {X : Type 0} (R : X → X → Ordering) (o : IsTotalOrder R) where
       let tied : R x x ≡ Equal = tied_itself o x in
       cc
 
+  -- and none before itself
+  pub never_before_itself : (x : X) → R x x ≡ Less → ⊥
+  never_before_itself x before = never_both x x before before
+
   -- ---- lists
 
   -- each item stands before the later ones
   abbrev pub IsRising : List X → Type 0
   IsRising xs = AllPairs (λ a b. R a b ≡ Less) xs
 
+  -- the first item stands before the later ones
   first_before : (x : X) (xs : List X) → IsRising (x ∷ xs) → (later : X) → Contains xs later → R x later ≡ Less
-  first_before x xs rising later (k, below, is) =
-      subst (λ (z : X). R x z ≡ Less) is (rising 0 (suc k) later (omega arith) (omega arith))
+  first_before = pairs_first (λ a b. R a b ≡ Less)
 
   rest_rising : (x : X) (xs : List X) → IsRising (x ∷ xs) → IsRising xs
-  rest_rising x xs rising = λ i j d before within. rising (suc i) (suc j) d (omega arith) (omega arith)
+  rest_rising = pairs_rest (λ a b. R a b ≡ Less)
 
   -- the first items of two rising lists are one, if each list has the other's
   same_first : (x : X) (xs : List X) (y : X) (ys : List X) → IsRising (x ∷ xs) → IsRising (y ∷ ys)
@@ -76,7 +80,7 @@ module _ {X : Type 0} (R : X → X → Ordering) (o : IsTotalOrder R) where
         | inl first ↦ (
             let before : R x item ≡ Less = first_before x xs rising item later in
             let here : R x x ≡ Less = subst (λ (z : X). R x z ≡ Less) (sym (same ∙ first)) before in
-            absurd (never_both x x here here))
+            absurd (never_before_itself x here))
         | inr behind ↦ behind
       ]
 

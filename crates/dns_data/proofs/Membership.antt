@@ -1,5 +1,5 @@
--- Which items a list has, after a map, a filter or several lists in a row.
-use Rattle.std.proofs.Common.{◌≡◌, ℕ, suc, ◌<◌, Bool, zero, true, false, cond, ◌⊎◌, List, [], ◌∷◌, ◌++◌, map, length, get_or, Contains, All, filter, flat_map, sym, refl, ap, ◌∙◌, subst, inl, inr, arith, true≢false}
+-- Which items a list has, also after a map, a filter or several lists in a row; and what holds of each pair of them.
+use Rattle.std.proofs.Common.{◌≡◌, ℕ, suc, ◌<◌, Bool, zero, true, false, cond, ◌⊎◌, List, [], ◌∷◌, map, length, get_or, Contains, All, AllPairs, filter, flat_map, sym, refl, ap, ◌∙◌, subst, inl, inr, arith, true≢false}
 use Rattle.std.proofs.lemmas.List.Elements.{Contains-append_left, Contains-append_right, Contains-append_cases, Contains-get_or}
 
 module _ {X : Type 0} where
@@ -25,10 +25,6 @@ module _ {X : Type 0} where
   -- what holds of each item that a list has holds along the list
   pub all_from_contains : (P : X → Type 0) (xs : List X) → ((x : X) → Contains xs x → P x) → All P xs
   all_from_contains P xs each k d below = each (get_or xs k d) (Contains-get_or xs k d below)
-
-  -- an item of two lists in a row
-  pub has_either : (xs ys : List X) (x : X) → Contains (xs ++ ys) x → Contains xs x ⊎ Contains ys x
-  has_either = Contains-append_cases
 
   -- a filter keeps the items that pass
   pub filter_has : (test : X → Bool) (xs : List X) (x : X) → Contains xs x → test x ≡ true → Contains (filter test xs) x
@@ -97,3 +93,13 @@ module _ {X Y : Type 0} (f : X → List Y) where
         | inl here ↦ (x, has_first x xs, here)
         | inr later ↦ (let rest = from_flat_map xs y later in (rest.0, has_later x xs rest.0 rest.1, rest.2))
       ]
+
+module _ {X : Type 0} (R : X → X → Type 0) where
+  -- where each pair of items stands so, the first item stands so to each later one
+  pub pairs_first : (x : X) (xs : List X) → AllPairs R (x ∷ xs) → (later : X) → Contains xs later → R x later
+  pairs_first x xs pairs later (k, below, is) =
+      subst (λ (z : X). R x z) is (pairs 0 (suc k) later (omega arith) (omega arith))
+
+  -- and so do the pairs behind it
+  pub pairs_rest : (x : X) (xs : List X) → AllPairs R (x ∷ xs) → AllPairs R xs
+  pairs_rest x xs pairs = λ i j d before within. pairs (suc i) (suc j) d (omega arith) (omega arith)

@@ -1,4 +1,4 @@
--- Below each name a label is free: one that begins no name there. And there is a first such label.
+-- Below each name a label is free: one that begins no name there.
 use Rattle.std.proofs.Common.{◌≡◌, ℕ, zero, suc, ◌+◌, ◌-◌, ◌*◌, ◌/◌, ◌%◌, ◌^◌, ◌<◌, ◌≤◌, Bool, true, false, cond, not, ◌||◌, List, [], ◌∷◌, ◌++◌, map, length, get_or, Contains, nat_eq, nat_lt, nat_le, sym, refl, ap, ◌∙◌, subst, append_assoc, inl, inr, true≢false, arith, eqb-true, lt-ltb, pow-suc}
 use Rattle.std.proofs.lemmas.Bool.{and_from, and_right, lt-leb}
 use Rattle.std.proofs.lemmas.Map.Views.{list_any-from_Contains}
@@ -8,14 +8,15 @@ use Rattle.std.specs.List.{list_any, list_all}
 use Rattle.dns_data.specs.Label.{IsLabel, is_label_octet}
 use Rattle.dns_data.specs.Octet.{is_upper}
 use Rattle.dns_data.specs.Name.{Labels}
-use Rattle.groot_run.proofs.Membership.{none_in_nil, has_first, has_later, first_or_later, map_has}
-use Rattle.groot_run.proofs.NameOrder.{Begins}
+use Rattle.dns_data.proofs.Membership.{none_in_nil, has_first, has_later, first_or_later, map_has}
+use Rattle.dns_data.proofs.NameFronts.{Begins}
 
 -- the numbers other than one
 without : ℕ → List ℕ → List ℕ
 without n [] = []
 without n (k ∷ ks) = cond (nat_eq n k) (without n ks) (k ∷ without n ks)
 
+-- no more are left
 length-without-le : (n : ℕ) (ks : List ℕ) → length (without n ks) ≤ length ks
 unfolding without
 length-without-le n [] = omega arith
@@ -24,6 +25,7 @@ length-without-le n (k ∷ ks) = by (nat_eq n k) (length-without-le n ks) where
   by true rest = omega arith
   by false rest = omega arith
 
+-- and fewer, where the one was among them
 length-without : (n : ℕ) (ks : List ℕ) → list_any (nat_eq n) ks ≡ true → length (without n ks) < length ks
 unfolding without
 length-without n [] has = absurd (true≢false (sym has))
@@ -80,24 +82,27 @@ spelled zero n = []
 spelled (suc width) n = (97 + n % 16) ∷ spelled width (n / 16)
 
 -- the number that letters spell
-number_of : List ℕ → ℕ
-number_of [] = 0
-number_of (letter ∷ letters) = (letter - 97) + 16 * number_of letters
+number_spelled : List ℕ → ℕ
+number_spelled [] = 0
+number_spelled (letter ∷ letters) = (letter - 97) + 16 * number_spelled letters
 
+-- it has so many letters
 length-spelled : (width n : ℕ) → length (spelled width n) ≡ width
 unfolding spelled
 length-spelled zero n = refl
 length-spelled (suc width) n = ap suc (length-spelled width (n / 16))
 
-number_of-spelled : (width n : ℕ) → n < 16 ^ width → number_of (spelled width n) ≡ n
-unfolding spelled number_of
-number_of-spelled zero n fits = omega arith
-number_of-spelled (suc width) n fits =
+-- a number that fits is the one so spelled
+number_spelled-spelled : (width n : ℕ) → n < 16 ^ width → number_spelled (spelled width n) ≡ n
+unfolding spelled number_spelled
+number_spelled-spelled zero n fits = omega arith
+number_spelled-spelled (suc width) n fits =
     let power : 16 ^ suc width ≡ 16 ^ width * 16 = pow-suc 16 width in
     let shorter : n / 16 < 16 ^ width = omega arith in
-    let rest : number_of (spelled width (n / 16)) ≡ n / 16 = number_of-spelled width (n / 16) shorter in
+    let rest : number_spelled (spelled width (n / 16)) ≡ n / 16 = number_spelled-spelled width (n / 16) shorter in
     omega arith
 
+-- which are octets of a label
 spelled_octets : (width n : ℕ) → list_all is_label_octet (spelled width n) ≡ true
 unfolding spelled
 spelled_octets zero n = refl
@@ -109,7 +114,7 @@ spelled_octets (suc width) n = and_from _ _ (letter (n % 16) (omega arith)) (spe
 
 -- the number that a name's label spells directly below another name
 abbrev number_below : Labels → Labels → ℕ
-number_below above name = number_of (get_or name (length above) [])
+number_below above name = number_spelled (get_or name (length above) [])
 
 -- where a spelled label begins a name, its number is spelled there
 spells : (width k : ℕ) (above : Labels) (names : List Labels) (name : Labels) → k < 16 ^ width → Contains names name
@@ -119,7 +124,7 @@ spells width k above names name fits has (below, e) =
     let place : get_or name (length above) [] ≡ label =
     ap (λ (x : Labels). get_or x (length above) []) (sym e ∙ append_assoc above (label ∷ []) below)
     ∙ get_or_at above label below [] (length above) refl in
-    subst (λ (n : ℕ). Contains (map (number_below above) names) n) (ap number_of place ∙ number_of-spelled width k fits)
+    subst (λ (n : ℕ). Contains (map (number_below above) names) n) (ap number_spelled place ∙ number_spelled-spelled width k fits)
     (map_has (number_below above) names name has)
 
 -- below a name a label of this many letters begins none of the names, if there are more such labels than names

@@ -18,14 +18,15 @@ use Rattle.net_model.specs.declared.place.Cut.{Cut}
 use Rattle.net_model.specs.declared.place.Place.{Place}
 use Rattle.net_model.specs.Class.{class_cmp}
 use Rattle.net_model.specs.FaultOrder.{kind_number, cut_cmp, place_cmp, fault_cmp}
-use Rattle.groot_run.proofs.NameOrder.{names_total}
-use Rattle.groot_run.proofs.OrderedLists.{both_tie}
-use Rattle.groot_run.proofs.SortedNames.{one_name}
+use Rattle.dns_data.proofs.NameOrder.{names_total}
+use Rattle.dns_data.proofs.OrderedLists.{both_tie}
+use Rattle.dns_data.proofs.Names.{same_names}
 
 -- an order that compares as a total one does is total
 same_order : {X : Type 0} (R S : X → X → Ordering) → ((a b : X) → R a b ≡ S a b) → IsTotalOrder R → IsTotalOrder S
 same_order R S same o = subst IsTotalOrder (λ i a b. same a b i) o
 
+-- a comparison that is followed by none
 then_equal : (o : Ordering) → ordering_then o Equal ≡ o
 then_equal Less = refl
 then_equal Equal = refl
@@ -37,6 +38,7 @@ then_equal Greater = refl
 abbrev type_with : ℕ → Option RrType
 type_with number = find (λ rtype. number_of rtype == number) types
 
+-- a number tells its type
 number_tells : (rtype : RrType) → type_with (number_of rtype) ≡ Some rtype
 number_tells A = refl
 number_tells Ns = refl
@@ -57,6 +59,7 @@ one_type a b e = same_Some a b (sym (number_tells a) ∙ ap type_with e ∙ numb
 
 -- ---- classes
 
+-- the name of a class
 abbrev class_name : Class → Labels
 class_name (Exact name) = name
 class_name (Below name) = name
@@ -73,6 +76,7 @@ classes_by_parts (Exact a) (Below b) = refl
 classes_by_parts (Below a) (Exact b) = refl
 classes_by_parts (Below a) (Below b) = then_equal (name_cmp a b)
 
+-- the order of classes is total
 pub classes_total : IsTotalOrder class_cmp
 classes_total =
     same_order (then_cmp (on class_name name_cmp) (on class_side nat_cmp)) class_cmp classes_by_parts
@@ -80,16 +84,18 @@ classes_total =
 
 -- classes that tie are one
 pub one_class : CmpEqualImpliesEq class_cmp
-one_class (Exact a) (Exact b) e = ap Exact (one_name a b e)
+one_class (Exact a) (Exact b) e = ap Exact (same_names a b e)
 one_class (Exact a) (Below b) e = let ties = both_tie (name_cmp a b) Less e in let never : Less ≡ Equal = ties.1 in cc
 one_class (Below a) (Exact b) e = let ties = both_tie (name_cmp a b) Greater e in let never : Greater ≡ Equal = ties.1 in cc
-one_class (Below a) (Below b) e = ap Below (one_name a b e)
+one_class (Below a) (Below b) e = ap Below (same_names a b e)
 
 -- ---- faults
 
+-- the names of a delegation's name server, in the order in which they decide
 abbrev cut_names : Cut → List Labels
 cut_names cut = cut.server ∷ cut.zone ∷ cut.cut ∷ cut.ns ∷ []
 
+-- the names of a rewrite's place
 abbrev place_names : Place → List Labels
 place_names place = place.server ∷ place.zone ∷ place.owner ∷ []
 
@@ -122,6 +128,7 @@ cuts_by_names a b =
     ∙ ap (λ o. ordering_then (name_cmp a.server b.server) (ordering_then (name_cmp a.zone b.zone) (ordering_then (name_cmp a.cut b.cut) o)))
     (then_equal (name_cmp a.ns b.ns))
 
+-- and those of rewrites
 places_by_names : (a b : Place) → ordering_then (slice_cmp name_cmp (place_names a) (place_names b)) Equal ≡ place_cmp a b
 places_by_names a b =
     then_equal (slice_cmp name_cmp (place_names a) (place_names b))
@@ -152,6 +159,7 @@ faults_by_parts (Overlong a) (Overlong b) = places_by_names a b
 faults_by_parts (NoAddress a) (NoAddress b) = cuts_by_names a b
 faults_by_parts a b = refl
 
+-- so it is total
 pub faults_total : IsTotalOrder fault_cmp
 faults_total =
     same_order parts_cmp fault_cmp faults_by_parts

@@ -1,8 +1,8 @@
--- What a search of a list by a test finds, and what a filter leaves.
+-- What a search of a list by a test finds, and what a filter leaves; tests that agree on its items.
 use Rattle.std.proofs.Common.{◌≡◌, Bool, true, false, cond, List, [], ◌∷◌, length, Contains, filter, Option, Some, None, sym, refl, ap, ◌∙◌, inl, inr, arith, true≢false}
 use Rattle.std.specs.List.{find, list_any, list_all, filter_map, cons_option}
 use Rattle.std.proofs.lemmas.Bool.{and_parts, or_cases, or_from, or_left, or_right, or_parts}
-use Rattle.groot_run.proofs.Membership.{none_in_nil, has_first, has_later, first_or_later}
+use Rattle.dns_data.proofs.Membership.{none_in_nil, has_first, has_later, first_or_later}
 
 module _ {A : Type 0} (test : A → Bool) where
   -- what passes on every item passes on each
@@ -64,6 +64,29 @@ module _ {A : Type 0} (test : A → Bool) where
           | inl same ↦ absurd (true≢false (sym pass ∙ ap test (sym same) ∙ e))
           | inr later ↦ rest later pass
         ]
+
+-- two tests that hold together are one truth value
+pub same_truth : (a b : Bool) → (a ≡ true → b ≡ true) → (b ≡ true → a ≡ true) → a ≡ b
+same_truth true b there back = sym (there refl)
+same_truth false true there back = back refl
+same_truth false false there back = refl
+
+module _ {A : Type 0} (one other : A → Bool) where
+  -- two tests that agree on the items of a list find the same item
+  pub find_same : (xs : List A) → ((x : A) → Contains xs x → one x ≡ other x) → find one xs ≡ find other xs
+  find_same [] agree = refl
+  find_same (first ∷ xs) agree =
+      ap (λ (b : Bool). cond b (Some first) (find one xs)) (agree first (has_first first xs))
+      ∙ ap (λ (found : Option A). cond (other first) (Some first) found)
+      (find_same xs (λ x has. agree x (has_later first xs x has)))
+
+  -- and leave the same items
+  pub filter_same : (xs : List A) → ((x : A) → Contains xs x → one x ≡ other x) → filter one xs ≡ filter other xs
+  filter_same [] agree = refl
+  filter_same (first ∷ xs) agree =
+      ap (λ (b : Bool). cond b (first ∷ filter one xs) (filter one xs)) (agree first (has_first first xs))
+      ∙ ap (λ (rest : List A). cond (other first) (first ∷ rest) rest)
+      (filter_same xs (λ x has. agree x (has_later first xs x has)))
 
 module _ {A B : Type 0} (f : A → Option B) where
   -- what an item gives is among what all items give

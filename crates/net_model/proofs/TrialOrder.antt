@@ -12,7 +12,7 @@ use Rattle.net_model.specs.declared.class.Class.{Class}
 use Rattle.net_model.specs.declared.class.Class.TheVariants.{Exact, Below}
 use Rattle.net_model.specs.Class.{octet_rank, trial_cmp, IsFirstUnnamed, IsRepresentative}
 use Rattle.net_model.specs.Reading.{Ground}
-use Rattle.groot_run.proofs.OrderedLists.{both_tie, exact_lists, neither_before}
+use Rattle.dns_data.proofs.OrderedLists.{both_tie, exact_lists, neither_before}
 
 -- the octet with a rank
 abbrev octet_with : ℕ → ℕ
@@ -21,16 +21,19 @@ octet_with rank =
     else (if nat_lt rank 36 then rank - 26 + 48
     else (if rank == 36 then 45 else (if rank == 37 then 95 else rank - 38)))
 
+-- a rank tells its octet
 rank_tells : (octet : ℕ) → octet_with (octet_rank octet) ≡ octet
 rank_tells octet = grind (arith, nat_tests)
 
-exact_trials : CmpEqualImpliesEq trial_cmp
+-- labels of which neither is tried before the other are one
+pub exact_trials : CmpEqualImpliesEq trial_cmp
 exact_trials a b e =
     exact_lists (λ x y. nat_cmp (octet_rank x) (octet_rank y))
     (λ x y tie. sym (rank_tells x) ∙ ap octet_with (exact_unsigned (octet_rank x) (octet_rank y) tie) ∙ rank_tells y) a b
     (both_tie (nat_cmp (length a) (length b)) (slice_cmp (λ x y. nat_cmp (octet_rank x) (octet_rank y)) a b) e).1
 
-trials_total : IsTotalOrder trial_cmp
+-- the order is total
+pub trials_total : IsTotalOrder trial_cmp
 trials_total = then_total (on_total length nat_cmp_total) (lists_total (on_total octet_rank nat_cmp_total))
 
 -- one label is the first that makes an unnamed name

@@ -1,27 +1,33 @@
--- The order of names: prefixes, names between others, and lists in which each name stands before the later ones.
-use Rattle.std.proofs.Common.{◌≡◌, ℕ, Bool, true, false, cond, List, [], ◌∷◌, ◌++◌, map, Contains, AllPairs, filter, Ordering, Less, Equal, Greater, is_gt, is_eq, sym, refl, ap, ◌∙◌, subst, inl, inr, true≢false}
+-- How names stand in their order: prefixes, names between others, and lists in which each name stands before the later ones.
+use Rattle.std.proofs.Common.{◌≡◌, ℕ, Bool, true, false, cond, List, [], ◌∷◌, ◌++◌, map, Contains, AllPairs, filter, Ordering, Less, Equal, Greater, is_lt, is_gt, is_eq, sym, refl, ap, ◌∙◌, subst, inl, inr, true≢false}
 use Rattle.std.specs.Cmp.{IsTotalOrder}
 use Rattle.std.specs.Cmp.Lexicographic.{nat_list_cmp_total, lists_total, texts_ties, bytes_decides}
-use Rattle.std.specs.Ordering.{ordering_then}
+use Rattle.std.specs.Ordering.{ordering_then, ordering_reverse}
 use Rattle.std.proofs.lemmas.Cmp.{tied_itself}
+use Rattle.std.proofs.lemmas.List.Elements.{Contains-append_cases}
 use Rattle.std.proofs.lemmas.List.Kept.{AllPairs-cons}
 use Rattle.dns_data.specs.Label.{label_cmp}
 use Rattle.dns_data.specs.Name.{Labels, name_cmp}
-use Rattle.groot_run.proofs.Membership.{none_in_nil, has_first, has_later, has_either, from_map, from_filter, all_from_contains}
-
--- the first name's labels begin the second's
-abbrev pub Begins : Labels → Labels → Type 0
-Begins above name = (below : Labels) × (above ++ below ≡ name)
+use Rattle.dns_data.proofs.Membership.{none_in_nil, has_first, has_later, from_map, from_filter, all_from_contains}
+use Rattle.dns_data.proofs.NameFronts.{Begins}
 
 -- the first name doesn't stand behind the second
 abbrev pub UpTo : Labels → Labels → Type 0
 UpTo a b = is_gt (name_cmp a b) ≡ false
 
+-- the first name stands before the second
 abbrev pub Before : Labels → Labels → Type 0
 Before a b = name_cmp a b ≡ Less
 
+-- the order of names is total
 pub names_total : IsTotalOrder name_cmp
 names_total = lists_total nat_list_cmp_total
+
+-- what stands before turned round stands behind
+pub turned : (o : Ordering) → is_lt o ≡ is_gt (ordering_reverse o)
+turned Less = refl
+turned Equal = refl
+turned Greater = refl
 
 -- labels of which neither stands before the other are one
 pub same_labels : (a b : List ℕ) → label_cmp a b ≡ Equal → a ≡ b
@@ -37,6 +43,7 @@ prefix_up_to [] [] = refl
 prefix_up_to [] (label ∷ below) = refl
 prefix_up_to (label ∷ above) below = ap is_gt (under_label label above (above ++ below)) ∙ prefix_up_to above below
 
+-- one that doesn't stand behind a second stands before each that the second stands before
 pub up_to_before : (a b c : Labels) → UpTo a b → Before b c → Before a c
 up_to_before a b c le lt = by (name_cmp a b) refl le where
   by : (o : Ordering) → name_cmp a b ≡ o → is_gt o ≡ false → Before a c
@@ -64,22 +71,25 @@ abbrev pub Rising : List Labels → Type 0
 Rising [] = Unit {0}
 Rising (name ∷ names) = ((later : Labels) → Contains names later → Before name later) × Rising names
 
+-- so each pair of the list stands so
 pub pairs_from_rising : (names : List Labels) → Rising names → AllPairs Before names
 pairs_from_rising [] h = λ i j d lt below. absurd (none_in_nil d (j, below, refl))
 pairs_from_rising (name ∷ names) h =
     AllPairs-cons Before name names (all_from_contains (Before name) names h.0) (pairs_from_rising names h.1)
 
+-- two such lists in a row, each name of the first before those of the second
 pub rising_append : (xs ys : List Labels) → Rising xs → Rising ys
     → ((x y : Labels) → Contains xs x → Contains ys y → Before x y) → Rising (xs ++ ys)
 rising_append [] ys h k across = k
 rising_append (x ∷ xs) ys h k across = (
-  λ later has. elim (has_either xs ys later has) [
+  λ later has. elim (Contains-append_cases xs ys later has) [
     | inl here ↦ h.0 later here
     | inr there ↦ across x later (has_first x xs) there
   ],
   rising_append xs ys h.1 k (λ a b has there. across a b (has_later x xs a has) there),
 )
 
+-- such a list with a label before each name
 pub rising_map : (label : List ℕ) (names : List Labels) → Rising names → Rising (map (λ above. label ∷ above) names)
 rising_map label [] h = tt
 rising_map label (name ∷ names) h = (
@@ -88,6 +98,7 @@ rising_map label (name ∷ names) h = (
   rising_map label names h.1,
 )
 
+-- and one that a filter leaves
 pub rising_filter : (test : Labels → Bool) (names : List Labels) → Rising names → Rising (filter test names)
 rising_filter test [] h = tt
 rising_filter test (name ∷ names) h = by (test name) (rising_filter test names h.1) where
