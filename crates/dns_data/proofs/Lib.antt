@@ -1,8 +1,12 @@
+pub mod Answers
 pub mod DataFacts
+pub mod DataTexts
 pub mod DifferentItems
+pub mod EqualData
 pub mod Labels
 pub mod LeastItems
 pub mod Membership
+pub mod NameFaults
 pub mod NameFronts
 pub mod NameOrder
 pub mod Names
@@ -11,6 +15,7 @@ pub mod Pieces
 pub mod Reading
 pub mod RoundTrip
 pub mod Searches
+pub mod Separators
 pub mod Sets
 pub mod StandardFacts
-pub mod Words
+pub mod TextsTellData

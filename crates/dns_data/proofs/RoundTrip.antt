@@ -22,10 +22,10 @@ plain_not_backslash octet h = grind (arith, nat_tests)
 plain_not_dot : (octet : ℕ) → is_special octet ≡ false → (octet == 46) ≡ false
 plain_not_dot octet h = grind (arith, nat_tests)
 
-digit : (n : ℕ) → n < 10 → is_digit (48 + n) ≡ true
+pub digit : (n : ℕ) → n < 10 → is_digit (48 + n) ≡ true
 digit n h = grind (arith, nat_tests)
 
-three_digits_value : (octet : ℕ) → three_digit_value (48 + octet / 100) (48 + octet / 10 % 10) (48 + octet % 10) ≡ octet
+pub three_digits_value : (octet : ℕ) → three_digit_value (48 + octet / 100) (48 + octet / 10 % 10) (48 + octet % 10) ≡ octet
 three_digits_value octet = omega arith
 
 special_reads : (octet : ℕ) (rest : List ℕ) → is_special octet ≡ true → signs (92 ∷ octet ∷ rest) ≡ Octet octet ∷ signs rest

@@ -1,5 +1,6 @@
 -- Octets of ASCII text, and how one is printed where it can't stand as it is.
-use Rattle.std.specs.Prelude.{ℕ, ◌+◌, ◌-◌, ◌*◌, ◌/◌, ◌%◌, Bool, ◌&&◌, nat_le, List, [], ◌∷◌, if◌then◌else◌}
+use Rattle.std.specs.Prelude.{ℕ, ◌+◌, ◌-◌, ◌*◌, ◌/◌, ◌%◌, Bool, ◌&&◌, nat_eq, nat_le, List, [], ◌∷◌, map, if◌then◌else◌}
+use lib.Pointwise.{pointwise}
 
 -- A to Z
 abbrev pub is_upper : ℕ → Bool
@@ -20,6 +21,10 @@ folded octet = if is_upper octet then octet + 32 else octet
 -- an octet with a to z raised to A to Z
 abbrev pub raised : ℕ → ℕ
 raised octet = if is_lower octet then octet - 32 else octet
+
+-- the octets are this word, in any case (RFC 4343 section 3)
+abbrev pub is_word : List ℕ → List ℕ → Bool
+is_word word octets = pointwise nat_eq (map folded word) (map folded octets)
 
 -- the number that three decimal digits stand for
 abbrev pub three_digit_value : ℕ → ℕ → ℕ → ℕ

@@ -1,8 +1,7 @@
 -- The twelve record types, their numbers and words.
-use Rattle.std.specs.Prelude.{ℕ, Bool, List, [], ◌∷◌, map, codes, nat_eq, Option, ◌==◌}
+use Rattle.std.specs.Prelude.{ℕ, Bool, List, [], ◌∷◌, codes, Option, ◌==◌}
 use Rattle.std.specs.List.{find}
-use lib.Pointwise.{pointwise}
-use Rattle.dns_data.specs.Octet.{raised}
+use Rattle.dns_data.specs.Octet.{is_word}
 use Rattle.dns_data.specs.declared.rr_type.RrType.{RrType}
 use Rattle.dns_data.specs.declared.rr_type.RrType.TheVariants.{A, Ns, Cname, Soa, Ptr, Hinfo, Mx, Txt, Aaaa, Srv, Dname, Caa}
 
@@ -46,4 +45,4 @@ type_eq a b = number_of a == number_of b
 
 -- the type with this word, in any case
 abbrev pub type_of_word : List ℕ → Option RrType
-type_of_word word = find (λ rtype. pointwise nat_eq (word_of rtype) (map raised word)) types
+type_of_word word = find (λ rtype. is_word (word_of rtype) word) types

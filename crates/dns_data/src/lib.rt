@@ -4,6 +4,7 @@
 
 mod fault;
 mod label;
+mod laws;
 mod list;
 mod memory;
 mod name;
@@ -13,9 +14,11 @@ mod rr_type;
 mod spelling;
 mod text;
 mod type_set;
+mod words;
 
 pub use fault::{JoinFault, NameFault};
 pub use label::Label;
+pub use laws::texts_tell_data;
 pub use list::{List, Octets};
 pub use memory::NoMemory;
 pub use name::Name;
@@ -25,6 +28,7 @@ pub use rr_type::RrType;
 pub use spelling::escaped_octet;
 pub use text::Text;
 pub use type_set::TypeSet;
+pub use words::is_word;
 
 #[cfg(test)]
 mod tests;

@@ -96,3 +96,22 @@ impl List<Octets> {
         Ok(list)
     }
 }
+
+impl<T: PartialEq> PartialEq for List<T> {
+    ghost use lib.Pointwise.{pointwise};
+    ghost use Rattle.std.specs.Cmp.Lexicographic.{lists_per};
+
+    ghost eq = { pointwise T.eq };
+
+    ghost laws = { lists_per T.PartialEq.laws };
+
+    fn eq(&self, other: &List<T>) -> bool {
+        self.items() == other.items()
+    }
+}
+
+impl<T: Eq> Eq for List<T> {
+    ghost use Rattle.std.specs.Cmp.Lexicographic.{lists_equiv};
+
+    ghost laws = { lists_equiv T.Eq.laws };
+}

@@ -9,8 +9,9 @@ use crate::name::Name;
 use crate::rr_type::RrType;
 use std::alloc::Global;
 
-/// A record's data. The names of the fields are those of the RFCs.
-#[derive(Debug, Drop)]
+/// A record's data. The names of the fields are those of the RFCs. Data are equal where their types are one and each
+/// field is.
+#[derive(Debug, PartialEq, Eq, Drop)]
 pub enum Rdata {
     /// An IPv4 address (RFC 1035 section 3.4.1).
     A([u8; 4]),

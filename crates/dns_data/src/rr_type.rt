@@ -1,9 +1,10 @@
 //! The twelve record types.
 
-ghost use Rattle.std.specs.Prelude.{◌≡◌, true, Some, map, nat_eq};
-ghost use lib.Pointwise.{pointwise};
-ghost use Rattle.dns_data.specs.Octet.{raised};
+ghost use Rattle.std.specs.Prelude.{◌≡◌, true, Some};
+ghost use Rattle.dns_data.specs.Octet.{is_word};
 ghost use Rattle.dns_data.specs.RrType.{number_of, word_of, type_of_word, type_eq};
+
+use crate::words::is_word;
 
 /// A record type that lookups speak of, in the order of their numbers (RFC 1035 section 3.2.2, RFC 3596
 /// section 2.1, RFC 2782, RFC 6672 section 2.1, RFC 8659 section 4.1).
@@ -82,13 +83,6 @@ impl RrType {
         }
     }
 
-    /// Whether the octets are the type's word, in any case.
-    fn is_written(&self, word: &[u8]) -> bool
-        ensures { result ≡ pointwise nat_eq (word_of self.now) (map raised word.now) }
-    {
-        self.word().as_bytes().eq_ignore_ascii_case(word)
-    }
-
     /// The type with this word, in any case, or `None` where the octets are none of the twelve words.
     pub fn from_word(word: &[u8]) -> Option<RrType>
         ensures { result ≡ type_of_word word.now }
@@ -96,6 +90,6 @@ impl RrType {
         RrType::ALL
             .iter()
             .copied()
-            .find(|rr_type| rr_type.is_written(word))
+            .find(|rr_type| is_word(rr_type.word(), word))
     }
 }

@@ -13,7 +13,6 @@ pub mod FirstTree
 pub mod FirstWalks
 pub mod Fronts
 pub mod IdenticalRecords
-pub mod IdenticalTexts
 pub mod Json
 pub mod LastDot
 pub mod NameSearches

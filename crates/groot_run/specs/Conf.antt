@@ -63,8 +63,8 @@ config_or file (Some config) = Reads config
 abbrev pub most_records : ℕ
 most_records = 1000000
 
--- What the records of a zone file give, or the fault in it: a zone has one of identical records. What a text holds is
--- never want of memory, so the last equation has no case.
+-- What the records of a zone file give, or the fault in it: a zone has one of identical records. The last equation has
+-- no case, since no text is refused for want of memory (`no_text_wants_memory` of master_read).
 abbrev pub text_reading : Labels → List ℕ → Result ZoneText TextFault → Reading
 text_reading server file (Ok text) = config_or file (config_of server (distinct text.rrs))
 text_reading server file (Err (text_faults.At number line cause)) =

@@ -1,7 +1,7 @@
 //! Zone files.
 
 ghost use Rattle.std.specs.Prelude.{◌≤◌, [], length};
-ghost use Rattle.master_read.specs.Fault.{Answers};
+ghost use Rattle.dns_data.specs.Answers.{AnswersOr};
 ghost use Rattle.master_read.specs.ZoneText.{zone_text};
 ghost use Rattle.groot_run.specs.Conf.{most_octets, most_records};
 
@@ -18,7 +18,7 @@ const PIECE: usize = 4096;
 /// The records of a zone file's octets, read with the root as origin, or the first fault.
 pub fn read_zone(alloc: Global, octets: &[u8]) -> Result<ZoneText, TextFault>
     requires { length octets.now ≤ most_octets }
-    ensures { Answers result (zone_text [] most_records octets.now) }
+    ensures { AnswersOr TextFault.NoMemory result (zone_text [] most_records octets.now) }
 {
     let mut reader = ZoneReader::new(alloc, Name::root(alloc), MOST_FILE_RECORDS);
     let mut rest = octets;

@@ -1,18 +1,17 @@
 -- The entries of a text, read one after another.
-use Rattle.std.proofs.Common.{◌≡◌, ℕ, Bool, true, false, List, [], ◌∷◌, ◌++◌, refl, sym, ap, ◌∙◌, append_assoc, Option, Some}
+use Rattle.std.proofs.Common.{◌≡◌, ℕ, Bool, true, false, List, [], ◌∷◌, ◌++◌, refl, sym, ap, ◌∙◌, append_assoc, inl, inr, Option, Some}
 use Rattle.std.specs.Prelude.{Result, Ok, Err, MatchBool}
 use Rattle.std.proofs.lemmas.List.{append-nil}
+use Rattle.dns_data.specs.Answers.{AnswersOr, ◌>>=◌}
 use Rattle.dns_data.specs.Name.{Labels}
 use Rattle.master_lex.specs.Holding.{Held, Remains, StandsFor, run, empty, last_entry, entries_in, fault_in}
 use Rattle.master_lex.specs.declared.entry.Entry.{Entry}
 use Rattle.master_lex.specs.declared.fault.LexFault.{LexFault}
 use Rattle.master_lex.proofs.Values.{entries_begin}
-use Rattle.master_read.specs.Entries.{◌>>=◌}
-use Rattle.master_read.specs.Fault.{FaultIs}
 use Rattle.master_read.specs.Reader.{IsSettled, HasReadAll, Held as ReaderHeld, StandsFor as ReaderStandsFor}
 use Rattle.master_read.specs.ZoneText.{no_records, with_entry, at_line, with_entries, ended, zone_of_entries, zone_text}
 use Rattle.master_read.specs.declared.fault.TextFault.{TextFault}
-use Rattle.master_read.specs.declared.fault.TextFault.TheVariants.{At, NoMemory}
+use Rattle.master_read.specs.declared.fault.TextFault.TheVariants.{NoMemory}
 use Rattle.master_read.specs.declared.progress.Progress.{Progress}
 use Rattle.master_read.specs.declared.records.Records.{Records}
 
@@ -39,10 +38,10 @@ with_one_more room so_far records more xs entry e made =
     ∙ ap (λ (r : Result Records TextFault). r >>= (λ records'. with_entries room records' [])) made
 
 -- one entry more that has a fault
-with_fault : (room : ℕ) (so_far records : Records) (fault : TextFault) (xs : List Entry) (entry : Entry) (ys : List Entry) → with_entries room so_far xs ≡ Ok records
+fault_behind : (room : ℕ) (so_far records : Records) (fault : TextFault) (xs : List Entry) (entry : Entry) (ys : List Entry) → with_entries room so_far xs ≡ Ok records
     → at_line entry.line (with_entry room records entry) ≡ Err fault → with_entries room so_far (xs ++ entry ∷ ys) ≡ Err fault
 unfolding with_entries
-with_fault room so_far records fault xs entry ys e made =
+fault_behind room so_far records fault xs entry ys e made =
     with_entries-append room so_far xs (entry ∷ ys)
     ∙ ap (λ (r : Result Records TextFault). r >>= (λ records'. with_entries room records' (entry ∷ ys))) e
     ∙ ap (λ (r : Result Records TextFault). r >>= (λ records'. with_entries room records' ys)) made
@@ -72,16 +71,16 @@ unfolding zone_text zone_of_entries
 fault_of_text origin room text fault e = ap (λ (r : Result Records TextFault). r >>= ended (fault_in true text)) e
 
 fault_by : (origin : Labels) (room : ℕ) (text : List ℕ) (records : Records) (entry : Entry) (taken others : List Entry) → entries_in true text ≡ (taken ++ entry ∷ []) ++ others
-    → with_entries room (no_records origin) taken ≡ Ok records → (fault : TextFault) → FaultIs fault (at_line entry.line (with_entry room records entry)) → FaultIs fault (zone_text origin room text)
-fault_by origin room text records entry taken others begins read NoMemory h = tt
-fault_by origin room text records entry taken others begins read (At file line cause) h =
-    fault_of_text origin room text (At file line cause)
+    → with_entries room (no_records origin) taken ≡ Ok records → (fault : TextFault) → AnswersOr NoMemory (Err fault) (at_line entry.line (with_entry room records entry)) → AnswersOr NoMemory (Err fault) (zone_text origin room text)
+fault_by origin room text records entry taken others begins read fault (inl free) = inl free
+fault_by origin room text records entry taken others begins read fault (inr h) =
+    inr (fault_of_text origin room text fault
     (ap (with_entries room (no_records origin)) (begins ∙ append_assoc taken (entry ∷ []) others)
-    ∙ with_fault room (no_records origin) records (At file line cause) taken entry others read h)
+    ∙ fault_behind room (no_records origin) records fault taken entry others read h))
 
 -- where the next entry has a fault, it is settled
 pub settled : (held : Held) (text : List ℕ) (taken : List Entry) (entry : Entry) (origin : Labels) (room : ℕ) (records : Records) → StandsFor held text (taken ++ entry ∷ [])
-    → with_entries room (no_records origin) taken ≡ Ok records → (fault : TextFault) → FaultIs fault (at_line entry.line (with_entry room records entry)) → IsSettled held.finished fault origin room text
+    → with_entries room (no_records origin) taken ≡ Ok records → (fault : TextFault) → AnswersOr NoMemory (Err fault) (at_line entry.line (with_entry room records entry)) → IsSettled held.finished fault origin room text
 settled held text taken entry origin room records stands read fault h more none =
     let first = taken_first held text (taken ++ entry ∷ []) stands more none in
     fault_by origin room (text ++ more) records entry taken first.0 first.1 read fault h
@@ -100,11 +99,11 @@ text_read progress origin room text fault same all is =
     ∙ ap (λ (f : Option LexFault). ended f progress.records) (sym is)
 
 -- a fault that is settled is that of the text as it stands
-pub settled_now : (finished : Bool) (fault : TextFault) (origin : Labels) (room : ℕ) (text : List ℕ) → IsSettled finished fault origin room text → FaultIs fault (zone_text origin room text)
+pub settled_now : (finished : Bool) (fault : TextFault) (origin : Labels) (room : ℕ) (text : List ℕ) → IsSettled finished fault origin room text → AnswersOr NoMemory (Err fault) (zone_text origin room text)
 settled_now finished fault origin room text h = rw append-nil at (h [] (λ _. refl))
 
 -- the fault that a reader met is that of the text
-pub met : (held : ReaderHeld) (fault : TextFault) (origin : Labels) (room : ℕ) (text : List ℕ) → held.fault ≡ Some fault → ReaderStandsFor held origin room text → FaultIs fault (zone_text origin room text)
+pub met : (held : ReaderHeld) (fault : TextFault) (origin : Labels) (room : ℕ) (text : List ℕ) → held.fault ≡ Some fault → ReaderStandsFor held origin room text → AnswersOr NoMemory (Err fault) (zone_text origin room text)
 met held fault origin room text is stands =
     let settle = rw is at stands.agrees in
     rw (← stands.room_is) (settled_now false fault origin held.progress.room text settle.1)

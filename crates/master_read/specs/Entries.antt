@@ -3,10 +3,10 @@
 use Rattle.std.specs.Prelude.{ℕ, Bool, true, false, not, ◌&&◌, ◌||◌, nat_eq, List, [], ◌∷◌, map, drop, codes, is_none, ok_or, if◌then◌else◌, Option, Some, None, Result, Ok, Err}
 use Rattle.std.specs.List.{starts_with}
 use Rattle.std.specs.Option.{option_or}
+use Rattle.dns_data.specs.Answers.{◌>>=◌, with_fault}
 use Rattle.dns_data.specs.Name.{Labels}
-use Rattle.dns_data.specs.Octet.{is_digit, raised}
+use Rattle.dns_data.specs.Octet.{is_digit, is_word, raised}
 use Rattle.dns_data.specs.Spelling.{name_of_text}
-use Rattle.dns_data.specs.declared.fault.NameFault.{NameFault}
 use Rattle.dns_data.specs.declared.rdata.Rdata.{Rdata}
 use Rattle.dns_data.specs.declared.rdata.Rdata.TheVariants.{Soa}
 use Rattle.dns_data.specs.declared.rdata.Rr.{Rr}
@@ -16,7 +16,7 @@ use Rattle.rdata_forms.specs.Forms.{rdata_of, other_of}
 use Rattle.rdata_forms.specs.Times.{time_of}
 use Rattle.rdata_forms.specs.declared.fault.RdataFault.{RdataFault}
 use Rattle.master_read.specs.Context.{behind_record, inherited_ttl, behind_data}
-use Rattle.master_read.specs.Words.{is_word, type_word, class_word}
+use Rattle.master_read.specs.Words.{type_word, class_word}
 use Rattle.master_read.specs.declared.context.Context.{Context}
 use Rattle.master_read.specs.declared.fault.TextCause.{TextCause}
 use Rattle.master_read.specs.declared.fault.TextCause.TheVariants.{BadDirective, NotSupported, BadOwner, NoOwner, NoType, UnknownType, NotIn as ClassNotIn, BadTtl, Rdata as BadData, NoTtl}
@@ -24,12 +24,6 @@ use Rattle.master_read.specs.declared.words.ClassWord.{ClassWord}
 use Rattle.master_read.specs.declared.words.ClassWord.TheVariants.{In, NotIn}
 use Rattle.master_read.specs.declared.words.TypeWord.{TypeWord}
 use Rattle.master_read.specs.declared.words.TypeWord.TheVariants.{Known, Dropped, Other}
-
--- a step that may fail, and the next
-infixl 10 ◌>>=◌
-abbrev pub ◌>>=◌ : {A B F : Type 0} → Result A F → (A → Result B F) → Result B F
-(Ok value) >>= next = next value
-(Err fault) >>= next = Err fault
 
 -- Directives.
 
@@ -42,26 +36,20 @@ begins_with_dollar (token ∷ tokens) = not token.quoted && starts_with nat_eq t
 abbrev pub is_directive : Entry → Bool
 is_directive entry = not entry.blank_start && begins_with_dollar entry.tokens
 
--- the context under another origin, unless there is none
-abbrev pub under_origin : Context → Result Labels NameFault → Result Context TextCause
-under_origin context (Ok origin) = Ok (record context { origin = origin })
-under_origin context (Err fault) = Err BadDirective
-
--- the context with another TTL for records that state none, unless there is none
-abbrev pub with_default_ttl : Context → Option ℕ → Result Context TextCause
-with_default_ttl context (Some ttl) = Ok (record context { default_ttl = Some ttl })
-with_default_ttl context None = Err BadDirective
-
 -- `$ORIGIN` and one name, relative to the origin so far
 unfoldable pub origin_directive : Context → List Token → Result Context TextCause
 origin_directive context [] = Err BadDirective
-origin_directive context (name ∷ []) = under_origin context (name_of_text name.raw context.origin)
+origin_directive context (name ∷ []) = do
+  origin ← with_fault (λ _. BadDirective) (name_of_text name.raw context.origin)
+  Ok (record context { origin = origin })
 origin_directive context (name ∷ next ∷ tokens) = Err BadDirective
 
 -- `$TTL` and one time (RFC 2308 section 4)
 unfoldable pub ttl_directive : Context → List Token → Result Context TextCause
 ttl_directive context [] = Err BadDirective
-ttl_directive context (time ∷ []) = with_default_ttl context (time_of time.raw)
+ttl_directive context (time ∷ []) = do
+  ttl ← ok_or (time_of time.raw) BadDirective
+  Ok (record context { default_ttl = Some ttl })
 ttl_directive context (time ∷ next ∷ tokens) = Err BadDirective
 
 -- what a directive makes of the context, by its word
@@ -75,15 +63,10 @@ directive_of context (word ∷ arguments) =
 
 -- Records. The first step: the owner.
 
--- the name of a text, as an owner
-abbrev pub as_owner : Result Labels NameFault → Result Labels TextCause
-as_owner (Ok owner) = Ok owner
-as_owner (Err fault) = Err (BadOwner fault)
-
 -- the owner that the first token gives; an entry has a token
 abbrev pub written_owner : Context → List Token → Result Labels TextCause
 written_owner context [] = Err NoType
-written_owner context (token ∷ tokens) = as_owner (name_of_text token.raw context.origin)
+written_owner context (token ∷ tokens) = with_fault BadOwner (name_of_text token.raw context.origin)
 
 -- the owner of a record: the last one where the line begins blank, else the first token's
 unfoldable pub owner_of : Context → Entry → Result Labels TextCause
@@ -112,8 +95,9 @@ begins_with_digit (octet ∷ octets) = is_digit octet
 
 -- with this TTL, behind its token
 abbrev pub with_ttl : Front → List Token → Option ℕ → Result Front TextCause
-with_ttl front tokens (Some ttl) = Ok (record front { ttl = Some ttl; tokens = tokens })
-with_ttl front tokens None = Err BadTtl
+with_ttl front tokens stated = do
+  ttl ← ok_or stated BadTtl
+  Ok (record front { ttl = Some ttl; tokens = tokens })
 
 -- with this class, behind its token; a word that is no class's is left where it is
 abbrev pub with_class : Front → List Token → Option ClassWord → Result Front TextCause
@@ -151,8 +135,9 @@ type_said token = if token.quoted then Err UnknownType else ok_or (type_word tok
 
 -- the data, as a record's
 abbrev pub as_data : Result Rdata RdataFault → Result (Option Rdata) TextCause
-as_data (Ok rdata) = Ok (Some rdata)
-as_data (Err fault) = Err (BadData fault)
+as_data said = do
+  rdata ← with_fault BadData said
+  Ok (Some rdata)
 
 -- the data of a type; those of a dropped type aren't looked at
 abbrev pub data_by : TypeWord → Token → List Token → Labels → Result (Option Rdata) TextCause
@@ -183,18 +168,15 @@ pub record Made : Type 0 where
   pub context : Context
   pub rr : Option Rr
 
--- the record with this TTL
-abbrev pub made_with : Context → Labels → Rdata → ℕ → Option ℕ → Result Made TextCause
-made_with context owner rdata line None = Err NoTtl
-made_with context owner rdata line (Some ttl) = Ok (record {
-  context = behind_data context (own_ttl rdata);
-  rr = Some (record { owner = owner; ttl = ttl; rdata = rdata; file = 0; line = line });
-})
-
 -- the record with these data; a dropped one needs no TTL
 unfoldable pub made_of : Context → Labels → Option ℕ → ℕ → Option Rdata → Result Made TextCause
 made_of context owner stated line None = Ok (record { context = context; rr = None })
-made_of context owner stated line (Some rdata) = made_with context owner rdata line (ttl_of context stated rdata)
+made_of context owner stated line (Some rdata) = do
+  ttl ← ok_or (ttl_of context stated rdata) NoTtl
+  Ok (record {
+    context = behind_data context (own_ttl rdata);
+    rr = Some (record { owner = owner; ttl = ttl; rdata = rdata; file = 0; line = line });
+  })
 
 -- what a record entry makes
 unfoldable pub record_of : Context → Entry → Result Made TextCause

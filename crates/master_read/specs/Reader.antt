@@ -1,9 +1,10 @@
 -- What a reader holds, and for which text it stands.
-use Rattle.std.specs.Prelude.{◌≡◌, ◌≢◌, ℕ, ◌≤◌, List, [], ◌++◌, length, Bool, true, false, Option, Some, None, Ok, IfSome}
+use Rattle.std.specs.Prelude.{◌≡◌, ◌≢◌, ℕ, ◌≤◌, List, [], ◌++◌, length, Bool, true, false, Option, Some, None, Ok, Err, IfSome}
+use Rattle.dns_data.specs.Answers.{AnswersOr}
 use Rattle.dns_data.specs.Name.{Labels}
 use Rattle.master_lex.specs.Holding.{StandsFor as LexerStandsFor, entries_in}
 use Rattle.master_lex.specs.declared.entry.Entry.{Entry}
-use Rattle.master_read.specs.Fault.{FaultIs, TellsOfText}
+use Rattle.master_read.specs.Fault.{TellsOfText}
 use Rattle.master_read.specs.ZoneText.{no_records, with_entries, zone_text}
 use Rattle.master_read.specs.declared.fault.TextFault.{TextFault}
 use Rattle.master_read.specs.declared.fault.TextFault.TheVariants.{NoMemory}
@@ -33,7 +34,7 @@ HasReadAll progress origin text = with_entries progress.room (no_records origin)
 -- the text's fault is settled, however the text goes on, if it hasn't ended
 abbrev pub IsSettled : Bool → TextFault → Labels → ℕ → List ℕ → Type 0
 IsSettled finished fault origin room text =
-    (more : List ℕ) → (finished ≡ true → more ≡ []) → FaultIs fault (zone_text origin room (text ++ more))
+    (more : List ℕ) → (finished ≡ true → more ≡ []) → AnswersOr NoMemory (Err fault) (zone_text origin room (text ++ more))
 
 -- by the fault that was met, or none: where memory ran out, the reader stands for no text
 abbrev pub StandsBy : Option TextFault → Progress → Labels → List ℕ → Type 0

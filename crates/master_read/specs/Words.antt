@@ -1,9 +1,8 @@
 -- The words of types, classes and directives, which are read without regard to case
 -- (RFC 1035 sections 3.2 and 5.1, RFC 3597 section 5).
-use Rattle.std.specs.Prelude.{ℕ, Bool, ◌||◌, nat_eq, List, [], ◌∷◌, map, length, take, drop, codes, find, option_map, ◌==◌, if◌then◌else◌, Option, Some, None}
+use Rattle.std.specs.Prelude.{ℕ, Bool, ◌||◌, List, [], ◌∷◌, length, take, drop, codes, find, option_map, ◌==◌, if◌then◌else◌, Option, Some, None}
 use Rattle.std.specs.List.{list_any}
-use lib.Pointwise.{pointwise}
-use Rattle.dns_data.specs.Octet.{folded}
+use Rattle.dns_data.specs.Octet.{is_word}
 use Rattle.dns_data.specs.RrType.{number_of, types, type_of_word}
 use Rattle.dns_data.specs.declared.rr_type.RrType.{RrType}
 use Rattle.rdata_forms.specs.Numbers.{number_up_to}
@@ -11,10 +10,6 @@ use Rattle.master_read.specs.declared.words.TypeWord.{TypeWord}
 use Rattle.master_read.specs.declared.words.TypeWord.TheVariants.{Known, Dropped, Other}
 use Rattle.master_read.specs.declared.words.ClassWord.{ClassWord}
 use Rattle.master_read.specs.declared.words.ClassWord.TheVariants.{In, NotIn}
-
--- the octets are this word, in any case
-abbrev pub is_word : List ℕ → List ℕ → Bool
-is_word word octets = pointwise nat_eq (map folded word) (map folded octets)
 
 -- the octets are one of these words
 unfoldable pub is_among : List (List ℕ) → List ℕ → Bool

@@ -1,11 +1,12 @@
 -- The records of a master file's text (RFC 1035 section 5).
 use Rattle.std.specs.Prelude.{ℕ, not, filter, ◌+◌, nat_le, true, List, [], ◌∷◌, ◌++◌, option_to_list, if◌then◌else◌, Option, Some, None, Result, Ok, Err}
+use Rattle.dns_data.specs.Answers.{◌>>=◌, with_fault}
 use Rattle.dns_data.specs.Name.{Labels}
 use Rattle.master_lex.specs.Holding.{entries_in, fault_in}
 use Rattle.master_lex.specs.declared.entry.Entry.{Entry}
 use Rattle.master_lex.specs.declared.fault.LexFault.{LexFault}
 use Rattle.master_read.specs.Context.{first_context}
-use Rattle.master_read.specs.Entries.{◌>>=◌, is_directive, directive_of, Made, record_of}
+use Rattle.master_read.specs.Entries.{is_directive, directive_of, Made, record_of}
 use Rattle.master_read.specs.declared.fault.TextCause.{TextCause}
 use Rattle.master_read.specs.declared.fault.TextCause.TheVariants.{Lex, TooMany}
 use Rattle.master_read.specs.declared.fault.TextFault.{TextFault}
@@ -36,8 +37,7 @@ with_entry room so_far entry =
 
 -- the fault of an entry has the entry's line
 abbrev pub at_line : {T : Type 0} → ℕ → Result T TextCause → Result T TextFault
-at_line line (Ok value) = Ok value
-at_line line (Err cause) = Err (At 0 line cause)
+at_line line said = with_fault (At 0 line) said
 
 -- the entries in order, each in the context that those before it leave, up to the first that has a fault
 unfoldable pub with_entries : ℕ → Records → List Entry → Result Records TextFault

@@ -1,13 +1,12 @@
 //! Directives.
 
-ghost use Rattle.std.specs.Prelude.{◌≡◌, Ok, IfErr, OnOk};
+ghost use Rattle.std.specs.Prelude.{◌≡◌, Ok, Err, IfErr, OnOk};
+ghost use Rattle.dns_data.specs.Answers.{AnswersOr, with_fault};
 ghost use Rattle.master_read.specs.Entries.{is_directive, begins_with_dollar, directive_of, origin_directive, ttl_directive};
-ghost use Rattle.master_read.specs.Fault.{CauseIs, TellsOfEntry};
 
 use crate::context::Context;
 use crate::fault::{EntryFault, TextCause};
-use crate::words::is_word;
-use dns_data::{Name, NameFault};
+use dns_data::{Name, NameFault, is_word};
 use master_lex::{Entry, Token};
 use rdata_forms::read_ttl;
 use std::alloc::Global;
@@ -37,8 +36,7 @@ pub fn read_directive(
     tokens: &[Token],
 ) -> Result<(), EntryFault>
     ensures ok { OnOk result (directive_of context.old tokens.now ≡ Ok context.new) }
-    ensures fault { IfErr result (λ fault. CauseIs fault (directive_of context.old tokens.now)) }
-    ensures tells { IfErr result TellsOfEntry }
+    ensures fault { IfErr result (λ fault. AnswersOr EntryFault.NoMemory (Err fault) (with_fault EntryFault.Cause (directive_of context.old tokens.now))) }
 {
     let [token, arguments @ ..] = tokens else {
         return Err(EntryFault::Cause(TextCause::BadDirective));
@@ -59,8 +57,7 @@ pub fn read_directive(
 #[tactic(auto, unfolding(crate::specs::Entries::origin_directive))]
 fn read_origin(alloc: Global, context: &mut Context, arguments: &[Token]) -> Result<(), EntryFault>
     ensures ok { OnOk result (origin_directive context.old arguments.now ≡ Ok context.new) }
-    ensures fault { IfErr result (λ fault. CauseIs fault (origin_directive context.old arguments.now)) }
-    ensures tells { IfErr result TellsOfEntry }
+    ensures fault { IfErr result (λ fault. AnswersOr EntryFault.NoMemory (Err fault) (with_fault EntryFault.Cause (origin_directive context.old arguments.now))) }
 {
     let [name] = arguments else {
         return Err(EntryFault::Cause(TextCause::BadDirective));
@@ -79,8 +76,7 @@ fn read_origin(alloc: Global, context: &mut Context, arguments: &[Token]) -> Res
 #[tactic(auto, unfolding(crate::specs::Entries::ttl_directive))]
 fn read_default_ttl(context: &mut Context, arguments: &[Token]) -> Result<(), EntryFault>
     ensures ok { OnOk result (ttl_directive context.old arguments.now ≡ Ok context.new) }
-    ensures fault { IfErr result (λ fault. CauseIs fault (ttl_directive context.old arguments.now)) }
-    ensures tells { IfErr result TellsOfEntry }
+    ensures fault { IfErr result (λ fault. AnswersOr EntryFault.NoMemory (Err fault) (with_fault EntryFault.Cause (ttl_directive context.old arguments.now))) }
 {
     let [time] = arguments else {
         return Err(EntryFault::Cause(TextCause::BadDirective));

@@ -1,8 +1,7 @@
 //! What stands in front of a record's type.
 
-ghost use Rattle.std.specs.Prelude.{◌≡◌, true, Ok, Err, IfErr, MatchResult};
+ghost use Rattle.std.specs.Prelude.{◌≡◌, Ok, Err, MatchResult};
 ghost use Rattle.master_read.specs.Entries.{begins_with_digit, one_more, front_in};
-ghost use Rattle.master_read.specs.Fault.{tells_of_text};
 
 use crate::fault::TextCause;
 use crate::words::{ClassWord, class_word};
@@ -23,10 +22,9 @@ pub struct Front<'a> {
 /// What stands in front of the type: a TTL and a class, in either order, each at most once.
 #[tactic(auto, unfolding(crate::specs::Entries::front_in))]
 pub fn read_front(tokens: &[Token]) -> Result<Front<'_>, TextCause>
-    ensures answers { MatchResult result
+    ensures { MatchResult result
         (λ front. front_in tokens.now ≡ Ok (record { ttl = front.ttl; class = front.has_class; tokens = front.tokens.now }))
         (λ cause. front_in tokens.now ≡ Err cause) }
-    ensures tells { IfErr result (λ cause. tells_of_text cause ≡ true) }
 {
     let front = one_more(Front {
         ttl: None,
@@ -39,11 +37,10 @@ pub fn read_front(tokens: &[Token]) -> Result<Front<'_>, TextCause>
 /// The same with the next token, if it is a TTL or a class and none such stood there.
 #[tactic(auto, unfolding(crate::specs::Entries::one_more))]
 fn one_more(front: Front<'_>) -> Result<Front<'_>, TextCause>
-    ensures answers { MatchResult result
+    ensures { MatchResult result
         (λ more. one_more (record { ttl = front.entry.ttl; class = front.entry.has_class; tokens = front.entry.tokens.now })
         ≡ Ok (record { ttl = more.ttl; class = more.has_class; tokens = more.tokens.now }))
         (λ cause. one_more (record { ttl = front.entry.ttl; class = front.entry.has_class; tokens = front.entry.tokens.now }) ≡ Err cause) }
-    ensures tells { IfErr result (λ cause. tells_of_text cause ≡ true) }
 {
     let [token, tokens @ ..] = front.tokens else {
         return Ok(front);

@@ -28,7 +28,7 @@ mod words;
 mod zone_text;
 
 pub use fault::{TextCause, TextFault};
-pub use laws::{front_is_whole, read_by_the_cut, seen_counts_record_entries};
+pub use laws::{front_is_whole, no_text_wants_memory, read_by_the_cut, seen_counts_record_entries};
 pub use reader::ZoneReader;
 pub use zone_text::ZoneText;
 

@@ -1,9 +1,10 @@
 //! How far the reading of a text has come.
 
 ghost use Rattle.std.specs.Prelude.{◌≡◌, ◌≤◌, ◌<◌, ◌+◌, ◌-◌, ◌^◌, ℕ, List, ◌++◌, length, true, false, Ok, IfOk, IfErr, OnOk};
+ghost use Rattle.dns_data.specs.Answers.{AnswersOr};
 ghost use Rattle.dns_data.specs.Name.{Labels};
 ghost use Rattle.master_lex.specs.Holding.{fault_in};
-ghost use Rattle.master_read.specs.Fault.{Answers, TellsOfText};
+ghost use Rattle.master_read.specs.Fault.{TellsOfText};
 ghost use Rattle.master_read.specs.Reader.{HasRead, HasReadAll, IsSettled};
 ghost use Rattle.master_read.specs.ZoneText.{zone_text};
 
@@ -72,7 +73,7 @@ impl Progress {
     /// The records of the text, which has ended, or its first fault.
     pub fn finish(mut self, alloc: Global) -> Result<ZoneText, TextFault>
         requires { self.lexer.finished ≡ false }
-        ensures answers { (origin : Labels) (text : List ℕ) → HasRead self origin text → Answers result (zone_text origin self.room text) }
+        ensures answers { (origin : Labels) (text : List ℕ) → HasRead self origin text → AnswersOr TextFault.NoMemory result (zone_text origin self.room text) }
         ensures tells { IfErr result TellsOfText }
     {
         self.lexer.finish();

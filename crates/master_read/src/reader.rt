@@ -1,8 +1,9 @@
 //! The reader.
 
 ghost use Rattle.std.specs.Prelude.{◌≡◌, ◌≢◌, ◌+◌, ◌-◌, ◌^◌, ◌<◌, ℕ, List, [], ◌++◌, length, Err, IfErr, IsErr, OnOk, OnErr};
+ghost use Rattle.dns_data.specs.Answers.{AnswersOr};
 ghost use Rattle.dns_data.specs.Name.{Labels};
-ghost use Rattle.master_read.specs.Fault.{Answers, TellsOfText};
+ghost use Rattle.master_read.specs.Fault.{TellsOfText};
 ghost use Rattle.master_read.specs.Reader.{StandsFor, HasFailed};
 ghost use Rattle.master_read.specs.ZoneText.{zone_text};
 
@@ -87,7 +88,7 @@ impl ZoneReader {
     /// The records of the text, or its first fault. It is `NoMemory` where `feed` has answered so.
     pub fn finish(self, alloc: Global) -> Result<ZoneText, TextFault>
         ensures answers { (origin : Labels) (room : ℕ) (text : List ℕ) → StandsFor self origin room text
-            → Answers result (zone_text origin room text) }
+            → AnswersOr TextFault.NoMemory result (zone_text origin room text) }
         ensures failed { HasFailed self → result ≡ Err TextFault.NoMemory }
         ensures tells { IfErr result TellsOfText }
     {

@@ -1,7 +1,8 @@
 //! What was read of a text so far.
 
-ghost use Rattle.std.specs.Prelude.{◌≡◌, None, Ok, IfErr, OnOk};
-ghost use Rattle.master_read.specs.Fault.{CauseIs, FaultIs, TellsOfEntry, TellsOfText};
+ghost use Rattle.std.specs.Prelude.{◌≡◌, None, Ok, Err, IfErr, OnOk};
+ghost use Rattle.dns_data.specs.Answers.{AnswersOr, with_fault};
+ghost use Rattle.master_read.specs.Fault.{TellsOfText};
 ghost use Rattle.master_read.specs.ZoneText.{at_line, with_entry, with_made, ended};
 
 use crate::context::Context;
@@ -28,7 +29,7 @@ impl Records {
     /// Reads one entry more. A fault has the entry's line.
     pub fn read(&mut self, alloc: Global, room: u32, entry: &Entry) -> Result<(), TextFault>
         ensures ok { OnOk result (at_line entry.now.line (with_entry room self.old entry.now) ≡ Ok self.new) }
-        ensures fault { IfErr result (λ fault. FaultIs fault (at_line entry.now.line (with_entry room self.old entry.now))) }
+        ensures fault { IfErr result (λ fault. AnswersOr TextFault.NoMemory (Err fault) (at_line entry.now.line (with_entry room self.old entry.now))) }
         ensures tells { IfErr result TellsOfText }
     {
         match self.read_entry(alloc, room, entry) {
@@ -46,8 +47,7 @@ impl Records {
     #[tactic(auto, unfolding(crate::specs::ZoneText::with_entry))]
     fn read_entry(&mut self, alloc: Global, room: u32, entry: &Entry) -> Result<(), EntryFault>
         ensures ok { OnOk result (with_entry room self.old entry.now ≡ Ok self.new) }
-        ensures fault { IfErr result (λ fault. CauseIs fault (with_entry room self.old entry.now)) }
-        ensures tells { IfErr result TellsOfEntry }
+        ensures fault { IfErr result (λ fault. AnswersOr EntryFault.NoMemory (Err fault) (with_fault EntryFault.Cause (with_entry room self.old entry.now))) }
     {
         if is_directive(entry) {
             return read_directive(alloc, &mut self.context, entry.tokens.items());
@@ -59,8 +59,7 @@ impl Records {
     /// Counts a record entry, and keeps its record, if it has one.
     fn keep(&mut self, room: u32, rr: Option<Rr>) -> Result<(), EntryFault>
         ensures ok { OnOk result (with_made room self.old (record { context = self.old.context; rr = rr }) ≡ Ok self.new) }
-        ensures fault { IfErr result (λ fault. CauseIs fault (with_made room self.old (record { context = self.old.context; rr = rr }))) }
-        ensures tells { IfErr result TellsOfEntry }
+        ensures fault { IfErr result (λ fault. AnswersOr EntryFault.NoMemory (Err fault) (with_fault EntryFault.Cause (with_made room self.old (record { context = self.old.context; rr = rr })))) }
     {
         if room <= self.seen {
             return Err(EntryFault::Cause(TextCause::TooMany));

@@ -1,11 +1,10 @@
 //! Records.
 
-ghost use Rattle.std.specs.Prelude.{◌≡◌, ◌≢◌, true, map, Result, Ok, Err, IfOk, IfErr, OnOk, MatchResult};
+ghost use Rattle.std.specs.Prelude.{◌≡◌, map, Result, Ok, Err, IfOk, IfErr, OnOk, MatchResult};
+ghost use Rattle.dns_data.specs.Answers.{AnswersOr, with_fault};
 ghost use Rattle.dns_data.specs.Octet.{raised};
-ghost use Rattle.rdata_forms.specs.Fault.{Answers as DataAnswers};
 ghost use Rattle.master_read.specs.Context.{behind_record};
 ghost use Rattle.master_read.specs.Entries.{owner_of, written_owner, behind_owner, type_said, data_of, data_by, as_data, own_ttl, made_of, record_of};
-ghost use Rattle.master_read.specs.Fault.{CauseIs, StepAnswers, TellsOfEntry, tells_of_text};
 
 use crate::context::Context;
 use crate::fault::{EntryFault, TextCause};
@@ -25,8 +24,7 @@ pub fn read_record(
     entry: &Entry,
 ) -> Result<Option<Rr>, EntryFault>
     ensures ok { IfOk result (λ rr. record_of context.old entry.now ≡ Ok (record { context = context.new; rr = rr })) }
-    ensures fault { IfErr result (λ fault. CauseIs fault (record_of context.old entry.now)) }
-    ensures tells { IfErr result TellsOfEntry }
+    ensures fault { IfErr result (λ fault. AnswersOr EntryFault.NoMemory (Err fault) (with_fault EntryFault.Cause (record_of context.old entry.now))) }
 {
     let owner = read_owner(alloc, context, entry)?;
     let front = read_front(behind_owner(entry))?;
@@ -38,8 +36,7 @@ pub fn read_record(
 /// The owner of a record entry.
 #[tactic(auto, unfolding(crate::specs::Entries::owner_of))]
 fn read_owner(alloc: Global, context: &Context, entry: &Entry) -> Result<Name, EntryFault>
-    ensures answers { StepAnswers result (owner_of context.now entry.now) }
-    ensures tells { IfErr result TellsOfEntry }
+    ensures { AnswersOr EntryFault.NoMemory result (with_fault EntryFault.Cause (owner_of context.now entry.now)) }
 {
     if !entry.blank_start {
         return written_owner(alloc, context, entry.tokens.items());
@@ -52,8 +49,7 @@ fn read_owner(alloc: Global, context: &Context, entry: &Entry) -> Result<Name, E
 
 /// The owner that the first token gives.
 fn written_owner(alloc: Global, context: &Context, tokens: &[Token]) -> Result<Name, EntryFault>
-    ensures answers { StepAnswers result (written_owner context.now tokens.now) }
-    ensures tells { IfErr result TellsOfEntry }
+    ensures { AnswersOr EntryFault.NoMemory result (with_fault EntryFault.Cause (written_owner context.now tokens.now)) }
 {
     let [token, ..] = tokens else {
         return Err(EntryFault::Cause(TextCause::NoType));
@@ -78,8 +74,7 @@ fn behind_owner(entry: &Entry) -> &[Token]
 /// The data behind the type's word, or `None` where the type is dropped.
 #[tactic(auto, unfolding(crate::specs::Entries::data_of))]
 fn read_data(alloc: Global, tokens: &[Token], origin: &Name) -> Result<Option<Rdata>, EntryFault>
-    ensures answers { StepAnswers result (data_of tokens.now origin.now) }
-    ensures tells { IfErr result TellsOfEntry }
+    ensures { AnswersOr EntryFault.NoMemory result (with_fault EntryFault.Cause (data_of tokens.now origin.now)) }
 {
     let [word, fields @ ..] = tokens else {
         return Err(EntryFault::Cause(TextCause::NoType));
@@ -91,8 +86,7 @@ fn read_data(alloc: Global, tokens: &[Token], origin: &Name) -> Result<Option<Rd
 /// What the token where the type stands says.
 #[tactic(auto, unfolding(crate::specs::Entries::type_said))]
 fn type_said(token: &Token) -> Result<TypeWord, TextCause>
-    ensures answers { result ≡ type_said token.now }
-    ensures tells { IfErr result (λ cause. tells_of_text cause ≡ true) }
+    ensures { result ≡ type_said token.now }
 {
     if token.quoted {
         return Err(TextCause::UnknownType);
@@ -108,8 +102,7 @@ fn data_by(
     fields: &[Token],
     origin: &Name,
 ) -> Result<Option<Rdata>, EntryFault>
-    ensures answers { StepAnswers result (data_by said word.now fields.now origin.now) }
-    ensures tells { IfErr result TellsOfEntry }
+    ensures { AnswersOr EntryFault.NoMemory result (with_fault EntryFault.Cause (data_by said word.now fields.now origin.now)) }
 {
     match said {
         TypeWord::Known(rtype) => kept(read_rdata(alloc, rtype, fields, origin)),
@@ -123,9 +116,8 @@ fn data_by(
 
 /// What the reading of data gave, as a record's.
 fn kept(rdata: Result<Rdata, RdataFault>) -> Result<Option<Rdata>, EntryFault>
-    requires named { rdata ≢ Err (RdataFault.BadName NameFault.NoMemory) }
-    ensures answers { (said : Result Rdata RdataFault) → DataAnswers rdata said → StepAnswers result (as_data said) }
-    ensures tells { IfErr result TellsOfEntry }
+    ensures { (said : Result Rdata RdataFault) → AnswersOr RdataFault.NoMemory rdata said
+        → AnswersOr EntryFault.NoMemory result (with_fault EntryFault.Cause (as_data said)) }
 {
     match rdata {
         Ok(rdata) => Ok(Some(rdata)),
@@ -181,10 +173,9 @@ fn with_ttl(
     line: u32,
     rdata: Option<Rdata>,
 ) -> Result<Option<Rr>, TextCause>
-    ensures answers { MatchResult result
+    ensures { MatchResult result
         (λ rr. made_of context.old owner stated line rdata ≡ Ok (record { context = context.new; rr = rr }))
         (λ cause. made_of context.old owner stated line rdata ≡ Err cause) }
-    ensures tells { IfErr result (λ cause. tells_of_text cause ≡ true) }
 {
     let Some(rdata) = rdata else {
         return Ok(None);

@@ -1,9 +1,10 @@
 //! The words of types, classes and directives.
 
 ghost use Rattle.std.specs.Prelude.{◌≡◌, map};
-ghost use Rattle.master_read.specs.Words.{is_word, is_among, type_word, type_with, type_numbered, class_word, number_behind};
+ghost use Rattle.dns_data.specs.Octet.{is_word};
+ghost use Rattle.master_read.specs.Words.{is_among, type_word, other_type_word, type_with, type_numbered, class_word, number_behind};
 
-use dns_data::RrType;
+use dns_data::{RrType, is_word};
 use rdata_forms::read_number;
 
 /// What a type's word says.
@@ -62,13 +63,6 @@ const OTHERS: [&str; 29] = [
     "ZONEMD",
 ];
 
-/// Whether the octets are this word, in any case.
-pub fn is_word(word: &str, octets: &[u8]) -> bool
-    ensures { result ≡ is_word word.now octets.now }
-{
-    word.as_bytes().eq_ignore_ascii_case(octets)
-}
-
 /// Whether the octets are one of these words.
 #[tactic(auto, unfolding(crate::specs::Words::is_among))]
 fn is_among(words: &[&str], octets: &[u8]) -> bool
@@ -82,9 +76,16 @@ fn is_among(words: &[&str], octets: &[u8]) -> bool
 pub fn type_word(octets: &[u8]) -> Option<TypeWord>
     ensures { result ≡ type_word octets.now }
 {
-    if let Some(rtype) = RrType::from_word(octets) {
-        return Some(TypeWord::Known(rtype));
+    match RrType::from_word(octets) {
+        Some(rtype) => Some(TypeWord::Known(rtype)),
+        None => other_type_word(octets),
     }
+}
+
+/// What the word of a type says that isn't one of the twelve, or `None` where the octets are none.
+fn other_type_word(octets: &[u8]) -> Option<TypeWord>
+    ensures { result ≡ other_type_word octets.now }
+{
     if is_among(&DROPPED, octets) {
         return Some(TypeWord::Dropped);
     }

@@ -11,7 +11,7 @@ use Rattle.dns_data.specs.DataText.{separated, data_text}
 use Rattle.dns_data.specs.declared.rdata.Rdata.TheVariants.{A}
 use Rattle.rdata_forms.specs.Numbers.{digits_after, is_digits, number_up_to}
 use Rattle.rdata_forms.specs.Addresses.{◌>>=◌, IsIpv4Text, is_octet, has_leading_zero, part_of, ipv4_of_parts, ipv4_of, split_on}
-use Rattle.rdata_forms.proofs.Separators.{Lacks, lacks-append, separated-split, split-separated}
+use Rattle.dns_data.proofs.Separators.{Lacks, lacks-append, separated-split, split-separated}
 
 -- digits as std reads them
 own : IsNumeralModel (λ ds. list_all is_digit ds ≡ true) (digits_after 0)

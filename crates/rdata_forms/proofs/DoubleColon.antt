@@ -2,7 +2,7 @@
 use Rattle.std.proofs.Common.{◌≡◌, ℕ, ◌<◌, true, false, ◌&&◌, ◌⊎◌, inl, inr, List, [], ◌∷◌, ◌++◌, length, eqb, Option, Some, None, option_map, refl, ap, sym, ◌∙◌, arith, append_assoc}
 use Rattle.std.proofs.lemmas.Bool.{cond-true, cond-false, and_left, and_right, and_parts, eqb-true, cases_Bool}
 use Rattle.rdata_forms.specs.Addresses.{Sides, sides_of, after_octet}
-use Rattle.rdata_forms.proofs.Separators.{Lacks, rest_of}
+use Rattle.dns_data.proofs.Separators.{Lacks, rest_of}
 use Rattle.rdata_forms.proofs.TwoSides.{after_octets, after_none}
 
 -- an octet that is no colon stands before the sides

@@ -9,7 +9,6 @@ pub mod Named
 pub mod PieceTexts
 pub mod Pieces
 pub mod Seconds
-pub mod Separators
 pub mod StandardFacts
 pub mod StartOfAuthority
 pub mod Strings

@@ -3,9 +3,9 @@
 use Rattle.std.specs.Prelude.{ℕ, ◌*◌, Bool, false, ◌&&◌, not, nat_eq, List, [], ◌∷◌, map, length, codes, Option, Some, None, Result, Ok, Err, if◌then◌else◌, ◌==◌}
 use Rattle.std.specs.List.{list_all, concat}
 use lib.Pointwise.{pointwise}
+use Rattle.dns_data.specs.Answers.{◌>>=◌, with_fault}
 use Rattle.dns_data.specs.Name.{Labels}
 use Rattle.dns_data.specs.Spelling.{name_of_text}
-use Rattle.dns_data.specs.declared.fault.NameFault.{NameFault}
 use Rattle.dns_data.specs.declared.rdata.Rdata.{Rdata}
 use Rattle.dns_data.specs.declared.rdata.Rdata.TheVariants as data_of
 use Rattle.dns_data.specs.declared.rr_type.RrType.{RrType}
@@ -18,20 +18,9 @@ use Rattle.rdata_forms.specs.Texts.{string_of, tag_of}
 use Rattle.rdata_forms.specs.declared.fault.RdataFault.{RdataFault}
 use Rattle.rdata_forms.specs.declared.fault.RdataFault.TheVariants.{FieldCount, BadName, BadHex, GenericKnown}
 
--- the first fault ends the reading
-infixl 10 ◌>>=◌
-abbrev pub ◌>>=◌ : {T U : Type 0} → Result T RdataFault → (T → Result U RdataFault) → Result U RdataFault
-(Ok value) >>= next = next value
-(Err fault) >>= next = Err fault
-
--- a fault of a name as one of data
-abbrev pub as_bad_name : Result Labels NameFault → Result Labels RdataFault
-as_bad_name (Ok name) = Ok name
-as_bad_name (Err fault) = Err (BadName fault)
-
 -- the name in a field
 abbrev pub name_in : Labels → List ℕ → Result Labels RdataFault
-name_in origin text = as_bad_name (name_of_text text origin)
+name_in origin text = with_fault BadName (name_of_text text origin)
 
 -- an IPv4 address (RFC 1035 section 3.4.1)
 abbrev pub a_of : List (List ℕ) → Result Rdata RdataFault

@@ -1,4 +1,3 @@
-pub mod Fault
 pub mod Numbers
 pub mod Times
 pub mod Addresses

@@ -1,7 +1,7 @@
 //! Single fields of data.
 
 ghost use Rattle.std.specs.Prelude.{◌≤◌, IfOk};
-ghost use Rattle.rdata_forms.specs.Fault.{Answers};
+ghost use Rattle.dns_data.specs.Answers.{AnswersOr};
 ghost use Rattle.rdata_forms.specs.Numbers.{number_of};
 ghost use Rattle.rdata_forms.specs.Times.{time_in};
 ghost use Rattle.rdata_forms.specs.Texts.{string_of, tag_of};
@@ -17,7 +17,7 @@ use std::alloc::Global;
 
 /// A number of one to ten digits, or `BadNumber` where the token is none or the number is above `most`.
 pub fn number_field(token: &Token, most: u32) -> Result<u32, RdataFault>
-    ensures number { Answers result (number_of most token.now.raw) }
+    ensures number { AnswersOr RdataFault.NoMemory result (number_of most token.now.raw) }
     ensures within { IfOk result (λ number. number ≤ most) }
 {
     read_number(token.raw.items(), 10, most).ok_or(RdataFault::BadNumber)
@@ -25,14 +25,14 @@ pub fn number_field(token: &Token, most: u32) -> Result<u32, RdataFault>
 
 /// A time in seconds, or `BadNumber` where the token is none.
 pub fn time_field(token: &Token) -> Result<u32, RdataFault>
-    ensures { Answers result (time_in token.now.raw) }
+    ensures { AnswersOr RdataFault.NoMemory result (time_in token.now.raw) }
 {
     read_ttl(token.raw.items()).ok_or(RdataFault::BadNumber)
 }
 
 /// A name under an origin, or why the token is none.
 pub fn name_field(alloc: Global, token: &Token, origin: &Name) -> Result<Name, RdataFault>
-    ensures { Answers result (name_in origin.now token.now.raw) }
+    ensures { AnswersOr RdataFault.NoMemory result (name_in origin.now token.now.raw) }
 {
     match Name::from_text(alloc, token.raw.items(), origin) {
         Ok(name) => Ok(name),
@@ -43,14 +43,14 @@ pub fn name_field(alloc: Global, token: &Token, origin: &Name) -> Result<Name, R
 
 /// A string of at most so many octets, or `TextTooLong`.
 pub fn string_field(alloc: Global, token: &Token, most: usize) -> Result<Octets, RdataFault>
-    ensures { Answers result (string_of most token.now.raw) }
+    ensures { AnswersOr RdataFault.NoMemory result (string_of most token.now.raw) }
 {
     read_string(alloc, token.raw.items(), most)
 }
 
 /// A tag, folded, or why the token is none.
 pub fn tag_field(alloc: Global, token: &Token) -> Result<Octets, RdataFault>
-    ensures { Answers result (tag_of token.now.raw) }
+    ensures { AnswersOr RdataFault.NoMemory result (tag_of token.now.raw) }
 {
     read_tag(alloc, token.raw.items())
 }

@@ -1,7 +1,7 @@
 //! The data of records.
 
 ghost use Rattle.std.specs.Prelude.{◌≡◌, ◌≢◌, ◌⊎◌, Err, IfOk, IfErr};
-ghost use Rattle.rdata_forms.specs.Fault.{Answers};
+ghost use Rattle.dns_data.specs.Answers.{AnswersOr};
 ghost use Rattle.rdata_forms.specs.Forms.{rdata_of, other_of, fields_of, written};
 
 use crate::fault::RdataFault;
@@ -22,7 +22,7 @@ pub fn read_rdata(
     tokens: &[Token],
     origin: &Name,
 ) -> Result<Rdata, RdataFault>
-    ensures answers { Answers result (rdata_of rtype tokens.now origin.now) }
+    ensures answers { AnswersOr RdataFault.NoMemory result (rdata_of rtype tokens.now origin.now) }
     ensures named { result ≢ Err (RdataFault.BadName NameFault.NoMemory) }
 {
     if is_generic(tokens) {
@@ -38,7 +38,7 @@ fn read_fields(
     tokens: &[Token],
     origin: &Name,
 ) -> Result<Rdata, RdataFault>
-    ensures { Answers result (fields_of rtype (written tokens.now) origin.now) }
+    ensures { AnswersOr RdataFault.NoMemory result (fields_of rtype (written tokens.now) origin.now) }
 {
     match rtype {
         RrType::A => forms::read_a(tokens),
@@ -60,7 +60,7 @@ fn read_fields(
 /// isn't quoted and reads `\#`, and a length of up to 65,535 and exactly so many octets in hexadecimal don't follow
 /// (RFC 3597 section 5).
 pub fn read_other(alloc: Global, word: &[u8], tokens: &[Token]) -> Result<Rdata, RdataFault>
-    ensures answers { Answers result (other_of word.now tokens.now) }
+    ensures answers { AnswersOr RdataFault.NoMemory result (other_of word.now tokens.now) }
     ensures fault { IfErr result (λ fault. (fault ≡ RdataFault.BadHex) ⊎ (fault ≡ RdataFault.NoMemory)) }
 {
     if is_generic(tokens) && !is_generic_form(tokens) {

@@ -2,7 +2,7 @@
 
 ghost use Rattle.std.specs.Prelude.{◌≡◌, ◌<◌, ◌∷◌, [], length, IfSome, MatchOption};
 ghost use Rattle.std.specs.List.{list_all};
-ghost use Rattle.rdata_forms.specs.Fault.{Answers};
+ghost use Rattle.dns_data.specs.Answers.{AnswersOr};
 ghost use Rattle.rdata_forms.specs.Texts.{resolved, string_of, is_tag_octet, tag_of};
 
 use crate::fault::RdataFault;
@@ -12,7 +12,7 @@ use std::alloc::Global;
 /// The string that the text of a token stands for, in one pass into one buffer, or `TextTooLong` where it has more
 /// than `most` octets. Escapes are resolved and nothing is folded (RFC 1035 section 5.1).
 pub fn read_string(alloc: Global, text: &[u8], most: usize) -> Result<Octets, RdataFault>
-    ensures { Answers result (string_of most text.now) }
+    ensures { AnswersOr RdataFault.NoMemory result (string_of most text.now) }
 {
     let mut octets = Vec::with_capacity(alloc, text.len().min(most))?;
     let mut rest = text;
@@ -41,7 +41,7 @@ fn first_octet(text: &[u8]) -> Option<(u8, &[u8])>
 /// The property tag that the text writes, folded: `TextTooLong` where it has more than 255 octets, else `BadNumber`
 /// where there is none or one is no letter and no digit (RFC 8659 section 4.1).
 pub fn read_tag(alloc: Global, text: &[u8]) -> Result<Octets, RdataFault>
-    ensures { Answers result (tag_of text.now) }
+    ensures { AnswersOr RdataFault.NoMemory result (tag_of text.now) }
 {
     if text.len() > 255 {
         return Err(RdataFault::TextTooLong);

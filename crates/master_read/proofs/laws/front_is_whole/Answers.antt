@@ -1,9 +1,10 @@
 -- A word in front of the type is taken once as a TTL and once as a class.
 use Rattle.std.proofs.Common.{◌≡◌, ◌⊎◌, ℕ, Bool, true, false, List, [], ◌∷◌, refl, sym, ap, ◌∙◌, inl, inr, ◌&&◌, is_none, Option, Some, None, if◌then◌else◌}
 use Rattle.std.specs.Prelude.{Result, Ok, Err}
+use Rattle.dns_data.specs.Answers.{◌>>=◌}
 use Rattle.rdata_forms.specs.Times.{time_of}
 use Rattle.master_lex.specs.declared.entry.Token.{Token}
-use Rattle.master_read.specs.Entries.{Front, front_of, begins_with_digit, with_ttl, with_class, with_next, one_more, front_in, ◌>>=◌}
+use Rattle.master_read.specs.Entries.{Front, front_of, begins_with_digit, with_ttl, with_class, with_next, one_more, front_in}
 use Rattle.master_read.specs.Words.{class_word}
 use Rattle.master_read.specs.declared.fault.TextCause.{TextCause}
 use Rattle.master_read.specs.declared.words.ClassWord.{ClassWord}

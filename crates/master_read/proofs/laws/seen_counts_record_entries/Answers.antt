@@ -5,7 +5,8 @@ use Rattle.std.proofs.lemmas.Bool.Decides.{nat_tests}
 use Rattle.master_lex.specs.Holding.{entries_in, fault_in}
 use Rattle.master_lex.specs.declared.entry.Entry.{Entry}
 use Rattle.master_lex.specs.declared.fault.LexFault.{LexFault}
-use Rattle.master_read.specs.Entries.{◌>>=◌, is_directive, directive_of, Made, record_of}
+use Rattle.dns_data.specs.Answers.{◌>>=◌}
+use Rattle.master_read.specs.Entries.{is_directive, directive_of, Made, record_of}
 use Rattle.master_read.specs.ZoneText.{no_records, with_made, with_entry, at_line, with_entries, ended, record_entries, zone_of_entries, zone_text}
 use Rattle.master_read.specs.declared.fault.TextCause.{TextCause}
 use Rattle.master_read.specs.declared.fault.TextCause.TheVariants.{TooMany}

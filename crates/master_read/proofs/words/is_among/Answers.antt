@@ -3,7 +3,8 @@ use Rattle.std.proofs.Common.{◌≡◌, Bool, List, [], ◌∷◌, map, refl, a
 use Rattle.std.specs.List.{list_any}
 use Rattle.std.proofs.lemmas.Iterator.{YieldsList-from_slice}
 use Rattle.std.proofs.lemmas.Iterator.Search.{any_from_yields_List}
-use Rattle.master_read.specs.Words.{is_word, is_among}
+use Rattle.dns_data.specs.Octet.{is_word}
+use Rattle.master_read.specs.Words.{is_among}
 use Rattle.master_read.proofs.words.is_among.Goals as goal
 
 any_of_map : {A B : Type 0} (test : B → Bool) (f : A → B) (xs : List A) → list_any (λ x. test (f x)) xs ≡ list_any test (map f xs)
