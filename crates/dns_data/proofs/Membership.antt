@@ -1,5 +1,7 @@
 -- Which items a list has, also after a map, a filter or several lists in a row; and what holds of each pair of them.
 use Rattle.std.proofs.Common.{◌≡◌, ℕ, suc, ◌<◌, Bool, zero, true, false, cond, ◌⊎◌, List, [], ◌∷◌, map, length, get_or, Contains, All, AllPairs, filter, flat_map, sym, refl, ap, ◌∙◌, subst, inl, inr, arith, true≢false}
+use Rattle.std.specs.List.{AllByRecursion}
+use Rattle.std.proofs.lemmas.List.{length-map, get_or-map}
 use Rattle.std.proofs.lemmas.List.Elements.{Contains-append_left, Contains-append_right, Contains-append_cases, Contains-get_or}
 
 module _ {X : Type 0} where
@@ -103,3 +105,20 @@ module _ {X : Type 0} (R : X → X → Type 0) where
   -- and so do the pairs behind it
   pub pairs_rest : (x : X) (xs : List X) → AllPairs R (x ∷ xs) → AllPairs R xs
   pairs_rest x xs pairs = λ i j d before within. pairs (suc i) (suc j) d (omega arith) (omega arith)
+
+module _ {X Y : Type 0} (f : X → Y) where
+  -- what holds of each item's image holds along the mapped list
+  pub all_images : (P : Y → Type 0) (xs : List X) → ((x : X) → Contains xs x → P (f x)) → AllByRecursion P (map f xs)
+  all_images P [] each = tt
+  all_images P (x ∷ xs) each = (each x (has_first x xs), all_images P xs (λ y has. each y (has_later x xs y has)))
+
+  -- what holds of the images of each two items holds of each two of the mapped list
+  pub pairs_of_images : (R : Y → Y → Type 0) (xs : List X) → AllPairs (λ a b. R (f a) (f b)) xs → AllPairs R (map f xs)
+  pairs_of_images R [] pairs = λ i j d before within. absurd (omega arith)
+  pairs_of_images R (x ∷ xs) pairs = λ i j d before within.
+      let long : length (map f (x ∷ xs)) ≡ length (x ∷ xs) = length-map (x ∷ xs) f in
+      let later : j < length (x ∷ xs) = omega arith in
+      let earlier : i < length (x ∷ xs) = omega arith in
+      let second = get_or-map f (x ∷ xs) j x d later in
+      let one = get_or-map f (x ∷ xs) i x d earlier in
+      rw (second, one) (pairs i j x before later)

@@ -7,9 +7,11 @@ use Rattle.std.proofs.lemmas.Cmp.{tied_itself}
 use Rattle.std.proofs.lemmas.List.Elements.{Contains-append_cases}
 use Rattle.std.proofs.lemmas.List.Kept.{AllPairs-cons}
 use Rattle.dns_data.specs.Label.{label_cmp}
-use Rattle.dns_data.specs.Name.{Labels, name_cmp}
+use Rattle.dns_data.specs.Name.{Labels, name_cmp, name_eq}
 use Rattle.dns_data.proofs.Membership.{none_in_nil, has_first, has_later, from_map, from_filter, all_from_contains}
 use Rattle.dns_data.proofs.NameFronts.{Begins}
+use Rattle.dns_data.proofs.Names.{name_eq_decides, same_names}
+use Rattle.dns_data.proofs.OrderedLists.{never_before_itself}
 
 -- the first name doesn't stand behind the second
 abbrev pub UpTo : Labels → Labels → Type 0
@@ -50,6 +52,28 @@ up_to_before a b c le lt = by (name_cmp a b) refl le where
   by Less e h = names_total.trans a b c e lt
   by Equal e h = names_total.congr a b c e ∙ lt
   by Greater e h = absurd (true≢false h)
+
+-- one that stands before a second stands before each that the second doesn't stand behind
+pub before_up_to : (a b c : Labels) → Before a b → UpTo b c → Before a c
+before_up_to a b c less le = by (name_cmp b c) refl le where
+  by : (o : Ordering) → name_cmp b c ≡ o → is_gt o ≡ false → Before a c
+  by Less e h = names_total.trans a b c less e
+  by Equal e h = subst (Before a) (same_names b c e) less
+  by Greater e h = absurd (true≢false h)
+
+-- a name that stands before another isn't it
+pub before_differs : (a b : Labels) → Before a b → name_eq a b ≡ false
+before_differs a b less = by (name_eq a b) refl where
+  by : (same : Bool) → name_eq a b ≡ same → same ≡ false
+  by false e = refl
+  by true e = absurd (never_before_itself name_cmp names_total b (subst (λ (x : Labels). Before x b) ((name_eq_decides a b).0 e) less))
+
+-- and the other way round
+pub behind_differs : (a b : Labels) → Before b a → name_eq a b ≡ false
+behind_differs a b less = by (name_eq a b) refl where
+  by : (same : Bool) → name_eq a b ≡ same → same ≡ false
+  by false e = refl
+  by true e = absurd (never_before_itself name_cmp names_total b (subst (λ (x : Labels). Before b x) ((name_eq_decides a b).0 e) less))
 
 -- a prefix of a name that is no prefix of an earlier one stands behind that one
 pub new_prefix_after : (a above below : Labels) → UpTo a (above ++ below) → (Begins above a → ⊥) → Before a above

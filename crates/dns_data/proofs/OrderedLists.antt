@@ -1,6 +1,6 @@
 -- Orders that tell all items apart, and lists in which each item stands before the later ones: such a list is told by
 -- the items that it has.
-use Rattle.std.proofs.Common.{◌≡◌, ◌≢◌, suc, List, [], ◌∷◌, Contains, AllPairs, Ordering, Less, Equal, Greater, sym, refl, ap, ◌∙◌, subst, inl, inr, arith}
+use Rattle.std.proofs.Common.{◌≡◌, ◌≢◌, List, [], ◌∷◌, Contains, AllPairs, Ordering, Less, Equal, Greater, sym, refl, ap, ◌∙◌, subst, inl, inr}
 use Rattle.std.specs.Cmp.{IsTotalOrder}
 use Rattle.std.specs.Cmp.Lexicographic.{slice_cmp}
 use Rattle.std.specs.Ordering.{ordering_reverse, ordering_then}

@@ -7,11 +7,9 @@
 --   shown_is_alias         so a blackhole that a query shows is that of an alias of the query's name
 --   entry_right            the query for the owner with type A shows it first
 --   report_of_blackholes   and the entries of the aliases that are blackholes are the report's
-use Rattle.std.proofs.Common.{◌≡◌, ℕ, ◌<◌, true, List, [], ◌∷◌, map, length, All, Contains, AllPairs, get_or, Less, sym, refl, ap, ◌∙◌, subst, arith}
-use Rattle.std.specs.List.{AllByRecursion}
+use Rattle.std.proofs.Common.{◌≡◌, ℕ, true, List, [], ◌∷◌, map, All, Contains, get_or, Less, sym, refl, ap, ◌∙◌, subst}
 use Rattle.std.specs.Ordering.{ordering_then}
 use Rattle.std.proofs.lemmas.Cmp.{tied_itself}
-use Rattle.std.proofs.lemmas.List.{length-map, get_or-map}
 use Rattle.std.proofs.lemmas.List.Elements.{All-contains}
 use Rattle.dns_data.specs.Name.{Labels, IsName, name_cmp}
 use Rattle.dns_data.specs.declared.rdata.Rr.{Rr}
@@ -32,26 +30,8 @@ use Rattle.groot_run.proofs.BlackholeEntry.{entry_right}
 use Rattle.groot_run.proofs.FirstBlackholes.{shown_is_alias, owner_shows}
 use Rattle.groot_run.proofs.FirstNearest.{config_for}
 use Rattle.groot_run.proofs.FirstRecords.{IsFirstZone, first_zone, how_made}
-use Rattle.dns_data.proofs.Membership.{has_first, has_later, map_has}
+use Rattle.dns_data.proofs.Membership.{map_has, all_images, pairs_of_images}
 use Rattle.dns_data.proofs.NameOrder.{names_total}
-
--- ---- lists
-
--- what holds of each item's image holds along the mapped list
-all_images : {X Y : Type 0} (P : Y → Type 0) (f : X → Y) (xs : List X) → ((x : X) → Contains xs x → P (f x)) → AllByRecursion P (map f xs)
-all_images P f [] each = tt
-all_images P f (x ∷ xs) each = (each x (has_first x xs), all_images P f xs (λ y has. each y (has_later x xs y has)))
-
--- what holds of the images of each two items holds of each two of the mapped list
-pairs_of_images : {X Y : Type 0} (R : Y → Y → Type 0) (f : X → Y) (xs : List X) → AllPairs (λ a b. R (f a) (f b)) xs → AllPairs R (map f xs)
-pairs_of_images R f [] pairs = λ i j d before within. absurd (omega arith)
-pairs_of_images R f (x ∷ xs) pairs = λ i j d before within.
-    let long : length (map f (x ∷ xs)) ≡ length (x ∷ xs) = length-map (x ∷ xs) f in
-    let later : j < length (x ∷ xs) = omega arith in
-    let earlier : i < length (x ∷ xs) = omega arith in
-    let second = get_or-map f (x ∷ xs) j x d later in
-    let one = get_or-map f (x ∷ xs) i x d earlier in
-    rw (second, one) (pairs i j x before later)
 
 -- ---- the order of the entries
 
@@ -100,13 +80,13 @@ module _ (server : Labels) (zone : Zone) (first : IsFirstZone zone) where
         size = size;
         limit = refl;
         ordered =
-            pairs_of_images (λ (a b : Entry). fault_cmp a.fault b.fault ≡ Less) (blackhole_entry server zone.origin) aliases
+            pairs_of_images (blackhole_entry server zone.origin) (λ (a b : Entry). fault_cmp a.fault b.fault ≡ Less) aliases
             (λ i j d before within. places_as_owners server zone.origin (get_or aliases i d) (get_or aliases j d) (are.ordered i j d before within));
         each_right =
-            all_images (IsEntry config default_rewrites) (blackhole_entry server zone.origin) aliases
+            all_images (blackhole_entry server zone.origin) (IsEntry config default_rewrites) aliases
             (λ alias among. entry_right server zone first alias ((are.all alias).0 among));
         each_shown =
-            all_images (λ (entry : Entry). IsShown config default_rewrites entry.fault) (blackhole_entry server zone.origin) aliases
+            all_images (blackhole_entry server zone.origin) (λ (entry : Entry). IsShown config default_rewrites entry.fault) aliases
             (λ alias among. entry_shown named alias ((are.all alias).0 among));
         all_shown = shown_has_entry aliases are;
       }

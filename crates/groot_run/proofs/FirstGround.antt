@@ -9,10 +9,10 @@ use Rattle.dns_data.specs.declared.rdata.Rr.{Rr}
 use Rattle.dns_data.specs.declared.rr_type.RrType.TheVariants as types
 use Rattle.net_model.specs.declared.config.Config.{Config}
 use Rattle.net_model.specs.Prefix.{prefixes}
-use Rattle.net_model.specs.Reading.{Redirection, ReadsAlong, Ground, IsNamed, redirection_of, origins_and_owners, ground_of}
+use Rattle.net_model.specs.Reading.{redirection_of, origins_and_owners, ground_of}
 use Rattle.groot_run.specs.FirstShape.{is_first_shape, one_zone}
 use Rattle.groot_run.proofs.FirstRecords.{first_zone}
-use Rattle.dns_data.proofs.Membership.{none_in_nil, has_first, has_later, first_or_later, flat_map_has, from_flat_map}
+use Rattle.dns_data.proofs.Membership.{has_first, has_later, first_or_later, flat_map_has, from_flat_map}
 use Rattle.dns_data.proofs.NameFronts.{Begins}
 use Rattle.net_model.proofs.Prefixes.{prefixes_have, from_prefixes}
 

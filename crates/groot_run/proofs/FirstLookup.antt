@@ -15,7 +15,7 @@ use Rattle.net_model.specs.Lookup.{zone_cut, dname_owner, closest_encloser, sour
 use Rattle.net_model.specs.Prefix.{prefixes}
 use Rattle.net_model.specs.Zone.{is_of, owns, exists_in}
 use Rattle.groot_run.proofs.FirstRecords.{IsFirstZone}
-use Rattle.dns_data.proofs.NameFronts.{begins_itself, Begins, is_prefix_tells, is_prefix_told}
+use Rattle.dns_data.proofs.NameFronts.{begins_itself, Begins, is_prefix_tells}
 use Rattle.dns_data.proofs.Searches.{from_any, any_has, any_none, find_none}
 use Rattle.dns_data.proofs.Names.{name_eq_decides}
 

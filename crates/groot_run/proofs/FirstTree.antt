@@ -1,10 +1,7 @@
 -- The size of the class tree of a configuration of the first shape.
-use Rattle.std.proofs.Common.{◌≡◌, ℕ, suc, ◌+◌, ◌*◌, ◌^◌, ◌<◌, ◌≤◌, true, false, List, [], ◌∷◌, ◌++◌, map, length, All, Contains, AllPairs, IsSorted, IsPermutation, get_or, is_lt, is_gt, Ordering, Less, Equal, Greater, drop, Bor, ◌-◌, sym, refl, ap, ◌∙◌, subst, inl, inr, arith, le_trans, append-nil, length-append}
-use Rattle.std.specs.Prelude.{sum_by}
-use Rattle.std.specs.Ordering.{ordering_reverse}
+use Rattle.std.proofs.Common.{◌≡◌, ℕ, suc, ◌+◌, ◌*◌, ◌^◌, ◌<◌, ◌≤◌, true, false, List, [], ◌∷◌, ◌++◌, map, length, All, Contains, AllPairs, IsSorted, IsPermutation, get_or, is_lt, is_gt, drop, Bor, ◌-◌, sym, refl, ap, ◌∙◌, subst, inl, inr, arith, le_trans, append-nil, length-append}
 use Rattle.std.proofs.lemmas.List.{length-map, get_or-map, drop_more}
 use Rattle.std.specs.List.{common_prefix_len}
-use Rattle.std.proofs.lemmas.List.Sums.{sum_by-append, sum_by-cons}
 use Rattle.std.proofs.lemmas.List.Sorted.{IsPermutation-sym, Contains-permutation, length_permutation}
 use Rattle.dns_data.specs.Label.{label_eq}
 use Rattle.std.proofs.lemmas.List.Elements.{All-contains}
@@ -21,7 +18,7 @@ use Rattle.groot_run.proofs.SortedTree.{InOrder, rising_tree, tree_has, from_tre
 use Rattle.groot_run.proofs.FirstGround.{no_redirections, ground_has, from_ground}
 use Rattle.groot_run.proofs.FirstRecords.{first_zone, how_made}
 use Rattle.dns_data.proofs.NameOrder.{turned, UpTo, Before, names_total, pairs_from_rising}
-use Rattle.dns_data.proofs.NameFronts.{octets_of_prefix, octets_with_label, Begins}
+use Rattle.dns_data.proofs.NameFronts.{octets_of_prefix, octets_with_label}
 use Rattle.dns_data.proofs.Membership.{has_first, from_map, map_has, all_from_contains}
 use Rattle.net_model.proofs.Naming.{named_among, among_named}
 use Rattle.net_model.proofs.FreeLabel.{free_label}

@@ -11,8 +11,8 @@ use Rattle.std.proofs.lemmas.List.Folds.{list_any_at, list_any_none}
 use Rattle.std.proofs.lemmas.List.Sorted.{ranks_by, sorted_far, searchable_from_sorted}
 use Rattle.dns_data.specs.Name.{Labels, name_cmp, name_eq}
 use Rattle.groot_run.specs.SortedNames.{is_before, AreNotBefore}
-use Rattle.groot_run.proofs.SortedNames.{less_from, up_to_from, before_differs, behind_differs}
-use Rattle.dns_data.proofs.NameOrder.{Before, names_total, up_to_before}
+use Rattle.groot_run.proofs.SortedNames.{less_from, up_to_from}
+use Rattle.dns_data.proofs.NameOrder.{Before, names_total, up_to_before, before_differs, behind_differs}
 use Rattle.dns_data.proofs.Names.{same_names, name_eq_decides}
 
 abbrev pub now_of : Bor Labels → Labels

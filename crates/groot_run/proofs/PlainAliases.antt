@@ -72,16 +72,6 @@ plain_by_owners rrs owners alias_owners same_owners same_alias_owners =
     all_same (is_alone owners alias_owners) (is_plain rrs) (aliases_in rrs) (alone_is_plain rrs owners alias_owners same_owners same_alias_owners)
     ∙ all_plain rrs rrs
 
--- the zone's SOA record is no alias
-soa_is_plain : (rrs : List Rr) (owner : Labels) (rdata : Rdata) → has_type types.Soa rdata ≡ true → is_plain_alias rrs owner rdata ≡ true
-soa_is_plain rrs owner (Cname target) soa = cc
-soa_is_plain rrs owner _ soa = refl
-
-pub plain_behind_soa : (rrs : List Rr) (first : Rr) (rest : List Rr) → has_type types.Soa first.rdata ≡ true
-    → list_all (λ rr. is_plain_alias rrs rr.owner rr.rdata) (first ∷ rest) ≡ list_all (λ rr. is_plain_alias rrs rr.owner rr.rdata) rest
-plain_behind_soa rrs first rest soa =
-    ap (λ (b : Bool). b && list_all (λ (rr : Rr). is_plain_alias rrs rr.owner rr.rdata) rest) (soa_is_plain rrs first.owner first.rdata soa)
-
 -- a configuration of the first shape has the records of a zone of that shape
 pub records_of_shape : (config : Config) → IsFirstConfig config → is_first_shape (records config) ≡ true
 records_of_shape config first =

@@ -2,30 +2,28 @@
 use Rattle.std.proofs.Common.{◌≡◌, ℕ, suc, Bool, true, false, cond, not, ◌||◌, List, [], ◌∷◌, ◌++◌, length, filter, Contains, IsSorted, is_lt, is_gt, Ordering, Less, Equal, Greater, sym, refl, ap, ◌∙◌, subst, inl, inr, arith, true≢false}
 use Rattle.std.specs.Prelude.{◌==◌}
 use Rattle.std.specs.List.{list_any}
-use Rattle.std.specs.Ordering.{ordering_reverse, is_eq}
-use Rattle.std.specs.Cmp.Lexicographic.{lists_ties, texts_ties}
+use Rattle.std.specs.Ordering.{ordering_reverse}
 use Rattle.std.proofs.lemmas.Bool.Decides.{nat_tests}
-use Rattle.std.proofs.lemmas.Cmp.{tied_itself}
+use Rattle.std.proofs.lemmas.Cmp.{upto}
 use Rattle.std.proofs.lemmas.List.Elements.{All-contains, filter-append}
 use Rattle.std.proofs.lemmas.List.Folds.{list_any-append}
-use Rattle.dns_data.specs.Label.{label_cmp}
 use Rattle.dns_data.specs.Name.{Labels, name_cmp, name_eq, is_prefix}
 use Rattle.groot_run.specs.SortedNames.{is_before, AreNotBefore}
 use Rattle.groot_run.proofs.FirstTree.{in_order}
 use Rattle.groot_run.proofs.SortedTree.{InOrder}
 use Rattle.dns_data.proofs.Names.{name_eq_decides, same_names}
-use Rattle.dns_data.proofs.OrderedLists.{never_before_itself}
-use Rattle.dns_data.proofs.NameOrder.{turned, UpTo, Before, names_total, prefix_up_to, up_to_before, new_prefix_after}
+use Rattle.dns_data.proofs.NameOrder.{turned, UpTo, Before, names_total, prefix_up_to, before_up_to, before_differs, behind_differs, new_prefix_after}
 use Rattle.dns_data.proofs.Membership.{none_in_nil, has_first, first_or_later}
 use Rattle.dns_data.proofs.NameFronts.{Begins, is_prefix_tells, is_prefix_told}
 use Rattle.dns_data.proofs.Searches.{any_none, filter_none}
 
 -- ---- the order of two names
 
--- the second doesn't stand before the first, so the first doesn't stand behind the second; and the other way round
+-- the second doesn't stand before the first, so the first doesn't stand behind the second
 pub up_to_from : (a b : Labels) → is_before b a ≡ false → UpTo a b
 up_to_from a b later = ap is_gt (names_total.antisymm a b) ∙ sym (turned (name_cmp b a)) ∙ later
 
+-- and the other way round
 pub from_up_to : (a b : Labels) → UpTo a b → is_before b a ≡ false
 from_up_to a b le = turned (name_cmp b a) ∙ ap is_gt (sym (names_total.antisymm a b)) ∙ le
 
@@ -35,19 +33,7 @@ less_from Less e = refl
 less_from Equal e = absurd (true≢false (sym e))
 less_from Greater e = absurd (true≢false (sym e))
 
--- one of two names that differ stands before the other
-pub before_differs : (a b : Labels) → Before a b → name_eq a b ≡ false
-before_differs a b less = by (name_eq a b) refl where
-  by : (same : Bool) → name_eq a b ≡ same → same ≡ false
-  by false e = refl
-  by true e = absurd (never_before_itself name_cmp names_total b (subst (λ (x : Labels). Before x b) ((name_eq_decides a b).0 e) less))
-
-pub behind_differs : (a b : Labels) → Before b a → name_eq a b ≡ false
-behind_differs a b less = by (name_eq a b) refl where
-  by : (same : Bool) → name_eq a b ≡ same → same ≡ false
-  by false e = refl
-  by true e = absurd (never_before_itself name_cmp names_total b (subst (λ (x : Labels). Before b x) ((name_eq_decides a b).0 e) less))
-
+-- a name that another isn't before, and that isn't it, stands before the other
 stands_behind : (a b : Labels) → is_before a b ≡ false → name_eq a b ≡ false → Before b a
 stands_behind a b later other = by (name_cmp b a) refl where
   by : (o : Ordering) → name_cmp b a ≡ o → o ≡ Less
@@ -55,33 +41,22 @@ stands_behind a b later other = by (name_cmp b a) refl where
   by Equal e = absurd (true≢false (sym ((name_eq_decides a b).1 (sym (same_names b a e))) ∙ other))
   by Greater e = absurd (true≢false (sym (ap is_lt (names_total.antisymm a b ∙ ap ordering_reverse e)) ∙ later))
 
-up_to_trans : (a b c : Labels) → UpTo a b → UpTo b c → UpTo a c
-up_to_trans a b c ab bc = by (name_cmp b c) refl bc where
-  by : (o : Ordering) → name_cmp b c ≡ o → is_gt o ≡ false → UpTo a c
-  by Less e le = ap is_gt (up_to_before a b c ab e)
-  by Equal e le = subst (UpTo a) (same_names b c e) ab
-  by Greater e le = absurd (true≢false le)
-
-before_up_to : (a b c : Labels) → Before a b → UpTo b c → Before a c
-before_up_to a b c less le = by (name_cmp b c) refl le where
-  by : (o : Ordering) → name_cmp b c ≡ o → is_gt o ≡ false → Before a c
-  by Less e h = names_total.trans a b c less e
-  by Equal e h = subst (Before a) (same_names b c e) less
-  by Greater e h = absurd (true≢false h)
-
+-- two and more aren't one
 twice : (n : ℕ) → (suc (suc n) == 1) ≡ false
 twice n = grind (arith, nat_tests)
 
 -- ---- names in order
 
+-- the first doesn't stand behind the others
 first_up_to : (first : Labels) (names : List Labels) → InOrder first names → (name : Labels) → Contains names name → UpTo first name
 first_up_to first [] order name has = absurd (none_in_nil name has)
 first_up_to first (next ∷ names) order name has =
     elim (first_or_later next names name has) [
       | inl same ↦ subst (UpTo first) same order.0
-      | inr later ↦ up_to_trans first next name order.0 (first_up_to next names order.1 name later)
+      | inr later ↦ upto names_total first next name order.0 (first_up_to next names order.1 name later)
     ]
 
+-- names behind some of them stand in order
 order_behind : (before : Labels) (front : List Labels) (first : Labels) (more : List Labels) → InOrder before (front ++ first ∷ more) → InOrder first more
 order_behind before [] first more order = order.1
 order_behind before (name ∷ front) first more order = order_behind name front first more order.1

@@ -1,16 +1,14 @@
 -- The tree of names in order: it has the names' prefixes and no other names, each once and in order.
-use Rattle.std.proofs.Common.{◌≡◌, ℕ, suc, ◌+◌, Bool, true, false, cond, not, ◌&&◌, ◌⊎◌, List, [], ◌∷◌, ◌++◌, map, length, take, drop, Contains, Decides, filter, sym, refl, ap, ◌∙◌, subst, inl, inr, true≢false, arith}
-use Rattle.std.proofs.lemmas.List.{length-map, take-append-drop, take_at}
+use Rattle.std.proofs.Common.{◌≡◌, ℕ, suc, ◌+◌, Bool, true, false, cond, not, ◌&&◌, ◌⊎◌, List, [], ◌∷◌, ◌++◌, map, length, Contains, filter, sym, refl, ap, ◌∙◌, subst, inl, inr, true≢false, arith}
 use Rattle.std.specs.List.{common_prefix_len}
-use Rattle.std.specs.Cmp.Lexicographic.{bytes_decides, pointwise_decides}
 use Rattle.dns_data.specs.Label.{label_eq}
-use Rattle.dns_data.specs.Name.{Labels, name_eq, is_prefix}
+use Rattle.dns_data.specs.Name.{Labels, is_prefix}
 use Rattle.net_model.specs.Prefix.{prefixes}
 use Rattle.groot_run.specs.SortedTree.{new_prefixes, tree_after, tree_of}
 use Rattle.std.proofs.lemmas.List.Elements.{Contains-append_left, Contains-append_right, Contains-append_cases}
 use Rattle.net_model.proofs.Prefixes.{prefixes_have, from_prefixes, length-prefixes}
 use Rattle.dns_data.proofs.NameFronts.{is_prefix_tells, is_prefix_told, Begins}
-use Rattle.dns_data.proofs.Membership.{none_in_nil, has_first, has_later, first_or_later, filter_has, from_filter, map_has, from_map}
+use Rattle.dns_data.proofs.Membership.{none_in_nil, has_first, has_later, first_or_later, filter_has, from_filter, from_map}
 use Rattle.dns_data.proofs.NameOrder.{UpTo, Before, Rising, prefix_up_to, up_to_before, new_prefix_after, rising_append, rising_map, rising_filter}
 
 -- a name's prefixes stand in order

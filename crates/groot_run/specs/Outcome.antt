@@ -58,7 +58,8 @@ pub record WroteFront (reading : Reading) (before after : Option (List ℕ)) : T
   pub taken : Appends before after front
 
 -- A status has its cause in what the files give: a refusal is theirs, and a whole output or a front of one is that
--- of the report. Want of memory may always come, and a failed read has its cause in a count.
+-- of the report. Want of memory may always come, and a failed read has its cause in a count. No other status comes of
+-- a job.
 abbrev pub HasCause : Reading → Option (List ℕ) → Option (List ℕ) → Status → Type 0
 HasCause reading before after Clean = WroteReport reading before after Clean
 HasCause reading before after Faults = WroteReport reading before after Faults

@@ -1,6 +1,6 @@
 -- Going on from a state along the numbers of branches: the front of a walk.
-use Rattle.std.proofs.Common.{◌≡◌, ℕ, zero, suc, Bool, true, false, List, [], ◌∷◌, ◌++◌, length, take, drop, refl, sym, ap, ◌∙◌, subst, inl, inr, ◌==◌}
-use Rattle.std.specs.Prelude.{◌⊎◌, slice_get, Option, Some, None, option_map, if◌then◌else◌}
+use Rattle.std.proofs.Common.{◌≡◌, ℕ, suc, Bool, true, false, List, [], ◌∷◌, ◌++◌, length, take, drop, refl, sym, ap, ◌∙◌, subst, inl, inr, ◌==◌}
+use Rattle.std.specs.Prelude.{◌⊎◌, slice_get, Option, Some, None, option_map}
 use Rattle.std.specs.Option.{option_to_list}
 use Rattle.dns_data.specs.declared.rr_type.RrType.{RrType}
 use Rattle.net_model.specs.declared.walk.Hop.{Hop}

@@ -4,6 +4,7 @@ mod Representatives
 mod Showing
 mod Words
 mod Worked
+pub mod Counting
 pub mod FaultOrder
 pub mod FirstLabel
 pub mod FreeLabel

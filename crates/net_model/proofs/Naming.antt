@@ -1,9 +1,9 @@
 -- How named and unnamed names, and the representatives of classes, are found by computing.
-use Rattle.std.proofs.Common.{◌≡◌, inl, inr, ℕ, zero, suc, ◌≤◌, Bool, true, false, not, ◌&&◌, ◌||◌, List, [], ◌∷◌, ◌++◌, length, take, drop, map, refl, sym, ◌∙◌, ap, subst, arith}
-use Rattle.std.specs.Prelude.{Contains, ◌⊎◌, nat_le, if◌then◌else◌}
+use Rattle.std.proofs.Common.{◌≡◌, inl, inr, ℕ, zero, suc, ◌≤◌, Bool, true, false, not, ◌&&◌, ◌||◌, List, [], ◌∷◌, ◌++◌, length, take, drop, map, refl, sym, ◌∙◌, ap, subst}
+use Rattle.std.specs.Prelude.{Contains, nat_le, if◌then◌else◌}
 use Rattle.std.specs.List.{list_any, list_all}
-use Rattle.std.proofs.lemmas.Bool.{and_parts, or_cases, or_right, leb-true}
-use Rattle.std.proofs.lemmas.List.{take_at, drop_at, take-append-drop}
+use Rattle.std.proofs.lemmas.Bool.{and_parts, or_cases, leb-true}
+use Rattle.std.proofs.lemmas.List.{drop_at, take-append-drop}
 use Rattle.std.proofs.lemmas.List.Folds.{list_all-map}
 use Rattle.std.proofs.lemmas.Map.Views.{Contains-from_any}
 use Rattle.dns_data.specs.Name.{Labels, name_eq, is_prefix, swap}

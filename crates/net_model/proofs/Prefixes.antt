@@ -3,6 +3,7 @@ use Rattle.std.proofs.Common.{◌≡◌, ℕ, ◌+◌, Bool, false, List, [], �
 use Rattle.std.specs.Option.{option_or}
 use Rattle.std.proofs.lemmas.List.{length-map, map-append, map-id, reverse-append}
 use Rattle.std.proofs.lemmas.List.Folds.{find-append}
+use Rattle.std.proofs.lemmas.Simd.{map-map}
 use Rattle.std.proofs.lemmas.List.Sorted.{IsPermutation-reverse, IsPermutation-sym, Contains-permutation}
 use Rattle.dns_data.specs.Name.{Labels}
 use Rattle.net_model.specs.Prefix.{prefixes, shortest, longest}
@@ -47,11 +48,6 @@ length-prefixes (label ∷ name) =
 
 -- ---- labels below a name
 
--- a map after a map
-map_twice : {X Y Z : Type 0} (g : Y → Z) (f : X → Y) (xs : List X) → map g (map f xs) ≡ map (λ x. g (f x)) xs
-map_twice g f [] = refl
-map_twice g f (x ∷ xs) = ap (λ rest. g (f x) ∷ rest) (map_twice g f xs)
-
 -- an option or nothing is the option
 or_nothing : {X : Type 0} (o : Option X) → option_or o None ≡ o
 or_nothing None = refl
@@ -72,7 +68,7 @@ prefixes_below (label ∷ above) tail =
     (ap (map (λ (name : Labels). label ∷ name)) (prefixes_below above tail)
     ∙ map-append (λ (name : Labels). label ∷ name) (prefixes above) (map (λ (below : Labels). above ++ below) (longer tail))
     ∙ ap (λ (names : List Labels). map (λ (name : Labels). label ∷ name) (prefixes above) ++ names)
-    (map_twice (λ (name : Labels). label ∷ name) (λ (below : Labels). above ++ below) (longer tail)))
+    (map-map (λ (name : Labels). label ∷ name) (λ (below : Labels). above ++ below) (longer tail)))
 
 module _ (test : Labels → Bool) (above tail : Labels) (fails : (below : Labels) → Contains (longer tail) below → test (above ++ below) ≡ false) where
   -- none of the longer prefixes passes

@@ -35,7 +35,7 @@ abbrev pub place_cmp : Place → Place → Ordering
 place_cmp a b =
     ordering_then (name_cmp a.server b.server) (ordering_then (name_cmp a.zone b.zone) (name_cmp a.owner b.owner))
 
--- the order of the places of two faults of one kind
+-- the order of the places of two faults of one kind; that of two kinds is told by their numbers
 abbrev pub fault_place_cmp : Fault → Fault → Ordering
 fault_place_cmp (Lame a) (Lame b) = cut_cmp a b
 fault_place_cmp (Differs a) (Differs b) = cut_cmp a b

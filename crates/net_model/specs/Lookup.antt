@@ -49,7 +49,7 @@ pub data Deciding : Type 0 where
   ByRecords : (owner : Labels) → Deciding
   ByNothing : Deciding
 
--- a DNAME record of the owner, the first in file order (RFC 6672 section 2.4)
+-- the DNAME record of the owner decides, the first one in file order (RFC 6672 section 2.4)
 abbrev pub by_dname : Zone → Labels → Deciding
 by_dname zone owner = ByRedirection owner (first_name (targets_at zone owner types.Dname))
 

@@ -22,7 +22,8 @@ retailed_hop count tail carried (Rewrite place by_dname to) =
     if carried then (if by_dname then Rewrite place by_dname (retailed_name count tail to) else Rewrite place by_dname to)
     else Rewrite place by_dname to
 
--- the hops, each made from the state in the same place
+-- the hops, each made from the state in the same place: a walk has a state for each hop, so the last line is that of
+-- no hop
 abbrev pub retailed_hops : ℕ → Labels → List State → List Hop → List Hop
 retailed_hops count tail (state ∷ states) (hop ∷ hops) =
     retailed_hop count tail state.carried hop ∷ retailed_hops count tail states hops
