@@ -1,20 +1,11 @@
 //! What no clause says: that calls succeed, and what a real file and a real writer do.
 
 use super::{DiskFiles, Failed, Files, FreeGate, Gate, MemoryFiles, MemorySink, OutSink, Sink};
-use dns_data::{List, NoMemory};
+use dns_data::List;
 use std::alloc::Global;
 use std::io::Write;
 use std::test::Fail;
 use std::{fs, io};
-
-/// The numbers of calls that fail.
-fn calls(alloc: Global, numbers: &[u32]) -> Result<List<u32>, NoMemory> {
-    let mut list = List::new(alloc);
-    for number in numbers {
-        list.push(*number)?;
-    }
-    Ok(list)
-}
 
 /// What a reading of at most eight octets gives.
 fn piece<F: Files>(
@@ -35,52 +26,17 @@ fn piece<F: Files>(
     }
 }
 
-// The second and the fourth call fail. The name "none" isn't held, "empty" holds nothing.
+// A file is added and read, and a sink takes a piece, where memory is found.
 #[test]
-fn memory_files_give_their_bytes(rt: HostRuntime) -> Result<(), Fail> {
+fn memory_forms_find_memory(rt: HostRuntime) -> Result<(), Fail> {
     let alloc = rt.alloc();
-    let mut files = MemoryFiles::new(alloc, calls(alloc, &[2, 4])?);
-    files.add("zone", b"first")?;
-    files.add("empty", b"")?;
+    let mut files = MemoryFiles::new(alloc, List::new(alloc));
     files.add("zone", b"hello")?;
-    let cases: [(&str, u64, usize, Option<&str>); 11] = [
-        ("zone", 0, 3, Some("hel")),
-        ("zone", 0, 8, None),
-        ("zone", 3, 8, Some("lo")),
-        ("none", 0, 8, None),
-        ("none", 0, 8, None),
-        ("zone", 5, 8, Some("")),
-        ("zone", 6, 8, Some("")),
-        ("zone", u64::MAX, 8, Some("")),
-        ("zone", 0, 0, Some("")),
-        ("empty", 0, 8, Some("")),
-        ("zone", 0, 8, Some("hello")),
-    ];
-    for (number, (name, at, room, want)) in cases.into_iter().enumerate() {
-        let got = piece(alloc, &mut files, name, at, room)?;
-        let got = got.as_ref().map(|text| text.as_str());
-        assert_eq!(rt; got, want, "call {number} of {name} at {at}");
-    }
-    Ok(())
-}
-
-// A room of five octets, and the second call fails.
-#[test]
-fn memory_sink_takes_what_fits(rt: HostRuntime) -> Result<(), Fail> {
-    let alloc = rt.alloc();
-    let mut sink = MemorySink::new(alloc, 5, calls(alloc, &[2])?)?;
-    let cases: [(&str, Result<usize, Failed>, &str); 6] = [
-        ("abc", Ok(3), "abc"),
-        ("x", Err(Failed), "abc"),
-        ("", Ok(0), "abc"),
-        ("defg", Ok(2), "abcde"),
-        ("h", Err(Failed), "abcde"),
-        ("", Ok(0), "abcde"),
-    ];
-    for (bytes, want, taken) in cases {
-        assert_eq!(rt; sink.write(bytes.as_bytes()), want, "writing {bytes}");
-        assert_eq!(rt; sink.taken(), taken.as_bytes(), "after {bytes}");
-    }
+    let got = piece(alloc, &mut files, "zone", 3, 8)?;
+    assert_eq!(rt; got.as_ref().map(|text| text.as_str()), Some("lo"));
+    let mut sink = MemorySink::new(alloc, 5, List::new(alloc))?;
+    assert_eq!(rt; sink.write(b"hello"), Ok(5));
+    assert_eq!(rt; sink.taken(), b"hello".as_slice());
     Ok(())
 }
 
