@@ -10,7 +10,7 @@ import re
 import sys
 
 TOP = os.path.dirname(os.path.dirname(os.path.abspath(__file__)))
-DEFINED = re.compile(r"(?:abbrev )?(?:opaque )?pub (?:abbrev |record |data )?([^\s:({]+)")
+DEFINED = re.compile(r"(?:abbrev |unfoldable )?pub (?:record |data )?([^\s:({]+)")
 
 
 def lines_of(*path):
@@ -35,8 +35,12 @@ def files(crate):
 
 def definitions(crate, file):
     """Name and sentence of each definition of a file."""
-    sentence = []
+    sentence, mutual = [], False
     for line in lines_of("crates", crate, "specs", file + ".antt"):
+        if line and not line.startswith(" "):
+            mutual = line.endswith("mutual")
+        if mutual:
+            line = line.removeprefix("  ")
         found = DEFINED.match(line)
         if line.startswith("--"):
             sentence.append(line[2:].strip())
