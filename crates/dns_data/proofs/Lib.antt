@@ -2,6 +2,7 @@ pub mod Answers
 pub mod DataFacts
 pub mod DataTexts
 pub mod DifferentItems
+pub mod Digits
 pub mod EqualData
 pub mod Labels
 pub mod LeastItems

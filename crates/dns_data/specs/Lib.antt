@@ -2,6 +2,7 @@ pub mod Answers
 pub mod Label
 pub mod Name
 pub mod NameOrder
+pub mod Number
 pub mod Octet
 pub mod Rdata
 pub mod RrType

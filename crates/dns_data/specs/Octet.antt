@@ -26,9 +26,14 @@ raised octet = if is_lower octet then octet - 32 else octet
 abbrev pub is_word : List ℕ → List ℕ → Bool
 is_word word octets = pointwise nat_eq (map folded word) (map folded octets)
 
--- the number that three decimal digits stand for
+-- the number that decimal digits write behind others of this value
+abbrev pub digits_after : ℕ → List ℕ → ℕ
+digits_after value [] = value
+digits_after value (digit ∷ digits) = digits_after (value * 10 + (digit - 48)) digits
+
+-- the number that three decimal digits write
 abbrev pub three_digit_value : ℕ → ℕ → ℕ → ℕ
-three_digit_value a b c = (a - 48) * 100 + (b - 48) * 10 + (c - 48)
+three_digit_value a b c = digits_after 0 (a ∷ b ∷ c ∷ [])
 
 -- a backslash, and the octet's number in three decimal digits (RFC 1035 section 5.1)
 abbrev pub decimal_escape : ℕ → List ℕ

@@ -20,7 +20,7 @@ use Rattle.rdata_forms.specs.Forms.{rdata_of, other_of}
 use Rattle.rdata_forms.specs.Times.{time_of}
 use Rattle.rdata_forms.specs.declared.fault.RdataFault.{RdataFault}
 use Rattle.rdata_forms.specs.declared.fault.RdataFault.TheVariants as rdata_faults
-use Rattle.master_read.specs.Entries.{is_directive, origin_directive, ttl_directive, directive_of, written_owner, owner_of, behind_owner, Front, front_of, begins_with_digit, with_ttl, with_class, with_next, one_more, front_in, type_said, as_data, data_by, data_of, ttl_of, made_of, record_of, Made}
+use Rattle.master_read.specs.Entries.{is_directive, origin_directive, ttl_directive, directive_of, written_owner, owner_of, behind_owner, Front, front_of, begins_with_digit, with_ttl, with_class, with_next, one_more, front_in, type_said, as_data, data_by, data_behind, ttl_of, made_of, record_of, Made}
 use Rattle.master_read.specs.Fault.{tells_of_name, tells_of_data, tells_of_text, TellsOfText}
 use Rattle.master_read.specs.Words.{type_word, class_word}
 use Rattle.master_read.specs.ZoneText.{no_records, with_made, with_entry, at_line, with_entries, ended, zone_of_entries, zone_text}
@@ -133,8 +133,8 @@ data_by_told (Known rtype) word fields origin = as_data_told (rdata_of rtype fie
 data_by_told Other word fields origin = as_data_told (other_of _ fields) (reads-other _ fields)
 data_by_told Dropped word fields origin = tt
 
-data_told : (tokens : List Token) (origin : Labels) → Told (data_of tokens origin)
-unfolding data_of
+data_told : (tokens : List Token) (origin : Labels) → Told (data_behind tokens origin)
+unfolding data_behind
 data_told [] origin = refl
 data_told (word ∷ fields) origin = if_err_then IsTold (type_said word) _ (type_told word) (λ said. data_by_told said word fields origin)
 
@@ -148,7 +148,7 @@ unfolding record_of
 record_told context entry =
     if_err_then IsTold (owner_of context entry) _ (owner_told context entry) (λ owner.
     if_err_then IsTold (front_in (behind_owner entry)) _ (front_told (behind_owner entry)) (λ front.
-    if_err_then IsTold (data_of front.tokens context.origin) _ (data_told front.tokens context.origin) (λ rdata.
+    if_err_then IsTold (data_behind front.tokens context.origin) _ (data_told front.tokens context.origin) (λ rdata.
     made_told _ owner front.ttl entry.line rdata)))
 
 -- ---- entries and texts

@@ -6,7 +6,7 @@ use Rattle.dns_data.specs.declared.rr_type.RrType.TheVariants as types
 use Rattle.master_lex.specs.Octets.{kind}
 use Rattle.master_lex.specs.Passing.{passed}
 use Rattle.rdata_forms.specs.declared.fault.RdataFault.TheVariants.{GenericKnown}
-use Rattle.master_read.specs.Entries.{record_of, owner_of, front_in, one_more, type_said, data_of, made_of, directive_of}
+use Rattle.master_read.specs.Entries.{record_of, owner_of, front_in, one_more, type_said, data_behind, made_of, directive_of}
 use Rattle.master_read.specs.Words.{type_word, type_numbered, class_word, is_among}
 use Rattle.master_read.specs.ZoneText.{with_entry, with_entries, zone_of_entries, zone_text}
 use Rattle.master_read.specs.declared.fault.TextCause.TheVariants.{NotIn as OtherClass, NotSupported, Rdata as BadData}
@@ -45,7 +45,7 @@ of_class_32 = refl
 a_generic_address :
     record_of (context_with [] (Some 7) None None) (entry 1 (tokens "e.example. IN A \\# 4 0A000001"))
     ≡ Err (BadData GenericKnown)
-unfolding record_of owner_of front_in one_more data_of type_said type_word class_word is_among
+unfolding record_of owner_of front_in one_more data_behind type_said type_word class_word is_among
 a_generic_address = refl
 
 -- RFC 4034 sections 3 and 4, RFC 5155 sections 3 and 4: the numbers of RRSIG, NSEC and NSEC3, and of NSEC3PARAM
@@ -101,10 +101,10 @@ isi_edu_records =
     ∷ []
 
 isi_edu_reads : zone_text (name "isi.edu") 11 isi_edu ≡ reads isi_edu_records 11
-unfolding zone_text zone_of_entries with_entries with_entry record_of owner_of front_in one_more type_said data_of made_of type_word class_word is_among directive_of passed kind
+unfolding zone_text zone_of_entries with_entries with_entry record_of owner_of front_in one_more type_said data_behind made_of type_word class_word is_among directive_of passed kind
 isi_edu_reads = refl
 
 -- its last line includes another file
 isi_edu_includes : zone_text (name "isi.edu") 11 (isi_edu ++ codes "$INCLUDE <SUBSYS>ISI-MAILBOXES.TXT") ≡ faulty 22 NotSupported
-unfolding zone_text zone_of_entries with_entries with_entry record_of owner_of front_in one_more type_said data_of made_of type_word class_word is_among directive_of passed kind
+unfolding zone_text zone_of_entries with_entries with_entry record_of owner_of front_in one_more type_said data_behind made_of type_word class_word is_among directive_of passed kind
 isi_edu_includes = refl

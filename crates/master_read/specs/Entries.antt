@@ -146,9 +146,9 @@ data_by Other word fields origin = as_data (other_of (map raised word.raw) field
 data_by Dropped word fields origin = Ok None
 
 -- the data behind a type's word, or none where the record is dropped
-unfoldable pub data_of : List Token → Labels → Result (Option Rdata) TextCause
-data_of [] origin = Err NoType
-data_of (word ∷ fields) origin = do
+unfoldable pub data_behind : List Token → Labels → Result (Option Rdata) TextCause
+data_behind [] origin = Err NoType
+data_behind (word ∷ fields) origin = do
   said ← type_said word
   data_by said word fields origin
 
@@ -183,5 +183,5 @@ unfoldable pub record_of : Context → Entry → Result Made TextCause
 record_of context entry = do
   owner ← owner_of context entry
   front ← front_in (behind_owner entry)
-  rdata ← data_of front.tokens context.origin
+  rdata ← data_behind front.tokens context.origin
   made_of (behind_record context owner front.ttl) owner front.ttl entry.line rdata

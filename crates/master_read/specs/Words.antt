@@ -5,7 +5,7 @@ use Rattle.std.specs.List.{list_any}
 use Rattle.dns_data.specs.Octet.{is_word}
 use Rattle.dns_data.specs.RrType.{number_of, types, type_of_word}
 use Rattle.dns_data.specs.declared.rr_type.RrType.{RrType}
-use Rattle.rdata_forms.specs.Numbers.{number_up_to}
+use Rattle.dns_data.specs.Number.{number_up_to}
 use Rattle.master_read.specs.declared.words.TypeWord.{TypeWord}
 use Rattle.master_read.specs.declared.words.TypeWord.TheVariants.{Known, Dropped, Other}
 use Rattle.master_read.specs.declared.words.ClassWord.{ClassWord}

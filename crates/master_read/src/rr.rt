@@ -4,7 +4,7 @@ ghost use Rattle.std.specs.Prelude.{◌≡◌, map, Result, Ok, Err, IfOk, IfErr
 ghost use Rattle.dns_data.specs.Answers.{AnswersOr, with_fault};
 ghost use Rattle.dns_data.specs.Octet.{raised};
 ghost use Rattle.master_read.specs.Context.{behind_record};
-ghost use Rattle.master_read.specs.Entries.{owner_of, written_owner, behind_owner, type_said, data_of, data_by, as_data, own_ttl, made_of, record_of};
+ghost use Rattle.master_read.specs.Entries.{owner_of, written_owner, behind_owner, type_said, data_behind, data_by, as_data, own_ttl, made_of, record_of};
 
 use crate::context::Context;
 use crate::fault::{EntryFault, TextCause};
@@ -72,9 +72,9 @@ fn behind_owner(entry: &Entry) -> &[Token]
 }
 
 /// The data behind the type's word, or `None` where the type is dropped.
-#[tactic(auto, unfolding(crate::specs::Entries::data_of))]
+#[tactic(auto, unfolding(crate::specs::Entries::data_behind))]
 fn read_data(alloc: Global, tokens: &[Token], origin: &Name) -> Result<Option<Rdata>, EntryFault>
-    ensures { AnswersOr EntryFault.NoMemory result (with_fault EntryFault.Cause (data_of tokens.now origin.now)) }
+    ensures { AnswersOr EntryFault.NoMemory result (with_fault EntryFault.Cause (data_behind tokens.now origin.now)) }
 {
     let [word, fields @ ..] = tokens else {
         return Err(EntryFault::Cause(TextCause::NoType));

@@ -4,8 +4,7 @@ ghost use Rattle.std.specs.Prelude.{◌≡◌, map};
 ghost use Rattle.dns_data.specs.Octet.{is_word};
 ghost use Rattle.master_read.specs.Words.{is_among, type_word, other_type_word, type_with, type_numbered, class_word, number_behind};
 
-use dns_data::{RrType, is_word};
-use rdata_forms::read_number;
+use dns_data::{RrType, is_word, read_number};
 
 /// What a type's word says.
 #[derive(Clone, Copy, Debug, PartialEq, Eq)]

@@ -6,10 +6,10 @@ use Rattle.std.proofs.lemmas.Bool.{cond-true, cond-false, eq-eqb, ne_eqb, leb-tr
 use Rattle.std.proofs.lemmas.Option.{cond_some}
 use Rattle.std.proofs.lemmas.Str.Parse.{IsNumeralModel, numerals_by_fold}
 use Rattle.std.proofs.lemmas.Fmt.{digits_decimal, digits_value-decimal, decimal-digits_value, decimal_digit, decimal_nonempty, first_decimal, length-decimal-le}
-use Rattle.dns_data.specs.Octet.{is_digit}
+use Rattle.dns_data.specs.Octet.{is_digit, digits_after}
 use Rattle.dns_data.specs.DataText.{separated, data_text}
 use Rattle.dns_data.specs.declared.rdata.Rdata.TheVariants.{A}
-use Rattle.rdata_forms.specs.Numbers.{digits_after, is_digits, number_up_to}
+use Rattle.dns_data.specs.Number.{is_digits, number_up_to}
 use Rattle.rdata_forms.specs.Addresses.{◌>>=◌, IsIpv4Text, is_octet, has_leading_zero, part_of, ipv4_of_parts, ipv4_of, split_on}
 use Rattle.dns_data.proofs.Separators.{Lacks, lacks-append, separated-split, split-separated}
 

@@ -1,4 +1,3 @@
-pub mod Digits
 pub mod DottedTexts
 pub mod DoubleColon
 mod Drawn

@@ -17,7 +17,8 @@ use Rattle.dns_data.specs.declared.rr_type.RrType.TheVariants as types
 use Rattle.master_lex.specs.declared.entry.Token.{Token}
 use Rattle.rdata_forms.specs.Addresses.{ipv4_in, ipv4_of, ipv6_in, ipv6_of}
 use Rattle.rdata_forms.specs.Forms.{name_in, one_name, strings_of, a_of, aaaa_of, soa_of, hinfo_of, mx_of, txt_of, srv_of, caa_of, fields_of, written, is_generic, is_generic_form, rdata_of, other_of}
-use Rattle.rdata_forms.specs.Numbers.{number_of, number_up_to}
+use Rattle.dns_data.specs.Number.{number_up_to}
+use Rattle.rdata_forms.specs.Numbers.{number_in}
 use Rattle.rdata_forms.specs.Texts.{resolved, is_tag_octet, string_of, tag_of}
 use Rattle.rdata_forms.specs.Times.{time_in, time_of}
 use Rattle.rdata_forms.specs.declared.fault.RdataFault.{RdataFault}
@@ -51,7 +52,7 @@ reads-bad = record { own = λ h. cc; named = λ h. cc }
 reads-address : IsSaid BadAddress
 reads-address = record { own = λ h. cc; named = λ h. cc }
 
-reads-number : (most : ℕ) (text : List ℕ) → Reads (number_of most text)
+reads-number : (most : ℕ) (text : List ℕ) → Reads (number_in most text)
 reads-number most text = if_err_or IsSaid (number_up_to 10 most text) BadNumber reads-bad
 
 reads-time : (text : List ℕ) → Reads (time_in text)
@@ -84,7 +85,7 @@ reads-soa : (origin : Labels) (fields : List (List ℕ)) → Reads (soa_of origi
 reads-soa origin (a ∷ b ∷ c ∷ d ∷ e ∷ f ∷ g ∷ []) =
     if_err_then IsSaid (name_in origin a) _ (reads-name origin a) (λ mname.
     if_err_then IsSaid (name_in origin b) _ (reads-name origin b) (λ rname.
-    if_err_then IsSaid (number_of 4294967295 c) _ (reads-number 4294967295 c) (λ serial.
+    if_err_then IsSaid (number_in 4294967295 c) _ (reads-number 4294967295 c) (λ serial.
     if_err_then IsSaid (time_in d) _ (reads-time d) (λ refresh.
     if_err_then IsSaid (time_in e) _ (reads-time e) (λ retry.
     if_err_then IsSaid (time_in f) _ (reads-time f) (λ expire.
@@ -98,7 +99,7 @@ reads-hinfo fields = reads-count
 
 reads-mx : (origin : Labels) (fields : List (List ℕ)) → Reads (mx_of origin fields)
 reads-mx origin (a ∷ b ∷ []) =
-    if_err_then IsSaid (number_of 65535 a) _ (reads-number 65535 a) (λ preference. if_err_then IsSaid (name_in origin b) _ (reads-name origin b) (λ exchange. tt))
+    if_err_then IsSaid (number_in 65535 a) _ (reads-number 65535 a) (λ preference. if_err_then IsSaid (name_in origin b) _ (reads-name origin b) (λ exchange. tt))
 reads-mx origin fields = reads-count
 
 reads-strings : (fields : List (List ℕ)) → Reads (strings_of fields)
@@ -112,15 +113,15 @@ reads-txt (field ∷ fields) = if_err_then IsSaid (strings_of (field ∷ fields)
 
 reads-srv : (origin : Labels) (fields : List (List ℕ)) → Reads (srv_of origin fields)
 reads-srv origin (a ∷ b ∷ c ∷ d ∷ []) =
-    if_err_then IsSaid (number_of 65535 a) _ (reads-number 65535 a) (λ priority.
-    if_err_then IsSaid (number_of 65535 b) _ (reads-number 65535 b) (λ weight.
-    if_err_then IsSaid (number_of 65535 c) _ (reads-number 65535 c) (λ port.
+    if_err_then IsSaid (number_in 65535 a) _ (reads-number 65535 a) (λ priority.
+    if_err_then IsSaid (number_in 65535 b) _ (reads-number 65535 b) (λ weight.
+    if_err_then IsSaid (number_in 65535 c) _ (reads-number 65535 c) (λ port.
     if_err_then IsSaid (name_in origin d) _ (reads-name origin d) (λ target. tt))))
 reads-srv origin fields = reads-count
 
 reads-caa : (fields : List (List ℕ)) → Reads (caa_of fields)
 reads-caa (a ∷ b ∷ c ∷ []) =
-    if_err_then IsSaid (number_of 255 a) _ (reads-number 255 a) (λ flags.
+    if_err_then IsSaid (number_in 255 a) _ (reads-number 255 a) (λ flags.
     if_err_then IsSaid (tag_of b) _ (reads-tag b) (λ tag.
     if_err_then IsSaid (string_of 1024 c) _ (reads-string 1024 c) (λ value. tt)))
 reads-caa fields = reads-count

@@ -6,7 +6,7 @@ use Rattle.std.proofs.Math.Nat.{mul-le-mul_left}
 use Rattle.std.specs.Prelude.{◌==◌, ◌&&◌, nat_le, IfSome}
 use Rattle.std.specs.Option.{unwrap_or}
 use Rattle.dns_data.specs.Octet.{is_digit, folded}
-use Rattle.rdata_forms.specs.Times.{unit_of, with_digit, group_of, seconds_after, if_ttl, time_of}
+use Rattle.rdata_forms.specs.Times.{unit_of, with_digit, time_group_of, seconds_after, if_ttl, time_of}
 
 -- the time that these seconds and the rest of a text make
 abbrev pub time_from : ℕ → Bool → Option ℕ → List ℕ → Option ℕ
@@ -38,7 +38,7 @@ time_from-digit seconds grouped value c cs h =
     ap (λ (o : Option ℕ). option_and_then if_ttl (option_map (λ others. seconds + others) o)) (cond-true (is_digit c) _ _ h)
 
 -- another octet ends a group
-pub time_from-letter : (seconds : ℕ) (grouped : Bool) (value : Option ℕ) (c : ℕ) (cs : List ℕ) → is_digit c ≡ false → time_from seconds grouped value (c ∷ cs) ≡ group_then seconds (group_of value c) (seconds_after true None cs)
+pub time_from-letter : (seconds : ℕ) (grouped : Bool) (value : Option ℕ) (c : ℕ) (cs : List ℕ) → is_digit c ≡ false → time_from seconds grouped value (c ∷ cs) ≡ group_then seconds (time_group_of value c) (seconds_after true None cs)
 time_from-letter seconds grouped value c cs h =
     ap (λ (o : Option ℕ). option_and_then if_ttl (option_map (λ others. seconds + others) o)) (cond-false (is_digit c) _ _ h)
 
@@ -57,7 +57,7 @@ seconds_after-ge grouped value (c ∷ cs) =
       weaker least more None h below = tt
       weaker least more (Some seconds) h below = omega arith
 
-      by_octet : (b : Bool) → NotBelow value (seconds_after grouped (Some (with_digit (Some value) c)) cs) → NotBelow value (cond b (seconds_after grouped (Some (with_digit (Some value) c)) cs) (option_and_then (λ first. option_map (λ rest. first + rest) (seconds_after true None cs)) (group_of (Some value) c)))
+      by_octet : (b : Bool) → NotBelow value (seconds_after grouped (Some (with_digit (Some value) c)) cs) → NotBelow value (cond b (seconds_after grouped (Some (with_digit (Some value) c)) cs) (option_and_then (λ first. option_map (λ rest. first + rest) (seconds_after true None cs)) (time_group_of (Some value) c)))
       by_octet true more = more
       by_octet false more = in_unit (unit_of c) (seconds_after true None cs) (unit_some c)
 
@@ -102,7 +102,7 @@ time_from-stopped seconds grouped value text i lt h large =
     time_from-digit_at seconds grouped value text i lt h ∙ time_from-large seconds grouped (with_digit value (get_or text i 0)) (drop (i + 1) text) large
 
 -- the letter at a place ends a group
-pub time_from-letter_at : (seconds : ℕ) (grouped : Bool) (value : Option ℕ) (text : List ℕ) (i : ℕ) → i < length text → is_digit (get_or text i 0) ≡ false → time_from seconds grouped value (drop i text) ≡ group_then seconds (group_of value (get_or text i 0)) (seconds_after true None (drop (i + 1) text))
+pub time_from-letter_at : (seconds : ℕ) (grouped : Bool) (value : Option ℕ) (text : List ℕ) (i : ℕ) → i < length text → is_digit (get_or text i 0) ≡ false → time_from seconds grouped value (drop i text) ≡ group_then seconds (time_group_of value (get_or text i 0)) (seconds_after true None (drop (i + 1) text))
 time_from-letter_at seconds grouped value text i lt h =
     time_from-at seconds grouped value text i lt ∙ time_from-letter seconds grouped value (get_or text i 0) (drop (i + 1) text) h
 
@@ -129,14 +129,14 @@ under_way-digit seconds grouped value text i before next h lt old fits e =
     }
 
 -- a letter leaves the reading under way
-pub under_way-letter : (seconds : ℕ) (grouped : Bool) (value : Option ℕ) (text : List ℕ) (i digits sum : ℕ) → IsUnderWay seconds grouped value (drop i text) text → i < length text → is_digit (get_or text i 0) ≡ false → value ≡ Some digits → Some sum ≡ option_and_then if_ttl (option_map (λ group. seconds + group) (group_of (Some digits) (get_or text i 0))) → IsUnderWay sum true None (drop (i + 1) text) text
+pub under_way-letter : (seconds : ℕ) (grouped : Bool) (value : Option ℕ) (text : List ℕ) (i digits sum : ℕ) → IsUnderWay seconds grouped value (drop i text) text → i < length text → is_digit (get_or text i 0) ≡ false → value ≡ Some digits → Some sum ≡ option_and_then if_ttl (option_map (λ group. seconds + group) (time_group_of (Some digits) (get_or text i 0))) → IsUnderWay sum true None (drop (i + 1) text) text
 under_way-letter seconds grouped value text i digits sum h lt letter e taken =
     let c = get_or text i 0 in
     record {
-      whole = sym (group_then-taken seconds sum (group_of value c) (drop (i + 1) text)
-          (ap (λ (v : Option ℕ). option_and_then if_ttl (option_map (λ group. seconds + group) (group_of v c))) e ∙ sym taken))
+      whole = sym (group_then-taken seconds sum (time_group_of value c) (drop (i + 1) text)
+          (ap (λ (v : Option ℕ). option_and_then if_ttl (option_map (λ group. seconds + group) (time_group_of v c))) e ∙ sym taken))
           ∙ sym (time_from-letter_at seconds grouped value text i lt letter) ∙ h.whole;
-      bound = taken_bound (option_map (λ group. seconds + group) (group_of (Some digits) c)) taken;
+      bound = taken_bound (option_map (λ group. seconds + group) (time_group_of (Some digits) c)) taken;
       small = tt;
       alone = λ bad. cc;
     }

@@ -7,9 +7,9 @@ use Rattle.std.proofs.lemmas.Option.{cond_some}
 use Rattle.std.proofs.lemmas.List.{append-nil}
 use Rattle.std.proofs.lemmas.List.Folds.{list_all-append}
 use Rattle.std.proofs.lemmas.List.Sums.{sum_by-cons}
-use Rattle.dns_data.specs.Octet.{is_digit, is_upper, folded}
-use Rattle.rdata_forms.specs.Numbers.{digits_after, is_digits}
-use Rattle.rdata_forms.specs.Times.{Group, is_group, group_text, group_seconds, IsSecondsText, IsGroupsText, IsTimeText, unit_of, with_digit, group_of, seconds_after, if_ttl, time_of}
+use Rattle.dns_data.specs.Octet.{is_digit, is_upper, folded, digits_after}
+use Rattle.dns_data.specs.Number.{is_digits}
+use Rattle.rdata_forms.specs.Times.{TimeGroup, is_time_group, time_group_text, time_group_seconds, IsSecondsText, IsGroupsText, IsTimeText, unit_of, with_digit, time_group_of, seconds_after, if_ttl, time_of}
 
 -- no digit is a letter
 digit-no_unit : (c : ℕ) → is_digit c ≡ true → unit_of c ≡ None
@@ -52,11 +52,11 @@ letter-read grouped value c rest others unit later = by_octet (cases_Bool (is_di
   by_octet (inl digit) = let bad : false ≡ true = sym (ap is_some (digit-no_unit c digit)) ∙ unit in absurd cc
   by_octet (inr letter) =
       cond-false (is_digit c) _ _ letter
-      ∙ ap (λ (o : Option ℕ). option_and_then (λ first. option_map (λ rest. first + rest) o) (group_of (Some value) c)) later
+      ∙ ap (λ (o : Option ℕ). option_and_then (λ first. option_map (λ rest. first + rest) o) (time_group_of (Some value) c)) later
       ∙ in_unit (unit_of c) unit
 
 -- a group before what is read
-group-read : (grouped : Bool) (group : Group) (rest : List ℕ) (others : ℕ) → is_group group ≡ true → seconds_after true None rest ≡ Some others → seconds_after grouped None (group_text group ++ rest) ≡ Some (group_seconds group + others)
+group-read : (grouped : Bool) (group : TimeGroup) (rest : List ℕ) (others : ℕ) → is_time_group group ≡ true → seconds_after true None rest ≡ Some others → seconds_after grouped None (time_group_text group ++ rest) ≡ Some (time_group_seconds group + others)
 group-read grouped group rest others ok later =
     let parts = and_parts (is_digits group.digits) (is_some (unit_of group.letter)) ok in
     ap (seconds_after grouped None) (append_assoc group.digits (group.letter ∷ []) rest)
@@ -64,20 +64,20 @@ group-read grouped group rest others ok later =
     ∙ letter-read grouped (digits_after 0 group.digits) group.letter rest others parts.1 later
 
 -- groups behind others
-groups-behind : (groups : List Group) → list_all is_group groups ≡ true → seconds_after true None (flat_map group_text groups) ≡ Some (sum_by group_seconds groups)
+groups-behind : (groups : List TimeGroup) → list_all is_time_group groups ≡ true → seconds_after true None (flat_map time_group_text groups) ≡ Some (sum_by time_group_seconds groups)
 groups-behind [] ok = refl
 groups-behind (group ∷ groups) ok =
-    let parts = and_parts (is_group group) (list_all is_group groups) ok in
-    group-read true group (flat_map group_text groups) (sum_by group_seconds groups) parts.0 (groups-behind groups parts.1)
-    ∙ ap (λ (n : ℕ). Some n) (sym (sum_by-cons group_seconds group groups))
+    let parts = and_parts (is_time_group group) (list_all is_time_group groups) ok in
+    group-read true group (flat_map time_group_text groups) (sum_by time_group_seconds groups) parts.0 (groups-behind groups parts.1)
+    ∙ ap (λ (n : ℕ). Some n) (sym (sum_by-cons time_group_seconds group groups))
 
 -- one group or more
-groups-read : (groups : List Group) → 0 < length groups → list_all is_group groups ≡ true → seconds_after false None (flat_map group_text groups) ≡ Some (sum_by group_seconds groups)
+groups-read : (groups : List TimeGroup) → 0 < length groups → list_all is_time_group groups ≡ true → seconds_after false None (flat_map time_group_text groups) ≡ Some (sum_by time_group_seconds groups)
 groups-read [] some ok = absurd (omega arith)
 groups-read (group ∷ groups) some ok =
-    let parts = and_parts (is_group group) (list_all is_group groups) ok in
-    group-read false group (flat_map group_text groups) (sum_by group_seconds groups) parts.0 (groups-behind groups parts.1)
-    ∙ ap (λ (n : ℕ). Some n) (sym (sum_by-cons group_seconds group groups))
+    let parts = and_parts (is_time_group group) (list_all is_time_group groups) ok in
+    group-read false group (flat_map time_group_text groups) (sum_by time_group_seconds groups) parts.0 (groups-behind groups parts.1)
+    ∙ ap (λ (n : ℕ). Some n) (sym (sum_by-cons time_group_seconds group groups))
 
 -- either form
 seconds-complete : (text : List ℕ) (seconds : ℕ) → IsSecondsText text seconds ⊎ IsGroupsText text seconds → seconds_after false None text ≡ Some seconds
@@ -111,10 +111,10 @@ value_of-push (d ∷ ds) c = ap (λ (n : ℕ). Some n) (digits_after-push 0 (d �
 
 -- groups that stand behind others, or none
 record IsRest (text : List ℕ) (seconds : ℕ) : Type 0 where
-  groups : List Group
-  well_formed : list_all is_group groups ≡ true
-  written : text ≡ flat_map group_text groups
-  stands_for : seconds ≡ sum_by group_seconds groups
+  groups : List TimeGroup
+  well_formed : list_all is_time_group groups ≡ true
+  written : text ≡ flat_map time_group_text groups
+  stands_for : seconds ≡ sum_by time_group_seconds groups
 
 -- what is read behind groups or behind none
 abbrev Stands : Bool → List ℕ → ℕ → Type 0
@@ -141,23 +141,23 @@ group-then value (Some unit) (Some others) seconds h =
     record { in_unit = unit; behind = others; unit_is = refl; others_are = refl; all = cc }
 
 -- digits and a letter are a group
-letter-sound : (grouped : Bool) (digits : List ℕ) (c : ℕ) (rest : List ℕ) (seconds : ℕ) → list_all is_digit digits ≡ true → ((later : ℕ) → seconds_after true None rest ≡ Some later → IsRest rest later) → option_and_then (λ first. option_map (λ rest. first + rest) (seconds_after true None rest)) (group_of (value_of digits) c) ≡ Some seconds → Stands grouped (digits ++ c ∷ rest) seconds
+letter-sound : (grouped : Bool) (digits : List ℕ) (c : ℕ) (rest : List ℕ) (seconds : ℕ) → list_all is_digit digits ≡ true → ((later : ℕ) → seconds_after true None rest ≡ Some later → IsRest rest later) → option_and_then (λ first. option_map (λ rest. first + rest) (seconds_after true None rest)) (time_group_of (value_of digits) c) ≡ Some seconds → Stands grouped (digits ++ c ∷ rest) seconds
 letter-sound grouped [] c rest seconds all later h = absurd cc
 letter-sound grouped (d ∷ ds) c rest seconds all later h =
     let parts = group-then (digits_after 0 (d ∷ ds)) (unit_of c) (seconds_after true None rest) seconds h in
     let behind = later parts.behind parts.others_are in
-    let group : Group = record { digits = d ∷ ds; letter = c } in
+    let group : TimeGroup = record { digits = d ∷ ds; letter = c } in
     let some : leb 1 (length (d ∷ ds)) ≡ true = le-leb 1 (length (d ∷ ds)) (omega arith) in
-    let value : group_seconds group ≡ digits_after 0 (d ∷ ds) * parts.in_unit = ap (λ (o : Option ℕ). digits_after 0 (d ∷ ds) * unwrap_or o 0) parts.unit_is in
+    let value : time_group_seconds group ≡ digits_after 0 (d ∷ ds) * parts.in_unit = ap (λ (o : Option ℕ). digits_after 0 (d ∷ ds) * unwrap_or o 0) parts.unit_is in
     stands-grouped grouped ((d ∷ ds) ++ c ∷ rest) seconds
     (record {
       groups = group ∷ behind.groups;
       some = omega arith;
-      well_formed = and_from (is_group group) _
+      well_formed = and_from (is_time_group group) _
           (and_from (is_digits (d ∷ ds)) _ (and_from (leb 1 (length (d ∷ ds))) _ some all) (ap is_some parts.unit_is)) behind.well_formed;
       written = ap (λ (l : List ℕ). (d ∷ ds) ++ c ∷ l) behind.written
-          ∙ sym (append_assoc (d ∷ ds) (c ∷ []) (flat_map group_text behind.groups));
-      stands_for = omega (arith, parts.all, value, behind.stands_for, sum_by-cons group_seconds group behind.groups);
+          ∙ sym (append_assoc (d ∷ ds) (c ∷ []) (flat_map time_group_text behind.groups));
+      stands_for = omega (arith, parts.all, value, behind.stands_for, sum_by-cons time_group_seconds group behind.groups);
     })
 
 -- what is read behind digits stands for the seconds with them

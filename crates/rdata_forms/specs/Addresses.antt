@@ -6,7 +6,7 @@ use Rattle.std.specs.Option.{ok_or}
 use Rattle.dns_data.specs.Octet.{is_digit}
 use Rattle.dns_data.specs.DataText.{separated, data_text}
 use Rattle.dns_data.specs.declared.rdata.Rdata.TheVariants.{A}
-use Rattle.rdata_forms.specs.Numbers.{number_up_to}
+use Rattle.dns_data.specs.Number.{number_up_to}
 use Rattle.rdata_forms.specs.declared.fault.RdataFault.{RdataFault}
 use Rattle.rdata_forms.specs.declared.fault.RdataFault.TheVariants.{BadAddress}
 

@@ -11,7 +11,8 @@ use Rattle.dns_data.specs.declared.rdata.Rdata.TheVariants as data_of
 use Rattle.dns_data.specs.declared.rr_type.RrType.{RrType}
 use Rattle.dns_data.specs.declared.rr_type.RrType.TheVariants as types
 use Rattle.master_lex.specs.declared.entry.Token.{Token}
-use Rattle.rdata_forms.specs.Numbers.{number_of, number_up_to}
+use Rattle.dns_data.specs.Number.{number_up_to}
+use Rattle.rdata_forms.specs.Numbers.{number_in}
 use Rattle.rdata_forms.specs.Times.{time_in}
 use Rattle.rdata_forms.specs.Addresses.{ipv4_in, ipv6_in, is_hex}
 use Rattle.rdata_forms.specs.Texts.{string_of, tag_of}
@@ -70,7 +71,7 @@ abbrev pub soa_of : Labels → List (List ℕ) → Result Rdata RdataFault
 soa_of origin (a ∷ b ∷ c ∷ d ∷ e ∷ f ∷ g ∷ []) = do
   mname ← name_in origin a
   rname ← name_in origin b
-  serial ← number_of 4294967295 c
+  serial ← number_in 4294967295 c
   refresh ← time_in d
   retry ← time_in e
   expire ← time_in f
@@ -89,7 +90,7 @@ hinfo_of fields = Err FieldCount
 -- a mail exchange: a number and a name (RFC 1035 section 3.3.9)
 abbrev pub mx_of : Labels → List (List ℕ) → Result Rdata RdataFault
 mx_of origin (a ∷ b ∷ []) = do
-  preference ← number_of 65535 a
+  preference ← number_in 65535 a
   exchange ← name_in origin b
   Ok (data_of.Mx preference exchange)
 mx_of origin fields = Err FieldCount
@@ -112,9 +113,9 @@ txt_of (field ∷ fields) = do
 -- the place of a service: three numbers and a name (RFC 2782)
 abbrev pub srv_of : Labels → List (List ℕ) → Result Rdata RdataFault
 srv_of origin (a ∷ b ∷ c ∷ d ∷ []) = do
-  priority ← number_of 65535 a
-  weight ← number_of 65535 b
-  port ← number_of 65535 c
+  priority ← number_in 65535 a
+  weight ← number_in 65535 b
+  port ← number_in 65535 c
   target ← name_in origin d
   Ok (data_of.Srv priority weight port target)
 srv_of origin fields = Err FieldCount
@@ -122,7 +123,7 @@ srv_of origin fields = Err FieldCount
 -- which authorities may issue certificates: a number, a tag and a string (RFC 8659 section 4.1)
 abbrev pub caa_of : List (List ℕ) → Result Rdata RdataFault
 caa_of (a ∷ b ∷ c ∷ []) = do
-  flags ← number_of 255 a
+  flags ← number_in 255 a
   tag ← tag_of b
   value ← string_of 1024 c
   Ok (data_of.Caa flags tag value)

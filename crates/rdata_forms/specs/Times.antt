@@ -3,8 +3,8 @@
 use Rattle.std.specs.Prelude.{◌≡◌, ◌⊎◌, ℕ, ◌+◌, ◌-◌, ◌*◌, ◌≤◌, ◌<◌, Bool, true, false, ◌&&◌, nat_le, List, [], ◌∷◌, ◌++◌, length, Option, Some, None, option_map, option_and_then, Result, if◌then◌else◌, ◌==◌}
 use Rattle.std.specs.List.{list_all, flat_map, sum_by}
 use Rattle.std.specs.Option.{is_some, ok_or, unwrap_or}
-use Rattle.dns_data.specs.Octet.{is_digit, folded}
-use Rattle.rdata_forms.specs.Numbers.{digits_after, is_digits}
+use Rattle.dns_data.specs.Octet.{is_digit, folded, digits_after}
+use Rattle.dns_data.specs.Number.{is_digits}
 use Rattle.rdata_forms.specs.declared.fault.RdataFault.{RdataFault}
 use Rattle.rdata_forms.specs.declared.fault.RdataFault.TheVariants.{BadNumber}
 
@@ -21,21 +21,21 @@ unit_of letter =
     else None
 
 -- a group of a time: digits, and the letter behind them
-pub record Group : Type 0 where
+pub record TimeGroup : Type 0 where
   pub digits : List ℕ
   pub letter : ℕ
 
 -- at least one digit, digits alone, and a letter that stands for seconds
-abbrev pub is_group : Group → Bool
-is_group group = is_digits group.digits && is_some (unit_of group.letter)
+abbrev pub is_time_group : TimeGroup → Bool
+is_time_group group = is_digits group.digits && is_some (unit_of group.letter)
 
 -- a group as it is written
-abbrev pub group_text : Group → List ℕ
-group_text group = group.digits ++ group.letter ∷ []
+abbrev pub time_group_text : TimeGroup → List ℕ
+time_group_text group = group.digits ++ group.letter ∷ []
 
 -- the seconds of a group: those of its letter as often as its digits say
-abbrev pub group_seconds : Group → ℕ
-group_seconds group = digits_after 0 group.digits * unwrap_or (unit_of group.letter) 0
+abbrev pub time_group_seconds : TimeGroup → ℕ
+time_group_seconds group = digits_after 0 group.digits * unwrap_or (unit_of group.letter) 0
 
 -- digits alone are seconds
 pub record IsSecondsText (text : List ℕ) (seconds : ℕ) : Type 0 where
@@ -44,11 +44,11 @@ pub record IsSecondsText (text : List ℕ) (seconds : ℕ) : Type 0 where
 
 -- one or more groups, whose seconds are added
 pub record IsGroupsText (text : List ℕ) (seconds : ℕ) : Type 0 where
-  pub groups : List Group
+  pub groups : List TimeGroup
   pub some : 0 < length groups
-  pub well_formed : list_all is_group groups ≡ true
-  pub written : text ≡ flat_map group_text groups
-  pub stands_for : seconds ≡ sum_by group_seconds groups
+  pub well_formed : list_all is_time_group groups ≡ true
+  pub written : text ≡ flat_map time_group_text groups
+  pub stands_for : seconds ≡ sum_by time_group_seconds groups
 
 -- A text stands for a time: digits alone, or one or more groups of digits with a letter behind each. It has at
 -- most 2,147,483,647 seconds (RFC 2181 section 8).
@@ -60,12 +60,12 @@ pub record IsTimeText (text : List ℕ) (seconds : ℕ) : Type 0 where
 
 -- the value with one digit more
 abbrev pub with_digit : Option ℕ → ℕ → ℕ
-with_digit value digit = unwrap_or value 0 * 10 + (digit - 48)
+with_digit value digit = digits_after (unwrap_or value 0) (digit ∷ [])
 
 -- the seconds of a group: digits, and the letter that ends it
-abbrev pub group_of : Option ℕ → ℕ → Option ℕ
-group_of None letter = None
-group_of (Some value) letter = option_map (λ unit. value * unit) (unit_of letter)
+abbrev pub time_group_of : Option ℕ → ℕ → Option ℕ
+time_group_of None letter = None
+time_group_of (Some value) letter = option_map (λ unit. value * unit) (unit_of letter)
 
 -- at the end there are no digits behind groups; digits alone are seconds
 abbrev pub at_end : Bool → Option ℕ → Option ℕ
@@ -78,7 +78,7 @@ abbrev pub seconds_after : Bool → Option ℕ → List ℕ → Option ℕ
 seconds_after grouped value [] = at_end grouped value
 seconds_after grouped value (octet ∷ octets) =
     if is_digit octet then seconds_after grouped (Some (with_digit value octet)) octets
-    else option_and_then (λ seconds. option_map (λ others. seconds + others) (seconds_after true None octets)) (group_of value octet)
+    else option_and_then (λ seconds. option_map (λ others. seconds + others) (seconds_after true None octets)) (time_group_of value octet)
 
 -- the seconds, if a TTL may have so many
 abbrev pub if_ttl : ℕ → Option ℕ

@@ -2,22 +2,21 @@
 
 ghost use Rattle.std.specs.Prelude.{◌≤◌, IfOk};
 ghost use Rattle.dns_data.specs.Answers.{AnswersOr};
-ghost use Rattle.rdata_forms.specs.Numbers.{number_of};
+ghost use Rattle.rdata_forms.specs.Numbers.{number_in};
 ghost use Rattle.rdata_forms.specs.Times.{time_in};
 ghost use Rattle.rdata_forms.specs.Texts.{string_of, tag_of};
 ghost use Rattle.rdata_forms.specs.Forms.{name_in};
 
 use crate::fault::RdataFault;
-use crate::numbers::read_number;
 use crate::texts::{read_string, read_tag};
 use crate::times::read_ttl;
-use dns_data::{Name, NameFault, Octets};
+use dns_data::{Name, NameFault, Octets, read_number};
 use master_lex::Token;
 use std::alloc::Global;
 
 /// A number of one to ten digits, or `BadNumber` where the token is none or the number is above `most`.
 pub fn number_field(token: &Token, most: u32) -> Result<u32, RdataFault>
-    ensures number { AnswersOr RdataFault.NoMemory result (number_of most token.now.raw) }
+    ensures number { AnswersOr RdataFault.NoMemory result (number_in most token.now.raw) }
     ensures within { IfOk result (λ number. number ≤ most) }
 {
     read_number(token.raw.items(), 10, most).ok_or(RdataFault::BadNumber)

@@ -6,7 +6,7 @@ ghost use Rattle.rdata_forms.specs.Addresses.{is_hex};
 ghost use Rattle.std.specs.List.{list_all, concat};
 
 use crate::ipv6::hex_value;
-use crate::numbers::read_number;
+use dns_data::read_number;
 use master_lex::Token;
 
 /// Whether the first token isn't quoted and reads `\#`.

@@ -3,8 +3,8 @@
 ghost use Rattle.std.specs.Prelude.{◌≡◌};
 ghost use Rattle.rdata_forms.specs.Addresses.{part_of, ipv4_of, has_leading_zero};
 
-use crate::numbers::read_number;
 use crate::piece::first_piece;
+use dns_data::read_number;
 
 /// The IPv4 address that the text stands for, or `None` where it stands for none: four numbers up to 255 without
 /// leading zeros, with dots between (RFC 1035 section 3.4.1).

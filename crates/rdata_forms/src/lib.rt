@@ -1,7 +1,7 @@
-//! The data of records, from their tokens (RFC 1035 sections 3.3, 3.4 and 5.1), numbers and times.
+//! The data of records, from their tokens (RFC 1035 sections 3.3, 3.4 and 5.1), and times.
 //!
 //! `read_rdata` reads the data of the twelve types, `read_other` keeps those of any other type as their tokens were
-//! written, `read_number` reads a number and `read_ttl` a time. Octets are passed over once, those of a tag, an IPv4
+//! written, and `read_ttl` reads a time. Octets are passed over once, those of a tag, an IPv4
 //! address or the generic form twice, those of an IPv6 address at most five times. Memory is taken for what the data
 //! keep alone, for a string in one buffer.
 //!
@@ -18,7 +18,6 @@ mod generic;
 mod ipv4;
 mod ipv6;
 mod laws;
-mod numbers;
 mod piece;
 mod rdata;
 mod texts;
@@ -26,7 +25,6 @@ mod times;
 
 pub use fault::RdataFault;
 pub use laws::{one_address, one_time};
-pub use numbers::read_number;
 pub use rdata::{read_other, read_rdata};
 pub use times::read_ttl;
 

@@ -1,9 +1,9 @@
 //! Times.
 
 ghost use Rattle.std.specs.Prelude.{◌≡◌, ◌+◌, ◌≤◌, Some, option_map, option_and_then, IfSome};
-ghost use Rattle.rdata_forms.specs.Times.{time_of, unit_of, group_of, if_ttl};
+ghost use Rattle.rdata_forms.specs.Times.{time_of, unit_of, time_group_of, if_ttl};
 
-use crate::numbers::with_digit;
+use dns_data::with_digit;
 
 /// The most seconds of a TTL (RFC 2181 section 8).
 const MOST: u32 = 2147483647;
@@ -36,7 +36,7 @@ pub fn read_ttl(text: &[u8]) -> Option<u32>
 
 /// The seconds with those of a group more, or `None` where the letter is no unit or they are too many.
 fn with_group(seconds: u32, value: u32, letter: u8) -> Option<u32>
-    ensures { result ≡ option_and_then if_ttl (option_map (λ group. seconds + group) (group_of (Some value) letter)) }
+    ensures { result ≡ option_and_then if_ttl (option_map (λ group. seconds + group) (time_group_of (Some value) letter)) }
 {
     let group = u64::from(value) * unit(letter)?;
     let seconds = u64::from(seconds) + group;

@@ -5,7 +5,7 @@ use Rattle.dns_data.specs.declared.rdata.Rr.{Rr}
 use Rattle.master_lex.specs.declared.entry.Entry.{Entry}
 use Rattle.master_lex.specs.declared.fault.LexKind.TheVariants.{OpenParen}
 use Rattle.rdata_forms.specs.declared.fault.RdataFault.TheVariants.{BadAddress}
-use Rattle.master_read.specs.Entries.{record_of, owner_of, front_in, one_more, type_said, data_of, made_of, directive_of, origin_directive, ttl_directive}
+use Rattle.master_read.specs.Entries.{record_of, owner_of, front_in, one_more, type_said, data_behind, made_of, directive_of, origin_directive, ttl_directive}
 use Rattle.master_read.specs.Words.{type_word, class_word, is_among}
 use Rattle.master_read.specs.ZoneText.{no_records, with_entry, with_entries, zone_of_entries}
 use Rattle.master_read.specs.declared.fault.TextCause.TheVariants.{BadDirective, NoOwner, Rdata as BadData, NoTtl, TooMany, Lex}
@@ -22,34 +22,34 @@ one_of seen = record { context = context_with [] None (Some 60) (Some (name "t")
 
 -- a record counts
 a_record : with_entry 3 (no_records []) (entry 1 (tokens "t. 60 NS ns.t.")) ≡ Ok (one_of 1)
-unfolding with_entry record_of owner_of front_in one_more type_said data_of made_of type_word class_word is_among
+unfolding with_entry record_of owner_of front_in one_more type_said data_behind made_of type_word class_word is_among
 a_record = refl
 
 -- a dropped one too
 a_dropped_record : with_entry 3 (one_of 1) (indented 2 (tokens "RRSIG NS")) ≡ Ok (one_of 2)
-unfolding with_entry record_of owner_of front_in one_more type_said data_of made_of type_word class_word is_among
+unfolding with_entry record_of owner_of front_in one_more type_said data_behind made_of type_word class_word is_among
 a_dropped_record = refl
 
 -- where there is no room it is one too many, dropped or not
 no_room : with_entry 2 (one_of 2) (indented 3 (tokens "A 10.0.0.1")) ≡ Err TooMany
-unfolding with_entry record_of owner_of front_in one_more type_said data_of made_of type_word class_word is_among
+unfolding with_entry record_of owner_of front_in one_more type_said data_behind made_of type_word class_word is_among
 no_room = refl
 
 no_room_for_a_dropped_record : with_entry 2 (one_of 2) (indented 3 (tokens "RRSIG NS")) ≡ Err TooMany
-unfolding with_entry record_of owner_of front_in one_more type_said data_of made_of type_word class_word is_among
+unfolding with_entry record_of owner_of front_in one_more type_said data_behind made_of type_word class_word is_among
 no_room_for_a_dropped_record = refl
 
 no_room_at_all : with_entry 0 (no_records []) (entry 1 (tokens "t. 60 NS ns.t.")) ≡ Err TooMany
-unfolding with_entry record_of owner_of front_in one_more type_said data_of made_of type_word class_word is_among
+unfolding with_entry record_of owner_of front_in one_more type_said data_behind made_of type_word class_word is_among
 no_room_at_all = refl
 
 -- its other faults come first
 bad_data_without_room : with_entry 2 (one_of 2) (indented 3 (tokens "A 10.0.0.256")) ≡ Err (BadData BadAddress)
-unfolding with_entry record_of owner_of front_in one_more type_said data_of type_word class_word is_among
+unfolding with_entry record_of owner_of front_in one_more type_said data_behind type_word class_word is_among
 bad_data_without_room = refl
 
 no_ttl_without_room : with_entry 0 (no_records []) (entry 1 (tokens "t. NS ns.t.")) ≡ Err NoTtl
-unfolding with_entry record_of owner_of front_in one_more type_said data_of made_of type_word class_word is_among
+unfolding with_entry record_of owner_of front_in one_more type_said data_behind made_of type_word class_word is_among
 no_ttl_without_room = refl
 
 -- a directive takes no room
@@ -80,32 +80,32 @@ few_records =
     ∷ []
 
 in_order : zone_of_entries [] 4 few None ≡ reads few_records 4
-unfolding zone_of_entries with_entries with_entry record_of owner_of front_in one_more type_said data_of made_of type_word class_word is_among directive_of origin_directive ttl_directive
+unfolding zone_of_entries with_entries with_entry record_of owner_of front_in one_more type_said data_behind made_of type_word class_word is_among directive_of origin_directive ttl_directive
 in_order = refl
 
 -- a second record of one owner has the owner and the stated TTL of the first
 two_addresses :
     zone_of_entries (name "edu") 2 (entry 1 (tokens "VAXA 60 A 10.2.0.27") ∷ indented 2 (tokens "A 128.9.0.33") ∷ []) None
     ≡ reads (rr (name "vaxa.edu") 60 (A (10 ∷ 2 ∷ 0 ∷ 27 ∷ [])) 1 ∷ rr (name "vaxa.edu") 60 (A (128 ∷ 9 ∷ 0 ∷ 33 ∷ [])) 2 ∷ []) 2
-unfolding zone_of_entries with_entries with_entry record_of owner_of front_in one_more type_said data_of made_of type_word class_word is_among
+unfolding zone_of_entries with_entries with_entry record_of owner_of front_in one_more type_said data_behind made_of type_word class_word is_among
 two_addresses = refl
 
 -- the fault of the first entry that has one, at its line
 one_too_many : zone_of_entries [] 3 few None ≡ faulty 9 TooMany
-unfolding zone_of_entries with_entries with_entry record_of owner_of front_in one_more type_said data_of made_of type_word class_word is_among directive_of origin_directive ttl_directive
+unfolding zone_of_entries with_entries with_entry record_of owner_of front_in one_more type_said data_behind made_of type_word class_word is_among directive_of origin_directive ttl_directive
 one_too_many = refl
 
 two_too_many : zone_of_entries [] 1 few None ≡ faulty 6 TooMany
-unfolding zone_of_entries with_entries with_entry record_of owner_of front_in one_more type_said data_of made_of type_word class_word is_among directive_of origin_directive ttl_directive
+unfolding zone_of_entries with_entries with_entry record_of owner_of front_in one_more type_said data_behind made_of type_word class_word is_among directive_of origin_directive ttl_directive
 two_too_many = refl
 
 -- the fault of a spelling comes behind the entries
 behind_the_entries : zone_of_entries [] 4 few (Some (record { line = 12; kind = OpenParen })) ≡ faulty 12 (Lex OpenParen)
-unfolding zone_of_entries with_entries with_entry record_of owner_of front_in one_more type_said data_of made_of type_word class_word is_among directive_of origin_directive ttl_directive
+unfolding zone_of_entries with_entries with_entry record_of owner_of front_in one_more type_said data_behind made_of type_word class_word is_among directive_of origin_directive ttl_directive
 behind_the_entries = refl
 
 before_the_spelling : zone_of_entries [] 3 few (Some (record { line = 12; kind = OpenParen })) ≡ faulty 9 TooMany
-unfolding zone_of_entries with_entries with_entry record_of owner_of front_in one_more type_said data_of made_of type_word class_word is_among directive_of origin_directive ttl_directive
+unfolding zone_of_entries with_entries with_entry record_of owner_of front_in one_more type_said data_behind made_of type_word class_word is_among directive_of origin_directive ttl_directive
 before_the_spelling = refl
 
 -- a directive leaves no owner

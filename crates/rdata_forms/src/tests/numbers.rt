@@ -1,8 +1,8 @@
 //! Names, numbers and times.
 
 use super::check;
-use crate::{read_number, read_ttl};
-use dns_data::RrType;
+use crate::read_ttl;
+use dns_data::{RrType, read_number};
 use std::process::Abort;
 use std::test::Fail;
 

@@ -1,7 +1,7 @@
 use Rattle.std.proofs.Common.{arith, refl}
 use Rattle.std.proofs.lemmas.Result.{err_from_is_err_and}
 use Rattle.dns_data.proofs.Answers.{fault_first}
-use Rattle.rdata_forms.specs.Numbers.{number_of}
+use Rattle.rdata_forms.specs.Numbers.{number_in}
 use Rattle.rdata_forms.specs.Times.{time_in}
 use Rattle.rdata_forms.proofs.StartOfAuthority.{seven}
 use Rattle.rdata_forms.proofs.forms.read_soa.Goals as goal
@@ -11,7 +11,7 @@ returns-in_err-number_field c =
     let p = err_from_is_err_and c.from_residual-in_err-number_field.result c.from_residual-in_err-number_field.ensures.1 in
     let all = seven c.args.tokens.now c.mname-item.result c.rname-item.result c.serial-item.result c.refresh-item.result c.retry-item.result c.expire-item.result c.minimum-item.result
     (omega arith) c.mname-item.is c.rname-item.is c.serial-item.is c.refresh-item.is c.retry-item.is c.expire-item.is c.minimum-item.is in
-    rw (p.1, p.2, all, c.in_ok-name_field.ensures, c.in_ok-name_field-2.ensures) (fault_first _ _ (number_of 4294967295 c.serial-item.result.raw) _ c.in_err-number_field.ensures.number)
+    rw (p.1, p.2, all, c.in_ok-name_field.ensures, c.in_ok-name_field-2.ensures) (fault_first _ _ (number_in 4294967295 c.serial-item.result.raw) _ c.in_err-number_field.ensures.number)
 
 pub returns-in_err-time_field : goal.returns-in_err-time_field
 returns-in_err-time_field c =

@@ -1,6 +1,6 @@
 use Rattle.std.proofs.Common.{◌≡◌, ◌<◌, ◌+◌, ◌*◌, ◌-◌, true, false, get_or, sym, ◌∙◌, arith}
 use Rattle.dns_data.specs.Octet.{is_digit}
-use Rattle.rdata_forms.proofs.Digits.{too_large}
+use Rattle.dns_data.proofs.Digits.{too_large}
 use Rattle.rdata_forms.proofs.Seconds.{time_from-stopped, under_way-digit, under_way-letter}
 use Rattle.rdata_forms.proofs.times.read_ttl.Goals as goal
 use Rattle.rdata_forms.proofs.times.read_ttl.Goals.{then-is_ascii_digit+in_ok-with_digit, else-is_ascii_digit+in_ok-value+in_ok-seconds}

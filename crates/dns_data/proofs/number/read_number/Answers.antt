@@ -1,6 +1,6 @@
 use Rattle.std.proofs.Common.{sym, ◌∙◌, arith}
-use Rattle.rdata_forms.proofs.Digits.{number_from-stopped, number_up_to-from}
-use Rattle.rdata_forms.proofs.numbers.read_number.Goals as goal
+use Rattle.dns_data.proofs.Digits.{number_from-stopped, number_up_to-from}
+use Rattle.dns_data.proofs.number.read_number.Goals as goal
 
 pub returns-in_err-value : goal.returns-in_err-value
 returns-in_err-value c =

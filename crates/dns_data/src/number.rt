@@ -1,7 +1,7 @@
-//! Numbers.
+//! Numbers in decimal digits.
 
 ghost use Rattle.std.specs.Prelude.{◌≡◌, ◌&&◌, ◌+◌, ◌-◌, ◌*◌, ◌≤◌, nat_le, SomeIff, IsTrue};
-ghost use Rattle.rdata_forms.specs.Numbers.{number_up_to};
+ghost use Rattle.dns_data.specs.Number.{number_up_to};
 ghost use Rattle.dns_data.specs.Octet.{is_digit};
 
 /// The number that the text writes, in one pass: one to `digits` decimal digits, leading zeros among them, and

@@ -3,8 +3,8 @@ use Rattle.std.proofs.Common.{◌≡◌, ℕ, ◌+◌, ◌*◌, ◌-◌, ◌<◌
 use Rattle.std.proofs.lemmas.Bool.{and_from, and_right, cond-false, leb-false, le-leb, lt-leb, cases_Bool}
 use Rattle.std.proofs.Math.Bool.{and-true}
 use Rattle.std.specs.List.{list_all}
-use Rattle.dns_data.specs.Octet.{is_digit}
-use Rattle.rdata_forms.specs.Numbers.{digits_after, number_up_to}
+use Rattle.dns_data.specs.Octet.{is_digit, digits_after}
+use Rattle.dns_data.specs.Number.{number_up_to}
 
 -- the number that digits make behind others of this value, if it is at most this
 abbrev pub number_from : ℕ → ℕ → List ℕ → Option ℕ

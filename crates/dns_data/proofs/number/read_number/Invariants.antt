@@ -1,6 +1,6 @@
 use Rattle.std.proofs.Common.{◌≡◌, ◌≤◌, drop}
-use Rattle.rdata_forms.proofs.Digits.{number_from}
-use Rattle.rdata_forms.proofs.numbers.read_number.Given as goal
+use Rattle.dns_data.proofs.Digits.{number_from}
+use Rattle.dns_data.proofs.number.read_number.Given as goal
 
 -- the value so far and the digits that are left make the number
 abbrev pub invariant-loop-octet : goal.invariant-loop-octet
