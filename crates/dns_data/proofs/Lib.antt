@@ -3,8 +3,8 @@ pub mod DataFacts
 pub mod DataTexts
 pub mod DifferentItems
 pub mod Digits
+pub mod Encodings
 pub mod EqualData
-pub mod Labels
 pub mod LeastItems
 pub mod Membership
 pub mod NameFaults
@@ -18,5 +18,6 @@ pub mod RoundTrip
 pub mod Searches
 pub mod Separators
 pub mod Sets
+pub mod Spellings
 pub mod StandardFacts
 pub mod TextsTellData

@@ -1,19 +1,23 @@
 -- Names: prefixes, and names that are one.
-use Rattle.std.proofs.Common.{◌≡◌, ℕ, ◌+◌, ◌≤◌, ◌++◌, Bool, true, List, [], ◌∷◌, length, take, drop, Ordering, sym, refl, ap, ◌∙◌, arith}
+use Rattle.std.proofs.Common.{◌≡◌, ℕ, zero, suc, ◌+◌, ◌≤◌, ◌++◌, Bool, true, List, [], ◌∷◌, length, take, drop, Ordering, sym, refl, ap, ◌∙◌, arith}
 use Rattle.std.specs.Prelude.{◌↔◌, sum_by}
 use Rattle.std.specs.List.{AllByRecursion}
-use Rattle.std.proofs.lemmas.List.Sums.{sum_by-cons}
+use Rattle.std.proofs.lemmas.List.Sums.{sum_by-cons, sum_by-append}
 use Rattle.std.specs.Bool.{IsTrue}
 use Rattle.std.specs.Cmp.Lexicographic.{pointwise_decides, bytes_decides, lists_ties, texts_ties}
 use Rattle.std.specs.declared.cmp.Ordering.TheVariants.{Less, Equal, Greater}
 use Rattle.std.specs.Ordering.{is_eq}
 use Rattle.std.proofs.lemmas.List.{take-append-drop, take_at}
-use Rattle.dns_data.specs.Label.{IsLabel, label_cmp}
+use Rattle.dns_data.specs.Label.{IsLabel, label_eq, label_cmp}
 use Rattle.dns_data.specs.Name.{Labels, IsName, wire_octets, name_eq, name_cmp, is_prefix}
+
+-- labels that are one are equal
+pub label_eq_decides : (a b : List ℕ) → (label_eq a b ≡ true → a ≡ b) × (a ≡ b → label_eq a b ≡ true)
+label_eq_decides = bytes_decides
 
 -- names that are one are equal
 pub name_eq_decides : (a b : Labels) → (name_eq a b ≡ true → a ≡ b) × (a ≡ b → name_eq a b ≡ true)
-name_eq_decides = pointwise_decides bytes_decides
+name_eq_decides = pointwise_decides label_eq_decides
 
 -- names of which neither stands before the other are one
 pub same_names : (a b : Labels) → name_cmp a b ≡ Equal → a ≡ b
@@ -57,3 +61,18 @@ all_push P xs x h k = all_append P xs (x ∷ []) h (k, tt)
 -- names keep being names
 pub name_append : (a b : Labels) → AllByRecursion IsLabel a → AllByRecursion IsLabel b → wire_octets (a ++ b) ≤ 255 → IsName (a ++ b)
 name_append a b h k short = record { labels = all_append IsLabel a b h k; short = short }
+
+-- and of the first items
+pub all_front : {X : Type 0} (P : X → Type 0) (n : ℕ) (xs : List X) → AllByRecursion P xs → AllByRecursion P (take n xs)
+all_front P zero xs h = tt
+all_front P (suc n) [] h = tt
+all_front P (suc n) (x ∷ xs) h = (h.0, all_front P n xs h.1)
+
+-- the first labels of a name are a name
+pub name_front : (n : ℕ) (a : Labels) → IsName a → IsName (take n a)
+name_front n a h =
+    let size = λ (label : List ℕ). length label + 1 in
+    record {
+      labels = all_front IsLabel n a h.labels;
+      short = omega (arith, h.short, ap (sum_by size) (take-append-drop n a), sum_by-append size (take n a) (drop n a));
+    }

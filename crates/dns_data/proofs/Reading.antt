@@ -2,8 +2,6 @@
 use Rattle.std.proofs.Common.{◌≡◌, ℕ, ◌++◌, Bool, true, false, List, [], ◌∷◌, length, Result, Ok, Err, sym, refl, ap, ◌∙◌}
 use Rattle.std.proofs.lemmas.List.{append-nil, nil_from_length}
 use Rattle.dns_data.specs.declared.fault.NameFault.{NameFault}
-use Rattle.dns_data.specs.declared.fault.NameFault.TheVariants.{EmptyLabel, LabelTooLong, NameTooLong, BadEscape, NoMemory}
-use Rattle.dns_data.specs.Fault.{FaultIs}
 use Rattle.dns_data.specs.Name.{Labels}
 use Rattle.dns_data.specs.Spelling.{Spelled, signs, spelled, after_label}
 
@@ -26,14 +24,6 @@ after_labels_fault (label ∷ labels) fault = ap (after_label label) (after_labe
 pub after_labels_ok : (labels below : Labels) (absolute : Bool) → after_labels labels (Ok (record { labels = below; absolute = absolute })) ≡ Ok (record { labels = labels ++ below; absolute = absolute })
 after_labels_ok [] below absolute = refl
 after_labels_ok (label ∷ labels) below absolute = ap (after_label label) (after_labels_ok labels below absolute)
-
--- the fault that a text's rest has is the whole's
-pub fault_carried : (labels : Labels) (fault : NameFault) (rest whole : Result Spelled NameFault) → after_labels labels rest ≡ whole → FaultIs fault rest → FaultIs fault whole
-fault_carried labels EmptyLabel rest whole e h = sym e ∙ ap (after_labels labels) h ∙ after_labels_fault labels EmptyLabel
-fault_carried labels LabelTooLong rest whole e h = sym e ∙ ap (after_labels labels) h ∙ after_labels_fault labels LabelTooLong
-fault_carried labels NameTooLong rest whole e h = sym e ∙ ap (after_labels labels) h ∙ after_labels_fault labels NameTooLong
-fault_carried labels BadEscape rest whole e h = sym e ∙ ap (after_labels labels) h ∙ after_labels_fault labels BadEscape
-fault_carried labels NoMemory rest whole e h = tt
 
 -- a label that a dot ends goes to the labels before the rest
 pub label_carried : (labels : Labels) (label : List ℕ) (rest first whole : Result Spelled NameFault) → after_labels labels first ≡ whole → first ≡ after_label label rest → after_labels (labels ++ label ∷ []) rest ≡ whole

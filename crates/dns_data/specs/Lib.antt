@@ -8,5 +8,8 @@ pub mod Rdata
 pub mod RrType
 pub mod Spelling
 pub mod DataText
+pub mod Encoding
 pub mod Fault
+pub mod Put
 pub mod TypeSet
+pub mod Storage

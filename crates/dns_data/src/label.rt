@@ -1,21 +1,21 @@
 //! Labels.
 
 ghost use Rattle.std.specs.Prelude.{◌≡◌, ◌+◌, length, IfOk};
-ghost use Rattle.dns_data.specs.Fault.{Answers};
+ghost use Rattle.dns_data.specs.Answers.{AnswersOr};
 ghost use Rattle.dns_data.specs.Label.{IsLabel, label_of, label_eq, label_cmp};
 
 use crate::fault::NameFault;
 use crate::memory::NoMemory;
-use smallvec::SmallVec;
+use crate::octets::Octets;
 use std::alloc::Global;
 use std::cmp::Ordering;
 use std::marker::Model;
 
-/// A label of 1 to 63 octets without A to Z. Labels are ordered by their octets. One of at most 16 octets takes
+/// A label of 1 to 63 octets without A to Z. Labels are ordered by their octets. One of at most 30 octets takes
 /// no memory of its own (RFC 1035 section 2.3.4).
 #[derive(Debug, Drop)]
 pub struct Label {
-    octets: SmallVec<u8, 16>,
+    octets: Octets,
 }
 
 impl Model for Label {
@@ -24,16 +24,16 @@ impl Model for Label {
 
     ghost Value = { List ℕ };
 
-    ghost view = { λ label. label.octets.items };
+    ghost view = { λ label. label.octets };
 
-    ghost invariant = { λ label. IsLabel label.octets.items };
+    ghost invariant = { λ label. IsLabel label.octets };
 }
 
 impl Label {
     /// The label with these octets, A to Z folded to a to z. It is `EmptyLabel` where there is no octet and
     /// `LabelTooLong` where there are more than 63.
     pub fn from_octets(alloc: Global, octets: &[u8]) -> Result<Label, NameFault>
-        ensures { Answers result (label_of octets.now) }
+        ensures { AnswersOr NameFault.NoMemory result (label_of octets.now) }
     {
         if octets.is_empty() {
             return Err(NameFault::EmptyLabel);
@@ -41,19 +41,11 @@ impl Label {
         if octets.len() > 63 {
             return Err(NameFault::LabelTooLong);
         }
-        let mut label = SmallVec::new(alloc);
+        let mut label = Octets::with_capacity(alloc, octets.len())?;
         for octet in octets {
-            label.push(octet.to_ascii_lowercase())?;
+            label.push(alloc, octet.to_ascii_lowercase())?;
         }
-        Ok(Label::from_folded(label))
-    }
-
-    /// The label of these octets, which are 1 to 63 without A to Z.
-    pub(crate) fn from_folded(octets: SmallVec<u8, 16>) -> Label
-        requires { IsLabel octets.items }
-        ensures { result ≡ octets.items }
-    {
-        Label { octets }
+        Ok(Label { octets: label })
     }
 
     /// The octets of the label.
@@ -61,7 +53,7 @@ impl Label {
         ensures same { result.now ≡ self.now }
         ensures label { IsLabel self.now }
     {
-        self.octets.as_slice()
+        self.octets.items()
     }
 
     /// How many octets the label takes in a name: its length and one (RFC 1035 section 3.1).
@@ -77,7 +69,7 @@ impl Label {
         ensures { IfOk result (λ label. label ≡ self.now) }
     {
         Ok(Label {
-            octets: SmallVec::from_slice(alloc, self.octets.as_slice())?,
+            octets: self.octets.copy(alloc)?,
         })
     }
 }

@@ -3,6 +3,7 @@
 ghost use Rattle.std.specs.Prelude.{◌≡◌, ◌∷◌, ◌++◌, [], IfOk, OnOk, OnErr};
 
 use crate::memory::NoMemory;
+use crate::octets::Octets;
 use std::alloc::Global;
 use std::marker::Model;
 
@@ -19,9 +20,6 @@ impl<T> Model for List<T> {
 
     ghost view = { λ list. list.items.items };
 }
-
-/// A list of octets.
-pub type Octets = List<u8>;
 
 impl<T> List<T> {
     /// The list without an item. It takes no memory.
@@ -63,24 +61,6 @@ impl<T> List<T> {
     {
         self.items.push(item)?;
         Ok(())
-    }
-}
-
-impl List<u8> {
-    /// The list of these octets.
-    pub fn from_octets(alloc: Global, octets: &[u8]) -> Result<List<u8>, NoMemory>
-        ensures { IfOk result (λ list. list ≡ octets.now) }
-    {
-        Ok(List {
-            items: octets.to_vec(alloc)?,
-        })
-    }
-
-    /// An equal list.
-    pub fn copy(&self, alloc: Global) -> Result<List<u8>, NoMemory>
-        ensures { IfOk result (λ list. list ≡ self.now) }
-    {
-        List::from_octets(alloc, self.items())
     }
 }
 

@@ -1,77 +1,98 @@
 //! Names.
 
-ghost use Rattle.std.specs.Prelude.{◌≡◌, ◌↔◌, ◌++◌, ◌+◌, ◌<◌, ◌≤◌, List, ℕ, [], ◌∷◌, length, sum_by, IsTrue, IfOk, OnOk, OnErr, IsErrOf};
-ghost use Rattle.std.specs.Bool.{OnTrue};
+ghost use Rattle.std.specs.Prelude.{◌≡◌, ◌↔◌, ◌++◌, ◌+◌, ◌<◌, ◌≤◌, List, ℕ, [], ◌∷◌, length, take, sum_by, IsTrue, IfOk, OnOk, OnErr, IsErrOf};
 ghost use Rattle.std.specs.List.{AllByRecursion};
+ghost use Rattle.dns_data.specs.Answers.{AnswersOr};
 ghost use Rattle.dns_data.specs.Label.{IsLabel, label_cmp};
 ghost use Rattle.dns_data.specs.Spelling.{if_short};
 ghost use Rattle.dns_data.specs.Name.{IsName, wire_octets, is_prefix, name_cmp, name_eq};
+ghost use Rattle.dns_data.specs.Encoding.{encoded, labels_of, EncodesName};
 
 use crate::fault::{JoinFault, NameFault};
 use crate::label::Label;
+use crate::labels::Labels;
 use crate::memory::NoMemory;
+use crate::octets::Octets;
 use std::alloc::Global;
 use std::cmp::Ordering;
 use std::marker::Model;
 
 /// A name of at most 255 octets (RFC 1035 section 2.3.4), the top label first. Names are ordered by their
-/// labels from the root, a proper prefix first.
+/// labels from the root, a proper prefix first. One whose labels have at most 30 octets, with one for each, takes
+/// no memory of its own.
 #[derive(Debug, Drop)]
 pub struct Name {
-    labels: Vec<Label>,
+    octets: Octets,
 }
 
 impl Model for Name {
     ghost use Rattle.std.specs.Prelude.{List, ℕ};
-    ghost use Rattle.dns_data.specs.Name.{IsName};
+    ghost use Rattle.dns_data.specs.Encoding.{labels_of, EncodesName};
 
     ghost Value = { List (List ℕ) };
 
-    ghost view = { λ name. name.labels.items };
+    ghost view = { λ name. labels_of name.octets };
 
-    ghost invariant = { λ name. IsName name.labels.items };
+    ghost invariant = { λ name. EncodesName name.octets };
 }
 
 impl Name {
-    /// The root.
-    pub fn root(alloc: Global) -> Name
+    /// The root. It takes no memory.
+    #[tactic(auto, using(crate::proofs::Encodings::flat_root))]
+    pub fn root() -> Name
         ensures { result ≡ [] }
     {
         Name {
-            labels: Vec::new(alloc),
+            octets: Octets::new(),
         }
     }
 
     /// The labels, the top one first.
-    pub fn items(&self) -> &[Label]
-        ensures same { result.now ≡ self.now }
+    pub fn labels(&self) -> Labels<'_>
+        ensures same { result ≡ self.now }
         ensures name { IsName self.now }
     {
-        self.labels.as_slice()
+        Labels::of(self.octets.items())
+    }
+
+    /// The first so many labels, or all where there are fewer.
+    pub fn front(&self, count: usize) -> Labels<'_>
+        ensures { result ≡ take count self.now }
+    {
+        self.labels().front(count)
+    }
+
+    /// The octets of the labels, each its length and its octets.
+    pub(crate) fn encoding(&self) -> &[u8]
+        ensures same { result.now ≡ encoded self.now }
+        ensures name { IsName self.now }
+    {
+        self.octets.items()
     }
 
     /// How many labels the name has.
-    #[tactic(auto, using(crate::proofs::Names::length_le_octets))]
     pub fn len(&self) -> u32
         ensures { result ≡ length self.now }
     {
-        self.labels.len() as u32
+        self.labels().len()
     }
 
     /// How many octets the name has on the wire (RFC 1035 section 3.1).
+    #[tactic(auto, using(crate::proofs::Encodings::flat_length))]
     pub fn octets(&self) -> u32
         ensures value { result ≡ wire_octets self.now }
         ensures within { result ≤ 255 }
     {
-        self.items().iter().map(|label| label.octets()).sum::<u32>() + 1
+        self.octets.len() as u32 + 1
     }
 
     /// Whether the other name is this one or lies below it.
+    #[tactic(auto, using(crate::proofs::Encodings::octets_begin))]
     pub fn is_prefix_of(&self, other: &Name) -> bool
         ensures value { result ≡ is_prefix self.now other.now }
         ensures prefix { IsTrue result ↔ ((below : List (List ℕ)) × (self.now ++ below ≡ other.now)) }
     {
-        other.items().starts_with(self.items())
+        other.octets.items().starts_with(self.octets.items())
     }
 
     /// How the name stands to the other: by their labels from the root, a proper prefix first.
@@ -79,34 +100,35 @@ impl Name {
         ensures value { result ≡ name_cmp self.now other.now }
         ensures equal { (result ≡ Ordering.Equal) ↔ (self.now ≡ other.now) }
     {
-        self.items().cmp(other.items())
+        self.labels().compare(&other.labels())
     }
 
     /// An equal name.
     pub fn copy(&self, alloc: Global) -> Result<Name, NoMemory>
         ensures { IfOk result (λ name. name ≡ self.now) }
     {
-        let mut labels = Vec::with_capacity(alloc, self.labels.len())?;
-        push_copies(alloc, &mut labels, self.items())?;
-        Ok(Name { labels })
+        Ok(Name {
+            octets: self.octets.copy(alloc)?,
+        })
     }
 
     /// Puts a label below the name. After an error the name is as it was.
-    pub fn push(&mut self, label: Label) -> Result<(), JoinFault>
-        ensures ok { OnOk result (self.new ≡ self.old ++ label ∷ []) }
-        ensures too_long { IsErrOf result JoinFault.TooLong ↔ (255 < wire_octets (self.old ++ label ∷ [])) }
+    #[tactic(auto, using(crate::proofs::Encodings::flat_length, crate::proofs::Encodings::flat_push))]
+    pub fn push(&mut self, alloc: Global, label: &Label) -> Result<(), JoinFault>
+        ensures ok { OnOk result (self.new ≡ self.old ++ label.now ∷ []) }
+        ensures too_long { IsErrOf result JoinFault.TooLong ↔ (255 < wire_octets (self.old ++ label.now ∷ [])) }
         ensures err { OnErr result (self.new ≡ self.old) }
     {
-        if self.octets() + label.octets() > 255 {
+        let label = label.items();
+        if self.octets.items().len() + label.len() + 1 > 254 {
             return Err(JoinFault::TooLong);
         }
-        self.labels.push(label)?;
+        self.octets.append(alloc, &[label.len() as u8], label)?;
         Ok(())
     }
 
     /// The name with these labels below it, the top one first. It is `TooLong` where it would have more than
     /// 255 octets.
-    #[tactic(auto, using(crate::proofs::Names::length_le_octets))]
     pub fn join(&self, alloc: Global, below: &[Label]) -> Result<Name, JoinFault>
         ensures ok { IfOk result (λ name. name ≡ self.now ++ below.now) }
         ensures too_long { IsErrOf result JoinFault.TooLong ↔ (255 < wire_octets (self.now ++ below.now)) }
@@ -114,27 +136,64 @@ impl Name {
         if !fit_in(255 - self.octets(), below) {
             return Err(JoinFault::TooLong);
         }
-        let mut labels = Vec::with_capacity(alloc, self.labels.len() + below.len())?;
-        push_copies(alloc, &mut labels, self.items())?;
-        push_copies(alloc, &mut labels, below)?;
-        Ok(Name { labels })
+        let mut name = self.copy(alloc)?;
+        for label in below {
+            name.push(alloc, label)?;
+        }
+        Ok(name)
     }
 
-    /// The name with these labels, the top one first.
-    pub(crate) fn from_labels(labels: Vec<Label>) -> Result<Name, NameFault>
-        ensures { result ≡ if_short labels.items }
+    /// The name with these labels of a name below it. It is `TooLong` where it would have more than 255 octets.
+    #[tactic(auto, using(crate::proofs::Encodings::flat_length, crate::proofs::Encodings::flat_join, crate::proofs::Encodings::join_size))]
+    pub fn join_labels(&self, alloc: Global, below: &Labels<'_>) -> Result<Name, JoinFault>
+        ensures ok { IfOk result (λ name. name ≡ self.now ++ below.now) }
+        ensures too_long { IsErrOf result JoinFault.TooLong ↔ (255 < wire_octets (self.now ++ below.now)) }
     {
-        if !fit_in(254, labels.as_slice()) {
+        let above = self.octets.items();
+        let below = below.octets();
+        if above.len() + below.len() > 254 {
+            return Err(JoinFault::TooLong);
+        }
+        Ok(Name {
+            octets: Octets::joined(alloc, above, below)?,
+        })
+    }
+
+    /// The name with these labels, the top one first. It is `NameTooLong` where it would have more than 255 octets.
+    pub fn from_labels(alloc: Global, labels: &[Label]) -> Result<Name, NameFault>
+        ensures { AnswersOr NameFault.NoMemory result (if_short labels.now) }
+    {
+        let mut name = Name::root();
+        for label in labels {
+            match name.push(alloc, label) {
+                Ok(()) => {}
+                Err(JoinFault::TooLong) => return Err(NameFault::NameTooLong),
+                Err(JoinFault::NoMemory) => return Err(NameFault::NoMemory),
+            }
+        }
+        let _ = name.octets();
+        Ok(name)
+    }
+
+    /// The name of the labels above and below. It is `NameTooLong` where it would have more than 255 octets.
+    #[tactic(auto, using(crate::proofs::Encodings::flat_length, crate::proofs::Encodings::flat_join, crate::proofs::Encodings::join_size))]
+    pub(crate) fn placed(alloc: Global, above: &[u8], below: &[u8]) -> Result<Name, NameFault>
+        requires above { EncodesName above.now }
+        requires below { EncodesName below.now }
+        ensures { AnswersOr NameFault.NoMemory result (if_short (labels_of above.now ++ labels_of below.now)) }
+    {
+        if above.len() + below.len() > 254 {
             return Err(NameFault::NameTooLong);
         }
-        Ok(Name { labels })
+        Ok(Name {
+            octets: Octets::joined(alloc, above, below)?,
+        })
     }
 }
 
 /// Whether the labels take at most this many octets, each its length and one.
 fn fit_in(mut room: u32, labels: &[Label]) -> bool
-    ensures fit { IsTrue result ↔ (sum_by (λ label. length label + 1) labels.now ≤ room) }
-    ensures labels { OnTrue result (AllByRecursion IsLabel labels.now) }
+    ensures { IsTrue result ↔ (sum_by (λ label. length label + 1) labels.now ≤ room) }
 {
     for label in labels {
         match room.checked_sub(label.octets()) {
@@ -145,16 +204,6 @@ fn fit_in(mut room: u32, labels: &[Label]) -> bool
     true
 }
 
-/// Puts copies of the labels at the end.
-fn push_copies(alloc: Global, labels: &mut Vec<Label>, from: &[Label]) -> Result<(), NoMemory>
-    ensures { OnOk result (labels.new.items ≡ labels.old.items ++ from.now) }
-{
-    for label in from {
-        labels.push(label.copy(alloc)?)?;
-    }
-    Ok(())
-}
-
 impl PartialEq for Name {
     ghost use Rattle.std.specs.Cmp.Lexicographic.{nat_list_eq_equiv, lists_equiv};
     ghost use Rattle.std.specs.Cmp.{partial_equiv_from_equiv};
@@ -163,8 +212,9 @@ impl PartialEq for Name {
 
     ghost laws = { partial_equiv_from_equiv (lists_equiv nat_list_eq_equiv) };
 
+    #[tactic(auto, using(crate::proofs::Encodings::octets_same))]
     fn eq(&self, other: &Name) -> bool {
-        self.items() == other.items()
+        self.octets.items() == other.octets.items()
     }
 }
 

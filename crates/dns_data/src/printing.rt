@@ -7,9 +7,9 @@ ghost use Rattle.dns_data.specs.DataText.{data_text, separated, groups, string_o
 ghost use Rattle.dns_data.specs.Rdata.{type_of_data};
 ghost use Rattle.dns_data.specs.Spelling.{name_text};
 
-use crate::list::Octets;
 use crate::memory::NoMemory;
 use crate::name::Name;
+use crate::octets::Octets;
 use crate::rdata::Rdata;
 use crate::rr_type::RrType;
 use crate::spelling::push_decimal_escape;

@@ -3,9 +3,10 @@
 ghost use Rattle.std.specs.Prelude.{◌≡◌, Some, IfOk};
 ghost use Rattle.dns_data.specs.Rdata.{type_of_data};
 
-use crate::list::{List, Octets};
+use crate::list::List;
 use crate::memory::NoMemory;
 use crate::name::Name;
+use crate::octets::Octets;
 use crate::rr_type::RrType;
 use std::alloc::Global;
 

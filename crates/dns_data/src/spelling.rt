@@ -1,24 +1,21 @@
 //! The texts of names.
 
-ghost use Rattle.std.specs.Prelude.{◌≡◌, ◌++◌, ◌<◌, ℕ, List, ◌∷◌, [], length, reverse, true, false, Ok, ◌&&◌, nat_le, IsTrue, SomeIff, MatchOption, IfOk, IfErr, IfSome, OnOk};
+ghost use Rattle.std.specs.Prelude.{◌≡◌, ◌++◌, ◌+◌, ◌<◌, ◌≤◌, ℕ, List, ◌∷◌, [], length, reverse, drop, true, false, Ok, Err, Some, None, ◌&&◌, nat_le, IsTrue, SomeIff, MatchOption, IfOk, IfErr, IfSome, OnOk, if◌then◌else◌};
+ghost use Rattle.std.specs.List.{flat_map};
 ghost use Rattle.std.specs.String.{string_bytes};
-ghost use Rattle.dns_data.specs.Fault.{Answers, FaultIs};
+ghost use Rattle.dns_data.specs.Answers.{AnswersOr};
+ghost use Rattle.dns_data.specs.Encoding.{labels_of, EncodesName};
+ghost use Rattle.dns_data.specs.Label.{IsLabel};
 ghost use Rattle.dns_data.specs.Octet.{is_digit, three_digit_value, decimal_escape};
-ghost use Rattle.dns_data.specs.Spelling.{Sign, signs, escaped, spelled, after_label, name_of_text, octet_text, label_text, name_text};
+ghost use Rattle.dns_data.specs.Put.{IsPut, IsSpelled};
+ghost use Rattle.dns_data.specs.Spelling.{Sign, signs, escaped, spelled, after_label, placed, name_of_text, octet_text, label_text, name_text};
 
 use crate::fault::NameFault;
-use crate::label::Label;
+use crate::labels::Labels;
 use crate::memory::NoMemory;
 use crate::name::Name;
-use smallvec::SmallVec;
+use arrayvec::ArrayVec;
 use std::alloc::Global;
-
-/// The labels of a text from the leaf upwards, and whether a dot ends the last.
-#[derive(Drop)]
-struct Spelled {
-    labels: Vec<Label>,
-    absolute: bool,
-}
 
 impl Name {
     /// The name that the text stands for, in one pass over it: `.` is the root, `@` the origin, and a text
@@ -27,26 +24,27 @@ impl Name {
     /// empty text, `LabelTooLong` at a label's 64th octet. Where there is none, it is `NameTooLong` if the name
     /// with the origin has more than 255 octets (RFC 1035 section 5.1).
     pub fn from_text(alloc: Global, text: &[u8], origin: &Name) -> Result<Name, NameFault>
-        ensures { Answers result (name_of_text text.now origin.now) }
+        ensures { AnswersOr NameFault.NoMemory result (name_of_text text.now origin.now) }
     {
         if text.is_empty() {
             return Err(NameFault::EmptyLabel);
         }
         if text == b".".as_slice() {
-            return Ok(Name::root(alloc));
+            return Ok(Name::root());
         }
         if text == b"@".as_slice() {
             return Ok(origin.copy(alloc)?);
         }
-        let Spelled {
-            mut labels,
-            absolute,
-        } = spell(alloc, text)?;
-        if !absolute {
-            push_leaf_first(alloc, &mut labels, origin)?;
-        }
-        labels.reverse();
-        Name::from_labels(labels)
+        Name::from_spelling(alloc, text, origin)
+    }
+
+    /// The name that the text's signs spell.
+    fn from_spelling(alloc: Global, text: &[u8], origin: &Name) -> Result<Name, NameFault>
+        ensures { AnswersOr NameFault.NoMemory result (placed origin.now (spelled [] (signs text.now))) }
+    {
+        let mut out = [0; 254];
+        let (start, absolute) = spell(&mut out, text)?;
+        Name::placed(alloc, labels_above(origin, absolute), &out[start..])
     }
 
     /// The name as text, which reads back as the name under any origin (RFC 1035 section 5.1).
@@ -54,72 +52,106 @@ impl Name {
         ensures text { IfOk result (λ text. string_bytes text ≡ name_text self.now) }
         ensures reads_back { IfOk result (λ text. (origin : List (List ℕ)) → name_of_text (string_bytes text) origin ≡ Ok self.now) }
     {
-        text_of(alloc, self.items())
+        text_of(alloc, &self.labels())
     }
 }
 
-/// Puts copies of the name's labels at the end, the leaf first.
-fn push_leaf_first(alloc: Global, labels: &mut Vec<Label>, name: &Name) -> Result<(), NoMemory>
-    ensures { OnOk result (labels.new.items ≡ labels.old.items ++ reverse name.now) }
+/// The labels above those of a text: the origin's unless a dot ends the last label.
+#[tactic(auto, using(crate::proofs::Encodings::flat_root))]
+fn labels_above(origin: &Name, absolute: bool) -> &[u8]
+    ensures flat { EncodesName result.now }
+    ensures labels { labels_of result.now ≡ (if absolute then [] else origin.now) }
 {
-    for label in name.items().iter().rev() {
-        labels.push(label.copy(alloc)?)?;
-    }
-    Ok(())
+    if absolute { &[] } else { origin.encoding() }
 }
 
-/// What the text spells.
-fn spell(alloc: Global, text: &[u8]) -> Result<Spelled, NameFault>
-    ensures ok { IfOk result (λ said. spelled [] (signs text.now) ≡ Ok (record { labels = said.labels.items; absolute = said.absolute })) }
-    ensures fault { IfErr result (λ fault. FaultIs fault (spelled [] (signs text.now))) }
+/// Puts what the text spells at the end of the octets, the last label first: from where on, and whether a dot ends
+/// the last label.
+fn spell(out: &mut [u8], text: &[u8]) -> Result<(usize, bool), NameFault>
+    requires { length out.old ≡ 254 }
+    ensures ok { IfOk result (λ said. IsSpelled text.now out.new said.0 said.1) }
+    ensures fault { IfErr result (λ fault. (origin : List (List ℕ)) → placed origin (spelled [] (signs text.now)) ≡ Err fault) }
 {
-    let mut labels = Vec::new(alloc);
+    let mut label = ArrayVec::new();
+    let mut start = Some(out.len());
     let mut rest = text;
     while !rest.is_empty() {
-        let (label, after) = first_label(alloc, rest)?;
-        labels.push(label)?;
+        let after = first_label(&mut label, rest)?;
+        start = put_above(out, start, label.as_slice());
         match after {
             Some(after) => rest = after,
-            None => {
-                return Ok(Spelled {
-                    labels,
-                    absolute: false,
-                });
-            }
+            None => return finished(start, false),
         }
     }
-    Ok(Spelled {
-        labels,
-        absolute: true,
-    })
+    finished(start, true)
 }
 
-/// The first label of a text that isn't empty, and what follows the dot that ends it, or `None` where no dot
-/// does.
-fn first_label(alloc: Global, text: &[u8]) -> Result<(Label, Option<&[u8]>), NameFault>
-    requires { 0 < length text.now }
-    ensures ok { IfOk result (λ first. MatchOption first.1
-        (spelled [] (signs text.now) ≡ Ok (record { labels = first.0 ∷ []; absolute = false }))
-        (λ after. spelled [] (signs text.now) ≡ after_label first.0 (spelled [] (signs after.now)))) }
-    ensures shorter { IfOk result (λ first. IfSome first.1 (λ after. length after.now < length text.now)) }
-    ensures fault { IfErr result (λ fault. FaultIs fault (spelled [] (signs text.now))) }
+/// Where the labels start, or that they have no room.
+fn finished(start: Option<usize>, absolute: bool) -> Result<(usize, bool), NameFault>
+    ensures ok { IfOk result (λ said. (start ≡ Some said.0) × (said.1 ≡ absolute)) }
+    ensures fault { IfErr result (λ fault. (start ≡ None) × (fault ≡ NameFault.NameTooLong)) }
 {
-    let mut octets = SmallVec::new(alloc);
+    match start {
+        Some(start) => Ok((start, absolute)),
+        None => Err(NameFault::NameTooLong),
+    }
+}
+
+/// Puts a label above those that stand from there on: from where on they stand then, or `None` where there is no
+/// room.
+fn put_above(out: &mut [u8], start: Option<usize>, label: &[u8]) -> Option<usize>
+    requires { IsLabel label.now }
+    ensures { (labels : List (List ℕ)) → IsPut out.old start labels → IsPut out.new result (labels ++ label.now ∷ []) }
+{
+    let end = start?;
+    if end > out.len() || label.len() >= end {
+        return None;
+    }
+    let start = end - label.len() - 1;
+    put_label(&mut out[start..end], label);
+    Some(start)
+}
+
+/// Reads the first label of a text that isn't empty; what follows the dot that ends it, or `None` where no dot
+/// does.
+fn first_label<'a>(
+    label: &mut ArrayVec<u8, 63>,
+    text: &'a [u8],
+) -> Result<Option<&'a [u8]>, NameFault>
+    requires { 0 < length text.now }
+    ensures ok { IfOk result (λ first. MatchOption first
+        (spelled [] (signs text.now) ≡ Ok (record { labels = label.new.items ∷ []; absolute = false }))
+        (λ after. spelled [] (signs text.now) ≡ after_label label.new.items (spelled [] (signs after.now)))) }
+    ensures label { IfOk result (λ _. IsLabel label.new.items) }
+    ensures shorter { IfOk result (λ first. IfSome first (λ after. length after.now < length text.now)) }
+    ensures fault { IfErr result (λ fault. spelled [] (signs text.now) ≡ Err fault) }
+{
+    label.clear();
     let mut rest = text;
     while let [first, after @ ..] = rest {
         let (octet, after) = match *first {
-            b'.' if octets.is_empty() => return Err(NameFault::EmptyLabel),
-            b'.' => return Ok((Label::from_folded(octets), Some(after))),
+            b'.' if label.is_empty() => return Err(NameFault::EmptyLabel),
+            b'.' => return Ok(Some(after)),
             b'\\' => escaped_octet(after).ok_or(NameFault::BadEscape)?,
             octet => (octet, after),
         };
-        if octets.len() >= 63 {
+        if label.len() >= 63 {
             return Err(NameFault::LabelTooLong);
         }
-        octets.push(octet.to_ascii_lowercase())?;
+        label.push(octet.to_ascii_lowercase());
         rest = after;
     }
-    Ok((Label::from_folded(octets), None))
+    Ok(None)
+}
+
+/// Fills the octets with a label's length and its octets.
+fn put_label(out: &mut [u8], label: &[u8])
+    requires room { length out.old ≡ length label.now + 1 }
+    requires short { length label.now < 256 }
+    ensures { out.new ≡ length label.now ∷ label.now }
+{
+    out[0] = label.len() as u8;
+    out[1..].copy_from_slice(label);
 }
 
 /// The octet for which the text after a backslash stands, and what follows, or `None` where it stands for none
@@ -149,24 +181,34 @@ fn three_digits(a: u8, b: u8, c: u8) -> Option<u8>
 }
 
 /// The text of the name with these labels.
-fn text_of(alloc: Global, labels: &[Label]) -> Result<String, NoMemory>
+fn text_of(alloc: Global, labels: &Labels<'_>) -> Result<String, NoMemory>
     ensures { IfOk result (λ text. string_bytes text ≡ name_text labels.now) }
 {
     let mut text = String::new(alloc);
     if labels.is_empty() {
         text.push('.')?;
     }
-    for label in labels.iter().rev() {
-        push_label(&mut text, label)?;
-    }
+    push_labels(&mut text, labels)?;
     Ok(text)
 }
 
+/// Puts the texts of the labels at the end, the leaf first.
+#[tactic(auto, using(crate::proofs::Spellings::texts_leaf_first))]
+fn push_labels(text: &mut String, labels: &Labels<'_>) -> Result<(), NoMemory>
+    ensures { OnOk result (string_bytes text.new ≡ string_bytes text.old ++ flat_map label_text (reverse labels.now)) }
+{
+    if let Some((label, below)) = labels.split_first() {
+        push_labels(text, &below)?;
+        push_label(text, label)?;
+    }
+    Ok(())
+}
+
 /// Puts a label's text and the dot that ends it at the end.
-fn push_label(text: &mut String, label: &Label) -> Result<(), NoMemory>
+fn push_label(text: &mut String, label: &[u8]) -> Result<(), NoMemory>
     ensures { OnOk result (string_bytes text.new ≡ string_bytes text.old ++ label_text label.now) }
 {
-    for octet in label.items() {
+    for octet in label {
         push_octet(text, *octet)?;
     }
     text.push('.')?;

@@ -52,7 +52,7 @@ fn read_absolute(alloc: Global, text: &[u8]) -> Result<Option<Name>, NoMemory>
     if !is_absolute(text) {
         return Ok(None);
     }
-    match Name::from_text(alloc, text, &Name::root(alloc)) {
+    match Name::from_text(alloc, text, &Name::root()) {
         Ok(name) => Ok(Some(name)),
         Err(NameFault::NoMemory) => Err(NoMemory),
         Err(_) => Ok(None),

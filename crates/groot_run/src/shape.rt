@@ -103,9 +103,13 @@ fn has_plain_owner(origin: &Name, rr: &Rr) -> bool
 fn has_asterisk(name: &Name) -> bool
     ensures { result ≡ list_any (label_eq (codes "*")) name.now }
 {
-    name.items()
-        .iter()
-        .any(|label| label.items() == b"*".as_slice())
+    let mut labels = name.labels();
+    while let Some(label) = labels.next() {
+        if b"*".as_slice() == label {
+            return true;
+        }
+    }
+    false
 }
 
 /// Whether all of the records may stand behind the zone's SOA record.

@@ -11,7 +11,7 @@ ghost use Rattle.groot_run.specs.SortedTree.{tree_of};
 
 use crate::owners::owners_in_order;
 use crate::shape::only_zone;
-use dns_data::{Label, Name, NoMemory};
+use dns_data::{Labels, Name, NoMemory};
 use net_model::Config;
 use std::alloc::Global;
 
@@ -45,23 +45,29 @@ fn count_names(owners: &[&Name]) -> u32
     ensures within { result ≤ 254000001 }
     ensures names { All (λ owner. IsName owner.now) owners.now }
 {
+    let root = Name::root();
     let mut names = 1;
-    let mut before: &[Label] = &[];
+    let mut before = root.labels();
     for owner in owners {
-        let labels = owner.items();
-        names += (labels.len() - common_labels(labels, before)) as u32;
+        let labels = owner.labels();
+        names += labels.len() - common_labels(&labels, &before);
         before = labels;
     }
     names
 }
 
 /// How many labels two names share, from the top one on.
-fn common_labels(a: &[Label], b: &[Label]) -> usize
+fn common_labels(a: &Labels<'_>, b: &Labels<'_>) -> u32
     ensures value { result ≡ common_prefix_len label_eq a.now b.now }
     ensures within { result ≤ length a.now }
 {
     let mut shared = 0;
-    while shared < a.len() && shared < b.len() && a[shared] == b[shared] {
+    let mut left = a.copy();
+    let mut right = b.copy();
+    while let Some(label) = left.next() {
+        if right.next() != Some(label) {
+            return shared;
+        }
         shared += 1;
     }
     shared

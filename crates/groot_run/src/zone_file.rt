@@ -20,7 +20,7 @@ pub fn read_zone(alloc: Global, octets: &[u8]) -> Result<ZoneText, TextFault>
     requires { length octets.now ≤ most_octets }
     ensures { AnswersOr TextFault.NoMemory result (zone_text [] most_records octets.now) }
 {
-    let mut reader = ZoneReader::new(alloc, Name::root(alloc), MOST_FILE_RECORDS);
+    let mut reader = ZoneReader::new(alloc, Name::root(), MOST_FILE_RECORDS);
     let mut rest = octets;
     while !rest.is_empty() {
         let (piece, after) = rest.split_at(rest.len().min(PIECE));

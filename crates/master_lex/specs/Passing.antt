@@ -27,7 +27,7 @@ pub record State : Type 0 where
 
 -- what the fields hold
 abbrev pub state_of : Passage → State
-state_of p = record { ready = p.ready.items; tokens = p.tokens.items; raw = p.raw.items; way = p.way }
+state_of p = record { ready = p.ready.items; tokens = p.tokens.items; raw = p.raw; way = p.way }
 
 -- nothing of an entry, in this line
 abbrev pub start_of : ℕ → Way

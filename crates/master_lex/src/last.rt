@@ -53,12 +53,12 @@ impl Way {
 
 impl Passage {
     /// Ends the token under way, if there is one. After an error nothing has changed.
-    fn end_last_token(&mut self, alloc: Global) -> Result<(), NoMemory>
+    fn end_last_token(&mut self) -> Result<(), NoMemory>
         ensures ok { OnOk result (state_of self.new ≡ whole (state_of self.old)) }
         ensures err { OnErr result (state_of self.new ≡ state_of self.old) }
     {
         match self.way.mode {
-            Mode::InToken { quoted, .. } => self.end_token(alloc, quoted),
+            Mode::InToken { quoted, .. } => self.end_token(quoted),
             _ => Ok(()),
         }
     }
@@ -84,7 +84,7 @@ impl Passage {
                 kind: fault.kind,
             });
         }
-        self.end_last_token(alloc)?;
+        self.end_last_token()?;
         if self.has_no_token() {
             return Ok(Taken::End);
         }

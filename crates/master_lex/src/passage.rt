@@ -9,7 +9,7 @@ ghost use Rattle.master_lex.specs.Undo.{Grew};
 use crate::entry::{Entry, Token};
 use crate::fault::{LexFault, LexKind};
 use crate::octet::{OctetKind, is_space_octet, kind_of, with_digit};
-use dns_data::{List, NoMemory};
+use dns_data::{List, NoMemory, Octets};
 use std::alloc::Global;
 use std::collections::VecDeque;
 use std::mem;
@@ -70,7 +70,7 @@ pub struct Passage {
     /// The whole tokens of the entry under way.
     pub tokens: Vec<Token>,
     /// The octets of the token under way.
-    pub raw: Vec<u8>,
+    pub raw: Octets,
     /// How far the entry under way has come.
     pub way: Way,
 }
@@ -99,7 +99,7 @@ impl Passage {
         Passage {
             ready: VecDeque::new(alloc),
             tokens: Vec::new(alloc),
-            raw: Vec::new(alloc),
+            raw: Octets::new(),
             way: Way::start(1),
         }
     }
@@ -116,23 +116,35 @@ impl Passage {
 
     /// Puts an octet into the token under way, however long it is. After an error nothing has
     /// changed.
-    fn push(&mut self, octet: u8, quoted: bool, escape: Escape) -> Result<(), NoMemory>
+    fn push(
+        &mut self,
+        alloc: Global,
+        octet: u8,
+        quoted: bool,
+        escape: Escape,
+    ) -> Result<(), NoMemory>
         ensures ok { OnOk result (state_of self.new ≡ pushed (state_of self.old) octet quoted escape) }
         ensures err { OnErr result (state_of self.new ≡ state_of self.old) }
     {
-        self.raw.push(octet)?;
+        self.raw.push(alloc, octet)?;
         self.way.mode = Mode::InToken { quoted, escape };
         Ok(())
     }
 
     /// Puts an octet into the token under way, which is at most so long. After an error nothing
     /// has changed.
-    fn keep(&mut self, octet: u8, quoted: bool, escape: Escape) -> Result<(), NoMemory>
+    fn keep(
+        &mut self,
+        alloc: Global,
+        octet: u8,
+        quoted: bool,
+        escape: Escape,
+    ) -> Result<(), NoMemory>
         ensures ok { OnOk result (state_of self.new ≡ kept (state_of self.old) octet quoted escape) }
         ensures err { OnErr result (state_of self.new ≡ state_of self.old) }
     {
         if self.raw.len() < MOST {
-            self.push(octet, quoted, escape)
+            self.push(alloc, octet, quoted, escape)
         } else {
             self.fail(LexKind::TokenTooLong);
             Ok(())
@@ -140,12 +152,12 @@ impl Passage {
     }
 
     /// Ends the token under way. After an error nothing has changed.
-    pub fn end_token(&mut self, alloc: Global, quoted: bool) -> Result<(), NoMemory>
+    pub fn end_token(&mut self, quoted: bool) -> Result<(), NoMemory>
         ensures ok { OnOk result (state_of self.new ≡ token_ended (state_of self.old) quoted) }
         ensures err { OnErr result (state_of self.new ≡ state_of self.old) }
     {
         let is_first = self.tokens.is_empty();
-        let raw = List::from_vec(mem::replace(&mut self.raw, Vec::new(alloc)));
+        let raw = mem::replace(&mut self.raw, Octets::new());
         match self.tokens.push(Token { raw, quoted }) {
             Ok(()) => {
                 if is_first {
@@ -155,7 +167,7 @@ impl Passage {
                 Ok(())
             }
             Err(failed) => {
-                self.raw = failed.value.raw.into_vec();
+                self.raw = failed.value.raw;
                 Err(NoMemory)
             }
         }
@@ -230,8 +242,8 @@ impl Passage {
         ensures err { OnErr result (state_of self.new ≡ state_of self.old) }
     {
         match kind_of(octet) {
-            OctetKind::Plain => return self.keep(octet, false, Escape::Outside),
-            OctetKind::Backslash => return self.keep(octet, false, Escape::Begun),
+            OctetKind::Plain => return self.keep(alloc, octet, false, Escape::Outside),
+            OctetKind::Backslash => return self.keep(alloc, octet, false, Escape::Begun),
             OctetKind::LineFeed => return self.end_line(alloc),
             OctetKind::Blank => self.way.mode = Mode::Between,
             OctetKind::Semicolon => self.way.mode = Mode::Comment,
@@ -255,10 +267,10 @@ impl Passage {
         ensures err { OnErr result (IsHalfway (state_of self.old) (state_of self.new)) }
     {
         match kind_of(octet) {
-            OctetKind::Plain => self.keep(octet, false, Escape::Outside),
-            OctetKind::Backslash => self.keep(octet, false, Escape::Begun),
+            OctetKind::Plain => self.keep(alloc, octet, false, Escape::Outside),
+            OctetKind::Backslash => self.keep(alloc, octet, false, Escape::Begun),
             _ => {
-                self.end_token(alloc, false)?;
+                self.end_token(false)?;
                 self.between_tokens(alloc, octet)
             }
         }
@@ -270,44 +282,50 @@ impl Passage {
         ensures err { OnErr result (state_of self.new ≡ state_of self.old) }
     {
         match kind_of(octet) {
-            OctetKind::Quote => self.end_token(alloc, true),
+            OctetKind::Quote => self.end_token(true),
             OctetKind::LineFeed => {
                 self.fail(LexKind::OpenQuote);
                 Ok(())
             }
-            OctetKind::Backslash => self.keep(octet, true, Escape::Begun),
-            _ => self.keep(octet, true, Escape::Outside),
+            OctetKind::Backslash => self.keep(alloc, octet, true, Escape::Begun),
+            _ => self.keep(alloc, octet, true, Escape::Outside),
         }
     }
 
     /// Passes over the octet behind a `\`. After an error nothing has changed.
-    fn begin_escape(&mut self, octet: u8, quoted: bool) -> Result<(), NoMemory>
+    fn begin_escape(&mut self, alloc: Global, octet: u8, quoted: bool) -> Result<(), NoMemory>
         ensures ok { OnOk result (state_of self.new ≡ in_escape Escape.Begun (state_of self.old) octet quoted) }
         ensures err { OnErr result (state_of self.new ≡ state_of self.old) }
     {
         match (kind_of(octet), with_digit(0, octet, 2)) {
             (OctetKind::LineFeed, _) => self.fail(LexKind::BadEscape),
-            (_, Some(value)) => return self.push(octet, quoted, Escape::One(value)),
+            (_, Some(value)) => return self.push(alloc, octet, quoted, Escape::One(value)),
             (_, None) if octet.is_ascii_digit() => self.fail(LexKind::BadEscape),
-            (_, None) => return self.keep(octet, quoted, Escape::Outside),
+            (_, None) => return self.keep(alloc, octet, quoted, Escape::Outside),
         }
         Ok(())
     }
 
     /// Passes over an octet in an escape. After an error nothing has changed.
-    fn go_on_with_escape(&mut self, octet: u8, quoted: bool, escape: Escape) -> Result<(), NoMemory>
+    fn go_on_with_escape(
+        &mut self,
+        alloc: Global,
+        octet: u8,
+        quoted: bool,
+        escape: Escape,
+    ) -> Result<(), NoMemory>
         ensures ok { OnOk result (state_of self.new ≡ in_escape escape (state_of self.old) octet quoted) }
         ensures err { OnErr result (state_of self.new ≡ state_of self.old) }
     {
         let (value, limit) = match escape {
             Escape::Outside => return Ok(()),
-            Escape::Begun => return self.begin_escape(octet, quoted),
+            Escape::Begun => return self.begin_escape(alloc, octet, quoted),
             Escape::One(value) => (value, 25),
             Escape::Two(value) => (value, 255),
         };
         match (with_digit(value, octet, limit), escape) {
-            (Some(value), Escape::One(_)) => self.push(octet, quoted, Escape::Two(value)),
-            (Some(_), _) => self.keep(octet, quoted, Escape::Outside),
+            (Some(value), Escape::One(_)) => self.push(alloc, octet, quoted, Escape::Two(value)),
+            (Some(_), _) => self.keep(alloc, octet, quoted, Escape::Outside),
             (None, _) => {
                 self.fail(LexKind::BadEscape);
                 Ok(())
@@ -350,7 +368,9 @@ impl Passage {
                 quoted: true,
                 escape: Escape::Outside,
             } => self.in_quotes(alloc, octet),
-            Mode::InToken { quoted, escape } => self.go_on_with_escape(octet, quoted, escape),
+            Mode::InToken { quoted, escape } => self.go_on_with_escape(
+                alloc, octet, quoted, escape,
+            ),
             Mode::Faulty(_) => Ok(()),
         }
     }
@@ -368,7 +388,7 @@ impl Passage {
     {
         let mut passed = 0;
         loop {
-            passed += self.pass_plain(&octets[passed..])?;
+            passed += self.pass_plain(alloc, &octets[passed..])?;
             let Some(octet) = octets.get(passed) else {
                 return Ok(());
             };

@@ -10,7 +10,7 @@ use crate::context::Context;
 use crate::fault::{EntryFault, TextCause};
 use crate::front::read_front;
 use crate::words::{TypeWord, type_word};
-use dns_data::{List, Name, NameFault, NoMemory, Octets, Rdata, Rr};
+use dns_data::{Name, NameFault, NoMemory, Octets, Rdata, Rr};
 use master_lex::{Entry, Token};
 use rdata_forms::{RdataFault, read_other, read_rdata};
 use std::alloc::Global;
@@ -130,7 +130,7 @@ fn kept(rdata: Result<Rdata, RdataFault>) -> Result<Option<Rdata>, EntryFault>
 fn upper_case(alloc: Global, octets: &[u8]) -> Result<Octets, NoMemory>
     ensures { IfOk result (λ upper. upper ≡ map raised octets.now) }
 {
-    Ok(List::from_vec(octets.iter().map(|octet| raised(*octet)).collect(alloc)?))
+    Ok(Octets::from_vec(octets.iter().map(|octet| raised(*octet)).collect(alloc)?))
 }
 
 /// The octet, raised to A to Z where it is one of a to z.

@@ -63,7 +63,7 @@ fn shown(alloc: Global, origin: &str, room: u32, text: &[u8], size: usize) -> Re
     requires size { 0 < size }
     requires small { length text.now < 2 ^ 20 }
 {
-    let origin = Name::from_text(alloc, origin.as_bytes(), &Name::root(alloc))?;
+    let origin = Name::from_text(alloc, origin.as_bytes(), &Name::root())?;
     let mut reader = ZoneReader::new(alloc, origin, room);
     let mut fed = 0;
     while fed < text.len() {

@@ -28,7 +28,7 @@ fn tokens(alloc: Global, words: &[&str]) -> Result<List<Token>, NoMemory> {
 
 // The text of the data that words stand for under the origin `example.`, or the fault's name.
 fn said(alloc: Global, rtype: RrType, words: &[&str]) -> Result<String, Fail> {
-    let origin = Name::from_text(alloc, b"example.", &Name::root(alloc))?;
+    let origin = Name::from_text(alloc, b"example.", &Name::root())?;
     let tokens = tokens(alloc, words)?;
     match read_rdata(alloc, rtype, tokens.items(), &origin) {
         Ok(rdata) => {

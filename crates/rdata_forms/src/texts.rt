@@ -14,16 +14,16 @@ use std::alloc::Global;
 pub fn read_string(alloc: Global, text: &[u8], most: usize) -> Result<Octets, RdataFault>
     ensures { AnswersOr RdataFault.NoMemory result (string_of most text.now) }
 {
-    let mut octets = Vec::with_capacity(alloc, text.len().min(most))?;
+    let mut octets = Octets::with_capacity(alloc, text.len().min(most))?;
     let mut rest = text;
     while let Some((octet, after)) = first_octet(rest) {
         if octets.len() >= most {
             return Err(RdataFault::TextTooLong);
         }
-        octets.push(octet)?;
+        octets.push(alloc, octet)?;
         rest = after;
     }
-    Ok(Octets::from_vec(octets))
+    Ok(octets)
 }
 
 /// The octet for which the front of the text stands, and what follows, or `None` where it stands for none.
@@ -49,11 +49,11 @@ pub fn read_tag(alloc: Global, text: &[u8]) -> Result<Octets, RdataFault>
     if text.is_empty() || !are_tag_octets(text) {
         return Err(RdataFault::BadNumber);
     }
-    let mut tag = Vec::with_capacity(alloc, text.len())?;
+    let mut tag = Octets::with_capacity(alloc, text.len())?;
     for octet in text {
-        tag.push(octet.to_ascii_lowercase())?;
+        tag.push(alloc, octet.to_ascii_lowercase())?;
     }
-    Ok(Octets::from_vec(tag))
+    Ok(tag)
 }
 
 /// Whether all octets are letters and digits.

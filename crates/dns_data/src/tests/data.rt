@@ -6,7 +6,7 @@ use std::process::Abort;
 use std::test::Fail;
 
 fn name(alloc: Global, text: &str) -> Result<Name, Fail> {
-    let root = Name::root(alloc);
+    let root = Name::root();
     Ok(Name::from_text(alloc, text.as_bytes(), &root)?)
 }
 

@@ -1,11 +1,6 @@
 use Rattle.std.proofs.Common.{◌≡◌, ◌+◌, take, length}
 use Rattle.std.specs.Prelude.{sum_by}
-use Rattle.std.specs.List.{AllByRecursion}
-use Rattle.dns_data.specs.Label.{IsLabel}
 use Rattle.dns_data.proofs.name.fit_in.Given as goal
 
 abbrev pub invariant-loop-label : goal.invariant-loop-label
-invariant-loop-label l = record {
-  left : l.room + sum_by (λ label. length label + 1) (take l.label-index l.labels) ≡ l.initial.room;
-  labels : AllByRecursion IsLabel (take l.label-index l.labels);
-}
+invariant-loop-label l = l.room + sum_by (λ label. length label + 1) (take l.label-index l.labels) ≡ l.initial.room

@@ -6,10 +6,10 @@ use Rattle.dns_data.proofs.spelling.first_label.Given as goal
 
 abbrev pub invariant-loop-rest : goal.invariant-loop-rest
 invariant-loop-rest l = record {
-  same : spelled l.octets.items (signs l.rest) ≡ spelled [] (signs l.text);
-  good : list_all is_label_octet l.octets.items ≡ true;
-  short : length l.octets.items ≤ 63;
-  some : 0 < length l.octets.items + length l.rest;
+  same : spelled l.label.items (signs l.rest) ≡ spelled [] (signs l.text);
+  good : list_all is_label_octet l.label.items ≡ true;
+  short : length l.label.items ≤ 63;
+  some : 0 < length l.label.items + length l.rest;
   within : length l.rest ≤ length l.text;
 }
 

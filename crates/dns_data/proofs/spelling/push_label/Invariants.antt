@@ -6,4 +6,4 @@ use Rattle.dns_data.proofs.spelling.push_label.Given as goal
 
 abbrev pub invariant-loop-octet : goal.invariant-loop-octet
 invariant-loop-octet l =
-    string_bytes l.text ≡ string_bytes l.initial.text ++ flat_map octet_text (take l.octet-index l.octet-items)
+    string_bytes l.text ≡ string_bytes l.initial.text ++ flat_map octet_text (take l.octet-index l.label)

@@ -1,22 +1,42 @@
-use Rattle.std.proofs.Common.{arith}
-use Rattle.std.proofs.lemmas.Result.{err_from_is_err_and}
-use Rattle.dns_data.proofs.Reading.{fault_carried, label_carried, last_carried, none_left}
+use Rattle.std.proofs.Common.{arith, ◌∙◌}
+use Rattle.std.proofs.lemmas.Result.{err_from_is_err_and, IfOk-weaker, IfErr-weaker}
+use Rattle.dns_data.proofs.Spellings.{spelling_start, spelling_more, spelling_last, spelling_end, spelling_fault, done_ok, done_fault}
 use Rattle.dns_data.proofs.spelling.spell.Goals as goal
 
-pub returns-in_err-label-clause-fault : goal.returns-in_err-label-clause-fault
-returns-in_err-label-clause-fault c =
+pub loop-rest-init : goal.loop-rest-init
+loop-rest-init c = spelling_start _ _ c.requires
+
+pub returns-in_err-after-clause-fault : goal.returns-in_err-after-clause-fault
+returns-in_err-after-clause-fault c =
     let p = err_from_is_err_and c.from_residual.result c.from_residual.ensures.1 in
-    rw (p.1, p.2) (fault_carried c.loop-rest.labels.items _ _ _ c.loop-rest.invariant c.in_err-label.ensures.fault)
+    rw (p.1, p.2) (λ origin. spelling_fault _ _ _ _ c.loop-rest.invariant _ c.in_err-after.ensures.fault origin)
 
 pub loop-rest-preserved : goal.loop-rest-preserved
 loop-rest-preserved c =
-    let first = rw c.in-Some.is at c.in_ok-label.ensures.ok in
-    rw c.in_ok-push.ensures.items (label_carried c.loop-rest.labels.items c.in_ok-label.label _ _ _ c.loop-rest.invariant first)
+    let first = rw c.in-Some.is at c.in_ok-after.ensures.ok in
+    let puts = rw c.as_slice.ensures.value at c.put_above-start.ensures in
+    spelling_more _ _ _ _ _ _ _ _ c.loop-rest.invariant first c.in_ok-after.ensures.label puts (c.put_above-start.auto.out ∙ c.loop-rest.invariant.room)
 
 pub returns-in-None-clause-ok : goal.returns-in-None-clause-ok
 returns-in-None-clause-ok c =
-    let first = rw c.in-None.is at c.in_ok-label.ensures.ok in
-    rw c.in_ok-push.ensures.items (last_carried c.loop-rest.labels.items c.in_ok-label.label _ _ c.loop-rest.invariant first)
+    let first = rw c.in-None.is at c.in_ok-after.ensures.ok in
+    let puts = rw c.as_slice.ensures.value at c.put_above-start.ensures in
+    let done = spelling_last _ _ _ _ _ _ _ c.loop-rest.invariant first c.in_ok-after.ensures.label puts (c.put_above-start.auto.out ∙ c.loop-rest.invariant.room) in
+    IfOk-weaker c.finished.result _ _ (λ said e. done_ok _ _ _ _ done said.0 said.1 e) c.finished.ensures.ok
+
+pub returns-in-None-clause-fault : goal.returns-in-None-clause-fault
+returns-in-None-clause-fault c =
+    let first = rw c.in-None.is at c.in_ok-after.ensures.ok in
+    let puts = rw c.as_slice.ensures.value at c.put_above-start.ensures in
+    let done = spelling_last _ _ _ _ _ _ _ c.loop-rest.invariant first c.in_ok-after.ensures.label puts (c.put_above-start.auto.out ∙ c.loop-rest.invariant.room) in
+    IfErr-weaker c.finished.result _ _ (λ fault e. done_fault _ _ _ _ done fault e) c.finished.ensures.fault
 
 pub returns-clause-ok : goal.returns-clause-ok
-returns-clause-ok c = none_left c.loop-rest.labels.items c.loop-rest.rest.now _ c.loop-rest.invariant (grind arith)
+returns-clause-ok c =
+    let done = spelling_end _ _ _ _ c.loop-rest.invariant (grind arith) in
+    IfOk-weaker c.finished-2.result _ _ (λ said e. done_ok _ _ _ _ done said.0 said.1 e) c.finished-2.ensures.ok
+
+pub returns-clause-fault : goal.returns-clause-fault
+returns-clause-fault c =
+    let done = spelling_end _ _ _ _ c.loop-rest.invariant (grind arith) in
+    IfErr-weaker c.finished-2.result _ _ (λ fault e. done_fault _ _ _ _ done fault e) c.finished-2.ensures.fault

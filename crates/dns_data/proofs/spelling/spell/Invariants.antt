@@ -1,10 +1,9 @@
-use Rattle.std.proofs.Common.{◌≡◌, [], length}
-use Rattle.dns_data.specs.Spelling.{signs, spelled}
-use Rattle.dns_data.proofs.Reading.{after_labels}
+use Rattle.std.proofs.Common.{length}
+use Rattle.dns_data.proofs.Spellings.{IsSpelling}
 use Rattle.dns_data.proofs.spelling.spell.Given as goal
 
 abbrev pub invariant-loop-rest : goal.invariant-loop-rest
-invariant-loop-rest l = after_labels l.labels.items (spelled [] (signs l.rest)) ≡ spelled [] (signs l.text)
+invariant-loop-rest l = IsSpelling l.text l.rest l.out l.start
 
 abbrev pub decreases-loop-rest : goal.decreases-loop-rest
 decreases-loop-rest l = length l.rest

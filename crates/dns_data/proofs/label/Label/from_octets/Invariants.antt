@@ -6,4 +6,4 @@ use Rattle.dns_data.proofs.label.Label.from_octets.Given as goal
 
 abbrev pub invariant-loop-octet : goal.invariant-loop-octet
 invariant-loop-octet l =
-    record { same : l.label.items ≡ map folded (take l.octet-index l.octets); good : list_all is_label_octet l.label.items ≡ true }
+    record { same : l.label ≡ map folded (take l.octet-index l.octets); good : list_all is_label_octet l.label ≡ true }

@@ -1,0 +1,9 @@
+-- So far as many labels were counted as are no longer left.
+use Rattle.std.proofs.Common.{◌≡◌, ◌+◌, length}
+use Rattle.dns_data.proofs.labels.Labels.len.Given as goal
+
+abbrev pub invariant-loop-rest : goal.invariant-loop-rest
+invariant-loop-rest l = l.count + length l.rest ≡ length l.self
+
+abbrev pub decreases-loop-rest : goal.decreases-loop-rest
+decreases-loop-rest l = length l.rest

@@ -1,0 +1,137 @@
+//! The labels of a name, one after another.
+
+ghost use Rattle.std.specs.Prelude.{◌≡◌, ◌↔◌, ◌<◌, [], ◌∷◌, length, take, IsTrue, MatchOption, IfSome};
+ghost use Rattle.dns_data.specs.Label.{IsLabel};
+ghost use Rattle.dns_data.specs.Name.{name_cmp};
+ghost use Rattle.dns_data.specs.Encoding.{labels_of, EncodesName};
+
+use std::cmp::Ordering;
+use std::marker::Model;
+
+/// Labels of a name, the top one first.
+#[derive(Debug, Drop)]
+pub struct Labels<'a> {
+    octets: &'a [u8],
+}
+
+impl<'a> Model for Labels<'a> {
+    ghost use Rattle.std.specs.Prelude.{List, ℕ};
+    ghost use Rattle.dns_data.specs.Encoding.{labels_of, EncodesName};
+
+    ghost Value = { List (List ℕ) };
+
+    ghost view = { λ labels. labels_of labels.octets.now };
+
+    ghost invariant = { λ labels. EncodesName labels.octets.now };
+}
+
+impl<'a> Labels<'a> {
+    /// The labels of these octets.
+    pub(crate) fn of(octets: &'a [u8]) -> Labels<'a>
+        requires { EncodesName octets.now }
+        ensures { result ≡ labels_of octets.entry.now }
+    {
+        Labels { octets }
+    }
+
+    /// The octets of the labels.
+    pub(crate) fn octets(&self) -> &'a [u8]
+        ensures name { EncodesName result.now }
+        ensures labels { labels_of result.now ≡ self.now }
+    {
+        self.octets
+    }
+
+    /// The same labels. It takes no memory.
+    pub fn copy(&self) -> Labels<'a>
+        ensures { result ≡ self.now }
+    {
+        Labels {
+            octets: self.octets,
+        }
+    }
+
+    /// Whether there is none.
+    pub fn is_empty(&self) -> bool
+        ensures { IsTrue result ↔ (self.now ≡ []) }
+    {
+        self.octets.is_empty()
+    }
+
+    /// How many labels there are.
+    #[tactic(auto, using(crate::proofs::Encodings::few_labels))]
+    pub fn len(&self) -> u32
+        ensures { result ≡ length self.now }
+    {
+        let mut rest = self.copy();
+        let mut count = 0;
+        while rest.next().is_some() {
+            count += 1;
+        }
+        count
+    }
+
+    /// Takes the top label off and gives its octets, or `None` where there is none.
+    pub fn next(&mut self) -> Option<&'a [u8]>
+        ensures first { MatchOption result (self.old ≡ []) (λ label. self.old ≡ label.now ∷ self.new) }
+        ensures label { IfSome result (λ label. IsLabel label.now) }
+        ensures none { MatchOption result (self.new ≡ []) (λ _. length self.new < length self.old) }
+    {
+        let [count, rest @ ..] = self.octets else {
+            return None;
+        };
+        let (label, after) = rest.split_at(*count as usize);
+        self.octets = after;
+        Some(label)
+    }
+
+    /// The top label's octets and the labels below it, or `None` where there is none.
+    pub fn split_first(&self) -> Option<(&'a [u8], Labels<'a>)>
+        ensures first { MatchOption result (self.now ≡ []) (λ both. self.now ≡ both.0.now ∷ both.1) }
+        ensures label { IfSome result (λ both. IsLabel both.0.now) }
+    {
+        let mut rest = self.copy();
+        let label = rest.next()?;
+        Some((label, rest))
+    }
+
+    /// The first so many labels, or all where there are fewer.
+    pub fn front(&self, count: usize) -> Labels<'a>
+        ensures { result ≡ take count self.now }
+    {
+        let octets = self.octets;
+        let mut rest = self.copy();
+        let mut passed = 0;
+        for _ in 0..count {
+            match rest.next() {
+                Some(label) => passed += label.len() + 1,
+                None => return self.copy(),
+            }
+        }
+        Labels {
+            octets: &octets[..passed],
+        }
+    }
+
+    /// How the labels stand to the others: label by label from the top, a proper front first.
+    pub fn compare(&self, others: &Labels<'_>) -> Ordering
+        ensures { result ≡ name_cmp self.now others.now }
+    {
+        let mut left = self.copy();
+        let mut right = others.copy();
+        while let Some(label) = left.next() {
+            let Some(other) = right.next() else {
+                return Ordering::Greater;
+            };
+            let order = label.cmp(other);
+            if order != Ordering::Equal {
+                return order;
+            }
+        }
+        if right.is_empty() {
+            Ordering::Equal
+        } else {
+            Ordering::Less
+        }
+    }
+}
