@@ -11,7 +11,7 @@ use lib.Pointwise.{pointwise}
 use Rattle.std.specs.List.{AllByRecursion}
 use Rattle.dns_data.specs.Label.{IsLabel}
 use Rattle.dns_data.specs.Name.{Labels, IsName, wire_octets, is_prefix, name_eq}
-use Rattle.dns_data.proofs.Names.{name_append, is_prefix_means, name_eq_decides, length_le_octets, name_front}
+use Rattle.dns_data.proofs.Names.{name_append, is_prefix_means, name_eq_decides, two_octets_each, name_front}
 use Rattle.dns_data.specs.Encoding.{encoded, labels_in, labels_of, EncodesName}
 
 -- encodings joined
@@ -201,9 +201,9 @@ octets_same a b h k = bools_same _ _
     (λ same. (name_eq_decides (labels_of a) (labels_of b)).1 (ap labels_of ((bytes_decides a b).0 same)))
     (λ same. (bytes_decides a b).1 (sym h.same ∙ ap encoded ((name_eq_decides (labels_of a) (labels_of b)).0 same) ∙ k.same))
 
--- a name has at most 254 labels
-pub few_labels : (octets : List ℕ) → EncodesName octets → length (labels_of octets) ≤ 254
-few_labels octets h = omega (arith, length_le_octets (labels_of octets), h.name.short)
+-- a name has at most 127 labels
+pub few_labels : (octets : List ℕ) → EncodesName octets → length (labels_of octets) ≤ 127
+few_labels octets h = omega (arith, two_octets_each (labels_of octets) h.name.labels, h.name.short)
 
 -- of a name's labels so many were passed over, which take so many octets
 pub record IsPassed (whole rest : Labels) (count passed : ℕ) : Type 0 where

@@ -1,5 +1,5 @@
 -- Names: prefixes, and names that are one.
-use Rattle.std.proofs.Common.{◌≡◌, ℕ, zero, suc, ◌+◌, ◌≤◌, ◌++◌, Bool, true, List, [], ◌∷◌, length, take, drop, Ordering, sym, refl, ap, ◌∙◌, arith}
+use Rattle.std.proofs.Common.{◌≡◌, ℕ, zero, suc, ◌+◌, ◌*◌, ◌≤◌, ◌++◌, Bool, true, List, [], ◌∷◌, length, take, drop, Ordering, sym, refl, ap, ◌∙◌, arith}
 use Rattle.std.specs.Prelude.{◌↔◌, sum_by}
 use Rattle.std.specs.List.{AllByRecursion}
 use Rattle.std.proofs.lemmas.List.Sums.{sum_by-cons, sum_by-append}
@@ -43,11 +43,11 @@ is_prefix_means above name r is = (
   λ (below, e). is ∙ (name_eq_decides above (take (length above) name)).1 (sym (take_at above below (length above) refl) ∙ ap (take (length above)) e),
 )
 
--- labels take at least an octet each
-pub length_le_octets : (labels : Labels) → length labels ≤ sum_by (λ label. length label + 1) labels
-length_le_octets [] = omega arith
-length_le_octets (label ∷ labels) =
-    omega (arith, length_le_octets labels, sum_by-cons (λ (xs : List ℕ). length xs + 1) label labels)
+-- labels take at least two octets each
+pub two_octets_each : (labels : Labels) → AllByRecursion IsLabel labels → 2 * length labels ≤ sum_by (λ label. length label + 1) labels
+two_octets_each [] h = omega arith
+two_octets_each (label ∷ labels) h =
+    omega (arith, two_octets_each labels h.1, h.0.not_empty, sum_by-cons (λ (xs : List ℕ). length xs + 1) label labels)
 
 -- what holds of the items of two lists holds of those of both
 pub all_append : {X : Type 0} (P : X → Type 0) (xs ys : List X) → AllByRecursion P xs → AllByRecursion P ys → AllByRecursion P (xs ++ ys)

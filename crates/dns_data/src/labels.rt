@@ -1,7 +1,8 @@
 //! The labels of a name, one after another.
 
-ghost use Rattle.std.specs.Prelude.{◌≡◌, ◌↔◌, ◌<◌, [], ◌∷◌, length, take, IsTrue, MatchOption, IfSome};
-ghost use Rattle.dns_data.specs.Label.{IsLabel};
+ghost use Rattle.std.specs.Prelude.{◌≡◌, ◌↔◌, ◌<◌, ◌≤◌, [], ◌∷◌, length, take, IsTrue, MatchOption, IfSome};
+ghost use Rattle.std.specs.List.{common_prefix_len};
+ghost use Rattle.dns_data.specs.Label.{IsLabel, label_eq};
 ghost use Rattle.dns_data.specs.Name.{name_cmp};
 ghost use Rattle.dns_data.specs.Encoding.{labels_of, EncodesName};
 
@@ -61,7 +62,8 @@ impl<'a> Labels<'a> {
     /// How many labels there are.
     #[tactic(auto, using(crate::proofs::Encodings::few_labels))]
     pub fn len(&self) -> u32
-        ensures { result ≡ length self.now }
+        ensures value { result ≡ length self.now }
+        ensures within { result ≤ 127 }
     {
         let mut rest = self.copy();
         let mut count = 0;
@@ -111,6 +113,24 @@ impl<'a> Labels<'a> {
         Labels {
             octets: &octets[..passed],
         }
+    }
+
+    /// How many labels both begin with.
+    #[tactic(auto, using(crate::proofs::Encodings::few_labels))]
+    pub fn common_len(&self, others: &Labels<'_>) -> u32
+        ensures value { result ≡ common_prefix_len label_eq self.now others.now }
+        ensures within { result ≤ length self.now }
+    {
+        let mut left = self.copy();
+        let mut right = others.copy();
+        let mut common = 0;
+        while let Some(label) = left.next() {
+            match right.next() {
+                Some(other) if label == other => common += 1,
+                _ => return common,
+            }
+        }
+        common
     }
 
     /// How the labels stand to the others: label by label from the top, a proper front first.

@@ -72,7 +72,8 @@ impl Name {
 
     /// How many labels the name has.
     pub fn len(&self) -> u32
-        ensures { result ≡ length self.now }
+        ensures value { result ≡ length self.now }
+        ensures within { result ≤ 127 }
     {
         self.labels().len()
     }

@@ -1,8 +1,6 @@
 //! The size of the class tree of a configuration of the first shape.
 
 ghost use Rattle.std.specs.Prelude.{◌≡◌, ◌≤◌, length, map, All, IfOk};
-ghost use Rattle.std.specs.List.{common_prefix_len};
-ghost use Rattle.dns_data.specs.Label.{label_eq};
 ghost use Rattle.dns_data.specs.Name.{IsName};
 ghost use Rattle.net_model.specs.Reading.{records, ground_of};
 ghost use Rattle.groot_run.specs.FirstShape.{IsFirstConfig};
@@ -11,7 +9,7 @@ ghost use Rattle.groot_run.specs.SortedTree.{tree_of};
 
 use crate::owners::owners_in_order;
 use crate::shape::only_zone;
-use dns_data::{Labels, Name, NoMemory};
+use dns_data::{Name, NoMemory};
 use net_model::Config;
 use std::alloc::Global;
 
@@ -50,25 +48,8 @@ fn count_names(owners: &[&Name]) -> u32
     let mut before = root.labels();
     for owner in owners {
         let labels = owner.labels();
-        names += labels.len() - common_labels(&labels, &before);
+        names += labels.len() - labels.common_len(&before);
         before = labels;
     }
     names
-}
-
-/// How many labels two names share, from the top one on.
-fn common_labels(a: &Labels<'_>, b: &Labels<'_>) -> u32
-    ensures value { result ≡ common_prefix_len label_eq a.now b.now }
-    ensures within { result ≤ length a.now }
-{
-    let mut shared = 0;
-    let mut left = a.copy();
-    let mut right = b.copy();
-    while let Some(label) = left.next() {
-        if right.next() != Some(label) {
-            return shared;
-        }
-        shared += 1;
-    }
-    shared
 }
