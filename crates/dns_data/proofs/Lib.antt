@@ -13,6 +13,7 @@ pub mod NameOrder
 pub mod Names
 pub mod OrderedLists
 pub mod Pieces
+pub mod Plain
 pub mod Reading
 pub mod RoundTrip
 pub mod Searches

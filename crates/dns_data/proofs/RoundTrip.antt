@@ -3,6 +3,7 @@ use Rattle.std.proofs.Common.{◌≡◌, ℕ, suc, ◌<◌, ◌≤◌, ◌+◌, 
 use Rattle.std.specs.Prelude.{if◌then◌else◌, ◌==◌, reverse}
 use Rattle.std.specs.List.{AllByRecursion, flat_map, list_all}
 use Rattle.std.specs.Cmp.Lexicographic.{pointwise, bytes_decides}
+use Rattle.std.proofs.lemmas.Bool.{and_parts}
 use Rattle.std.proofs.lemmas.Bool.Decides.{nat_tests}
 use Rattle.std.proofs.lemmas.List.{append-nil, append_assoc, reverse-append, reverse-reverse, length-reverse, length_push, nil_from_length}
 use Rattle.dns_data.specs.declared.fault.NameFault.{NameFault}
@@ -54,29 +55,25 @@ octet_reads_as octet rest small false false h = decimal_reads octet rest small
 pub octet_reads : (octet : ℕ) (rest : List ℕ) → octet < 256 → signs (octet_text octet ++ rest) ≡ Octet octet ∷ signs rest
 octet_reads octet rest small = octet_reads_as octet rest small (is_special octet) (nat_le 33 octet && nat_le octet 126) refl
 
-lower_stays : (octet : ℕ) → is_label_octet octet ≡ true → folded octet ≡ octet
+pub lower_stays : (octet : ℕ) → is_label_octet octet ≡ true → folded octet ≡ octet
 lower_stays octet h = grind (arith, nat_tests)
 
 label_octet_small : (octet : ℕ) → is_label_octet octet ≡ true → octet < 256
 label_octet_small octet h = grind (arith, nat_tests)
 
-both_true : (p q : Bool) → (p && q) ≡ true → (p ≡ true) × (q ≡ true)
-both_true true q h = (refl, h)
-both_true false q h = cc
-
-not_full : (n k : ℕ) → n + suc k ≤ 63 → nat_le 63 n ≡ false
+pub not_full : (n k : ℕ) → n + suc k ≤ 63 → nat_le 63 n ≡ false
 not_full n k h = grind (arith, nat_tests)
 
 -- the texts of a label's octets spell the octets
 octets_read : (octets before rest : List ℕ) → list_all is_label_octet octets ≡ true → length before + length octets ≤ 63 → spelled before (signs (flat_map octet_text octets ++ rest)) ≡ spelled (before ++ octets) (signs rest)
 octets_read [] before rest good short = ap (λ (l : List ℕ). spelled l (signs rest)) (sym (append-nil before))
 octets_read (octet ∷ octets) before rest good short =
-    let g = both_true (is_label_octet octet) (list_all is_label_octet octets) good in
+    let g = and_parts (is_label_octet octet) (list_all is_label_octet octets) good in
     let text = flat_map octet_text octets ++ rest in
     let shorter : length (before ++ octet ∷ []) + length octets ≤ 63 = omega (arith, length_push before octet) in
     ap (λ (t : List ℕ). spelled before (signs t)) (append_assoc (octet_text octet) (flat_map octet_text octets) rest) ∙ ap (spelled before) (octet_reads octet text (label_octet_small octet g.0)) ∙ ap (λ b. if b then Err LabelTooLong else spelled (before ++ folded octet ∷ []) (signs text)) (not_full (length before) (length octets) short) ∙ ap (λ (o : ℕ). spelled (before ++ o ∷ []) (signs text)) (lower_stays octet g.0) ∙ octets_read octets (before ++ octet ∷ []) rest g.1 shorter ∙ ap (λ (l : List ℕ). spelled l (signs rest)) (append_assoc before (octet ∷ []) octets)
 
-not_empty : (n : ℕ) → 0 < n → (n == 0) ≡ false
+pub not_empty : (n : ℕ) → 0 < n → (n == 0) ≡ false
 not_empty n h = grind (arith, nat_tests)
 
 -- the text of a label spells the label

@@ -1,8 +1,8 @@
 -- Names and texts that the RFCs print.
-use Rattle.std.proofs.Common.{◌≡◌, [], ◌∷◌, Ok, Err, codes, refl, true, false}
+use Rattle.std.proofs.Common.{◌≡◌, Bool, ◌&&◌, List, [], ◌∷◌, Ok, Err, codes, refl, true, false}
 use Rattle.dns_data.specs.declared.fault.NameFault.TheVariants.{EmptyLabel, BadEscape}
-use Rattle.std.specs.declared.cmp.Ordering.TheVariants.{Less}
-use Rattle.dns_data.specs.Name.{wire_octets, is_prefix, name_cmp}
+use Rattle.std.specs.Ordering.{is_lt}
+use Rattle.dns_data.specs.Name.{Labels, wire_octets, is_prefix, name_cmp}
 use Rattle.dns_data.specs.Spelling.{name_of_text, name_text}
 
 -- RFC 1035 section 4.1.4: F.ISI.ARPA takes 12 octets
@@ -45,9 +45,17 @@ empty_before_escape = refl
 escape_before_empty : name_of_text (codes "a\\300..") [] ≡ Err BadEscape
 escape_before_empty = refl
 
--- RFC 4034 section 6.1: the order goes by the labels from the root
-yljkjljk_before_z : name_cmp (codes "example" ∷ codes "a" ∷ codes "yljkjljk" ∷ []) (codes "example" ∷ codes "z" ∷ []) ≡ Less
-yljkjljk_before_z = refl
+-- each name stands before the next
+abbrev are_in_order : List Labels → Bool
+are_in_order (name ∷ next ∷ names) = is_lt (name_cmp name next) && are_in_order (next ∷ names)
+are_in_order names = true
+
+-- RFC 4034 section 6.1: names in their order
+names_in_order : are_in_order (
+    (codes "example" ∷ []) ∷ (codes "example" ∷ codes "a" ∷ []) ∷ (codes "example" ∷ codes "a" ∷ codes "yljkjljk" ∷ [])
+    ∷ (codes "example" ∷ codes "a" ∷ codes "z" ∷ []) ∷ (codes "example" ∷ codes "a" ∷ codes "zabc" ∷ []) ∷ (codes "example" ∷ codes "z" ∷ [])
+    ∷ (codes "example" ∷ codes "z" ∷ (1 ∷ []) ∷ []) ∷ (codes "example" ∷ codes "z" ∷ codes "*" ∷ []) ∷ (codes "example" ∷ codes "z" ∷ (200 ∷ []) ∷ []) ∷ []) ≡ true
+names_in_order = refl
 
 -- RFC 1034 section 3.1: a name is below another where its labels begin with the other's
 below : is_prefix (codes "edu" ∷ codes "mit" ∷ []) (codes "edu" ∷ codes "mit" ∷ codes "ai" ∷ []) ≡ true

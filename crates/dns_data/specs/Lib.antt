@@ -9,7 +9,6 @@ pub mod RrType
 pub mod Spelling
 pub mod DataText
 pub mod Encoding
-pub mod Fault
 pub mod Put
 pub mod TypeSet
 pub mod Storage

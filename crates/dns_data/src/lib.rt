@@ -4,8 +4,8 @@
 
 mod fault;
 mod label;
-mod laws;
 mod labels;
+mod laws;
 mod list;
 mod memory;
 mod name;
@@ -21,8 +21,8 @@ mod words;
 
 pub use fault::{JoinFault, NameFault};
 pub use label::Label;
-pub use laws::texts_tell_data;
 pub use labels::Labels;
+pub use laws::texts_tell_data;
 pub use list::List;
 pub use memory::NoMemory;
 pub use name::Name;

@@ -10,6 +10,10 @@ use std::marker::Model;
 /// The most octets that stand in place.
 const MOST_INLINE: usize = 30;
 
+/// How many octets a vector has room for at least where octets grow out of their place, so that those that come one
+/// by one don't make it grow at once.
+const LEAST_ROOM: usize = 64;
+
 /// At most 30 octets.
 #[derive(Debug, Drop)]
 struct Short {
@@ -201,7 +205,7 @@ impl Octets {
                     short.append(more);
                     return Ok(());
                 }
-                let octets = joined(alloc, short.items(), more)?;
+                let octets = grown(alloc, short.items(), more)?;
                 self.storage = Storage::Heap(octets);
                 Ok(())
             }
@@ -260,12 +264,12 @@ impl Octets {
     }
 }
 
-/// A vector of the octets of both.
-fn joined(alloc: Global, front: &[u8], back: &[u8]) -> Result<Vec<u8>, NoMemory>
+/// A vector of the octets of both, with some room.
+fn grown(alloc: Global, front: &[u8], back: &[u8]) -> Result<Vec<u8>, NoMemory>
     requires { length front.now ≤ 30 }
     ensures { IfOk result (λ both. both.items ≡ front.now ++ back.now) }
 {
-    let mut both = Vec::with_capacity(alloc, front.len() + back.len())?;
+    let mut both = Vec::with_capacity(alloc, LEAST_ROOM.max(front.len() + back.len()))?;
     both.extend_from_slice(front)?;
     both.extend_from_slice(back)?;
     Ok(both)

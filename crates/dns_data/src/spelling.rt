@@ -1,13 +1,13 @@
 //! The texts of names.
 
-ghost use Rattle.std.specs.Prelude.{◌≡◌, ◌++◌, ◌+◌, ◌<◌, ◌≤◌, ℕ, List, ◌∷◌, [], length, reverse, drop, true, false, Ok, Err, Some, None, ◌&&◌, nat_le, IsTrue, SomeIff, MatchOption, IfOk, IfErr, IfSome, OnOk, if◌then◌else◌};
-ghost use Rattle.std.specs.List.{flat_map};
+ghost use Rattle.std.specs.Prelude.{◌≡◌, ◌++◌, ◌+◌, ◌<◌, ◌≤◌, ℕ, List, ◌∷◌, [], length, map, reverse, drop, true, false, Ok, Err, Some, None, ◌&&◌, nat_le, IsTrue, SomeIff, MatchOption, IfOk, IfErr, IfSome, OnOk, if◌then◌else◌};
+ghost use Rattle.std.specs.List.{flat_map, prefix_len};
 ghost use Rattle.std.specs.String.{string_bytes};
 ghost use Rattle.dns_data.specs.Answers.{AnswersOr};
 ghost use Rattle.dns_data.specs.Encoding.{labels_of, EncodesName};
 ghost use Rattle.dns_data.specs.Label.{IsLabel};
-ghost use Rattle.dns_data.specs.Octet.{is_digit, three_digit_value, decimal_escape};
-ghost use Rattle.dns_data.specs.Put.{IsPut, IsSpelled};
+ghost use Rattle.dns_data.specs.Octet.{is_digit, folded, three_digit_value, decimal_escape};
+ghost use Rattle.dns_data.specs.Put.{IsPut, IsSpelled, PutsFirst, BeginsWith, is_plain};
 ghost use Rattle.dns_data.specs.Spelling.{Sign, signs, escaped, spelled, after_label, placed, name_of_text, octet_text, label_text, name_text};
 
 use crate::fault::NameFault;
@@ -72,18 +72,66 @@ fn spell(out: &mut [u8], text: &[u8]) -> Result<(usize, bool), NameFault>
     ensures ok { IfOk result (λ said. IsSpelled text.now out.new said.0 said.1) }
     ensures fault { IfErr result (λ fault. (origin : List (List ℕ)) → placed origin (spelled [] (signs text.now)) ≡ Err fault) }
 {
-    let mut label = ArrayVec::new();
     let mut start = Some(out.len());
     let mut rest = text;
     while !rest.is_empty() {
-        let after = first_label(&mut label, rest)?;
-        start = put_above(out, start, label.as_slice());
+        let (above, after) = put_first(out, start, rest)?;
+        start = above;
         match after {
             Some(after) => rest = after,
             None => return finished(start, false),
         }
     }
     finished(start, true)
+}
+
+/// Puts the first label of a text that isn't empty above those that stand from there on: from where on they stand
+/// then, or `None` where there is no room, and what follows the dot that ends the label, or `None` where no dot does.
+fn put_first<'a>(
+    out: &mut [u8],
+    start: Option<usize>,
+    text: &'a [u8],
+) -> Result<(Option<usize>, Option<&'a [u8]>), NameFault>
+    requires { 0 < length text.now }
+    ensures ok { IfOk result (λ put. PutsFirst text.now out.old start out.new put.0 put.1) }
+    ensures shorter { IfOk result (λ put. IfSome put.1 (λ after. length after.now < length text.now)) }
+    ensures fault { IfErr result (λ fault. spelled [] (signs text.now) ≡ Err fault) }
+{
+    if let Some((label, after)) = plain_label(text) {
+        return Ok((put_above(out, start, label), after));
+    }
+    let mut label = ArrayVec::new();
+    let after = first_label(&mut label, text)?;
+    Ok((put_above(out, start, label.as_slice()), after))
+}
+
+/// The first label of a text, where all its octets are plain, not folded, and what follows the dot that ends it, or
+/// `None` where no dot does.
+fn plain_label(text: &[u8]) -> Option<(&[u8], Option<&[u8]>)>
+    ensures first { IfSome result (λ first. BeginsWith text.now (map folded first.0.now) first.1) }
+    ensures label { IfSome result (λ first. IsLabel (map folded first.0.now)) }
+    ensures shorter { IfSome result (λ first. IfSome first.1 (λ after. length after.now < length text.now)) }
+{
+    let count = plain_len(text);
+    if count == 0 || count > 63 {
+        return None;
+    }
+    let (label, rest) = text.split_at(count);
+    match rest {
+        [] => Some((label, None)),
+        [first, after @ ..] if *first == b'.' => Some((label, Some(after))),
+        _ => None,
+    }
+}
+
+/// How many octets in front are neither dots nor backslashes.
+fn plain_len(text: &[u8]) -> usize
+    ensures len { result ≡ prefix_len is_plain text.now }
+    ensures within { result ≤ length text.now }
+{
+    text.iter()
+        .take_while(|octet| **octet != b'.' && **octet != b'\\')
+        .count()
 }
 
 /// Where the labels start, or that they have no room.
@@ -97,11 +145,11 @@ fn finished(start: Option<usize>, absolute: bool) -> Result<(usize, bool), NameF
     }
 }
 
-/// Puts a label above those that stand from there on: from where on they stand then, or `None` where there is no
-/// room.
+/// Puts a label, folded, above those that stand from there on: from where on they stand then, or `None` where there
+/// is no room.
 fn put_above(out: &mut [u8], start: Option<usize>, label: &[u8]) -> Option<usize>
-    requires { IsLabel label.now }
-    ensures { (labels : List (List ℕ)) → IsPut out.old start labels → IsPut out.new result (labels ++ label.now ∷ []) }
+    requires { IsLabel (map folded label.now) }
+    ensures { (labels : List (List ℕ)) → IsPut out.old start labels → IsPut out.new result (labels ++ map folded label.now ∷ []) }
 {
     let end = start?;
     if end > out.len() || label.len() >= end {
@@ -144,14 +192,16 @@ fn first_label<'a>(
     Ok(None)
 }
 
-/// Fills the octets with a label's length and its octets.
+/// Fills the octets with a label's length and its octets, folded.
 fn put_label(out: &mut [u8], label: &[u8])
     requires room { length out.old ≡ length label.now + 1 }
     requires short { length label.now < 256 }
-    ensures { out.new ≡ length label.now ∷ label.now }
+    ensures { out.new ≡ length label.now ∷ map folded label.now }
 {
     out[0] = label.len() as u8;
-    out[1..].copy_from_slice(label);
+    let octets = &mut out[1..];
+    octets.copy_from_slice(label);
+    octets.make_ascii_lowercase();
 }
 
 /// The octet for which the text after a backslash stands, and what follows, or `None` where it stands for none

@@ -103,7 +103,9 @@ fn names_of_255_octets(rt: HostRuntime) -> Result<(), Fail> {
     let text = repeated(alloc, "a.", 128)?;
     let refused = Name::from_text(alloc, text.as_slice(), &root);
     assert_eq!(rt; refused, Err(NameFault::NameTooLong), "128 labels");
-    let refused = root.join_labels(alloc, &most.labels())?.join(alloc, labels(alloc, "a.")?.as_slice());
+    let refused = root
+        .join_labels(alloc, &most.labels())?
+        .join(alloc, labels(alloc, "a.")?.as_slice());
     assert_eq!(rt; refused, Err(JoinFault::TooLong), "a label more");
     Ok(())
 }

@@ -6,29 +6,29 @@ use Rattle.dns_data.proofs.spelling.spell.Goals as goal
 pub loop-rest-init : goal.loop-rest-init
 loop-rest-init c = spelling_start _ _ c.requires
 
-pub returns-in_err-after-clause-fault : goal.returns-in_err-after-clause-fault
-returns-in_err-after-clause-fault c =
+pub returns-in_err-above-clause-fault : goal.returns-in_err-above-clause-fault
+returns-in_err-above-clause-fault c =
     let p = err_from_is_err_and c.from_residual.result c.from_residual.ensures.1 in
-    rw (p.1, p.2) (λ origin. spelling_fault _ _ _ _ c.loop-rest.invariant _ c.in_err-after.ensures.fault origin)
+    rw (p.1, p.2) (λ origin. spelling_fault _ _ _ _ c.loop-rest.invariant _ c.in_err-above.ensures.fault origin)
 
 pub loop-rest-preserved : goal.loop-rest-preserved
 loop-rest-preserved c =
-    let first = rw c.in-Some.is at c.in_ok-after.ensures.ok in
-    let puts = rw c.as_slice.ensures.value at c.put_above-start.ensures in
-    spelling_more _ _ _ _ _ _ _ _ c.loop-rest.invariant first c.in_ok-after.ensures.label puts (c.put_above-start.auto.out ∙ c.loop-rest.invariant.room)
+    let put = c.in_ok-above.ensures.ok in
+    let first = rw c.in-Some.is at put.first in
+    spelling_more _ _ _ _ _ _ _ _ c.loop-rest.invariant first put.is put.put (c.put_first.auto.out ∙ c.loop-rest.invariant.room)
 
 pub returns-in-None-clause-ok : goal.returns-in-None-clause-ok
 returns-in-None-clause-ok c =
-    let first = rw c.in-None.is at c.in_ok-after.ensures.ok in
-    let puts = rw c.as_slice.ensures.value at c.put_above-start.ensures in
-    let done = spelling_last _ _ _ _ _ _ _ c.loop-rest.invariant first c.in_ok-after.ensures.label puts (c.put_above-start.auto.out ∙ c.loop-rest.invariant.room) in
+    let put = c.in_ok-above.ensures.ok in
+    let first = rw c.in-None.is at put.first in
+    let done = spelling_last _ _ _ _ _ _ _ c.loop-rest.invariant first put.is put.put (c.put_first.auto.out ∙ c.loop-rest.invariant.room) in
     IfOk-weaker c.finished.result _ _ (λ said e. done_ok _ _ _ _ done said.0 said.1 e) c.finished.ensures.ok
 
 pub returns-in-None-clause-fault : goal.returns-in-None-clause-fault
 returns-in-None-clause-fault c =
-    let first = rw c.in-None.is at c.in_ok-after.ensures.ok in
-    let puts = rw c.as_slice.ensures.value at c.put_above-start.ensures in
-    let done = spelling_last _ _ _ _ _ _ _ c.loop-rest.invariant first c.in_ok-after.ensures.label puts (c.put_above-start.auto.out ∙ c.loop-rest.invariant.room) in
+    let put = c.in_ok-above.ensures.ok in
+    let first = rw c.in-None.is at put.first in
+    let done = spelling_last _ _ _ _ _ _ _ c.loop-rest.invariant first put.is put.put (c.put_first.auto.out ∙ c.loop-rest.invariant.room) in
     IfErr-weaker c.finished.result _ _ (λ fault e. done_fault _ _ _ _ done fault e) c.finished.ensures.fault
 
 pub returns-clause-ok : goal.returns-clause-ok
