@@ -1,6 +1,8 @@
 //! The size of the class tree of a configuration of the first shape.
 
-ghost use Rattle.std.specs.Prelude.{◌≡◌, ◌≤◌, length, map, All, IfOk};
+ghost use Rattle.std.specs.Prelude.{◌≡◌, ◌-◌, ◌≤◌, length, map, option_map, unwrap_or, [], All, IfOk};
+ghost use Rattle.std.specs.List.{common_prefix_len};
+ghost use Rattle.dns_data.specs.Label.{label_eq};
 ghost use Rattle.dns_data.specs.Name.{IsName};
 ghost use Rattle.net_model.specs.Reading.{records, ground_of};
 ghost use Rattle.groot_run.specs.FirstShape.{IsFirstConfig};
@@ -43,13 +45,24 @@ fn count_names(owners: &[&Name]) -> u32
     ensures within { result ≤ 254000001 }
     ensures names { All (λ owner. IsName owner.now) owners.now }
 {
-    let root = Name::root();
     let mut names = 1;
-    let mut before = root.labels();
+    let mut before = None;
     for owner in owners {
-        let labels = owner.labels();
-        names += labels.len() - labels.common_len(&before);
-        before = labels;
+        names += labels_beyond(owner, before);
+        before = Some(*owner);
     }
     names
+}
+
+/// How many labels the name has beyond those with which the one before it begins too, if there is one.
+fn labels_beyond(name: &Name, before: Option<&Name>) -> u32
+    ensures value { result ≡ length name.now - common_prefix_len label_eq name.now (unwrap_or (option_map (λ other. other.now) before.entry) []) }
+    ensures within { result ≤ 127 }
+    ensures name { IsName name.now }
+{
+    let labels = name.labels();
+    match before {
+        Some(before) => labels.len() - labels.common_len(&before.labels()),
+        None => labels.len(),
+    }
 }
