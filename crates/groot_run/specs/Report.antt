@@ -19,7 +19,7 @@ use Rattle.net_model.specs.FaultOrder.{fault_cmp}
 use Rattle.net_model.specs.Learnt.{IsInForce}
 use Rattle.net_model.specs.Reading.{Ground, ground_of, IsNamed}
 use Rattle.net_model.specs.Shown.{ShowsIn, WalksShow}
-use Rattle.net_model.specs.Step.{Setting}
+use Rattle.net_model.specs.Step.{Setting, following}
 use Rattle.net_model.specs.Tree.{IsClassTree, AreBelowClasses}
 use Rattle.net_model.specs.Walk.{walk_along, path_cmp}
 
@@ -82,8 +82,8 @@ pub record IsEntry (config : Config) (rewrites : ℕ) (entry : Entry) : Type 0 w
   pub shown : ClassShows config rewrites class entry.query entry.rtype entry.fault
   pub first_class : (other : Class) (query : Labels) (rtype : RrType) → ClassShows config rewrites other query rtype entry.fault → class_cmp other class ≢ Less
   pub first_type : (rtype : RrType) → ShowsIn config rewrites entry.query rtype entry.fault → number_of entry.rtype ≤ number_of rtype
-  pub walks : PathsShow (record { config = config; rewrites = rewrites; followed = followed }) entry.query entry.rtype entry.fault paths entry.walks
-  pub first_walks : (others : List (List ℕ)) (walks : List Walk) → PathsShow (record { config = config; rewrites = rewrites; followed = followed }) entry.query entry.rtype entry.fault others walks → paths_cmp others paths ≢ Less
+  pub walks : PathsShow (following config rewrites followed) entry.query entry.rtype entry.fault paths entry.walks
+  pub first_walks : (others : List (List ℕ)) (walks : List Walk) → PathsShow (following config rewrites followed) entry.query entry.rtype entry.fault others walks → paths_cmp others paths ≢ Less
   pub repeats : (first : Walk) → slice_get entry.walks 0 ≡ Some first → entry.repeats ≡ repeats first.states
 
 -- some query, which is a name, shows the fault with one of the twelve types

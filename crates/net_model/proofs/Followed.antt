@@ -1,6 +1,6 @@
 -- With every configured server followed, no walk ends at a name server for want of an address.
-use Rattle.std.proofs.Common.{◌≡◌, ℕ, zero, suc, ◌==◌, cond, Bool, true, false, not, ◌||◌, List, [], ◌∷◌, length, map, refl, sym, subst}
-use Rattle.std.specs.Prelude.{◌≢◌, slice_get, Option, Some, None, option_map, option_and_then, is_some, nat_lt, ◌&&◌, ◌+◌, if◌then◌else◌}
+use Rattle.std.proofs.Common.{◌≡◌, ℕ, zero, suc, cond, Bool, true, false, not, ◌||◌, List, [], ◌∷◌, length, map, refl, sym, subst}
+use Rattle.std.specs.Prelude.{◌≢◌, slice_get, Option, Some, None, is_some, nat_lt, ◌&&◌, ◌+◌, if◌then◌else◌}
 use Rattle.std.specs.List.{AllByRecursion, list_any, find}
 use Rattle.std.proofs.lemmas.Bool.{or_right}
 use Rattle.dns_data.specs.Name.{Labels, name_eq, is_prefix}
@@ -12,7 +12,6 @@ use Rattle.net_model.specs.declared.found.Found.{Found}
 use Rattle.net_model.specs.declared.found.Found.TheVariants as found_as
 use Rattle.net_model.specs.declared.place.Cut.{Cut}
 use Rattle.net_model.specs.declared.place.Place.{Place}
-use Rattle.net_model.specs.declared.walk.Hop.{Hop}
 use Rattle.net_model.specs.declared.walk.Hop.TheVariants.{Refer, Rewrite}
 use Rattle.net_model.specs.declared.walk.Leaf.{Leaf}
 use Rattle.net_model.specs.declared.walk.Leaf.TheVariants.{Lame, NoAddress}
@@ -20,10 +19,11 @@ use Rattle.net_model.specs.declared.walk.State.{State}
 use Rattle.net_model.specs.declared.walk.Walk.{Walk}
 use Rattle.net_model.specs.Lookup.{found}
 use Rattle.net_model.specs.Nearest.{is_configured, is_top, nearest_of, server_names}
-use Rattle.net_model.specs.Step.{Setting, Branch, Go, End, may_follow, has_glue, arrived, start, delegated, referred, servers_after, after_lookup, in_zone, next}
-use Rattle.net_model.specs.Walk.{led_on, branched, walk_from, walk_along, IsWalk}
+use Rattle.net_model.specs.Step.{Setting, following, Branch, Go, End, may_follow, has_glue, arrived, delegated, referred, servers_after, after_lookup, in_zone, next}
+use Rattle.net_model.specs.Walk.{IsWalk}
 use Rattle.net_model.specs.Learnt.{IsInForce}
 use Rattle.dns_data.proofs.Names.{name_eq_decides}
+use Rattle.net_model.proofs.WalkEnds.{LeadsSo, walk_ends}
 
 -- one server more, which is the one that is found or isn't
 one_more : (found_here named_here named_later : Bool) (server : Server) (later : Option Server)
@@ -48,8 +48,7 @@ HasAddress leaf = (ns : Labels) → leaf ≢ NoAddress ns
 
 -- the branch goes on, or ends in such a leaf
 abbrev IsKnown : Branch → Type 0
-IsKnown (Go hop state) = Unit {0}
-IsKnown (End hop leaf) = HasAddress leaf
+IsKnown = LeadsSo (λ state. Unit {0}) HasAddress
 
 -- a branch that is chosen by two tests
 chosen : (configured follow : Bool) (unhosted no_address on : Branch) → (configured ≡ true → follow ≡ true)
@@ -126,46 +125,9 @@ item P [] number x all e = cc
 item P (first ∷ xs) zero x all e = let same : first ≡ x = cc in subst P same all.0
 item P (first ∷ xs) (suc number) x all e = item P xs number x all.1 e
 
-led_on_leaf : (state : State) (hop : Hop) (rest : Option Walk) (walk : Walk) → option_map (led_on state hop) rest ≡ Some walk
-    → ((later : Walk) → rest ≡ Some later → HasAddress later.leaf) → HasAddress walk.leaf
-led_on_leaf state hop None walk e known = cc
-led_on_leaf state hop (Some later) walk e known =
-    let same : led_on state hop later ≡ walk = cc in subst (λ (w : Walk). HasAddress w.leaf) same (known later refl)
-
-ended_leaf : (is_last : Bool) (ended walk : Walk) → (if is_last then Some ended else None) ≡ Some walk → HasAddress ended.leaf → HasAddress walk.leaf
-ended_leaf true ended walk e known = let same : ended ≡ walk = cc in subst (λ (w : Walk). HasAddress w.leaf) same known
-ended_leaf false ended walk e known = cc
-
-branched_leaf : (state : State) (is_last : Bool) (on : State → Option Walk) (branch : Option Branch) (walk : Walk)
-    → ((b : Branch) → branch ≡ Some b → IsKnown b)
-    → ((to : State) (later : Walk) → on to ≡ Some later → HasAddress later.leaf)
-    → branched state is_last on branch ≡ Some walk → HasAddress walk.leaf
-branched_leaf state is_last on None walk known later e = cc
-branched_leaf state is_last on (Some (Go hop to)) walk known later e = led_on_leaf state hop (on to) walk e (later to)
-branched_leaf state is_last on (Some (End hop leaf)) walk known later e = ended_leaf is_last _ walk e (known (End hop leaf) refl)
-
-walk_from_leaf : (setting : Setting) (rtype : RrType) → FollowsAll setting → (numbers : List ℕ) (state : State) (walk : Walk)
-    → walk_from setting rtype numbers state ≡ Some walk → HasAddress walk.leaf
-walk_from_leaf setting rtype all [] state walk e = cc
-walk_from_leaf setting rtype all (number ∷ numbers) state walk e =
-    branched_leaf state (length numbers == 0) (walk_from setting rtype numbers) (slice_get (next setting rtype state) number) walk
-    (λ b is. item IsKnown (next setting rtype state) number b (next_known setting rtype state all) is)
-    (walk_from_leaf setting rtype all numbers) e
-
-started_leaf : (setting : Setting) (rtype : RrType) (numbers : List ℕ) (begin : Option State) (walk : Walk) → FollowsAll setting
-    → option_and_then (walk_from setting rtype numbers) begin ≡ Some walk → HasAddress walk.leaf
-started_leaf setting rtype numbers None walk all e = cc
-started_leaf setting rtype numbers (Some state) walk all e = walk_from_leaf setting rtype all numbers state walk e
-
-walk_along_leaf : (setting : Setting) (query : Labels) (rtype : RrType) (numbers : List ℕ) (walk : Walk) → FollowsAll setting
-    → walk_along setting query rtype numbers ≡ Some walk → HasAddress walk.leaf
-walk_along_leaf setting query rtype [] walk all e = cc
-walk_along_leaf setting query rtype (number ∷ numbers) walk all e =
-    started_leaf setting rtype numbers (slice_get (start setting.config query) number) walk all e
-
 -- with the names of all servers, every configured server is followed
-names_follow_all : (config : Config) (rewrites : ℕ)
-    → FollowsAll (record { config = config; rewrites = rewrites; followed = server_names config })
+pub names_follow_all : (config : Config) (rewrites : ℕ)
+    → FollowsAll (following config rewrites (server_names config))
 names_follow_all config rewrites cut configured =
     or_right (is_top config cut.ns || has_glue config cut) (list_any (name_eq cut.ns) (server_names config))
     (found_is_named cut.ns config.servers configured)
@@ -176,7 +138,11 @@ pub every_walk_has_an_address : (config : Config) (rewrites : ℕ) (followed : L
     → IsWalk (record { config = config; rewrites = rewrites; followed = followed }) query rtype walk
     → walk.leaf ≢ NoAddress ns
 every_walk_has_an_address config rewrites followed in_force query rtype walk ns (numbers, along) =
-    walk_along_leaf (record { config = config; rewrites = rewrites; followed = followed }) query rtype numbers walk
-    (subst (λ (names : List Labels). FollowsAll (record { config = config; rewrites = rewrites; followed = names }))
-    (sym in_force) (names_follow_all config rewrites))
-    along ns
+    walk_ends (following config rewrites followed) rtype (λ state. Unit {0}) HasAddress
+    (λ state _ number branch is. item IsKnown (next (following config rewrites followed) rtype state) number branch
+    (next_known (following config rewrites followed) rtype state all) is)
+    query (λ number state is. tt) numbers walk along ns
+  where
+    all : FollowsAll (following config rewrites followed)
+    all =
+        subst (λ (names : List Labels). FollowsAll (following config rewrites names)) (sym in_force) (names_follow_all config rewrites)

@@ -11,7 +11,7 @@ use Rattle.net_model.specs.declared.config.Config.{Config}
 use Rattle.net_model.specs.declared.walk.Walk.{Walk}
 use Rattle.net_model.specs.Learnt.{gives_address, LearnsBy, Learns, IsRound, AfterRounds, IsLeast, IsGreatest, InLeast, InGreatest}
 use Rattle.net_model.specs.Nearest.{server_names}
-use Rattle.net_model.specs.Step.{Setting}
+use Rattle.net_model.specs.Step.{Setting, following}
 use Rattle.net_model.specs.Walk.{walk_along}
 use Rattle.net_model.proofs.Naming.{not_both, listed}
 use Rattle.net_model.proofs.Showing.{all_leaves_pass, walk_passes}
@@ -83,12 +83,12 @@ all_claimed setting learnt (first ∷ names) (claim ∷ rest) h name (suc k, wit
 
 -- one round, where each claim is so and the learnt names are those of the servers of which it is claimed
 pub is_round : (config : Config) (rewrites : ℕ) (followed learnt : List Labels) (rest : List Learning)
-    → all_claims (record { config = config; rewrites = rewrites; followed = followed }) learnt (server_names config) rest ≡ true
+    → all_claims (following config rewrites followed) learnt (server_names config) rest ≡ true
     → learnt ≡ filter (listed learnt) (server_names config) → IsRound config rewrites followed learnt
 is_round config rewrites followed learnt rest h are =
     record {
       test = listed learnt;
-      tells = all_claimed (record { config = config; rewrites = rewrites; followed = followed }) learnt (server_names config) rest h;
+      tells = all_claimed (following config rewrites followed) learnt (server_names config) rest h;
       are = are;
     }
 

@@ -1,5 +1,4 @@
 mod Drawn
-mod Followed
 mod Representatives
 mod Showing
 mod Words
@@ -7,9 +6,11 @@ mod Worked
 pub mod Counting
 pub mod FaultOrder
 pub mod FirstLabel
+pub mod Followed
 pub mod FreeLabel
 pub mod Leads
 pub mod LearntSets
 pub mod Naming
 pub mod Prefixes
 pub mod TrialOrder
+pub mod WalkEnds

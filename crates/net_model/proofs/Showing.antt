@@ -1,7 +1,7 @@
 -- How a query is seen to show a fault, or not to.
-use Rattle.std.proofs.Common.{◌≡◌, ℕ, zero, suc, ◌==◌, Bool, true, false, List, [], ◌∷◌, length, refl, ap, subst}
+use Rattle.std.proofs.Common.{◌≡◌, ℕ, zero, suc, Bool, true, false, List, [], ◌∷◌, refl, ap, subst}
 use Rattle.std.proofs.lemmas.Bool.{and_parts}
-use Rattle.std.specs.Prelude.{Option, Some, None, slice_get, option_map, option_and_then, if◌then◌else◌}
+use Rattle.std.specs.Prelude.{Some, slice_get}
 use Rattle.std.specs.List.{list_all, AllByRecursion}
 use Rattle.dns_data.specs.Name.{Labels}
 use Rattle.dns_data.specs.declared.rr_type.RrType.{RrType}
@@ -10,7 +10,6 @@ use Rattle.net_model.specs.declared.config.Config.{Config}
 use Rattle.net_model.specs.declared.fault.Fault.{Fault}
 use Rattle.net_model.specs.declared.fault.Fault.TheVariants.{Answers, Blackhole}
 use Rattle.net_model.specs.declared.place.Place.{Place}
-use Rattle.net_model.specs.declared.walk.Hop.{Hop}
 use Rattle.net_model.specs.declared.walk.Leaf.{Leaf}
 use Rattle.net_model.specs.declared.walk.Leaf.TheVariants as leaves
 use Rattle.net_model.specs.declared.walk.State.{State}
@@ -20,7 +19,8 @@ use Rattle.net_model.specs.Nearest.{server_names}
 use Rattle.net_model.specs.Reading.{ground_of}
 use Rattle.net_model.specs.Shown.{MayShow, WalksShow, ShowsAnswers, ShowsIn}
 use Rattle.net_model.specs.Step.{Setting, Branch, Go, End, start, next}
-use Rattle.net_model.specs.Walk.{led_on, branched, walk_from, walk_along, IsWalk}
+use Rattle.net_model.specs.Walk.{walk_along, IsWalk}
+use Rattle.net_model.proofs.WalkEnds.{LeadsSo, walk_ends}
 use Rattle.net_model.proofs.Words.{following_all}
 
 -- a fault is shown by the walk with these numbers
@@ -68,55 +68,29 @@ item_passes test (first ∷ xs) zero x all e =
     let same : first ≡ x = cc in subst (λ y. test y ≡ true) same (and_parts (test first) (list_all test xs) all).0
 item_passes test (first ∷ xs) (suc number) x all e = item_passes test xs number x (and_parts (test first) (list_all test xs) all).1 e
 
-led_on_passes : (test : Leaf → Bool) (state : State) (hop : Hop) (rest : Option Walk) (walk : Walk) → option_map (led_on state hop) rest ≡ Some walk
-    → ((later : Walk) → rest ≡ Some later → test later.leaf ≡ true) → test walk.leaf ≡ true
-led_on_passes test state hop None walk e later = cc
-led_on_passes test state hop (Some rest) walk e later =
-    let same : led_on state hop rest ≡ walk = cc in subst (λ (w : Walk). test w.leaf ≡ true) same (later rest refl)
-
-ended_passes : (test : Leaf → Bool) (is_last : Bool) (ended walk : Walk) → (if is_last then Some ended else None) ≡ Some walk
-    → test ended.leaf ≡ true → test walk.leaf ≡ true
-ended_passes test true ended walk e h = let same : ended ≡ walk = cc in subst (λ (w : Walk). test w.leaf ≡ true) same h
-ended_passes test false ended walk e h = cc
-
-branched_passes : (test : Leaf → Bool) (passes : State → Bool) (state : State) (is_last : Bool) (on : State → Option Walk) (branch : Option Branch) (walk : Walk)
-    → ((b : Branch) → branch ≡ Some b → branch_passes test passes b ≡ true)
-    → ((to : State) (later : Walk) → passes to ≡ true → on to ≡ Some later → test later.leaf ≡ true)
-    → branched state is_last on branch ≡ Some walk → test walk.leaf ≡ true
-branched_passes test passes state is_last on None walk all later e = cc
-branched_passes test passes state is_last on (Some (Go hop to)) walk all later e =
-    led_on_passes test state hop (on to) walk e (λ rest. later to rest (all (Go hop to) refl))
-branched_passes test passes state is_last on (Some (End hop leaf)) walk all later e =
-    ended_passes test is_last _ walk e (all (End hop leaf) refl)
-
-walk_from_passes : (test : Leaf → Bool) (setting : Setting) (rtype : RrType) (depth : ℕ) (numbers : List ℕ) (state : State) (walk : Walk)
-    → leaves_pass test setting rtype depth state ≡ true → walk_from setting rtype numbers state ≡ Some walk → test walk.leaf ≡ true
-walk_from_passes test setting rtype zero numbers state walk all e = cc
-walk_from_passes test setting rtype (suc depth) [] state walk all e = cc
-walk_from_passes test setting rtype (suc depth) (number ∷ numbers) state walk all e =
-    branched_passes test (leaves_pass test setting rtype depth) state (length numbers == 0) (walk_from setting rtype numbers)
-    (slice_get (next setting rtype state) number) walk
-    (λ b is. item_passes (branch_passes test (leaves_pass test setting rtype depth)) (next setting rtype state) number b all is)
-    (λ to later. walk_from_passes test setting rtype depth numbers to later) e
-
 -- each walk of the query has a leaf that passes, and not more than so many states
 abbrev pub all_leaves_pass : (Leaf → Bool) → Setting → Labels → RrType → ℕ → Bool
 all_leaves_pass test setting query rtype depth = list_all (leaves_pass test setting rtype depth) (start setting.config query)
 
-begun_passes : (test : Leaf → Bool) (setting : Setting) (rtype : RrType) (depth : ℕ) (numbers : List ℕ) (begin : Option State) (walk : Walk)
-    → ((state : State) → begin ≡ Some state → leaves_pass test setting rtype depth state ≡ true)
-    → option_and_then (walk_from setting rtype numbers) begin ≡ Some walk → test walk.leaf ≡ true
-begun_passes test setting rtype depth numbers None walk all e = cc
-begun_passes test setting rtype depth numbers (Some state) walk all e =
-    walk_from_passes test setting rtype depth numbers state walk (all state refl) e
+-- each walk from the state has such a leaf, and not more than some number of states
+abbrev Passes : (Leaf → Bool) → Setting → RrType → State → Type 0
+Passes test setting rtype state = (depth : ℕ) × (leaves_pass test setting rtype depth state ≡ true)
 
 -- so the leaf of each walk passes
 pub walk_passes : (test : Leaf → Bool) (setting : Setting) (query : Labels) (rtype : RrType) (depth : ℕ)
     → all_leaves_pass test setting query rtype depth ≡ true → (walk : Walk) → IsWalk setting query rtype walk → test walk.leaf ≡ true
-walk_passes test setting query rtype depth all walk ([], along) = cc
-walk_passes test setting query rtype depth all walk (number ∷ numbers, along) =
-    begun_passes test setting rtype depth numbers (slice_get (start setting.config query) number) walk
-    (λ state is. item_passes (leaves_pass test setting rtype depth) (start setting.config query) number state all is) along
+walk_passes test setting query rtype depth all walk (numbers, along) =
+    walk_ends setting rtype (Passes test setting rtype) (λ leaf. test leaf ≡ true) steps query
+    (λ number state is. (depth, item_passes (leaves_pass test setting rtype depth) (start setting.config query) number state all is))
+    numbers walk along
+  where
+    steps : (state : State) → Passes test setting rtype state → (number : ℕ) (branch : Branch) → slice_get (next setting rtype state) number ≡ Some branch
+        → LeadsSo (Passes test setting rtype) (λ leaf. test leaf ≡ true) branch
+    steps state (zero, pass) number branch is = cc
+    steps state (suc depth, pass) number (Go hop to) is =
+        (depth, item_passes (branch_passes test (leaves_pass test setting rtype depth)) (next setting rtype state) number (Go hop to) pass is)
+    steps state (suc depth, pass) number (End hop leaf) is =
+        item_passes (branch_passes test (leaves_pass test setting rtype depth)) (next setting rtype state) number (End hop leaf) pass is
 
 -- the leaf isn't that no such name exists
 abbrev pub isnt_nxdomain : Leaf → Bool

@@ -11,7 +11,7 @@ use Rattle.net_model.specs.declared.place.Place.{Place}
 use Rattle.net_model.specs.declared.walk.Leaf.{Leaf}
 use Rattle.net_model.specs.declared.walk.Walk.{Walk}
 use Rattle.net_model.specs.Nearest.{server_names}
-use Rattle.net_model.specs.Step.{Setting}
+use Rattle.net_model.specs.Step.{Setting, following}
 
 -- a record of a zone; nothing is told by its TTL or by where it was read
 abbrev pub rr : Labels → Rdata → Rr
@@ -39,7 +39,7 @@ cut_at server zone cut ns = record { server = server; zone = zone; cut = cut; ns
 
 -- with so many rewrites, and every configured server followed
 abbrev pub following_all : Config → ℕ → Setting
-following_all config rewrites = record { config = config; rewrites = rewrites; followed = server_names config }
+following_all config rewrites = following config rewrites (server_names config)
 
 -- one server, a top one, with one zone
 abbrev pub alone : Labels → Zone → Config

@@ -9,7 +9,7 @@ use Rattle.net_model.specs.declared.walk.Leaf.{Leaf}
 use Rattle.net_model.specs.declared.walk.Leaf.TheVariants.{Answer, Outside, Unhosted}
 use Rattle.net_model.specs.declared.walk.Walk.{Walk}
 use Rattle.net_model.specs.Nearest.{server_names}
-use Rattle.net_model.specs.Step.{Setting}
+use Rattle.net_model.specs.Step.{Setting, following}
 use Rattle.net_model.specs.Walk.{IsWalk}
 
 -- the end of a walk that gives an address, or leads out of what is configured
@@ -34,7 +34,7 @@ Learns setting name = LearnsBy setting name types.A ⊎ LearnsBy setting name ty
 pub record IsRound (config : Config) (rewrites : ℕ) (followed learnt : List Labels) : Type 0 where
   pub test : Labels → Bool
   pub tells : (name : Labels) → Contains (server_names config) name
-      → (test name ≡ true) ↔ Learns (record { config = config; rewrites = rewrites; followed = followed }) name
+      → (test name ≡ true) ↔ Learns (following config rewrites followed) name
   pub are : learnt ≡ filter test (server_names config)
 
 -- the names are those after so many rounds

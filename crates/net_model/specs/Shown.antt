@@ -20,7 +20,7 @@ use Rattle.net_model.specs.Class.{IsClassOf, IsRepresentative}
 use Rattle.net_model.specs.Learnt.{IsInForce, InLeast, InGreatest}
 use Rattle.net_model.specs.Nearest.{zone_of, is_configured, is_top}
 use Rattle.net_model.specs.Reading.{ground_of}
-use Rattle.net_model.specs.Step.{Setting, has_glue}
+use Rattle.net_model.specs.Step.{Setting, following, has_glue}
 use Rattle.net_model.specs.Walk.{IsWalk}
 use Rattle.net_model.specs.Zone.{ns_names, addresses}
 
@@ -152,4 +152,4 @@ pub record Shows (setting : Setting) (query : Labels) (rtype : RrType) (fault : 
 pub record ShowsIn (config : Config) (rewrites : ℕ) (query : Labels) (rtype : RrType) (fault : Fault) : Type 0 where
   pub followed : List Labels
   pub in_force : IsInForce config rewrites followed
-  pub shows : Shows (record { config = config; rewrites = rewrites; followed = followed }) query rtype fault
+  pub shows : Shows (following config rewrites followed) query rtype fault

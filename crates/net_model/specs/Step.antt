@@ -26,6 +26,10 @@ pub record Setting : Type 0 where
   pub rewrites : ℕ
   pub followed : List Labels
 
+-- what walks are read in while these servers are followed
+abbrev pub following : Config → ℕ → List Labels → Setting
+following config rewrites followed = record { config = config; rewrites = rewrites; followed = followed }
+
 -- what a state leads to: a next state, or an end; a referral and a rewrite are told as a hop
 pub data Branch : Type 0 where
   Go : (hop : Hop) (state : State) → Branch

@@ -11,6 +11,7 @@ use Rattle.net_model.specs.declared.walk.Walk.{Walk}
 use Rattle.net_model.specs.Class.{IsRepresentative}
 use Rattle.net_model.specs.Nearest.{server_names}
 use Rattle.net_model.specs.Reading.{Ground, IsNamed}
+use Rattle.net_model.specs.Step.{following}
 use Rattle.net_model.specs.Walk.{IsWalk}
 
 -- the class tree: the named names of at most 255 octets, in the order of names
@@ -26,7 +27,7 @@ pub record AreBelowClasses (ground : Ground) (names below : List Labels) : Type 
 -- the pair is reached: the state stands on a walk of the query with the type, where all configured servers are followed
 pub record IsReached (config : Config) (rewrites : ℕ) (query : Labels) (pair : State × RrType) : Type 0 where
   pub walk : Walk
-  pub is_walk : IsWalk (record { config = config; rewrites = rewrites; followed = server_names config }) query pair.1 walk
+  pub is_walk : IsWalk (following config rewrites (server_names config)) query pair.1 walk
   pub stands : Contains walk.states pair.0
 
 -- the pairs of state and type that a query reaches, each once
