@@ -1,4 +1,4 @@
--- The aliases of a zone's records, and what one leads to.
+-- The aliases of a zone's records, and what one leads to. The contracts of inner calls alone cite it.
 use Rattle.std.specs.Prelude.{Bool, ◌&&◌, not, List, length, Option, Some, None, ◌==◌}
 use Rattle.std.specs.List.{list_any, filter, filter_map}
 use Rattle.dns_data.specs.Name.{Labels, name_eq, is_prefix}

@@ -1,4 +1,4 @@
--- How a run ends: its status, and its refusal.
+-- How a run ends: its status, and its refusal. The contracts of inner calls alone cite it.
 use Rattle.std.specs.Prelude.{◌≡◌, ℕ, List, [], ◌++◌, codes, Option}
 use Rattle.groot_run.specs.declared.ending.Ending.{Ending}
 use Rattle.groot_run.specs.declared.ending.Ending.TheVariants as endings

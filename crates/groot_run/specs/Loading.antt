@@ -1,4 +1,4 @@
--- What the answers of reading files say.
+-- What the answers of reading files say. The contracts of inner calls alone cite it.
 use Rattle.std.specs.Prelude.{◌≡◌, ℕ, ◌<◌, ◌≤◌, List, length, Result, Ok, Err, Some}
 use Rattle.std.specs.Global.{Vec}
 use Rattle.io_edges.specs.Counts.{Rose}

@@ -1,5 +1,5 @@
 -- The parts of a report's value that are made one by one: the two steps of a blackhole's walk, and the report round
--- its entries.
+-- its entries. The contracts of inner calls alone cite it.
 use Rattle.std.specs.Prelude.{ℕ, List, true, false, codes, None, Some}
 use Rattle.dns_data.specs.Name.{Labels}
 use Rattle.net_model.specs.declared.walk.Hop.TheVariants.{Rewrite}

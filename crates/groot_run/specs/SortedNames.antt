@@ -1,4 +1,4 @@
--- Where a name belongs among names in order.
+-- Where a name belongs among names in order. The contracts of inner calls alone cite it.
 use Rattle.std.specs.Prelude.{◌≡◌, Bool, true, false, List, ◌++◌, All}
 use Rattle.std.specs.Ordering.{is_lt}
 use Rattle.dns_data.specs.Name.{Labels, name_cmp}

@@ -1,4 +1,5 @@
--- The class tree of names that stand in order, where nothing redirects a name.
+-- The class tree of names that stand in order, where nothing redirects a name. The contracts of inner calls alone
+-- cite it.
 use Rattle.std.specs.Prelude.{not, List, [], ◌∷◌, ◌++◌}
 use Rattle.std.specs.List.{filter}
 use Rattle.dns_data.specs.Name.{Labels, is_prefix}

@@ -1,4 +1,4 @@
--- What was read of a file.
+-- What was read of a file. The contracts of inner calls alone cite it.
 use Rattle.std.specs.Prelude.{◌≡◌, ℕ, List, length, take}
 use Rattle.io_edges.specs.Files.{Held, IfHeld}
 
