@@ -1,5 +1,5 @@
 -- The octets in which a name keeps its labels.
-use Rattle.std.proofs.Common.{◌≡◌, ℕ, zero, suc, ◌+◌, ◌-◌, ◌≤◌, ◌++◌, Bool, true, false, nat_eq, List, [], ◌∷◌, length, take, drop, sym, refl, ap, ◌∙◌, append_assoc, subst, get_or, arith}
+use Rattle.std.proofs.Common.{◌≡◌, ℕ, zero, suc, ◌+◌, ◌-◌, ◌≤◌, ◌++◌, nat_eq, List, [], ◌∷◌, length, take, drop, sym, refl, ap, ◌∙◌, append_assoc, subst, get_or, arith}
 use Rattle.std.specs.Prelude.{sum_by, slice_set}
 use borrow.Rule.Slice.PartMut.{put_mid}
 use Rattle.std.proofs.lemmas.List.{append-nil, drop-drop, length-drop, drop_all, take_at, drop_at, length-append, take-append-drop, take_all}
@@ -12,6 +12,7 @@ use Rattle.std.specs.List.{AllByRecursion}
 use Rattle.dns_data.specs.Label.{IsLabel}
 use Rattle.dns_data.specs.Name.{Labels, IsName, wire_octets, is_prefix, name_eq}
 use Rattle.dns_data.proofs.Names.{name_append, is_prefix_means, name_eq_decides, two_octets_each, name_front}
+use Rattle.dns_data.proofs.Searches.{same_truth}
 use Rattle.dns_data.specs.Encoding.{encoded, labels_in, labels_of, EncodesName}
 
 -- encodings joined
@@ -72,14 +73,9 @@ encoded_front (x ∷ a) (y ∷ b) rest e =
     let (below, found) = encoded_front a b rest after in
     (below, ap (λ (l : Labels). x ∷ l) found ∙ ap (λ (l : List ℕ). l ∷ b) tops)
 
-bools_same : (p q : Bool) → (p ≡ true → q ≡ true) → (q ≡ true → p ≡ true) → p ≡ q
-bools_same true q f g = sym (f refl)
-bools_same false true f g = g refl
-bools_same false false f g = refl
-
 -- octets begin others exactly where the labels do
 pub octets_begin : (a b : List ℕ) → EncodesName a → EncodesName b → starts_with nat_eq b a ≡ is_prefix (labels_of a) (labels_of b)
-octets_begin a b h k = bools_same _ _
+octets_begin a b h k = same_truth _ _
     (λ begins. let front : a ≡ take (length a) b = (bytes_decides a (take (length a) b)).0 begins in
     let whole : encoded (labels_of a) ++ drop (length a) b ≡ encoded (labels_of b) = ap (λ (r : List ℕ). r ++ drop (length a) b) (h.same ∙ front) ∙ take-append-drop (length a) b ∙ sym k.same in
     (is_prefix_means (labels_of a) (labels_of b) (is_prefix (labels_of a) (labels_of b)) refl).1 (encoded_front (labels_of a) (labels_of b) (drop (length a) b) whole))
@@ -197,7 +193,7 @@ label_put (o ∷ os) label ys n room e =
 
 -- octets are the same exactly where the labels are
 pub octets_same : (a b : List ℕ) → EncodesName a → EncodesName b → pointwise nat_eq a b ≡ name_eq (labels_of a) (labels_of b)
-octets_same a b h k = bools_same _ _
+octets_same a b h k = same_truth _ _
     (λ same. (name_eq_decides (labels_of a) (labels_of b)).1 (ap labels_of ((bytes_decides a b).0 same)))
     (λ same. (bytes_decides a b).1 (sym h.same ∙ ap encoded ((name_eq_decides (labels_of a) (labels_of b)).0 same) ∙ k.same))
 
