@@ -1,8 +1,8 @@
 -- The history of a pool keeps its part of the law at each kind of event.
-use Rattle.std.proofs.Common.{◌≡◌, ℕ, ◌+◌, ◌<◌, ◌≤◌, ◌==◌, Bool, true, false, cond, not, List, [], ◌∷◌, ◌++◌, length, take, set, replicate, count_by, Option, Some, None, slice_get, refl, sym, ◌∙◌, ap, subst, arith, ⊎_elim, append_assoc, length-append}
+use Rattle.std.proofs.Common.{◌≡◌, ℕ, ◌+◌, ◌<◌, ◌≤◌, ◌==◌, Bool, true, false, cond, not, List, [], ◌∷◌, ◌++◌, length, take, set, replicate, count_by, Option, Some, None, slice_get, refl, sym, ◌∙◌, ap, subst, arith, ⊎_elim, length-append}
 use Rattle.std.specs.List.{Contains}
 use Rattle.std.specs.Option.{option_or, is_none}
-use Rattle.std.proofs.lemmas.Bool.{cases_eq, ne_eqb, eq-eqb, eqb-true, lt-ltb, and_from, and_parts}
+use Rattle.std.proofs.lemmas.Bool.{cases_eq, ne_eqb, eq-eqb, eqb-true, lt-ltb, and_from}
 use Rattle.std.proofs.lemmas.List.{append-nil, length-set, length-replicate, take-append-le, take_all}
 use Rattle.std.proofs.lemmas.List.Elements.{filter_map-append, Contains-append_left, Contains-push}
 use Rattle.std.proofs.lemmas.List.Sums.{sum_by_push}
@@ -10,14 +10,14 @@ use Rattle.std.proofs.lemmas.Option.{slice_get_within}
 use Rattle.pool_core.specs.declared.event.Event.{Event}
 use Rattle.pool_core.specs.declared.event.Event.TheVariants.{Claim, File, Stop}
 use Rattle.pool_core.specs.declared.event.StopCause.{StopCause}
-use Rattle.pool_core.specs.declared.entry.Entry.{Entry}
 use Rattle.pool_core.specs.declared.entry.Entry.TheVariants.{Claim as ClaimEntry, File as FileEntry, Stop as StopEntry}
 use Rattle.pool_core.specs.declared.spot.Spot.{Spot}
 use Rattle.pool_core.specs.declared.spot.Spot.TheVariants.{Issued, Claimed, Filed}
-use Rattle.pool_core.specs.History.{children_of, claims, files, issued_in, is_claimed_in, is_filed_in, first_stop, may_follow, all_may_follow}
+use Rattle.pool_core.specs.History.{children_of, claims, files, issued_in, is_claimed_in, is_filed_in, first_stop, all_may_follow}
 use Rattle.pool_core.specs.Shadow.{entry_of, shadow}
 use Rattle.pool_core.specs.Law.{is_claim_of, is_filing_of, is_claimed, is_filed}
 use Rattle.pool_core.proofs.Lists.{slice_get-set_same, slice_get-set_other, slice_get_push_cases, stays_at_set, stays_at_append, count_by_push, list_any_push, or-false}
+use Rattle.pool_core.proofs.Histories.{all_follow_push, first_stop_push}
 
 -- the ticket is claimed by the worker, and not filed
 abbrev pub is_claimed_by : ℕ → Option Spot → Bool
@@ -40,18 +40,6 @@ pub record Booked (limit : ℕ) (accepted : List Event) (spots : List Spot) (sto
   pub claimed : (t : ℕ) → is_claimed_in (shadow accepted) t ≡ is_claimed (slice_get spots t)
   pub filed : (t : ℕ) → is_filed_in (shadow accepted) t ≡ is_filed (slice_get spots t)
   pub stopped : first_stop (shadow accepted) ≡ stop
-
-all_follow_push : (before history : List Entry) (entry : Entry) → all_may_follow before history ≡ true → may_follow (before ++ history) entry ≡ true → all_may_follow before (history ++ entry ∷ []) ≡ true
-all_follow_push before [] entry h m = and_from _ _ (rw append-nil at m) refl
-all_follow_push before (e ∷ history) entry h m =
-    let p = and_parts (may_follow before e) (all_may_follow (before ++ e ∷ []) history) h in
-    and_from _ _ p.0 (all_follow_push (before ++ e ∷ []) history entry p.1 (rw (append_assoc before (e ∷ []) history) m))
-
-first_stop_push : (history : List Entry) (entry : Entry) → first_stop (history ++ entry ∷ []) ≡ option_or (first_stop history) (first_stop (entry ∷ []))
-first_stop_push [] entry = refl
-first_stop_push (ClaimEntry t ∷ history) entry = first_stop_push history entry
-first_stop_push (FileEntry t c ∷ history) entry = first_stop_push history entry
-first_stop_push (StopEntry cause ∷ history) entry = refl
 
 option_or_none : (o : Option StopCause) → option_or o None ≡ o
 option_or_none None = refl

@@ -1,4 +1,5 @@
 pub mod Lists
+pub mod Histories
 pub mod Queued
 pub mod Booked
 pub mod Accepts

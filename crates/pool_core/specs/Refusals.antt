@@ -1,5 +1,5 @@
 -- Why a pool refuses an event: the first of the causes that applies, in this order.
-use Rattle.std.specs.Prelude.{ℕ, ◌≡◌, ◌+◌, ◌==◌, Bool, false, nat_lt, nat_le, if◌then◌else◌, List, [], ◌∷◌, Option, Some, None, option_map, option_and_then, option_to_list, is_some, length, Result, Ok, Err}
+use Rattle.std.specs.Prelude.{ℕ, ◌≡◌, ◌⊎◌, ◌+◌, ◌==◌, Bool, false, nat_lt, nat_le, if◌then◌else◌, List, [], ◌∷◌, Option, Some, None, option_map, option_and_then, option_to_list, is_some, length, Result, Ok, Err}
 use Rattle.std.specs.List.{find}
 use Rattle.std.specs.Option.{option_or}
 use Rattle.pool_core.specs.declared.event.Event.{Event}
@@ -7,7 +7,7 @@ use Rattle.pool_core.specs.declared.event.Event.TheVariants.{Push, Pop, Steal, C
 use Rattle.pool_core.specs.declared.spot.Spot.{Spot}
 use Rattle.pool_core.specs.declared.spot.Spot.TheVariants.{Issued, Held, Claimed}
 use Rattle.pool_core.specs.declared.fault.StepFault.{StepFault}
-use Rattle.pool_core.specs.declared.fault.StepFault.TheVariants.{NoWorker, NoTicket, Illegal, EmptyDeque, TooMany, Stopped, NoMemory}
+use Rattle.pool_core.specs.declared.fault.StepFault.TheVariants.{NoWorker, NoTicket, Illegal, EmptyDeque, TooMany, Stopped}
 use Rattle.pool_core.specs.Pools.{Pool, issued, spot_of, deque_of}
 
 -- the workers and deques that an event names
@@ -83,8 +83,7 @@ refusal pool event =
     (option_or (illegal pool event)
     (option_or (empty_deque pool event) (too_many pool event)))))
 
--- the call answers the refusal where there is one; else it is done, or memory ran out
-abbrev pub Answers : Result (Unit {0}) StepFault → Option StepFault → Type 0
-Answers (Ok done) said = said ≡ None
-Answers (Err NoMemory) said = said ≡ None
-Answers (Err fault) said = said ≡ Some fault
+-- the call gives the refusal where there is one; else it is done, or gives the fault that is free, as want of memory
+abbrev pub RefusesOr : {T E : Type 0} → E → Result T E → Option E → Type 0
+RefusesOr free (Ok value) refusal = refusal ≡ None
+RefusesOr free (Err fault) refusal = (refusal ≡ Some fault) ⊎ ((fault ≡ free) × (refusal ≡ None))

@@ -2,7 +2,7 @@
 
 ghost use Rattle.std.specs.Prelude.{◌≡◌, ◌≤◌, ◌↔◌, IsNone, OnOk, OnErr, IfOk, None, replicate, []};
 ghost use Rattle.pool_core.specs.Pools.{new_pool, issued, spot_of};
-ghost use Rattle.pool_core.specs.Refusals.{refusal, Answers};
+ghost use Rattle.pool_core.specs.Refusals.{refusal, RefusesOr};
 ghost use Rattle.pool_core.specs.Steps.{happens};
 ghost use Rattle.pool_core.specs.Law.{EachHasOneSpot, WaitsWhereItStands, StandsOnceAtMost, TakesInOrder, KeepsBalance, ClaimsOnce, FilesOnce, FilesAfterClaim, HasLegalShadow, ReplaysToItself, IsRunOfAccepted};
 
@@ -81,7 +81,7 @@ impl Core {
     /// ticket that was not issued, a claim after a stop, a spot from which the event moves no ticket, an
     /// empty deque, more tickets than the limit, want of memory. A refused event changes nothing.
     pub fn step(&mut self, event: Event) -> Result<(), StepFault>
-        ensures answers { Answers result (refusal self.old event) }
+        ensures answers { RefusesOr StepFault.NoMemory result (refusal self.old event) }
         ensures ok { OnOk result (self.new ≡ happens self.old event) }
         ensures err { OnErr result (self.new ≡ self.old) }
         ensures run { IsRunOfAccepted self.new }

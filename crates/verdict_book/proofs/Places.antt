@@ -1,0 +1,181 @@
+-- What stands at which place of a list, after an append, a write, a map and a change of order.
+use Rattle.std.proofs.Common.{◌≡◌, ℕ, zero, suc, ◌+◌, ◌<◌, ◌==◌, Bool, true, false, cond, List, [], ◌∷◌, ◌++◌, length, map, get_or, set, count_by, Option, Some, None, IfSome, slice_get, refl, sym, ◌∙◌, ap, subst, arith, ◌⊎◌, inl, inr, ⊎_elim}
+use Rattle.std.specs.Prelude.{Result, Ok, Err, is_err, OnOk, IfOk}
+use Rattle.std.specs.List.{swap}
+use Rattle.std.specs.List.Sorted.{IsPermutation, IsSortedByKey}
+use Rattle.std.specs.Ordering.{is_lt}
+use Rattle.std.specs.declared.cmp.Ordering.{Ordering}
+use Rattle.std.proofs.lemmas.Bool.{cases_eq, ne_eqb, eq-eqb}
+use Rattle.std.proofs.lemmas.Option.{slice_get_within, slice_get-get_or, get_or_from_slice_get}
+use Rattle.std.proofs.lemmas.List.{length-set, length-map}
+use Rattle.std.proofs.lemmas.List.Sums.{sum_by-set, count_by-le-length}
+use Rattle.std.proofs.lemmas.List.Sorted.{IsPermutation-keeps}
+use Rattle.pool_core.proofs.Lists.{slice_get-set_same, slice_get-set_other, count_by-cons}
+use Rattle.verdict_book.specs.Items.{NoneTwice}
+
+module _ {X : Type 0} where
+  -- an item of the front is one of the whole
+  pub get_left : (xs ys : List X) (k : ℕ) (x : X) → slice_get xs k ≡ Some x → slice_get (xs ++ ys) k ≡ Some x
+  get_left [] ys k x h = absurd cc
+  get_left (y ∷ xs) ys zero x h = h
+  get_left (y ∷ xs) ys (suc k) x h = get_left xs ys k x h
+
+  -- an item of the back is one of the whole
+  pub get_right : (xs ys : List X) (k : ℕ) (x : X) → slice_get ys k ≡ Some x → slice_get (xs ++ ys) (length xs + k) ≡ Some x
+  get_right [] ys k x h = ap (λ n. slice_get ys n) (omega arith) ∙ h
+  get_right (y ∷ xs) ys k x h = let e : suc (length xs) + k ≡ suc (length xs + k) = omega arith in ap (λ n. slice_get (y ∷ (xs ++ ys)) n) e ∙ get_right xs ys k x h
+
+  -- an item of the whole is one of the front or of the back
+  pub get_cases : (xs ys : List X) (k : ℕ) (x : X) → slice_get (xs ++ ys) k ≡ Some x → (slice_get xs k ≡ Some x) ⊎ ((p : ℕ) × (k ≡ length xs + p) × (slice_get ys p ≡ Some x))
+  get_cases [] ys k x h = inr (k, omega arith, h)
+  get_cases (y ∷ xs) ys zero x h = inl h
+  get_cases (y ∷ xs) ys (suc k) x h = ⊎_elim (λ l. inl l) (λ r. inr (r.0, omega (arith, r.1), r.2)) (get_cases xs ys k x h)
+
+  pub some_same : (x y : X) → Some x ≡ Some y → x ≡ y
+  some_same x y e = cc
+
+  -- one item stands at a place
+  pub one_value : (xs : List X) (k : ℕ) (x y : X) → slice_get xs k ≡ Some x → slice_get xs k ≡ Some y → x ≡ y
+  one_value xs k x y a b = some_same x y (sym a ∙ b)
+
+  pub if_some : (o : Option X) (P : X → Type 0) → ((x : X) → o ≡ Some x → P x) → IfSome o P
+  if_some None P each = tt
+  if_some (Some x) P each = each x refl
+
+  pub some_in : (o : Option X) (P : X → Type 0) (x : X) → IfSome o P → o ≡ Some x → P x
+  some_in None P x h e = absurd cc
+  some_in (Some y) P x h e = subst P (some_same y x e) h
+
+  pub ok_means : {E : Type 0} (r : Result X E) (P : Type 0) → is_err r ≡ false → OnOk r P → P
+  ok_means (Ok x) P e h = h
+  ok_means (Err x) P e h = absurd cc
+
+  pub both_ok : {E : Type 0} (r : Result X E) (P Q R : X → Type 0) → IfOk r P → IfOk r Q → ((x : X) → P x → Q x → R x) → IfOk r R
+  both_ok (Ok x) P Q R p q each = each x p q
+  both_ok (Err e) P Q R p q each = tt
+
+  pub none_left : (xs : List X) → length xs ≡ 0 → xs ≡ []
+  none_left [] e = refl
+  none_left (x ∷ xs) e = absurd cc
+
+  -- an item that is counted takes the place of one
+  pub count_set : (p : X → Bool) (xs : List X) (k : ℕ) (x y : X) → slice_get xs k ≡ Some x → count_by p (set xs k y) + cond (p x) 1 0 ≡ count_by p xs + cond (p y) 1 0
+  count_set p xs k x y h = ap (λ v. count_by p (set xs k y) + cond (p v) 1 0) (sym (get_or_from_slice_get xs k x x h)) ∙ sum_by-set (λ v. cond (p v) 1 0) xs k y x (slice_get_within xs k x h)
+
+  -- where the items that are counted are as many as the places, each item is counted
+  pub all_counted : (p : X → Bool) (xs : List X) → count_by p xs ≡ length xs → (k : ℕ) (x : X) → slice_get xs k ≡ Some x → p x ≡ true
+  all_counted p [] e k x h = absurd cc
+  all_counted p (y ∷ xs) e k x h =
+      let low = count_by-le-length p xs in
+      let c = count_by-cons p y xs in
+      elim (p y) as (λ (b : Bool). p y ≡ b → p x ≡ true) [
+        | true ↦ (λ is.
+            let rest : count_by p (y ∷ xs) ≡ 1 + count_by p xs = c ∙ rw is refl in
+            later k h is (all_counted p xs (omega (arith, rest, e))))
+        | false ↦ (λ is. absurd (let rest : count_by p (y ∷ xs) ≡ 0 + count_by p xs = c ∙ rw is refl in omega (arith, rest, low, e)))
+      ] refl
+    where
+      later : (n : ℕ) → slice_get (y ∷ xs) n ≡ Some x → p y ≡ true → ((m : ℕ) (z : X) → slice_get xs m ≡ Some z → p z ≡ true) → p x ≡ true
+      later zero got is rest = ap p (sym (some_same y x got)) ∙ is
+      later (suc n) got is rest = rest n x got
+
+module _ {X Y : Type 0} (f : X → Y) where
+  -- an item of a list of values is the value of an item
+  pub get_map : (xs : List X) (k : ℕ) (x : X) → slice_get xs k ≡ Some x → slice_get (map f xs) k ≡ Some (f x)
+  get_map [] k x h = absurd cc
+  get_map (y ∷ xs) zero x h = cc
+  get_map (y ∷ xs) (suc k) x h = get_map xs k x h
+
+  pub get_map_back : (xs : List X) (k : ℕ) (y : Y) → slice_get (map f xs) k ≡ Some y → (x : X) × (slice_get xs k ≡ Some x) × (f x ≡ y)
+  get_map_back [] k y h = absurd cc
+  get_map_back (x ∷ xs) zero y h = (x, refl, some_same (f x) y h)
+  get_map_back (x ∷ xs) (suc k) y h = get_map_back xs k y h
+
+  -- a write that keeps the value of an item keeps the list of values
+  pub map_set_same : (xs : List X) (k : ℕ) (x y : X) → slice_get xs k ≡ Some x → f y ≡ f x → map f (set xs k y) ≡ map f xs
+  map_set_same [] k x y h e = refl
+  map_set_same (z ∷ xs) zero x y h e = let same : z ≡ x = cc in ap (λ v. v ∷ map f xs) (e ∙ ap f (sym same))
+  map_set_same (z ∷ xs) (suc k) x y h e = ap (λ l. f z ∷ l) (map_set_same xs k x y h e)
+
+  -- no value of the list is counted where no value of the function is
+  pub count_map_none : (p : Y → Bool) (xs : List X) → ((x : X) → p (f x) ≡ false) → count_by p (map f xs) ≡ 0
+  count_map_none p [] none = refl
+  count_map_none p (x ∷ xs) none = count_by-cons p (f x) (map f xs) ∙ rw (none x, count_map_none p xs none) refl
+
+-- where the item of a place stands after an exchange of two places
+abbrev pub moved : ℕ → ℕ → ℕ → ℕ
+moved i j k = cond (k == j) i (cond (k == i) j k)
+
+moved_back : (i j k : ℕ) → moved i j (moved i j k) ≡ k
+moved_back i j k =
+    ⊎_elim
+    (λ (e : k ≡ j).
+    ⊎_elim
+    (λ (f : i ≡ j). rw (e, f, eq-eqb j j refl, eq-eqb j j refl) refl)
+    (λ (n : i ≡ j → ⊥). rw (e, eq-eqb j j refl, ne_eqb i j n, eq-eqb i i refl) refl)
+    (cases_eq i j))
+    (λ (n : k ≡ j → ⊥).
+    ⊎_elim
+    (λ (e : k ≡ i). rw (ne_eqb k j n, eq-eqb k i e, eq-eqb j j refl) (sym e))
+    (λ (m : k ≡ i → ⊥). rw (ne_eqb k j n, ne_eqb k i m, ne_eqb k j n, ne_eqb k i m) refl)
+    (cases_eq k i))
+    (cases_eq k j)
+
+module _ {X : Type 0} where
+  get_swap : (xs : List X) (i j k : ℕ) → i < length xs → j < length xs → slice_get (swap xs i j) k ≡ slice_get xs (moved i j k)
+  get_swap [] i j k hi hj = absurd (omega (arith, hi))
+  get_swap (d ∷ ys) i j k hi hj =
+      let xs : List X = d ∷ ys in
+      let first = set xs i (get_or xs j d) in
+      ⊎_elim
+      (λ (e : k ≡ j). rw (e, eq-eqb j j refl) (slice_get-set_same first j (get_or xs i d) (omega (arith, hj, length-set xs i (get_or xs j d))) ∙ sym (slice_get-get_or xs i d hi)))
+      (λ (n : k ≡ j → ⊥).
+      slice_get-set_other first j k (get_or xs i d) n
+      ∙ ⊎_elim
+      (λ (e : k ≡ i). rw (ne_eqb k j n, eq-eqb k i e) (ap (slice_get first) e ∙ slice_get-set_same xs i (get_or xs j d) hi ∙ sym (slice_get-get_or xs j d hj)))
+      (λ (m : k ≡ i → ⊥). rw (ne_eqb k j n, ne_eqb k i m) (slice_get-set_other xs i k (get_or xs j d) m))
+      (cases_eq k i))
+      (cases_eq k j)
+
+  -- the second list has the items of the first
+  abbrev pub HasItems : List X → List X → Type 0
+  HasItems xs ys = (x : X) → ((k : ℕ) × (slice_get xs k ≡ Some x)) → (k : ℕ) × (slice_get ys k ≡ Some x)
+
+  -- a change of order leaves each item once
+  pub none_twice_permuted : (xs ys : List X) → IsPermutation xs ys → NoneTwice xs → NoneTwice ys
+  none_twice_permuted xs ys perm once =
+      IsPermutation-keeps xs NoneTwice once (λ l i j hi hj old a b x ha hb.
+      let same = old (moved i j a) (moved i j b) x (sym (get_swap l i j a hi hj) ∙ ha) (sym (get_swap l i j b hi hj) ∙ hb) in
+      sym (moved_back i j a) ∙ ap (moved i j) same ∙ moved_back i j b) ys perm
+
+  -- and no item is lost
+  pub items_permuted : (xs ys : List X) → IsPermutation xs ys → HasItems xs ys
+  items_permuted xs ys perm =
+      IsPermutation-keeps xs (HasItems xs) (λ x h. h) (λ l i j hi hj old x h.
+      let at = old x h in
+      (moved i j at.0, get_swap l i j (moved i j at.0) hi hj ∙ ap (slice_get l) (moved_back i j at.0) ∙ at.1)) ys perm
+
+-- values in order, of one list, are so of another one with the same values
+module _ {A B I : Type 0} (cmp : I → I → Ordering) (f : A → I) (g : B → I) where
+  value_at : (xs : List A) (ys : List B) → map f xs ≡ map g ys → (k : ℕ) (d : A) (e : B) → k < length ys → g (get_or ys k e) ≡ f (get_or xs k d)
+  value_at [] [] same k d e low = absurd (omega (arith, low))
+  value_at [] (y ∷ ys) same k d e low = absurd cc
+  value_at (x ∷ xs) [] same k d e low = absurd cc
+  value_at (x ∷ xs) (y ∷ ys) same zero d e low = sym (cons_head same)
+    where
+      cons_head : map f (x ∷ xs) ≡ map g (y ∷ ys) → f x ≡ g y
+      cons_head s = cc
+  value_at (x ∷ xs) (y ∷ ys) same (suc k) d e low = value_at xs ys (cons_tail same) k d e (omega (arith, low))
+    where
+      cons_tail : map f (x ∷ xs) ≡ map g (y ∷ ys) → map f xs ≡ map g ys
+      cons_tail s = cc
+
+  pub sorted_alike : (xs : List A) (ys : List B) → map f xs ≡ map g ys → IsSortedByKey f cmp xs → IsSortedByKey g cmp ys
+  sorted_alike [] [] same sorted k e low high = absurd (omega (arith, high))
+  sorted_alike [] (y ∷ ys) same sorted k e low high = absurd cc
+  sorted_alike (x ∷ xs) ys same sorted k e low high =
+      let len : length (x ∷ xs) ≡ length ys = sym (length-map (x ∷ xs) f) ∙ ap (λ l. length l) same ∙ length-map ys g in
+      let old = sorted k x low (omega (arith, high, len)) in
+      let here = value_at (x ∷ xs) ys same k x e (omega (arith, high)) in
+      let next = value_at (x ∷ xs) ys same (k + 1) x e high in
+      ap (λ v. is_lt (cmp v (g (get_or ys k e)))) next ∙ ap (λ v. is_lt (cmp (f (get_or (x ∷ xs) (k + 1) x)) v)) here ∙ old

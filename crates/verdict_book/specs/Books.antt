@@ -1,0 +1,52 @@
+-- What contracts see of a book, and what its history replays to.
+use Rattle.std.specs.Prelude.{◌≡◌, ℕ, ◌-◌, Bool, true, false, nat_lt, if◌then◌else◌, List, [], ◌∷◌, ◌++◌, count_by, Some, is_none}
+use Rattle.pool_core.specs.declared.entry.Entry.{Entry}
+use Rattle.pool_core.specs.declared.entry.Entry.TheVariants.{Claim, File, Stop}
+use Rattle.pool_core.specs.declared.event.StopCause.{StopCause}
+use Rattle.pool_core.specs.declared.event.StopCause.TheVariants.{Full}
+use Rattle.pool_core.specs.History.{issued_in, is_claimed_in, is_filed_in, first_stop, is_legal}
+use Rattle.verdict_book.specs.declared.claim.Kept.{Kept}
+use Rattle.verdict_book.specs.declared.claim.Kept.TheVariants.{Unknown, Issued as KeptIssued, Claimed as KeptClaimed, Filed as KeptFiled}
+use Rattle.verdict_book.specs.Items.{AllCountRight, ReachesMore}
+
+-- the limit of tickets, and the history, which says all else
+pub record Pages : Type 0 where
+  pub limit : ℕ
+  pub history : List Entry
+
+-- the entry is a claim
+abbrev pub is_claim : Entry → Bool
+is_claim (Claim ticket) = true
+is_claim entry = false
+
+-- the entry is a filing
+abbrev pub is_filing : Entry → Bool
+is_filing (File ticket children) = true
+is_filing entry = false
+
+-- how many claims were given
+abbrev pub claims_in : List Entry → ℕ
+claims_in history = count_by is_claim history
+
+-- how many tickets were filed
+abbrev pub filings_in : List Entry → ℕ
+filings_in history = count_by is_filing history
+
+-- how many issued tickets aren't filed
+abbrev pub unfiled_in : List Entry → ℕ
+unfiled_in history = issued_in history - filings_in history
+
+-- what is kept of a ticket
+abbrev pub kept_in : List Entry → ℕ → Kept
+kept_in history ticket =
+    if nat_lt ticket (issued_in history) then (if is_filed_in history ticket then KeptFiled else (if is_claimed_in history ticket then KeptClaimed else KeptIssued)) else Unknown
+
+-- the history after a stop: only the first one adds an entry
+abbrev pub history_stopped : List Entry → StopCause → List Entry
+history_stopped history cause = if is_none (first_stop history) then history ++ Stop cause ∷ [] else history
+
+-- what holds of each book: its history is legal, each filing issues all children of its item, and where it was stopped for want of room more items than the limit are reached
+pub record IsBookOf {I : Type 0} (first : I) (children : I → List I) (pages : Pages) : Type 0 where
+  pub legal : is_legal pages.limit pages.history ≡ true
+  pub counts : AllCountRight first children (first ∷ []) pages.history
+  pub full : first_stop pages.history ≡ Some Full → ReachesMore first children pages.limit

@@ -1,0 +1,5 @@
+pub mod Items
+pub mod Books
+pub mod Refusals
+pub mod Keeping
+pub mod Lists

@@ -1,0 +1,69 @@
+//! What a book keeps of each ticket.
+
+ghost use Rattle.std.specs.Prelude.{◌≡◌, ◌+◌, ◌<◌, ◌≤◌, length, IfSome, slice_get, vec_len, vec_capacity};
+ghost use Rattle.std.specs.List.Sorted.{IsPermutation, IsSortedByKey};
+ghost use Rattle.verdict_book.specs.Keeping.{kept_row, rows_filed};
+
+use crate::claim::Kept;
+use dns_data::List;
+use std::collections::VecDeque;
+
+/// How far a ticket has come.
+#[derive(Drop)]
+pub enum State<V> {
+    Issued,
+    Claimed,
+    Filed(V),
+}
+
+/// The item of a ticket, and how far the ticket has come. Rows are ordered by their items.
+#[derive(Drop)]
+#[derive_where(PartialEq, Eq, PartialOrd, Ord; I)]
+pub struct Row<I, V> {
+    pub item: I,
+    #[derive_where(skip(EqHashOrd))]
+    pub state: State<V>,
+}
+
+/// What is kept of a ticket.
+pub fn kept_at<I, V>(rows: &[Row<I, V>], ticket: u32) -> Kept
+    ensures { result ≡ kept_row (slice_get rows.now ticket) }
+{
+    match rows.get(ticket as usize) {
+        None => Kept::Unknown,
+        Some(row) => match row.state {
+            State::Issued => Kept::Issued,
+            State::Claimed => Kept::Claimed,
+            State::Filed(_) => Kept::Filed,
+        },
+    }
+}
+
+/// Files the row at a place with its verdict, and puts rows of new tickets behind the others.
+pub fn file_row<I: Drop, V: Drop>(
+    rows: &mut Vec<Row<I, V>>,
+    place: usize,
+    verdict: V,
+    children: List<I>,
+)
+    requires place { place < vec_len rows.old }
+    requires room { vec_len rows.old + length children ≤ vec_capacity rows.old }
+    ensures { IfSome (slice_get rows.old.items place) (λ row. rows.new.items ≡ rows_filed rows.old.items place verdict children row) }
+{
+    rows[place].state = State::Filed(verdict);
+    let mut left = VecDeque::from_vec(children.into_vec());
+    while let Some(item) = left.pop_front() {
+        rows.push_reserved(Row {
+            item,
+            state: State::Issued,
+        });
+    }
+}
+
+/// Orders the rows by their items.
+pub fn sort_rows<I: Ord, V>(rows: &mut Vec<Row<I, V>>)
+    ensures same { IsPermutation rows.old.items rows.new.items }
+    ensures sorted { IsSortedByKey (λ row. row.item) I.cmp rows.new.items }
+{
+    rows.sort_unstable();
+}

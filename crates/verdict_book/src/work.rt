@@ -1,0 +1,76 @@
+//! A work: items, of which each has children and a verdict.
+
+ghost use Rattle.std.specs.Prelude.{◌≡◌, ◌+◌, ◌^◌, ◌-◌, ℕ, List as Items, IfOk, min};
+ghost use Rattle.std.specs.declared.cmp.Ordering.TheVariants.{Equal};
+ghost use Rattle.verdict_book.specs.Items.{Reached, ParentsApart};
+
+use dns_data::{List, NoMemory};
+
+/// Counts the judging calls of one worker.
+#[derive(Debug, Drop)]
+pub struct JudgeShare {
+    calls: u64,
+}
+
+impl JudgeShare {
+    /// No call.
+    pub fn new() -> JudgeShare
+        ensures { result.calls ≡ 0 }
+    {
+        JudgeShare { calls: 0 }
+    }
+
+    /// One call more, up to the type's end.
+    pub fn raise(&mut self)
+        ensures { self.new.calls ≡ min (self.old.calls + 1) (2 ^ 64 - 1) }
+    {
+        self.calls = self.calls.saturating_add(1);
+    }
+
+    /// How many calls there were.
+    pub fn calls(&self) -> u64
+        ensures { result ≡ self.now.calls }
+    {
+        self.calls
+    }
+}
+
+/// Items in a tree, each with its children and its verdict.
+///
+/// The meanings belong to the type and not to one value, since only the type of a value behind a lock
+/// is known. An item is a child of at most one reached item, and of that one at most once; the first
+/// item is a child of none. Items that compare equal are the same value. A work holds its allocator.
+pub trait Work {
+    type Item: Ord + Drop + Send;
+
+    type Verdict: Drop + Send;
+
+    ghost first_item: { Self.Item };
+
+    ghost children_of: { Self.Item → Items Self.Item };
+
+    ghost verdict_of: { Self.Item → Self.Verdict };
+
+    /// The item from which all others are reached.
+    fn first(&self) -> Result<Self::Item, NoMemory>
+        ensures { IfOk result (λ item. item ≡ first_item) };
+
+    /// The children of a reached item, in order.
+    fn children(&self, item: &Self::Item) -> Result<List<Self::Item>, NoMemory>
+        requires { Reached first_item children_of item.now }
+        ensures { IfOk result (λ items. items ≡ children_of item.now) };
+
+    /// The verdict of a reached item. The share counts the call, also where memory runs out.
+    fn judge(&self, item: &Self::Item, share: &mut JudgeShare) -> Result<Self::Verdict, NoMemory>
+        requires { Reached first_item children_of item.now }
+        ensures verdict { IfOk result (λ verdict. verdict ≡ verdict_of item.now) }
+        ensures calls { share.new.calls ≡ min (share.old.calls + 1) (2 ^ 64 - 1) };
+
+    /// An equal item.
+    fn copy_item(&self, item: &Self::Item) -> Result<Self::Item, NoMemory>
+        ensures { IfOk result (λ copy. copy ≡ item.now) };
+
+    ghost parents_apart: { ParentsApart first_item children_of };
+
+    ghost equal_is_same: { (x y : Self.Item) → Self.Item.cmp x y ≡ Equal → x ≡ y };
+}
