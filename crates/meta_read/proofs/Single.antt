@@ -1,0 +1,75 @@
+-- Names once each, by a set of those that came before.
+use Rattle.std.proofs.Common.{◌≡◌, ℕ, ◌+◌, ◌<◌, ◌≤◌, Bool, true, false, not, cond, ◌||◌, List, [], ◌∷◌, ◌++◌, length, take, drop, get_or, refl, ap, sym, ◌∙◌, add-one}
+use Rattle.std.proofs.Math.Seq.{drop-cons}
+use Rattle.std.proofs.Math.ListN.{drop_of_length-le}
+use Rattle.std.proofs.lemmas.List.{append-nil, take_more}
+use Rattle.std.proofs.lemmas.List.Folds.{list_any_more}
+use Rattle.std.specs.List.{list_any}
+use Rattle.std.specs.Cmp.Lexicographic.{lists_ties, texts_ties, nat_list_eq_equiv, lists_equiv}
+use Rattle.std.specs.BTreeMap.{is_at}
+use Rattle.std.specs.BTreeSet as tree
+use Rattle.dns_data.specs.Label.{label_cmp}
+use Rattle.dns_data.specs.Name.{Labels, name_eq, name_cmp}
+use Rattle.meta_read.specs.Names.{once_behind}
+
+-- one more alternative, in the words of a set that was added to
+or-from_cond : (here before : Bool) → cond here true before ≡ (before || here)
+or-from_cond true true = refl
+or-from_cond true false = refl
+or-from_cond false true = refl
+or-from_cond false false = refl
+
+module _ {A : Type 0} (name_of : A → Labels) (items : List A) where
+  -- the set has the names of the first items, and no others
+  abbrev pub HasFirst : ℕ → tree.BTreeSet Labels → Type 0
+  HasFirst i set = (name : Labels) → tree.contains name_cmp set name ≡ list_any (λ item. name_eq name (name_of item)) (take i items)
+
+  -- an empty set has the names of no item
+  pub has-none : (set : tree.BTreeSet Labels) → tree.IsEmpty set → HasFirst 0 set
+  has-none set empty name = ap (list_any (is_at (name_cmp name))) empty
+
+  -- a set to which the name of the next item was added
+  pub has-more : (i : ℕ) (old new : tree.BTreeSet Labels) (item : A) → i < length items → item ≡ get_or items i item → tree.Updates name_cmp old new (name_of item) true → HasFirst i old → HasFirst (i + 1) new
+  has-more i old new item below is updates has name =
+      updates.0 name
+      ∙ (ap (λ b. cond b true (tree.contains name_cmp old name)) (sym (lists_ties label_cmp texts_ties (name_of item) name) ∙ (lists_equiv nat_list_eq_equiv).symm (name_of item) name)
+      ∙ (or-from_cond (name_eq name (name_of item)) (tree.contains name_cmp old name)
+      ∙ ((λ j. has name j || name_eq name (name_of (is j)))
+      ∙ sym (list_any_more (λ other. name_eq name (name_of other)) items i item below))))
+
+module _ (names : List Labels) (i : ℕ) where
+  -- the names from here on, where there is one
+  here : (name : Labels) → i < length names → name ≡ get_or names i name → drop i names ≡ name ∷ drop (i + 1) names
+  here name below is = drop-cons names i name below ∙ (λ j. sym is j ∷ drop (sym (add-one i) j) names)
+
+  -- the names before the next
+  before : (name : Labels) → i < length names → name ≡ get_or names i name → take (i + 1) names ≡ take i names ++ name ∷ []
+  before name below is = take_more names i name below ∙ (λ j. take i names ++ sym is j ∷ [])
+
+  -- a name that came before
+  pub once-old : (name : Labels) → i < length names → name ≡ get_or names i name → list_any (name_eq name) (take i names) ≡ true → once_behind (take i names) (drop i names) ≡ once_behind (take (i + 1) names) (drop (i + 1) names)
+  once-old name below is old =
+      ap (once_behind (take i names)) (here name below is)
+      ∙ (ap (λ b. cond b (once_behind (take i names ++ name ∷ []) (drop (i + 1) names)) (name ∷ once_behind (take i names ++ name ∷ []) (drop (i + 1) names))) old
+      ∙ ap (λ front. once_behind front (drop (i + 1) names)) (sym (before name below is)))
+
+  -- a name that didn't
+  pub once-new : (name : Labels) → i < length names → name ≡ get_or names i name → list_any (name_eq name) (take i names) ≡ false → once_behind (take i names) (drop i names) ≡ name ∷ once_behind (take (i + 1) names) (drop (i + 1) names)
+  once-new name below is new =
+      ap (once_behind (take i names)) (here name below is)
+      ∙ (ap (λ b. cond b (once_behind (take i names ++ name ∷ []) (drop (i + 1) names)) (name ∷ once_behind (take i names ++ name ∷ []) (drop (i + 1) names))) new
+      ∙ ap (λ front. name ∷ once_behind front (drop (i + 1) names)) (sym (before name below is)))
+
+  -- no name is left
+  pub once-end : (single : List Labels) → length names ≤ i → single ++ once_behind (take i names) (drop i names) ≡ single
+  once-end single past = ap (λ rest. single ++ once_behind (take i names) rest) (drop_of_length-le names past) ∙ append-nil single
+
+-- what a set says that a name was new
+pub not-true : (b : Bool) → not b ≡ true → b ≡ false
+not-true true e = sym e
+not-true false e = refl
+
+-- what a set says that a name was there
+pub not-false : (b : Bool) → not b ≡ false → b ≡ true
+not-false true e = refl
+not-false false e = sym e

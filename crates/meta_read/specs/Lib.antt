@@ -1,0 +1,5 @@
+pub mod Members
+pub mod Names
+pub mod Tops
+pub mod Rows
+pub mod Metadata

@@ -1,0 +1,25 @@
+-- Values of JSON, and members of objects (RFC 8259). Of members with one name the last counts; a value that is no
+-- object has none.
+use Rattle.std.specs.Prelude.{ℕ, List, [], ◌∷◌, Option, None, option_and_then, if◌then◌else◌}
+use Rattle.std.specs.Option.{option_map}
+use Rattle.std.specs.Str.{is_utf8}
+use Rattle.serde_json.specs.Data.{Data, Items, no_items, item}
+use Rattle.serde_json.specs.Find.{get, as_str, as_array}
+use Rattle.serde_json.specs.Read.{read}
+
+-- the value that a file's octets are the text of, in UTF-8 (RFC 8259 section 8.1)
+abbrev pub value_of : List ℕ → Option Data
+value_of octets = if is_utf8 octets then read octets else None
+
+-- the values of an array, in order
+abbrev pub values_of : Items → List Data
+values_of no_items = []
+values_of (item value items) = value ∷ values_of items
+
+-- the values of the array at a key
+abbrev pub list_at : List ℕ → Data → Option (List Data)
+list_at key value = option_map values_of (option_and_then as_array (get key value))
+
+-- the string at a key
+abbrev pub text_at : List ℕ → Data → Option (List ℕ)
+text_at key value = option_and_then as_str (get key value)

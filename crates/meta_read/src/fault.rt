@@ -1,0 +1,58 @@
+//! Why octets are no metadata.
+
+ghost use Rattle.std.specs.Prelude.{◌≡◌};
+ghost use Rattle.meta_read.specs.declared.fault.MetaFault.TheVariants as meta_fault;
+
+use dns_data::{Name, NoMemory};
+use std::alloc::{AllocError, AllocFailed};
+use thiserror::Error;
+
+/// Why octets are no metadata. A row is its number, counted from 1, or 0 where the fault is in none.
+#[derive(Debug, Drop, Error)]
+pub enum MetaFault {
+    /// The octets aren't a text of JSON (RFC 8259).
+    #[error("not JSON")]
+    NotJson,
+    /// A member isn't there or isn't of its kind.
+    #[error("row {row}: a member isn't there or isn't of its kind")]
+    Shape { row: u32 },
+    /// A text is no name (RFC 1035 section 5.1).
+    #[error("row {row}: a text is no name")]
+    BadName { row: u32 },
+    /// No row names this top server.
+    #[error("a top server has no zone file")]
+    TopUnhosted(Name),
+    /// The list of top servers is empty.
+    #[error("no top server")]
+    NoTops,
+    /// There are more than 10,000 rows.
+    #[error("more than 10,000 rows")]
+    TooManyRows,
+    /// Memory ran out.
+    #[error("no memory")]
+    NoMemory,
+}
+
+impl From<NoMemory> for MetaFault {
+    ghost from_gives = { λ _ fault. fault ≡ meta_fault.NoMemory };
+
+    fn from(_fault: NoMemory) -> MetaFault {
+        MetaFault::NoMemory
+    }
+}
+
+impl From<AllocError> for MetaFault {
+    ghost from_gives = { λ _ fault. fault ≡ meta_fault.NoMemory };
+
+    fn from(_fault: AllocError) -> MetaFault {
+        MetaFault::NoMemory
+    }
+}
+
+impl<T: Drop> From<AllocFailed<T>> for MetaFault {
+    ghost from_gives = { λ _ fault. fault ≡ meta_fault.NoMemory };
+
+    fn from(_fault: AllocFailed<T>) -> MetaFault {
+        MetaFault::NoMemory
+    }
+}

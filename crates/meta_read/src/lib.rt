@@ -1,0 +1,26 @@
+//! Metadata of a configuration: the servers at which a query begins, and for each zone file the server that holds
+//! it, from a text of JSON (RFC 8259).
+//!
+//! The layer above may rest on this: what `read_metadata` answers is what the definition `metadata_of` says of the
+//! octets, step by step in the order of the format, so the first fault decides, with the number of its row.
+//!
+//! Costs: the text is read once, and its value is held until the metadata are made. Names of top servers are made
+//! single, and looked up among the servers of rows, by maps in the order of names, so a list of any length takes its
+//! length times a logarithm. A list of more than 10,000 rows is refused before a row is looked at.
+#![tactic(auto)]
+
+mod fault;
+mod hosted;
+mod members;
+mod meta;
+mod names;
+mod read;
+mod rows;
+mod tops;
+
+pub use fault::MetaFault;
+pub use meta::{Meta, MetaRow};
+pub use read::read_metadata;
+
+#[cfg(test)]
+mod tests;
