@@ -17,7 +17,7 @@ use Rattle.pool_core.specs.History.{issued_in, is_claimed_in, is_filed_in, first
 use Rattle.pool_core.proofs.Lists.{slice_get-set_same, slice_get-set_other, count_by_push, count_by-append, or-false}
 use Rattle.pool_core.proofs.Histories.{issued_push, claimed_push, filed_push, all_follow_push, first_stop_push}
 use Rattle.verdict_book.specs.Items.{Reached, ParentsApart, AreReached, ReachesExactly, ReachesMore, item_step, items_from, items_of, item_of, CountsRight, AllCountRight}
-use Rattle.verdict_book.specs.Books.{Pages, kept_in, claims_in, unfiled_in, is_claim, is_filing}
+use Rattle.verdict_book.specs.Books.{EachOnce, Pages, kept_in, claims_in, unfiled_in, is_claim, is_filing}
 use Rattle.verdict_book.specs.Keeping.{StateIs, IsKept, kept_state, kept_row, new_row, rows_filed, is_taken, is_filed}
 use Rattle.verdict_book.specs.declared.row.State.{State}
 use Rattle.verdict_book.specs.declared.row.State.TheVariants.{Issued, Claimed, Filed}
@@ -27,6 +27,7 @@ use Rattle.verdict_book.specs.declared.claim.Kept.{Kept}
 use Rattle.verdict_book.specs.declared.claim.Kept.TheVariants.{Unknown, Issued as KeptIssued, Claimed as KeptClaimed, Filed as KeptFiled}
 use Rattle.verdict_book.specs.Lists.{JudgesState, JudgesRow}
 use Rattle.verdict_book.specs.Refusals.{claim_refusal, stopped_or, not_issued, is_claimed, keeps_claim}
+use Rattle.verdict_book.proofs.Once.{claims_counted, filings_counted}
 use Rattle.verdict_book.proofs.Places.{get_cases, get_map, map_set_same, some_same, count_set, count_map_none, all_counted, some_in}
 use Rattle.verdict_book.proofs.Items.{Known, step, walk, begins, are_reached}
 
@@ -52,6 +53,11 @@ filed_is_so : {I V : Type 0} (verdict_of : I → V) (item : I) (state : State V)
 filed_is_so verdict_of item Issued c f s = sym s.1
 filed_is_so verdict_of item Claimed c f s = sym s.1
 filed_is_so verdict_of item (Filed v) c f s = sym s.1
+
+judged_flags : {I V : Type 0} (verdict_of : I → V) (item : I) (state : State V) (c f : Bool) → StateIs verdict_of item state c f → is_filed state ≡ true → (c ≡ true) × (f ≡ true)
+judged_flags verdict_of item Issued c f s is = absurd cc
+judged_flags verdict_of item Claimed c f s is = absurd cc
+judged_flags verdict_of item (Filed v) c f s is = (s.0, s.1)
 
 judged_state : {I V : Type 0} (verdict_of : I → V) (item : I) (state : State V) (c f : Bool) → StateIs verdict_of item state c f → is_filed state ≡ true → JudgesState verdict_of item state
 judged_state verdict_of item Issued c f s is = absurd cc
@@ -395,3 +401,14 @@ module _ {I V : Type 0} (first : I) (children : I → List I) (verdict_of : I �
         let issued : issued_in (h ++ File t (length kids) ∷ []) ≡ issued_in h + length kids = issued_push h (File t (length kids)) in
         let all = item_step first children items (File t (length kids)) in
         record { items = all; more = omega (arith, next.len, issued, more); reached = next.reached; once = next.once }
+
+    -- where nothing is unfiled, each issued ticket was claimed once and filed once
+    pub each_once : unfiled_in h ≡ 0 → EachOnce h
+    each_once none t low =
+        let at = slice_get_cases rows t in
+        ⊎_elim
+        (λ here.
+        let both = judged_flags verdict_of here.0.item here.0.state _ _ (kept.states t here.0 here.2) (all_rows_filed none t here.0 here.2) in
+        (claims_counted [] h parts.0 (λ u. refl) t ∙ rw both.0 refl, filings_counted [] h parts.0 (λ u. refl) t ∙ rw both.1 refl))
+        (λ past. absurd (omega (arith, low, past.0, rows_are)))
+        at.1

@@ -1,5 +1,7 @@
 pub mod Places
 pub mod Items
+pub mod Once
 pub mod Keeping
 pub mod Walks
 pub mod Whole
+pub mod WorkedValues

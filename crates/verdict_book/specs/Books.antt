@@ -1,10 +1,10 @@
 -- What contracts see of a book, and what its history replays to.
-use Rattle.std.specs.Prelude.{◌≡◌, ℕ, ◌-◌, Bool, true, false, nat_lt, if◌then◌else◌, List, [], ◌∷◌, ◌++◌, count_by, Some, is_none}
+use Rattle.std.specs.Prelude.{◌≡◌, ℕ, ◌-◌, ◌<◌, Bool, true, false, nat_lt, if◌then◌else◌, List, [], ◌∷◌, ◌++◌, count_by, Some, is_none}
 use Rattle.pool_core.specs.declared.entry.Entry.{Entry}
 use Rattle.pool_core.specs.declared.entry.Entry.TheVariants.{Claim, File, Stop}
 use Rattle.pool_core.specs.declared.event.StopCause.{StopCause}
 use Rattle.pool_core.specs.declared.event.StopCause.TheVariants.{Full}
-use Rattle.pool_core.specs.History.{issued_in, is_claimed_in, is_filed_in, first_stop, is_legal}
+use Rattle.pool_core.specs.History.{claims, files, issued_in, is_claimed_in, is_filed_in, first_stop, is_legal}
 use Rattle.verdict_book.specs.declared.claim.Kept.{Kept}
 use Rattle.verdict_book.specs.declared.claim.Kept.TheVariants.{Unknown, Issued as KeptIssued, Claimed as KeptClaimed, Filed as KeptFiled}
 use Rattle.verdict_book.specs.Items.{AllCountRight, ReachesMore}
@@ -35,6 +35,11 @@ filings_in history = count_by is_filing history
 -- how many issued tickets aren't filed
 abbrev pub unfiled_in : List Entry → ℕ
 unfiled_in history = issued_in history - filings_in history
+
+-- each issued ticket was claimed once and filed once
+abbrev pub EachOnce : List Entry → Type 0
+EachOnce history =
+    (ticket : ℕ) → ticket < issued_in history → (count_by (claims ticket) history ≡ 1) × (count_by (files ticket) history ≡ 1)
 
 -- what is kept of a ticket
 abbrev pub kept_in : List Entry → ℕ → Kept
