@@ -36,6 +36,11 @@ abbrev mutual
       then Octet (three_digit_value a b c) ∷ signs cs
       else Broken ∷ []
 
+-- how many octets an escape has behind its backslash: three digits, or one octet
+abbrev pub escape_octets : List ℕ → ℕ
+escape_octets [] = 0
+escape_octets (octet ∷ octets) = if is_digit octet then 3 else 1
+
 -- What signs spell: labels from the leaf upwards, and whether a dot ends the last.
 pub record Spelled : Type 0 where
   pub labels : Labels

@@ -8,7 +8,7 @@ ghost use Rattle.dns_data.specs.Encoding.{labels_of, EncodesName};
 ghost use Rattle.dns_data.specs.Label.{IsLabel};
 ghost use Rattle.dns_data.specs.Octet.{is_digit, folded, three_digit_value, decimal_escape};
 ghost use Rattle.dns_data.specs.Put.{IsPut, IsSpelled, PutsFirst, BeginsWith, is_plain};
-ghost use Rattle.dns_data.specs.Spelling.{Sign, signs, escaped, spelled, after_label, placed, name_of_text, octet_text, label_text, name_text};
+ghost use Rattle.dns_data.specs.Spelling.{Sign, signs, escaped, escape_octets, spelled, after_label, placed, name_of_text, octet_text, label_text, name_text};
 
 use crate::fault::NameFault;
 use crate::labels::Labels;
@@ -210,6 +210,7 @@ pub fn escaped_octet(text: &[u8]) -> Option<(u8, &[u8])>
     ensures signs { MatchOption result
         (escaped text.now ≡ Sign.Broken ∷ [])
         (λ first. escaped text.now ≡ Sign.Octet first.0 ∷ signs first.1.now) }
+    ensures rest { IfSome result (λ first. first.1.now ≡ drop (escape_octets text.now) text.now) }
     ensures shorter { IfSome result (λ first. length first.1.now < length text.now) }
 {
     match text {
