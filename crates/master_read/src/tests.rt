@@ -1,45 +1,24 @@
-//! What a clause does not say: examples, and each call once with ample memory.
+//! Whole files in pieces, with enough memory: what the definition says of texts stands among the facts.
 
 ghost use Rattle.std.specs.Prelude.{◌+◌, ◌-◌, ◌^◌, ◌<◌, ◌≤◌, length};
 
-mod entries;
-mod files;
-mod times;
-
 use crate::{TextFault, ZoneReader, ZoneText};
-use dns_data::{Name, Rdata, Rr, rdata_text};
+use dns_data::{Name, Rr, rdata_text};
 use std::alloc::Global;
 use std::process::Abort;
-use std::str;
 use std::test::Fail;
 
-// Data of a type that is none of the twelve: the word, and the tokens as they are written.
-fn show_other(out: &mut String, rdata: &Rdata) -> Result<(), Fail> {
-    let Rdata::Other { word, tokens } = rdata else {
-        return Err("of one of the twelve types".into());
-    };
-    out.push_str(str::from_utf8(word.items())?)?;
-    for token in tokens.items() {
-        write!(out, " {}", str::from_utf8(token.items())?)?;
-    }
-    Ok(())
-}
-
-// A record as a line of text: its line, owner, TTL, type and data.
+// A record as a line of text: its line, owner, TTL, type and data, or the word of another type.
 fn show_record(alloc: Global, out: &mut String, rr: &Rr) -> Result<(), Fail> {
     let owner = rr.owner.to_text(alloc)?;
     write!(out, "{} {owner} {} ", rr.line, rr.ttl)?;
     match rr.rtype() {
         Some(rtype) => {
             let text = rdata_text(alloc, &rr.rdata)?;
-            write!(out, "{} {text}", rtype.word())?;
+            write!(out, "{} {text}\n", rtype.word())?;
         }
-        None => show_other(out, &rr.rdata)?,
+        None => out.push_str("of another type\n")?,
     }
-    if rr.file != 0 {
-        write!(out, " of file {}", rr.file)?;
-    }
-    out.push_str("\n")?;
     Ok(())
 }
 
@@ -58,13 +37,13 @@ fn show(alloc: Global, given: Result<ZoneText, TextFault>) -> Result<String, Fai
     Ok(out)
 }
 
-// What a text gives that is fed in pieces of this size.
-fn shown(alloc: Global, origin: &str, room: u32, text: &[u8], size: usize) -> Result<String, Fail>
+// What a text gives under the origin `o.` that is fed in pieces of this size.
+fn shown(alloc: Global, text: &[u8], size: usize) -> Result<String, Fail>
     requires size { 0 < size }
     requires small { length text.now < 2 ^ 20 }
 {
-    let origin = Name::from_text(alloc, origin.as_bytes(), &Name::root())?;
-    let mut reader = ZoneReader::new(alloc, origin, room);
+    let origin = Name::from_text(alloc, b"o.", &Name::root())?;
+    let mut reader = ZoneReader::new(alloc, origin, 10);
     let mut fed = 0;
     while fed < text.len() {
         let end = if text.len() - fed < size {
@@ -78,37 +57,43 @@ fn shown(alloc: Global, origin: &str, room: u32, text: &[u8], size: usize) -> Re
     show(alloc, reader.finish(alloc))
 }
 
-// The text gives this, whole, in pieces of 7 octets and octet by octet.
-fn check(
-    rt: &impl Abort,
-    alloc: Global,
-    origin: &str,
-    room: u32,
-    text: &str,
-    expected: &str,
-) -> Result<(), Fail> {
-    let octets = text.as_bytes();
-    assert!(rt; octets.len() < 1_000_000, "the text is too long");
-    for size in [1_000_000usize, 7, 1] {
-        let given = shown(alloc, origin, room, octets, size)?;
-        assert_eq!(rt; given.as_str(), expected, "{text:?} in pieces of {size}");
-    }
-    Ok(())
-}
-
-// Each text under the origin `o.`, with room for 100 records.
-fn check_all(rt: &impl Abort, alloc: Global, cases: &[(&str, &str)]) -> Result<(), Fail> {
+// Each text gives this, whole, in pieces of 7 octets and octet by octet.
+#[test]
+fn files_in_pieces(rt: HostRuntime) -> Result<(), Fail> {
+    let cases = [
+        (
+            "$TTL 1d
+$ORIGIN example.com.
+@   IN  SOA ns1 hostmaster (
+            2024010101 ; serial
+            3h 15m 1w 1h )
+    IN  NS  ns1
+www 300 IN A 192.0.2.2
+    IN 300 TXT \"v=x; y\" \"two\"
+www sshfp 1 1 ab
+www RRSIG A 8 3 300 20240101000000 20231201000000 1 example.com. abcd
+",
+            "3 example.com. 86400 SOA ns1.example.com. hostmaster.example.com. 2024010101 10800 900 604800 3600
+6 example.com. 86400 NS ns1.example.com.
+7 www.example.com. 300 A 192.0.2.2
+8 www.example.com. 300 TXT \"v=x; y\" \"two\"
+9 www.example.com. 86400 of another type
+seen 6
+",
+        ),
+        (
+            "a 60 NS b\n\n 60 A 10\nb 60 AAAA 10\n",
+            "At { file: 0, line: 3, cause: Rdata(BadAddress) }\n",
+        ),
+    ];
+    let alloc = rt.alloc();
     for (text, expected) in cases {
-        check(rt, alloc, "o.", 100, text, expected)?;
-    }
-    Ok(())
-}
-
-// Each text under the origin `o.` has this cause of refusal, at this line.
-fn refuse_all(rt: &impl Abort, alloc: Global, cases: &[(&str, u32, &str)]) -> Result<(), Fail> {
-    for (text, line, cause) in cases {
-        let expected = format!(in alloc; "At {{ file: 0, line: {line}, cause: {cause} }}\n")?;
-        check(rt, alloc, "o.", 100, text, expected.as_str())?;
+        let octets = text.as_bytes();
+        assert!(rt; octets.len() < 1_000_000, "the text is too long");
+        for size in [1_000_000usize, 7, 1] {
+            let given = shown(alloc, octets, size)?;
+            assert_eq!(rt; given.as_str(), expected, "in pieces of {size}");
+        }
     }
     Ok(())
 }

@@ -1,60 +1,76 @@
-//! Outside examples at every edge of the formats, and each call that takes memory once with enough of it.
+//! Each call once, with enough memory: what the definitions say of texts stands among the facts.
 
-mod addresses;
-mod numbers;
-mod others;
-mod texts;
-
-use crate::{RdataFault, read_rdata};
-use dns_data::{List, Name, NoMemory, Octets, RrType, rdata_text};
+use crate::{read_other, read_rdata, read_ttl};
+use dns_data::{List, Name, NoMemory, Octets, Rdata, RrType, rdata_text};
 use master_lex::Token;
 use std::alloc::Global;
 use std::process::Abort;
 use std::test::Fail;
 
-// The tokens of words. A quote at a word's front says that the token stood in quotes.
+// The tokens of words, none of them quoted.
 fn tokens(alloc: Global, words: &[&str]) -> Result<List<Token>, NoMemory> {
     let mut tokens = List::new(alloc);
     for word in words {
-        let (text, quoted) = match word.strip_prefix('"') {
-            Some(text) => (text, true),
-            None => (*word, false),
-        };
-        let raw = Octets::from_octets(alloc, text.as_bytes())?;
-        tokens.push(Token { raw, quoted })?;
+        let raw = Octets::from_octets(alloc, word.as_bytes())?;
+        tokens.push(Token { raw, quoted: false })?;
     }
     Ok(tokens)
 }
 
-// The text of the data that words stand for under the origin `example.`, or the fault's name.
-fn said(alloc: Global, rtype: RrType, words: &[&str]) -> Result<String, Fail> {
+// Each of the twelve types, as a zone file has it under the origin `example.`, and as it is printed.
+#[test]
+fn the_twelve_types(rt: HostRuntime) -> Result<(), Fail> {
+    let rows: [(RrType, &[&str], &str); 12] = [
+        (RrType::A, &["192.0.2.1"], "192.0.2.1"),
+        (RrType::Ns, &["NS1"], "ns1.example."),
+        (RrType::Cname, &["@"], "example."),
+        (
+            RrType::Soa,
+            &["ns", "host", "4294967295", "1h30m", "1d", "1w", "0"],
+            "ns.example. host.example. 4294967295 5400 86400 604800 0",
+        ),
+        (RrType::Ptr, &["a.b."], "a.b."),
+        (RrType::Hinfo, &["CPU", "\\065"], "\"CPU\" \"A\""),
+        (RrType::Mx, &["10", "mail"], "10 mail.example."),
+        (RrType::Txt, &["v=spf1", "Two"], "\"v=spf1\" \"Two\""),
+        (RrType::Aaaa, &["2001:DB8::fA"], "2001:db8:0:0:0:0:0:fa"),
+        (
+            RrType::Srv,
+            &["0", "1", "5060", "sip"],
+            "0 1 5060 sip.example.",
+        ),
+        (RrType::Dname, &["."], "."),
+        (RrType::Caa, &["0", "ISSUE", "ca"], "0 issue \"ca\""),
+    ];
+    let alloc = rt.alloc();
     let origin = Name::from_text(alloc, b"example.", &Name::root())?;
-    let tokens = tokens(alloc, words)?;
-    match read_rdata(alloc, rtype, tokens.items(), &origin) {
-        Ok(rdata) => {
-            if rdata.rtype() != Some(rtype) {
-                return Err("data of another type".into());
-            }
-            if rdata.rtype().is_none() {
-                return Err("data of no type".into());
-            }
-            Ok(rdata_text(alloc, &rdata)?)
+    for (rtype, words, expected) in rows {
+        let tokens = tokens(alloc, words)?;
+        let rdata = read_rdata(alloc, rtype, tokens.items(), &origin)?;
+        assert!(rt; rdata.rtype().is_some(), "{words:?}");
+        if rdata.rtype().is_some() {
+            let text = rdata_text(alloc, &rdata)?;
+            assert_eq!(rt; text.as_str(), expected, "{words:?}");
         }
-        Err(RdataFault::NoMemory) => Err("no memory".into()),
-        Err(fault) => Ok(format!(in alloc; "{fault:?}")?),
     }
+    Ok(())
 }
 
-// Each row's words read as its text or fault.
-fn check(
-    rt: &impl Abort,
-    alloc: Global,
-    rtype: RrType,
-    rows: &[(&[&str], &str)],
-) -> Result<(), Fail> {
-    for (words, expected) in rows {
-        let text = said(alloc, rtype, words)?;
-        assert_eq!(rt; text.as_str(), *expected, "{words:?}");
+// Data of another type are kept as they are written, and a time is read.
+#[test]
+fn another_type_and_a_time(rt: HostRuntime) -> Result<(), Fail> {
+    let alloc = rt.alloc();
+    let words = tokens(alloc, &["\\#", "2", "a", "bCD"])?;
+    let mut kept = List::new(alloc);
+    for word in ["\\#", "2", "a", "bCD"] {
+        kept.push(Octets::from_octets(alloc, word.as_bytes())?)?;
     }
+    let expected = Rdata::Other {
+        word: Octets::from_octets(alloc, b"SSHFP")?,
+        tokens: kept,
+    };
+    let read = read_other(alloc, b"SSHFP", words.items())?;
+    assert!(rt; read == expected, "other tokens");
+    assert_eq!(rt; read_ttl(b"1h30m"), Some(5400));
     Ok(())
 }
