@@ -2,12 +2,11 @@
 use Rattle.std.proofs.Common.{◌≡◌, ℕ, ◌+◌, ◌-◌, ◌<◌, List, [], ◌∷◌, length, get_or, take, drop, subst, sym, ap, ◌∙◌, add-one, arith}
 use Rattle.std.proofs.lemmas.List.{length-take-le, length-drop, take_all}
 use Rattle.std.proofs.Math.Seq.{take-add, take-suc}
-use Rattle.master_lex.specs.Passing.{State, passed, IsTidy}
+use Rattle.master_lex.specs.States.{State, passed, run, IsTidy}
 use Rattle.master_lex.specs.Undo.{Grew}
-use Rattle.master_lex.specs.Holding.{run}
 use Rattle.master_lex.specs.Plain.{PassedFirst}
 use Rattle.master_lex.proofs.UndoLemmas.{MovesFar, moves_far, grew_none}
-use Rattle.master_lex.proofs.StandsLemmas.{run-append}
+use Rattle.master_lex.proofs.Running.{run-append}
 
 -- one octet more was passed
 pub octet_more : (s s' s'' : State) (octets : List ℕ) (n octet : ℕ) → n < length octets → octet ≡ get_or octets n 0 → PassedFirst s s' octets n → s'' ≡ passed s' octet

@@ -1,40 +1,140 @@
--- What a lexer stands for.
-use Rattle.std.proofs.Common.{◌≡◌, ℕ, ◌+◌, Bool, true, false, List, [], ◌∷◌, ◌++◌, length, drop, refl, sym, ap, ◌∙◌, arith}
+-- For which text a lexer stands, and what it answers.
+use Rattle.std.proofs.Common.{◌≡◌, ◌⊎◌, ℕ, ◌+◌, Bool, true, false, List, [], ◌∷◌, ◌++◌, length, drop, refl, sym, ap, ◌∙◌, append_assoc, arith, inl, inr, Option, Some, None}
 use Rattle.std.proofs.lemmas.List.{length-append, append-nil}
-use Rattle.std.specs.Prelude.{Result, IfOk, OnErr}
+use Rattle.std.specs.Prelude.{if◌then◌else◌, Result, Ok, Err, IfOk, OnErr, MatchBool}
 use Rattle.std.proofs.lemmas.Result.{IfOk-weaker, on_err_weaker}
+use Rattle.dns_data.specs.Answers.{AnswersOr}
+use Rattle.master_lex.specs.declared.entry.Entry.{Entry}
+use Rattle.master_lex.specs.declared.fault.LexFault.{LexFault}
 use Rattle.master_lex.specs.declared.fault.TakeFault.{TakeFault}
+use Rattle.master_lex.specs.declared.fault.TakeFault.TheVariants.{Lex, NoMemory}
+use Rattle.master_lex.specs.declared.scanner.Mode.{Mode}
+use Rattle.master_lex.specs.declared.scanner.Mode.TheVariants.{Start, Between, Comment, InToken, Faulty}
 use Rattle.master_lex.specs.declared.taken.Taken.{Taken}
 use Rattle.master_lex.specs.declared.taken.Taken.TheVariants as answers
-use Rattle.master_lex.specs.declared.entry.Entry.{Entry}
-use Rattle.master_lex.specs.Passing.{State, passed}
-use Rattle.master_lex.specs.Holding.{run, empty, Held, last_fault, last_entry, entries_in, fault_in, StandsFor, left_answer, answer, given_with, Answers, LastTaken}
-use Rattle.master_lex.proofs.FrontLemmas.{front, front_run}
-
-pub run-append : (s : State) (xs ys : List ℕ) → run s (xs ++ ys) ≡ run (run s xs) ys
-run-append s [] ys = refl
-run-append s (x ∷ xs) ys = run-append (passed s x) xs ys
+use Rattle.master_lex.specs.Contents.{Contents, behind, contents, text_entries, text_fault}
+use Rattle.master_lex.specs.States.{State, empty, run, Fits, IsTidy, ahead_by, ahead, last_fault, whole_by, made, without_fault, last_entry}
+use Rattle.master_lex.specs.Taking.{entries_in, IsFault, left_answer, IsAnswer, given_with}
+use Rattle.master_lex.specs.Lexer.{Lexing, Remains, StandsFor, left, LastTaken}
+use Rattle.master_lex.proofs.Running.{run_ahead, end_ahead}
+use Rattle.master_lex.proofs.Settled.{held_fault, not_settled}
 
 -- what is behind the front
 pub drop_front : {A : Type 0} (xs ys : List A) → drop (length xs) (xs ++ ys) ≡ ys
 drop_front [] ys = refl
 drop_front (x ∷ xs) ys = drop_front xs ys
 
+-- entries in front of others
+behind_behind : (xs ys : List Entry) (rest : Contents) → behind xs (behind ys rest) ≡ behind (xs ++ ys) rest
+behind_behind xs ys rest = ap (λ (w : List Entry). record rest { whole = w }) (sym (append_assoc xs ys rest.whole))
+
 -- what is fed goes on with the text
-pub fed_stands : (s s' : State) (n n' : ℕ) (text piece : List ℕ) (given : List Entry) (finished : Bool) → finished ≡ false → s' ≡ run s piece → n' ≡ n + length piece
+pub fed_stands : (s s' : State) (n n' : ℕ) (text piece : List ℕ) (given : List Entry) (finished : Bool) → finished ≡ false → IsTidy s → s' ≡ run s piece → n' ≡ n + length piece
     → StandsFor (record { state = s; fed = n; finished = finished }) text given → StandsFor (record { state = s'; fed = n'; finished = finished }) (text ++ piece) given
-fed_stands s s' n n' text piece given finished unended e m h = rw unended (record {
+fed_stands s s' n n' text piece given finished unended tidy e m h = rw unended (record {
   fed = m ∙ ap (λ k. k + length piece) h.fed ∙ sym (length-append text piece);
-  agrees = run-append empty text piece ∙ ap (λ t. run t piece) (rw unended at h.agrees) ∙ front_run given s piece ∙ ap (front given) (sym e);
+  agrees = λ more. ap contents (append_assoc text piece more) ∙ (rw unended at h.agrees) (piece ++ more)
+      ∙ ap (behind given) (run_ahead s piece more tidy ∙ ap (λ (x : State). ahead x more) (sym e));
 })
+
+-- what is left where the text ends
+pub end_stands : (s : State) (n : ℕ) (finished : Bool) → finished ≡ false → IsTidy s → (text : List ℕ) (given : List Entry)
+    → StandsFor (record { state = s; fed = n; finished = finished }) text given → StandsFor (record { state = s; fed = n; finished = true }) text given
+end_stands s n finished unended tidy text given h =
+    let ahead_is : (more : List ℕ) → contents (text ++ more) ≡ behind given (ahead s more) = rw unended at h.agrees in
+    let all : contents text ≡ behind given (record { whole = s.ready; last = last_entry s; fault = last_fault s.position })
+        = ap contents (sym (append-nil text)) ∙ ahead_is [] ∙ ap (behind given) (end_ahead s tidy) in
+    record {
+      fed = h.fed;
+      agrees = record {
+        entries = ap (λ (c : Contents). c.whole ++ c.last) all;
+        fault = ap (λ (c : Contents). c.fault) all;
+      };
+    }
+
+-- a lexer that was fed nothing
+pub new_stands : StandsFor (record { state = empty; fed = 0; finished = false }) [] []
+new_stands = record { fed = refl; agrees = λ more. refl }
+
+-- ---- the whole entries
+
+-- they don't count for what is ahead
+same_ahead : (m : Mode) (s : State) (ready : List Entry) (text : List ℕ) → ahead_by m (record s { ready = ready }) text ≡ ahead_by m s text
+same_ahead Start s ready text = refl
+same_ahead Between s ready text = refl
+same_ahead Comment s ready text = refl
+same_ahead (InToken quoted escape) s ready text = refl
+same_ahead (Faulty fault) s ready text = refl
+
+same_made : (m : Mode) (s : State) (ready : List Entry) → made (whole_by m (record s { ready = ready })) ≡ made (whole_by m s)
+same_made Start s ready = refl
+same_made Between s ready = refl
+same_made Comment s ready = refl
+same_made (InToken quoted escape) s ready = refl
+same_made (Faulty fault) s ready = refl
+
+pub same_last : (s : State) (ready : List Entry) → last_entry (record s { ready = ready }) ≡ last_entry s
+same_last s ready = ap (without_fault (last_fault s.position)) (same_made s.position.mode s ready)
+
+-- the first of them was taken
+pub first_stands : (s s' : State) (n : ℕ) (finished : Bool) (entry : Entry) → s ≡ record s' { ready = entry ∷ s'.ready } → (text : List ℕ) (given : List Entry)
+    → StandsFor (record { state = s; fed = n; finished = finished }) text given → StandsFor (record { state = s'; fed = n; finished = finished }) text (given ++ entry ∷ [])
+first_stands s s' n finished entry e text given h = record { fed = h.fed; agrees = by finished h.agrees } where
+  by : (finished : Bool) → MatchBool finished (Remains s text given) ((more : List ℕ) → contents (text ++ more) ≡ behind given (ahead s more))
+      → MatchBool finished (Remains s' text (given ++ entry ∷ [])) ((more : List ℕ) → contents (text ++ more) ≡ behind (given ++ entry ∷ []) (ahead s' more))
+  by true r = record {
+    entries = r.entries ∙ ap (λ (x : State). given ++ x.ready ++ last_entry x) e 
+        ∙ ap (λ (w : List Entry). given ++ (entry ∷ s'.ready) ++ w) (same_last s' (entry ∷ s'.ready))
+        ∙ ap (λ (w : List Entry). w ++ last_entry s') (sym (append_assoc given (entry ∷ []) s'.ready));
+    fault = r.fault ∙ ap (λ (x : State). last_fault x.position) e;
+  }
+  by false r = λ more.
+      r more ∙ ap (λ (x : State). behind given (ahead x more)) e
+      ∙ ap (λ (x : Contents). behind given (behind (entry ∷ s'.ready) x)) (same_ahead s'.position.mode s' (entry ∷ s'.ready) more)
+      ∙ behind_behind given (entry ∷ s'.ready) (ahead_by s'.position.mode s' more)
+      ∙ ap (λ (w : List Entry). behind w (ahead_by s'.position.mode s' more)) (sym (append_assoc given (entry ∷ []) s'.ready))
+      ∙ sym (behind_behind (given ++ entry ∷ []) s'.ready (ahead_by s'.position.mode s' more))
+
+-- the entries of a text that were not given are those that are left
+left_over : (given rest total : List Entry) → total ≡ given ++ rest → drop (length given) total ≡ rest
+left_over given rest total e = ap (drop (length given)) e ∙ drop_front given rest
+
+-- the fault that is known of a text
+abbrev pub known_fault : Lexing → Option LexFault
+known_fault lexer = if lexer.finished then last_fault lexer.state.position else held_fault lexer.state.position.mode
+
+fault_is : (s : State) (text : List ℕ) (given : List Entry) → IsTidy s → ((more : List ℕ) → contents (text ++ more) ≡ behind given (ahead s more)) → IsFault false text (held_fault s.position.mode)
+fault_is s text given tidy h = by s.position.mode tidy (λ more. ap (λ (c : Contents). c.fault) (h more)) where
+  none : (m : Mode) → held_fault m ≡ None → Fits m s → ((more : List ℕ) → text_fault (text ++ more) ≡ (ahead_by m s more).fault) → IsFault false text None
+  none m is fits same fault said = not_settled m s fault fits is (λ more. sym (same more) ∙ said more)
+  by : (m : Mode) → Fits m s → ((more : List ℕ) → text_fault (text ++ more) ≡ (ahead_by m s more).fault) → IsFault false text (held_fault m)
+  by (Faulty fault) fits same = same
+  by Start fits same = none Start refl fits same
+  by Between fits same = none Between refl fits same
+  by Comment fits same = none Comment refl fits same
+  by (InToken quoted escape) fits same = none (InToken quoted escape) refl fits same
+
+-- a lexer answers by what is left
+pub stands_answer : (s : State) (n : ℕ) (finished : Bool) (result : Result Taken TakeFault) → IsTidy s
+    → AnswersOr NoMemory result (left_answer finished (left (record { state = s; fed = n; finished = finished })) (known_fault (record { state = s; fed = n; finished = finished })))
+    → (text : List ℕ) (given : List Entry) → StandsFor (record { state = s; fed = n; finished = finished }) text given → IsAnswer finished text given result
+stands_answer s n true result tidy a text given h = (
+  last_fault s.position,
+  (sym h.agrees.fault, rw (left_over given (s.ready ++ last_entry s) (text_entries text) (h.agrees.entries ∙ append_assoc given s.ready (last_entry s))) a),
+)
+stands_answer s n false result tidy a text given h =
+    let all : contents text ≡ behind given (ahead s []) = ap contents (sym (append-nil text)) ∙ h.agrees [] in
+    let whole : (contents text).whole ≡ given ++ s.ready = ap (λ (c : Contents). c.whole) (all ∙ ap (behind given) (end_ahead s tidy)) in (
+      held_fault s.position.mode,
+      (fault_is s text given tidy h.agrees, rw (left_over given s.ready (contents text).whole whole) a),
+    )
+
+-- ---- the last entry
 
 taken_with : (given : List Entry) (taken : Taken) → given_with given taken ≡ given ++ given_with [] taken
 taken_with given (answers.Entry entry) = refl
 taken_with given answers.More = sym (append-nil given)
 taken_with given answers.End = sym (append-nil given)
-
-what_is_left : (given ready last total : List Entry) → total ≡ given ++ ready ++ last → ready ≡ [] → drop (length given) total ≡ last
-what_is_left given ready last total e none = rw (e, none, append-nil given) (drop_front given last)
 
 what_was_given : (given ready last total given' ready' last' : List Entry) → total ≡ given ++ ready ++ last → ready ≡ [] → given' ≡ given ++ last → ready' ≡ ready → last' ≡ [] → total ≡ given' ++ ready' ++ last'
 what_was_given given ready last total given' ready' last' e none a b c = e ∙ rw (a, c, b, none) (simp append-nil)
@@ -43,38 +143,51 @@ pub no_first : (xs ys : List Entry) → xs ≡ ys → ys ≡ drop 1 xs → xs �
 no_first [] ys e f = refl
 no_first (x ∷ xs) ys e f = absurd (omega (arith, ap length e, ap length f))
 
-pub same_held : (s s' : State) (n : ℕ) (finished : Bool) (result : Result Taken TakeFault) → OnErr result (s' ≡ s)
-    → OnErr result (◌≡◌ {A = Held} (record { state = s'; fed = n; finished = finished }) (record { state = s; fed = n; finished = finished }))
-same_held s s' n finished result h = on_err_weaker result (λ e. rw e refl) h
+pub same_lexer : (s s' : State) (n : ℕ) (finished : Bool) (result : Result Taken TakeFault) → OnErr result (s' ≡ s)
+    → OnErr result (◌≡◌ {A = Lexing} (record { state = s'; fed = n; finished = finished }) (record { state = s; fed = n; finished = finished }))
+same_lexer s s' n finished result h = on_err_weaker result (λ e. rw e refl) h
 
--- where no whole entry is left and the text has ended, the last entry is answered
-last_answer : (s : State) (n : ℕ) (text : List ℕ) (given : List Entry) → s.ready ≡ []
-    → StandsFor (record { state = s; fed = n; finished = true }) text given → answer true text given ≡ left_answer true (last_entry s) (last_fault s.way)
-last_answer s n text given none h =
-    ap (λ (entries : List Entry). left_answer true entries (fault_in true text)) (what_is_left given s.ready (last_entry s) (entries_in true text) h.agrees.entries none)
-    ∙ ap (left_answer true (last_entry s)) h.agrees.fault
-
-last_stands : (s s' : State) (n : ℕ) (text : List ℕ) (given : List Entry) (taken : Taken) → s.ready ≡ []
-    → StandsFor (record { state = s; fed = n; finished = true }) text given → LastTaken s s' taken → StandsFor (record { state = s'; fed = n; finished = true }) text (given_with given taken)
+last_stands : (s s' : State) (n : ℕ) (text : List ℕ) (given : List Entry) (taken : Taken) → s.ready ≡ [] → StandsFor (record { state = s; fed = n; finished = true }) text given → LastTaken s s' taken
+    → StandsFor (record { state = s'; fed = n; finished = true }) text (given_with given taken)
 last_stands s s' n text given taken none h l = record {
   fed = h.fed;
   agrees = record {
-    entries = what_was_given given s.ready (last_entry s) (entries_in true text) (given_with given taken) s'.ready (last_entry s') h.agrees.entries none
+    entries = what_was_given given s.ready (last_entry s) (text_entries text) (given_with given taken) s'.ready (last_entry s') h.agrees.entries none
         (taken_with given taken ∙ ap (λ (entries : List Entry). given ++ entries) l.taken_is) l.ready l.nothing_left;
     fault = h.agrees.fault ∙ sym l.fault;
   };
 }
 
-module _ (s s' : State) (n : ℕ) (finished : Bool) (result : Result Taken TakeFault) (ended : finished ≡ true) (none : s.ready ≡ []) where
-  pub last_answers : Answers result (left_answer true (last_entry s) (last_fault s.way))
-      → (text : List ℕ) (given : List Entry) → StandsFor (record { state = s; fed = n; finished = finished }) text given → Answers result (answer finished text given)
-  last_answers a text given h =
-      let h' : StandsFor (record { state = s; fed = n; finished = true }) text given = rw ended at h in
-      rw (ended, last_answer s n text given none h') a
+pub last_keeps : (s s' : State) (n : ℕ) (finished : Bool) (result : Result Taken TakeFault) → finished ≡ true → s.ready ≡ [] → IfOk result (LastTaken s s')
+    → (text : List ℕ) (given : List Entry) → StandsFor (record { state = s; fed = n; finished = finished }) text given
+    → IfOk result (λ taken. StandsFor (record { state = s'; fed = n; finished = finished }) text (given_with given taken))
+last_keeps s s' n finished result ended none l text given h =
+    let h' : StandsFor (record { state = s; fed = n; finished = true }) text given = rw ended at h in
+    rw ended (IfOk-weaker result (LastTaken s s') (λ taken. StandsFor (record { state = s'; fed = n; finished = true }) text (given_with given taken)) (λ taken. last_stands s s' n text given taken none h') l)
 
-  pub last_keeps : IfOk result (LastTaken s s')
-      → (text : List ℕ) (given : List Entry) → StandsFor (record { state = s; fed = n; finished = finished }) text given
-      → IfOk result (λ taken. StandsFor (record { state = s'; fed = n; finished = finished }) text (given_with given taken))
-  last_keeps l text given h =
-      let h' : StandsFor (record { state = s; fed = n; finished = true }) text given = rw ended at h in
-      rw ended (IfOk-weaker result (LastTaken s s') (λ taken. StandsFor (record { state = s'; fed = n; finished = true }) text (given_with given taken)) (λ taken. last_stands s s' n text given taken none h') l)
+-- ---- what is answered
+
+pub first_answer : (s : State) (n : ℕ) (finished : Bool) (entry : Entry) (rest : List Entry) → s.ready ≡ entry ∷ rest
+    → left_answer finished (left (record { state = s; fed = n; finished = finished })) (known_fault (record { state = s; fed = n; finished = finished })) ≡ Ok (answers.Entry entry)
+first_answer s n true entry rest e = rw e refl
+first_answer s n false entry rest e = rw e refl
+
+pub fault_answer : (s : State) (n : ℕ) (finished : Bool) (fault : LexFault) → s.ready ≡ [] → s.position.mode ≡ Faulty fault
+    → left_answer finished (left (record { state = s; fed = n; finished = finished })) (known_fault (record { state = s; fed = n; finished = finished })) ≡ Err (Lex fault.line fault.kind)
+fault_answer s n true fault none e = rw (none, e) refl
+fault_answer s n false fault none e = rw (none, e) refl
+
+pub more_answer : (s : State) (n : ℕ) (finished : Bool) → s.ready ≡ [] → finished ≡ false → ((fault : LexFault) → s.position.mode ≡ Faulty fault → ⊥)
+    → left_answer finished (left (record { state = s; fed = n; finished = finished })) (known_fault (record { state = s; fed = n; finished = finished })) ≡ Ok answers.More
+more_answer s n finished none unended not_faulty = rw (unended, none) (by s.position.mode refl) where
+  by : (m : Mode) → s.position.mode ≡ m → left_answer false [] (held_fault m) ≡ Ok answers.More
+  by Start e = refl
+  by Between e = refl
+  by Comment e = refl
+  by (InToken quoted escape) e = refl
+  by (Faulty fault) e = absurd (not_faulty fault e)
+
+pub last_answer : (s : State) (n : ℕ) (finished : Bool) → s.ready ≡ [] → finished ≡ true
+    → left_answer finished (left (record { state = s; fed = n; finished = finished })) (known_fault (record { state = s; fed = n; finished = finished }))
+    ≡ left_answer true (last_entry s) (last_fault s.position)
+last_answer s n finished none ended = rw (ended, none) refl

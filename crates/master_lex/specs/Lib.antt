@@ -1,8 +1,11 @@
+pub use Rattle.dns_data.specs.Answers
 pub mod Lists
 pub mod Kinds
+pub mod Pieces
+pub mod Contents
+pub mod Taking
 pub mod Octets
-pub mod Passing
+pub mod States
 pub mod Plain
-pub mod Spelling
 pub mod Undo
-pub mod Holding
+pub mod Lexer

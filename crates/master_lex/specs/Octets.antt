@@ -1,6 +1,5 @@
--- What single octets mean (RFC 1035 section 5.1).
-use Rattle.std.specs.Prelude.{ℕ, ◌+◌, ◌-◌, ◌*◌, Bool, ◌&&◌, ◌||◌, ◌==◌, Option, Some, None, nat_le, if◌then◌else◌}
-use Rattle.dns_data.specs.Octet.{is_digit}
+-- What single octets mean to the code's loops.
+use Rattle.std.specs.Prelude.{ℕ, Bool, true, false, ◌||◌, ◌==◌, if◌then◌else◌}
 use Rattle.master_lex.specs.declared.octet.OctetKind.{OctetKind}
 use Rattle.master_lex.specs.declared.octet.OctetKind.TheVariants.{Plain, Blank, LineFeed, Semicolon, Open, Close, Quote, Backslash}
 
@@ -20,7 +19,21 @@ kind c =
 abbrev pub is_space : ℕ → Bool
 is_space c = c == 32 || c == 9
 
--- the value with one digit more, where the octet is a digit and the value is within the limit
-abbrev pub digit_after : ℕ → ℕ → ℕ → Option ℕ
-digit_after value octet limit =
-    if is_digit octet && nat_le (10 * value + (octet - 48)) limit then Some (10 * value + (octet - 48)) else None
+-- white space outside quotes and escapes
+abbrev pub is_blank : OctetKind → Bool
+is_blank Blank = true
+is_blank _ = false
+
+-- a line feed
+abbrev pub is_feed : OctetKind → Bool
+is_feed LineFeed = true
+is_feed _ = false
+
+-- whether an octet of this kind stands for itself in a token, in quotes or outside
+abbrev pub stands : Bool → OctetKind → Bool
+stands false Plain = true
+stands false _ = false
+stands true Quote = false
+stands true LineFeed = false
+stands true Backslash = false
+stands true _ = true

@@ -3,11 +3,11 @@ use Rattle.std.specs.Prelude.{◌≡◌, ◌⊎◌, ℕ, List, [], ◌∷◌, �
 use Rattle.master_lex.specs.declared.entry.Entry.{Entry}
 use Rattle.master_lex.specs.declared.entry.Token.{Token}
 use Rattle.master_lex.specs.declared.undo.Mark.{Mark}
-use Rattle.master_lex.specs.Passing.{State}
+use Rattle.master_lex.specs.States.{State}
 
 -- the mark of what is held
 abbrev pub mark_of : State → Mark
-mark_of s = record { ready = length s.ready; tokens = length s.tokens; raw = length s.raw; way = s.way }
+mark_of s = record { ready = length s.ready; tokens = length s.tokens; raw = length s.raw; position = s.position }
 
 -- the token that was under way goes on, or is the first new one
 abbrev pub TokensGrew : List Token → List ℕ → List Token → List ℕ → Type 0

@@ -2,7 +2,7 @@
 
 ghost use Rattle.std.specs.Prelude.{◌≡◌};
 ghost use Rattle.master_lex.specs.Kinds.{number_of};
-ghost use Rattle.master_lex.specs.declared.fault.TakeFault.TheVariants.{NoMemory as OutOfMemory};
+ghost use Rattle.master_lex.specs.declared.fault.TakeFault.TheVariants.{Lex, NoMemory as OutOfMemory};
 
 use dns_data::NoMemory;
 use thiserror::Error;
@@ -68,5 +68,16 @@ impl From<NoMemory> for TakeFault {
 
     fn from(_fault: NoMemory) -> TakeFault {
         TakeFault::NoMemory
+    }
+}
+
+impl From<LexFault> for TakeFault {
+    ghost from_gives = { λ fault result. result ≡ Lex fault.line fault.kind };
+
+    fn from(fault: LexFault) -> TakeFault {
+        TakeFault::Lex {
+            line: fault.line,
+            kind: fault.kind,
+        }
     }
 }

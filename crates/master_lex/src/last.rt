@@ -2,18 +2,21 @@
 
 ghost use Rattle.std.specs.Prelude.{◌≡◌, OnOk, OnErr, IfOk, true};
 ghost use Rattle.master_lex.specs.Lists.{is_empty};
-ghost use Rattle.master_lex.specs.Passing.{state_of, IsTidy};
-ghost use Rattle.master_lex.specs.Holding.{paren_fault, last_fault, last_entry, whole, left_answer, Answers, LastTaken};
+ghost use Rattle.dns_data.specs.Answers.{AnswersOr};
+ghost use Rattle.master_lex.specs.declared.fault.TakeFault.TheVariants.{NoMemory as OutOfMemory};
+ghost use Rattle.master_lex.specs.States.{state_of, paren_fault, last_fault, whole, last_entry, IsTidy};
+ghost use Rattle.master_lex.specs.Taking.{left_answer};
+ghost use Rattle.master_lex.specs.Lexer.{LastTaken};
 
 use crate::entry::Entry;
 use crate::fault::{LexFault, LexKind, TakeFault};
-use crate::passage::{Escape, Mode, Passage, Way};
+use crate::scanner::{Escape, Mode, Scanner, Position};
 use crate::taken::Taken;
 use dns_data::{List, NoMemory};
 use std::alloc::Global;
 use std::mem;
 
-impl Way {
+impl Position {
     /// The fault in which the text ends where parentheses are open.
     fn open_paren(&self) -> Option<LexFault>
         ensures { result ≡ paren_fault self.now }
@@ -51,14 +54,14 @@ impl Way {
     }
 }
 
-impl Passage {
+impl Scanner {
     /// Ends the token under way, if there is one. After an error nothing has changed.
-    fn end_last_token(&mut self) -> Result<(), NoMemory>
+    fn end_last_token(&mut self, alloc: Global) -> Result<(), NoMemory>
         ensures ok { OnOk result (state_of self.new ≡ whole (state_of self.old)) }
         ensures err { OnErr result (state_of self.new ≡ state_of self.old) }
     {
-        match self.way.mode {
-            Mode::InToken { quoted, .. } => self.end_token(quoted),
+        match self.position.mode {
+            Mode::InToken { quoted, .. } => self.end_token(alloc, quoted),
             _ => Ok(()),
         }
     }
@@ -74,28 +77,25 @@ impl Passage {
     /// nothing has changed.
     pub fn take_last(&mut self, alloc: Global) -> Result<Taken, TakeFault>
         requires { IsTidy (state_of self.old) }
-        ensures answer { Answers result (left_answer true (last_entry (state_of self.old)) (last_fault self.old.way)) }
+        ensures answer { AnswersOr OutOfMemory result (left_answer true (last_entry (state_of self.old)) (last_fault self.old.position)) }
         ensures taken { IfOk result (LastTaken (state_of self.old) (state_of self.new)) }
         ensures err { OnErr result (state_of self.new ≡ state_of self.old) }
     {
-        if let Some(fault) = self.way.fault_at_end() {
-            return Err(TakeFault::Lex {
-                line: fault.line,
-                kind: fault.kind,
-            });
+        if let Some(fault) = self.position.fault_at_end() {
+            return Err(fault.into());
         }
-        self.end_last_token()?;
+        self.end_last_token(alloc)?;
         if self.has_no_token() {
             return Ok(Taken::End);
         }
         let tokens = List::from_vec(mem::replace(&mut self.tokens, Vec::new(alloc)));
-        let Way {
+        let Position {
             line,
             blank_start,
             first,
             ..
-        } = self.way;
-        self.way = Way::start(line);
+        } = self.position;
+        self.position = Position::start(line);
         Ok(Taken::Entry(Entry {
             line: first,
             blank_start,

@@ -2,10 +2,11 @@
 
 ghost use Rattle.std.specs.Prelude.{◌≡◌, ◌+◌, ◌-◌, ◌^◌, ◌<◌, ◌≤◌, ℕ, List, [], ◌++◌, length, true, false, OnOk, OnErr, IfOk};
 ghost use Rattle.master_lex.specs.declared.entry.Entry.{Entry};
-ghost use Rattle.master_lex.specs.Holding.{StandsFor, Answers, answer, given_with, left};
+ghost use Rattle.master_lex.specs.Lexer.{StandsFor, left};
+ghost use Rattle.master_lex.specs.Taking.{IsAnswer, given_with};
 
 use crate::fault::TakeFault;
-use crate::passage::{Mode, Passage};
+use crate::scanner::{Mode, Scanner};
 use crate::taken::Taken;
 use dns_data::NoMemory;
 use std::alloc::Global;
@@ -14,20 +15,20 @@ use std::marker::Model;
 /// The entries of a master file, from octets that come in pieces.
 #[derive(Debug, Drop)]
 pub struct Lexer {
-    passage: Passage,
+    scanner: Scanner,
     fed: u32,
     finished: bool,
 }
 
 impl Model for Lexer {
-    ghost use Rattle.master_lex.specs.Passing.{state_of};
-    ghost use Rattle.master_lex.specs.Holding.{Held, IsSound};
+    ghost use Rattle.master_lex.specs.States.{state_of};
+    ghost use Rattle.master_lex.specs.Lexer.{Lexing, IsSound};
 
-    ghost Value = { Held };
+    ghost Value = { Lexing };
 
-    ghost view = { λ a. record { state = state_of a.passage; fed = a.fed; finished = a.finished } };
+    ghost view = { λ a. record { state = state_of a.scanner; fed = a.fed; finished = a.finished } };
 
-    ghost invariant = { λ a. IsSound (state_of a.passage) a.fed };
+    ghost invariant = { λ a. IsSound (state_of a.scanner) a.fed };
 }
 
 impl Lexer {
@@ -37,7 +38,7 @@ impl Lexer {
         ensures open { result.finished ≡ false }
     {
         Lexer {
-            passage: Passage::new(alloc),
+            scanner: Scanner::new(alloc),
             fed: 0,
             finished: false,
         }
@@ -53,9 +54,9 @@ impl Lexer {
         ensures open { self.new.finished ≡ false }
         ensures err { OnErr result (self.new ≡ self.old) }
     {
-        let mark = self.passage.mark();
-        if self.passage.pass_all(alloc, piece).is_err() {
-            self.passage.undo(mark);
+        let mark = self.scanner.mark();
+        if self.scanner.pass_all(alloc, piece).is_err() {
+            self.scanner.undo(mark);
             return Err(NoMemory);
         }
         self.fed += piece.len() as u32;
@@ -75,7 +76,7 @@ impl Lexer {
     /// `NoMemory` the call can be tried again.
     pub fn take(&mut self, alloc: Global) -> Result<Taken, TakeFault>
         ensures answer { (text : List ℕ) (given : List Entry) → StandsFor self.old text given
-            → Answers result (answer self.old.finished text given) }
+            → IsAnswer self.old.finished text given result }
         ensures stands { (text : List ℕ) (given : List Entry) → StandsFor self.old text given
             → IfOk result (λ taken. StandsFor self.new text (given_with given taken)) }
         ensures left { IfOk result (λ taken. left self.old ≡ given_with [] taken ++ left self.new) }
@@ -83,18 +84,15 @@ impl Lexer {
         ensures fed { self.new.fed ≡ self.old.fed }
         ensures err { OnErr result (self.new ≡ self.old) }
     {
-        if let Some(entry) = self.passage.ready.pop_front() {
+        if let Some(entry) = self.scanner.ready.pop_front() {
             return Ok(Taken::Entry(entry));
         }
-        if let Mode::Faulty(fault) = self.passage.way.mode {
-            return Err(TakeFault::Lex {
-                line: fault.line,
-                kind: fault.kind,
-            });
+        if let Mode::Faulty(fault) = self.scanner.position.mode {
+            return Err(fault.into());
         }
         if !self.finished {
             return Ok(Taken::More);
         }
-        self.passage.take_last(alloc)
+        self.scanner.take_last(alloc)
     }
 }

@@ -4,8 +4,8 @@
 //! its line. It passes over each octet once, plain ones in a row together, and keeps the entries that
 //! weren't taken and the entry under way, and no text.
 //!
-//! The layer above may rest on this: a text is cut into spellings in one way, and what a lexer gives
-//! of it are the entries and the fault of this cut, whichever pieces it came in; a piece that is
+//! The layer above may rest on this: what a lexer gives of a text are the entries and the fault that the
+//! definitions `text_entries` and `text_fault` say of it, whichever pieces it came in; a piece that is
 //! refused leaves nothing; and a fault is given as soon as no later octet can change which one counts.
 #![tactic(auto)]
 
@@ -15,15 +15,15 @@ mod last;
 mod laws;
 mod lexer;
 mod octet;
-mod passage;
 mod plain;
 mod reading;
+mod scanner;
 mod taken;
 mod undo;
 
 pub use entry::{Entry, Token};
 pub use fault::{LexFault, LexKind, TakeFault};
-pub use laws::{entries_are_those_of_the_cut, one_cut, what_is_held_stays};
+pub use laws::what_is_whole_stays;
 pub use lexer::Lexer;
 pub use reading::{Reading, read_entries};
 pub use taken::Taken;

@@ -2,9 +2,8 @@
 
 ghost use Rattle.std.specs.Prelude.{◌≡◌, ◌<◌, true, false};
 ghost use Rattle.dns_data.specs.Octet.{is_digit};
-ghost use Rattle.master_lex.specs.Octets.{kind, is_space, digit_after};
-ghost use Rattle.master_lex.specs.Spelling.{stands, is_feed};
-ghost use Rattle.master_lex.specs.Plain.{is_blank};
+ghost use Rattle.master_lex.specs.Octets.{kind, is_space, is_blank, is_feed, stands};
+ghost use Rattle.master_lex.specs.Pieces.{is_code};
 
 /// What an octet of a master file means outside quotes and escapes (RFC 1035 section 5.1).
 #[derive(Clone, Copy, Debug, PartialEq, Eq)]
@@ -80,17 +79,14 @@ pub fn is_space_octet(octet: u8) -> bool
     octet == b' ' || octet == b'\t'
 }
 
-/// The value with one digit more, where the octet is a digit and the value is within the limit.
-pub fn with_digit(value: u8, octet: u8, limit: u8) -> Option<u8>
-    ensures { result ≡ digit_after value octet limit }
+/// Whether the octets are three digits of a value up to 255.
+pub fn is_code(first: u8, second: u8, third: u8) -> bool
+    ensures { result ≡ is_code first second third }
 {
-    if !octet.is_ascii_digit() {
-        return None;
+    if !(first.is_ascii_digit() && second.is_ascii_digit() && third.is_ascii_digit()) {
+        return false;
     }
-    let more = u16::from(value) * 10 + u16::from(octet - b'0');
-    if more <= u16::from(limit) {
-        Some(more as u8)
-    } else {
-        None
-    }
+    let hundreds = u16::from(first - b'0') * 100;
+    let tens = u16::from(second - b'0') * 10;
+    hundreds + tens + u16::from(third - b'0') <= 255
 }

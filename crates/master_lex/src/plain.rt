@@ -2,16 +2,18 @@
 
 ghost use Rattle.std.specs.Prelude.{◌≡◌, ◌≤◌, length, not, OnErr, IfOk};
 ghost use Rattle.std.specs.List.{prefix_len};
-ghost use Rattle.master_lex.specs.declared.passage.Mode.TheVariants.{Start, Between};
-ghost use Rattle.master_lex.specs.Octets.{kind};
-ghost use Rattle.master_lex.specs.Passing.{state_of};
-ghost use Rattle.master_lex.specs.Spelling.{stands, is_feed};
-ghost use Rattle.master_lex.specs.Plain.{is_blank, KeptPlain, PassedFirst};
+ghost use Rattle.master_lex.specs.declared.scanner.Mode.TheVariants.{Start, Between};
+ghost use Rattle.master_lex.specs.Octets.{kind, is_blank, is_feed, stands};
+ghost use Rattle.master_lex.specs.States.{state_of};
+ghost use Rattle.master_lex.specs.Plain.{KeptPlain, PassedFirst};
 
 use crate::octet::{is_blank_octet, is_feed_octet, is_plain_in_quotes, is_plain_in_word};
-use crate::passage::{Escape, MOST, Mode, Passage};
+use crate::scanner::{Escape, MOST, Mode, Scanner};
 use dns_data::NoMemory;
-use std::alloc::Global;
+
+/// How many octets a token has room for from its start: more than most names, numbers and addresses
+/// have, so that the memory of one serves the next.
+const FIRST_ROOM: usize = 48;
 
 /// How many octets in front stand for themselves in a token, in quotes or outside.
 fn token_len(octets: &[u8], quoted: bool) -> usize
@@ -49,10 +51,10 @@ fn line_len(octets: &[u8]) -> usize
         .count()
 }
 
-impl Passage {
+impl Scanner {
     /// Puts the octets in front that stand for themselves into a token, which they may begin, as
     /// many as it has room for, and says how many these are. After an error nothing has changed.
-    fn keep_plain(&mut self, alloc: Global, octets: &[u8], quoted: bool) -> Result<usize, NoMemory>
+    fn keep_plain(&mut self, octets: &[u8], quoted: bool) -> Result<usize, NoMemory>
         ensures ok { IfOk result (KeptPlain (state_of self.old) (state_of self.new) octets.now quoted) }
         ensures err { OnErr result (state_of self.new ≡ state_of self.old) }
     {
@@ -61,8 +63,11 @@ impl Passage {
         if count == 0 {
             return Ok(0);
         }
-        self.raw.extend_from_slice(alloc, &octets[..count])?;
-        self.way.mode = Mode::InToken {
+        if self.raw.is_empty() {
+            self.raw.reserve(count.max(FIRST_ROOM))?;
+        }
+        self.raw.extend_from_slice(&octets[..count])?;
+        self.position.mode = Mode::InToken {
             quoted,
             escape: Escape::Outside,
         };
@@ -71,44 +76,44 @@ impl Passage {
 
     /// Passes over the plain octets with which an entry begins, and says how many they are. After
     /// an error nothing has changed.
-    fn begin_entry(&mut self, alloc: Global, octets: &[u8]) -> Result<usize, NoMemory>
-        requires { self.old.way.mode ≡ Start }
+    fn begin_entry(&mut self, octets: &[u8]) -> Result<usize, NoMemory>
+        requires { self.old.position.mode ≡ Start }
         ensures ok { IfOk result (PassedFirst (state_of self.old) (state_of self.new) octets.now) }
         ensures err { OnErr result (state_of self.new ≡ state_of self.old) }
     {
-        let count = self.keep_plain(alloc, octets, false)?;
+        let count = self.keep_plain(octets, false)?;
         if count > 0 {
-            self.way.blank_start = false;
+            self.position.blank_start = false;
         }
         Ok(count)
     }
 
     /// Passes over white space and the plain octets with which a token begins behind it, and says
     /// how many they are. After an error nothing has changed.
-    fn begin_word(&mut self, alloc: Global, octets: &[u8]) -> Result<usize, NoMemory>
-        requires { self.old.way.mode ≡ Between }
+    fn begin_word(&mut self, octets: &[u8]) -> Result<usize, NoMemory>
+        requires { self.old.position.mode ≡ Between }
         ensures ok { IfOk result (PassedFirst (state_of self.old) (state_of self.new) octets.now) }
         ensures err { OnErr result (state_of self.new ≡ state_of self.old) }
     {
         let blank = blank_len(octets);
-        let count = self.keep_plain(alloc, &octets[blank..], false)?;
+        let count = self.keep_plain(&octets[blank..], false)?;
         Ok(blank + count)
     }
 
     /// Passes over the octets in front that begin a token or only go on with what is under way, as
     /// far as the token has room for them, and says how many they are, which may be none. After an
     /// error nothing has changed.
-    pub fn pass_plain(&mut self, alloc: Global, octets: &[u8]) -> Result<usize, NoMemory>
+    pub fn pass_plain(&mut self, octets: &[u8]) -> Result<usize, NoMemory>
         ensures ok { IfOk result (PassedFirst (state_of self.old) (state_of self.new) octets.now) }
         ensures err { OnErr result (state_of self.new ≡ state_of self.old) }
     {
-        match self.way.mode {
-            Mode::Start => self.begin_entry(alloc, octets),
-            Mode::Between => self.begin_word(alloc, octets),
+        match self.position.mode {
+            Mode::Start => self.begin_entry(octets),
+            Mode::Between => self.begin_word(octets),
             Mode::InToken {
                 quoted,
                 escape: Escape::Outside,
-            } => self.keep_plain(alloc, octets, quoted),
+            } => self.keep_plain(octets, quoted),
             Mode::InToken { .. } => Ok(0),
             Mode::Comment => Ok(line_len(octets)),
             Mode::Faulty(_) => Ok(octets.len()),

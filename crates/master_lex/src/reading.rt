@@ -2,8 +2,8 @@
 
 ghost use Rattle.std.specs.Prelude.{◌≡◌, ◌-◌, ◌^◌, ◌<◌, ℕ, List, [], length, true, IfOk};
 ghost use Rattle.std.specs.List.{flat_map};
-ghost use Rattle.master_lex.specs.Spelling.{Cut, IsCut, entries_of_cut};
-ghost use Rattle.master_lex.specs.Holding.{StandsFor, entries_in, fault_in};
+ghost use Rattle.master_lex.specs.Contents.{text_entries, text_fault};
+ghost use Rattle.master_lex.specs.Lexer.{StandsFor};
 
 use crate::entry::Entry;
 use crate::fault::{LexFault, TakeFault};
@@ -34,11 +34,8 @@ impl Reading {
 /// The entries of a text that comes in these pieces, and its first fault.
 pub fn read_entries(alloc: Global, pieces: &[&[u8]]) -> Result<Reading, NoMemory>
     requires { length (flat_map (λ piece. piece.now) pieces.now) < 2 ^ 32 - 1 }
-    ensures cut { IfOk result (λ reading. (cut : Cut) × (IsCut (flat_map (λ piece. piece.now) pieces.now) cut
-        × (reading.entries ≡ entries_of_cut cut) × (reading.fault ≡ cut.fault))) }
-    // It doesn't matter how the text is cut into pieces, since it has one cut alone.
-    ensures only { IfOk result (λ reading. (cut : Cut) → IsCut (flat_map (λ piece. piece.now) pieces.now) cut
-        → (reading.entries ≡ entries_of_cut cut) × (reading.fault ≡ cut.fault)) }
+    ensures { IfOk result (λ reading. (reading.entries ≡ text_entries (flat_map (λ piece. piece.now) pieces.now))
+        × (reading.fault ≡ text_fault (flat_map (λ piece. piece.now) pieces.now))) }
 {
     let mut lexer = Lexer::new(alloc);
     for piece in pieces {
@@ -52,7 +49,7 @@ pub fn read_entries(alloc: Global, pieces: &[&[u8]]) -> Result<Reading, NoMemory
 fn take_all(alloc: Global, lexer: &mut Lexer) -> Result<Reading, NoMemory>
     requires { lexer.old.finished ≡ true }
     ensures { (text : List ℕ) → StandsFor lexer.old text []
-        → IfOk result (λ reading. (reading.entries ≡ entries_in true text) × (reading.fault ≡ fault_in true text)) }
+        → IfOk result (λ reading. (reading.entries ≡ text_entries text) × (reading.fault ≡ text_fault text)) }
 {
     let mut entries = List::new(alloc);
     loop {

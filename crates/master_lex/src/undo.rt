@@ -3,12 +3,11 @@
 ghost use Rattle.std.specs.Prelude.{◌≡◌, ℕ, List, [], length};
 ghost use Rattle.master_lex.specs.declared.entry.Entry.{Entry};
 ghost use Rattle.master_lex.specs.declared.entry.Token.{Token};
-ghost use Rattle.master_lex.specs.Passing.{State, state_of};
+ghost use Rattle.master_lex.specs.States.{State, state_of};
 ghost use Rattle.master_lex.specs.Undo.{mark_of, TokensGrew, EntriesGrew, Grew};
 
 use crate::entry::{Entry, Token};
-use crate::passage::{Passage, Way};
-use dns_data::Octets;
+use crate::scanner::{Scanner, Position};
 use std::collections::VecDeque;
 
 /// How much was held before a piece.
@@ -21,16 +20,16 @@ pub struct Mark {
     /// How many octets of the token under way.
     pub raw: usize,
     /// How far the entry under way had come.
-    pub way: Way,
+    pub position: Position,
 }
 
 /// Brings back the first `tokens_len` tokens and the first `raw_len` octets of the token behind
 /// them, from what has grown since.
-fn undo_tokens(tokens: &mut Vec<Token>, raw: &mut Octets, tokens_len: usize, raw_len: usize)
+fn undo_tokens(tokens: &mut Vec<Token>, raw: &mut Vec<u8>, tokens_len: usize, raw_len: usize)
     ensures tokens { (before : List Token) (begun : List ℕ) → length before ≡ tokens_len → length begun ≡ raw_len
-        → TokensGrew before begun tokens.old.items raw.old → tokens.new.items ≡ before }
+        → TokensGrew before begun tokens.old.items raw.old.items → tokens.new.items ≡ before }
     ensures raw { (before : List Token) (begun : List ℕ) → length before ≡ tokens_len → length begun ≡ raw_len
-        → TokensGrew before begun tokens.old.items raw.old → raw.new ≡ begun }
+        → TokensGrew before begun tokens.old.items raw.old.items → raw.new.items ≡ begun }
 {
     if tokens.len() <= tokens_len {
         raw.truncate(raw_len);
@@ -38,17 +37,17 @@ fn undo_tokens(tokens: &mut Vec<Token>, raw: &mut Octets, tokens_len: usize, raw
     }
     let token = tokens.remove(tokens_len);
     tokens.truncate(tokens_len);
-    *raw = token.raw;
+    *raw = token.raw.into_vec();
     raw.truncate(raw_len);
 }
 
 /// Brings back the first `len` entries, and the tokens of the entry behind them.
-fn undo_entries(ready: &mut VecDeque<Entry>, tokens: &mut Vec<Token>, raw: &mut Octets, len: usize)
+fn undo_entries(ready: &mut VecDeque<Entry>, tokens: &mut Vec<Token>, raw: &mut Vec<u8>, len: usize)
     ensures ready { (before : List Entry) (whole : List Token) (begun : List ℕ) → length before ≡ len
-        → EntriesGrew before whole begun ready.old.items tokens.old.items raw.old → ready.new.items ≡ before }
+        → EntriesGrew before whole begun ready.old.items tokens.old.items raw.old.items → ready.new.items ≡ before }
     ensures tokens { (before : List Entry) (whole : List Token) (begun : List ℕ) → length before ≡ len
-        → EntriesGrew before whole begun ready.old.items tokens.old.items raw.old
-        → TokensGrew whole begun tokens.new.items raw.new }
+        → EntriesGrew before whole begun ready.old.items tokens.old.items raw.old.items
+        → TokensGrew whole begun tokens.new.items raw.new.items }
 {
     let Some(entry) = ready.remove(len) else {
         return;
@@ -58,7 +57,7 @@ fn undo_entries(ready: &mut VecDeque<Entry>, tokens: &mut Vec<Token>, raw: &mut 
     raw.clear();
 }
 
-impl Passage {
+impl Scanner {
     /// How much is held.
     pub fn mark(&self) -> Mark
         ensures { result ≡ mark_of (state_of self.now) }
@@ -67,7 +66,7 @@ impl Passage {
             ready: self.ready.len(),
             tokens: self.tokens.len(),
             raw: self.raw.len(),
-            way: self.way,
+            position: self.position,
         }
     }
 
@@ -77,6 +76,6 @@ impl Passage {
     {
         undo_entries(&mut self.ready, &mut self.tokens, &mut self.raw, mark.ready);
         undo_tokens(&mut self.tokens, &mut self.raw, mark.tokens, mark.raw);
-        self.way = mark.way;
+        self.position = mark.position;
     }
 }

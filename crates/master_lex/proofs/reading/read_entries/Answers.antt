@@ -1,8 +1,8 @@
 -- The pieces so far and one more; and what is taken of them all.
 use Rattle.std.proofs.Common.{List, ℕ, [], subst, arith}
 use Rattle.std.specs.List.{flat_map}
-use Rattle.master_lex.specs.Holding.{StandsFor}
-use Rattle.master_lex.proofs.Values.{joined_step, joined_all, read_cut, read_only}
+use Rattle.master_lex.specs.Lexer.{StandsFor}
+use Rattle.master_lex.proofs.Values.{joined_step, joined_all}
 use Rattle.master_lex.proofs.reading.read_entries.Goals as goal
 
 pub loop-piece-preserved : goal.loop-piece-preserved
@@ -19,18 +19,10 @@ loop-piece-preserved c =
       );
     }
 
-pub returns-clause-cut : goal.returns-clause-cut
-returns-clause-cut c =
+pub returns : goal.returns
+returns c =
     let text = flat_map (λ piece. piece.now) c.args.pieces.now in
     let so_far = c.loop-piece.invariant.stands in
     let all = joined_all (λ piece. piece.now) c.args.pieces.now c.loop-piece.piece-index so_far.0 text (omega arith) so_far.1.1 in
     let stands : StandsFor c.loop-piece.lexer text [] = subst (λ (t : List ℕ). StandsFor c.loop-piece.lexer t []) all so_far.1.0 in
-    read_cut text c.take_all.result (c.take_all.ensures text (c.finish.ensures.stands text [] stands))
-
-pub returns-clause-only : goal.returns-clause-only
-returns-clause-only c =
-    let text = flat_map (λ piece. piece.now) c.args.pieces.now in
-    let so_far = c.loop-piece.invariant.stands in
-    let all = joined_all (λ piece. piece.now) c.args.pieces.now c.loop-piece.piece-index so_far.0 text (omega arith) so_far.1.1 in
-    let stands : StandsFor c.loop-piece.lexer text [] = subst (λ (t : List ℕ). StandsFor c.loop-piece.lexer t []) all so_far.1.0 in
-    read_only text c.take_all.result (c.take_all.ensures text (c.finish.ensures.stands text [] stands))
+    c.take_all.ensures text (c.finish.ensures.stands text [] stands)

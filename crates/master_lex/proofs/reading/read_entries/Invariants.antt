@@ -1,7 +1,7 @@
 -- The lexer stands for the pieces so far.
 use Rattle.std.proofs.Common.{◌≡◌, ℕ, List, [], ◌++◌, drop, false}
 use Rattle.std.specs.List.{flat_map}
-use Rattle.master_lex.specs.Holding.{StandsFor}
+use Rattle.master_lex.specs.Lexer.{StandsFor}
 use Rattle.master_lex.proofs.reading.read_entries.Given as goal
 
 abbrev pub invariant-loop-piece : goal.invariant-loop-piece

@@ -1,20 +1,20 @@
 -- What the last answer says of what was given.
-use Rattle.std.proofs.Common.{◌≡◌, Ok, Some, ap, ◌∙◌}
+use Rattle.std.proofs.Common.{◌≡◌, Some, ◌∙◌}
 use Rattle.master_lex.proofs.Values.{taken_all, never_more, taken_to_fault, made_fault}
 use Rattle.master_lex.proofs.reading.take_all.Goals as goal
 
 pub returns-in-Ok-End : goal.returns-in-Ok-End
 returns-in-Ok-End c text begun =
     let stands = c.loop-entry.invariant.stands text begun in
-    let answered = c.in-Ok-End.ensures.answer text c.loop-entry.entries stands in
-    let r = taken_all c.loop-entry.lexer text c.loop-entry.entries c.loop-entry.invariant.finished stands (answered ∙ ap Ok c.in-Ok-End.field-0-is) in
+    let answered = rw c.in-Ok-End.field-0-is at (c.in-Ok-End.ensures.answer text c.loop-entry.entries stands) in
+    let r = taken_all c.loop-entry.lexer text c.loop-entry.entries c.loop-entry.invariant.finished stands answered in
     (c.new-in-Ok-End.ensures.entries ∙ r.0, c.new-in-Ok-End.ensures.fault ∙ r.1)
 
 pub returns-in-Ok-More : goal.returns-in-Ok-More
 returns-in-Ok-More c text begun =
     let stands = c.loop-entry.invariant.stands text begun in
-    let answered = c.in-Ok-More.ensures.answer text c.loop-entry.entries stands in
-    absurd (never_more c.loop-entry.lexer text c.loop-entry.entries c.loop-entry.invariant.finished stands (answered ∙ ap Ok c.in-Ok-More.field-0-is))
+    let answered = rw c.in-Ok-More.field-0-is at (c.in-Ok-More.ensures.answer text c.loop-entry.entries stands) in
+    absurd (never_more c.loop-entry.lexer text c.loop-entry.entries c.loop-entry.invariant.finished stands answered)
 
 pub returns-in-Err-Lex : goal.returns-in-Err-Lex
 returns-in-Err-Lex c text begun =

@@ -1,6 +1,6 @@
 -- What was taken so far is what was given, and with each entry less is left.
 use Rattle.std.proofs.Common.{◌≡◌, ℕ, List, [], length, true}
-use Rattle.master_lex.specs.Holding.{StandsFor, left}
+use Rattle.master_lex.specs.Lexer.{StandsFor, left}
 use Rattle.master_lex.proofs.reading.take_all.Given as goal
 
 abbrev pub invariant-loop-entry : goal.invariant-loop-entry

@@ -2,12 +2,11 @@
 use Rattle.std.proofs.Common.{◌+◌, ◌≤◌, length, subst, sym, ap, ◌∙◌, arith, rules}
 use Rattle.std.proofs.lemmas.Bool.{ltb-false}
 use Rattle.std.proofs.lemmas.List.{take_all}
-use Rattle.master_lex.specs.Passing.{state_of}
+use Rattle.master_lex.specs.States.{state_of, run}
 use Rattle.master_lex.specs.Undo.{Grew}
-use Rattle.master_lex.specs.Holding.{run}
 use Rattle.master_lex.proofs.UndoLemmas.{halfway_grew}
 use Rattle.master_lex.proofs.Reached.{reached, reached_more, octet_more}
-use Rattle.master_lex.proofs.passage.Passage.pass_all.Goals as goal
+use Rattle.master_lex.proofs.scanner.Scanner.pass_all.Goals as goal
 
 pub returns-in_err-passed-clause-err : goal.returns-in_err-passed-clause-err
 returns-in_err-passed-clause-err c =

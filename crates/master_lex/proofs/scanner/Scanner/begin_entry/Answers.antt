@@ -1,7 +1,7 @@
 -- What is kept was passed over.
-use Rattle.master_lex.specs.Passing.{state_of}
+use Rattle.master_lex.specs.States.{state_of}
 use Rattle.master_lex.proofs.PlainLemmas.{kept_start}
-use Rattle.master_lex.proofs.passage.Passage.begin_entry.Goals as goal
+use Rattle.master_lex.proofs.scanner.Scanner.begin_entry.Goals as goal
 
 pub returns-then-count-gt0-clause-ok : goal.returns-then-count-gt0-clause-ok
 returns-then-count-gt0-clause-ok c =

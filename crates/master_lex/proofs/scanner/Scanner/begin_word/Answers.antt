@@ -1,8 +1,8 @@
 -- White space was passed over, and what is kept behind it.
-use Rattle.master_lex.specs.Passing.{state_of}
+use Rattle.master_lex.specs.States.{state_of}
 use Rattle.master_lex.proofs.PlainLemmas.{blank_first, kept_between}
 use Rattle.master_lex.proofs.Reached.{first_more}
-use Rattle.master_lex.proofs.passage.Passage.begin_word.Goals as goal
+use Rattle.master_lex.proofs.scanner.Scanner.begin_word.Goals as goal
 
 pub returns-clause-ok : goal.returns-clause-ok
 returns-clause-ok c =

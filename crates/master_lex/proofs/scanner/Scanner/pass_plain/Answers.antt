@@ -1,19 +1,19 @@
 -- What was kept or is plain under way was passed over.
 use Rattle.std.proofs.Common.{◌≡◌, rules}
 use Rattle.std.proofs.lemmas.Result.{IfOk-weaker}
-use Rattle.master_lex.specs.declared.passage.Mode.TheVariants.{InToken}
-use Rattle.master_lex.specs.declared.passage.Escape.TheVariants.{Outside}
-use Rattle.master_lex.specs.Passing.{state_of}
+use Rattle.master_lex.specs.declared.scanner.Mode.TheVariants.{InToken}
+use Rattle.master_lex.specs.declared.scanner.Escape.TheVariants.{Outside}
+use Rattle.master_lex.specs.States.{state_of}
 use Rattle.master_lex.specs.Plain.{KeptPlain, PassedFirst}
 use Rattle.master_lex.proofs.PlainLemmas.{kept_in_token, comment_first, faulty_first}
-use Rattle.master_lex.proofs.passage.Passage.pass_plain.Goals as goal
+use Rattle.master_lex.proofs.scanner.Scanner.pass_plain.Goals as goal
 
 pub returns-in-InToken-default-Outside-clause-ok : goal.returns-in-InToken-default-Outside-clause-ok
 returns-in-InToken-default-Outside-clause-ok c =
     let old = state_of c.args.self.now in
     let new = state_of c.keep_plain.new.self in
     let quoted = c.in-InToken-default-Outside.quoted in
-    let mode : c.args.self.now.way.mode ≡ InToken quoted Outside = search rules in
+    let mode : c.args.self.now.position.mode ≡ InToken quoted Outside = search rules in
     IfOk-weaker c.keep_plain.result (KeptPlain old new c.args.octets.now quoted) (PassedFirst old new c.args.octets.now) (kept_in_token quoted old new c.args.octets.now mode) c.keep_plain.ensures.ok
 
 pub returns-in-Comment-clause-ok : goal.returns-in-Comment-clause-ok

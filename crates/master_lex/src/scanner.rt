@@ -1,15 +1,16 @@
 //! Passing over a text octet by octet.
 
-ghost use Rattle.std.specs.Prelude.{◌≡◌, ◌+◌, ◌-◌, ◌^◌, ◌<◌, ◌≤◌, [], OnOk, OnErr, length};
-ghost use Rattle.master_lex.specs.Passing.{state_of, start_of, passed, begun, between, in_word_by, in_quotes_by, in_escape, escape_begun, in_token, kept, pushed, failed, with_mode, token_ended, line_ended, in_comment_by, entry_ended, opened, closed, IsHalfway, IsTidy};
+ghost use Rattle.std.specs.Prelude.{◌≡◌, ◌+◌, ◌-◌, ◌^◌, ◌<◌, ◌≤◌, if◌then◌else◌, [], OnOk, OnErr, length};
+ghost use Rattle.master_lex.specs.declared.fault.LexKind.TheVariants.{BadEscape};
+ghost use Rattle.master_lex.specs.declared.scanner.Mode.TheVariants.{InToken};
 ghost use Rattle.master_lex.specs.Octets.{kind};
-ghost use Rattle.master_lex.specs.Holding.{run, empty};
+ghost use Rattle.master_lex.specs.States.{state_of, start_of, empty, passed, between_by, in_word_by, in_quotes_by, behind_backslash, behind_digit, behind_digits, in_token, kept, pushed, failed, with_mode, escape_begun, token_ended, line_ended, in_comment_by, entry_ended, opened, closed, run, IsHalfway, IsTidy};
 ghost use Rattle.master_lex.specs.Undo.{Grew};
 
 use crate::entry::{Entry, Token};
 use crate::fault::{LexFault, LexKind};
-use crate::octet::{OctetKind, is_space_octet, kind_of, with_digit};
-use dns_data::{List, NoMemory, Octets};
+use crate::octet::{OctetKind, is_code, is_space_octet, kind_of};
+use dns_data::{List, NoMemory};
 use std::alloc::Global;
 use std::collections::VecDeque;
 use std::mem;
@@ -24,10 +25,10 @@ pub enum Escape {
     Outside,
     /// The `\` alone.
     Begun,
-    /// One digit, of this value.
+    /// The `\` and this digit.
     One(u8),
-    /// Two digits, of this value.
-    Two(u8),
+    /// The `\` and these digits.
+    Two(u8, u8),
 }
 
 /// What is under way.
@@ -47,7 +48,7 @@ pub enum Mode {
 
 /// How far the entry under way has come.
 #[derive(Clone, Copy, Debug, PartialEq, Eq)]
-pub struct Way {
+pub struct Position {
     /// The line, counted from 1.
     pub line: u32,
     /// Whether the entry's first octet is a space or a tab.
@@ -64,23 +65,23 @@ pub struct Way {
 
 /// The whole entries that weren't taken, and the entry under way.
 #[derive(Debug, Drop)]
-pub struct Passage {
+pub struct Scanner {
     /// Whole entries.
     pub ready: VecDeque<Entry>,
     /// The whole tokens of the entry under way.
     pub tokens: Vec<Token>,
-    /// The octets of the token under way.
-    pub raw: Octets,
+    /// The octets of the token under way, without those of an escape that isn't whole.
+    pub raw: Vec<u8>,
     /// How far the entry under way has come.
-    pub way: Way,
+    pub position: Position,
 }
 
-impl Way {
+impl Position {
     /// The start of an entry in a line.
-    pub fn start(line: u32) -> Way
+    pub fn start(line: u32) -> Position
         ensures { result ≡ start_of line }
     {
-        Way {
+        Position {
             line,
             blank_start: false,
             depth: 0,
@@ -91,16 +92,16 @@ impl Way {
     }
 }
 
-impl Passage {
+impl Scanner {
     /// Nothing of a text. It takes no memory.
-    pub fn new(alloc: Global) -> Passage
+    pub fn new(alloc: Global) -> Scanner
         ensures { state_of result ≡ empty }
     {
-        Passage {
+        Scanner {
             ready: VecDeque::new(alloc),
             tokens: Vec::new(alloc),
-            raw: Octets::new(),
-            way: Way::start(1),
+            raw: Vec::new(alloc),
+            position: Position::start(1),
         }
     }
 
@@ -108,66 +109,82 @@ impl Passage {
     fn fail(&mut self, kind: LexKind)
         ensures { state_of self.new ≡ failed (state_of self.old) kind }
     {
-        self.way.mode = Mode::Faulty(LexFault {
-            line: self.way.line,
+        self.position.mode = Mode::Faulty(LexFault {
+            line: self.position.line,
             kind,
         });
     }
 
-    /// Puts an octet into the token under way, however long it is. After an error nothing has
+    /// Puts octets into the token under way, however long it is. After an error nothing has
     /// changed.
-    fn push(
-        &mut self,
-        alloc: Global,
-        octet: u8,
-        quoted: bool,
-        escape: Escape,
-    ) -> Result<(), NoMemory>
-        ensures ok { OnOk result (state_of self.new ≡ pushed (state_of self.old) octet quoted escape) }
+    fn push(&mut self, octets: &[u8], quoted: bool) -> Result<(), NoMemory>
+        ensures ok { OnOk result (state_of self.new ≡ pushed (state_of self.old) octets.now quoted) }
         ensures err { OnErr result (state_of self.new ≡ state_of self.old) }
     {
-        self.raw.push(alloc, octet)?;
-        self.way.mode = Mode::InToken { quoted, escape };
+        self.raw.extend_from_slice(octets)?;
+        self.position.mode = Mode::InToken {
+            quoted,
+            escape: Escape::Outside,
+        };
         Ok(())
     }
 
-    /// Puts an octet into the token under way, which is at most so long. After an error nothing
-    /// has changed.
-    fn keep(
-        &mut self,
-        alloc: Global,
-        octet: u8,
-        quoted: bool,
-        escape: Escape,
-    ) -> Result<(), NoMemory>
-        ensures ok { OnOk result (state_of self.new ≡ kept (state_of self.old) octet quoted escape) }
+    /// Puts octets into the token under way, which is at most so long. After an error nothing has
+    /// changed.
+    fn keep(&mut self, octets: &[u8], quoted: bool) -> Result<(), NoMemory>
+        ensures ok { OnOk result (state_of self.new ≡ kept (state_of self.old) octets.now quoted) }
         ensures err { OnErr result (state_of self.new ≡ state_of self.old) }
     {
-        if self.raw.len() < MOST {
-            self.push(alloc, octet, quoted, escape)
+        if octets.len() <= MOST.saturating_sub(self.raw.len()) {
+            self.push(octets, quoted)
         } else {
             self.fail(LexKind::TokenTooLong);
             Ok(())
         }
     }
 
+    /// Goes on with an escape, if it can be one.
+    fn go_on(&mut self, can_be: bool, quoted: bool, escape: Escape)
+        ensures { state_of self.new ≡ (if can_be then with_mode (state_of self.old) (InToken quoted escape) else failed (state_of self.old) BadEscape) }
+    {
+        if can_be {
+            self.position.mode = Mode::InToken { quoted, escape };
+        } else {
+            self.fail(LexKind::BadEscape);
+        }
+    }
+
+    /// Passes over a `\`, which has to be within the length of a token.
+    fn begin_escape(&mut self, quoted: bool)
+        ensures { state_of self.new ≡ escape_begun (state_of self.old) quoted }
+    {
+        if self.raw.len() < MOST {
+            self.position.mode = Mode::InToken {
+                quoted,
+                escape: Escape::Begun,
+            };
+        } else {
+            self.fail(LexKind::TokenTooLong);
+        }
+    }
+
     /// Ends the token under way. After an error nothing has changed.
-    pub fn end_token(&mut self, quoted: bool) -> Result<(), NoMemory>
+    pub fn end_token(&mut self, alloc: Global, quoted: bool) -> Result<(), NoMemory>
         ensures ok { OnOk result (state_of self.new ≡ token_ended (state_of self.old) quoted) }
         ensures err { OnErr result (state_of self.new ≡ state_of self.old) }
     {
         let is_first = self.tokens.is_empty();
-        let raw = mem::replace(&mut self.raw, Octets::new());
+        let raw = List::from_vec(mem::replace(&mut self.raw, Vec::new(alloc)));
         match self.tokens.push(Token { raw, quoted }) {
             Ok(()) => {
                 if is_first {
-                    self.way.first = self.way.line;
+                    self.position.first = self.position.line;
                 }
-                self.way.mode = Mode::Between;
+                self.position.mode = Mode::Between;
                 Ok(())
             }
             Err(failed) => {
-                self.raw = failed.value.raw;
+                self.raw = failed.value.raw.into_vec();
                 Err(NoMemory)
             }
         }
@@ -176,15 +193,15 @@ impl Passage {
     /// Ends the entry under way, which is none without a token. After an error nothing has
     /// changed.
     fn end_entry(&mut self, alloc: Global) -> Result<(), NoMemory>
-        requires { self.old.way.line < 2 ^ 32 - 1 }
+        requires { self.old.position.line < 2 ^ 32 - 1 }
         ensures ok { OnOk result (state_of self.new ≡ entry_ended (state_of self.old)) }
         ensures err { OnErr result (state_of self.new ≡ state_of self.old) }
     {
         if !self.tokens.is_empty() {
             let tokens = List::from_vec(mem::replace(&mut self.tokens, Vec::new(alloc)));
             let entry = Entry {
-                line: self.way.first,
-                blank_start: self.way.blank_start,
+                line: self.position.first,
+                blank_start: self.position.blank_start,
                 tokens,
             };
             if let Err(failed) = self.ready.push_back(entry) {
@@ -192,19 +209,19 @@ impl Passage {
                 return Err(NoMemory);
             }
         }
-        self.way = Way::start(self.way.line + 1);
+        self.position = Position::start(self.position.line + 1);
         Ok(())
     }
 
     /// Passes over a line feed outside tokens. After an error nothing has changed.
     fn end_line(&mut self, alloc: Global) -> Result<(), NoMemory>
-        requires { self.old.way.line < 2 ^ 32 - 1 }
+        requires { self.old.position.line < 2 ^ 32 - 1 }
         ensures ok { OnOk result (state_of self.new ≡ line_ended (state_of self.old)) }
         ensures err { OnErr result (state_of self.new ≡ state_of self.old) }
     {
-        if self.way.depth > 0 {
-            self.way.line += 1;
-            self.way.mode = Mode::Between;
+        if self.position.depth > 0 {
+            self.position.line += 1;
+            self.position.mode = Mode::Between;
             return Ok(());
         }
         self.end_entry(alloc)
@@ -212,45 +229,45 @@ impl Passage {
 
     /// Passes over an opening parenthesis.
     fn open(&mut self)
-        requires { self.old.way.depth < 2 ^ 32 - 1 }
+        requires { self.old.position.depth < 2 ^ 32 - 1 }
         ensures { state_of self.new ≡ opened (state_of self.old) }
     {
-        if self.way.depth == 0 {
-            self.way.opened = self.way.line;
+        if self.position.depth == 0 {
+            self.position.opened = self.position.line;
         }
-        self.way.depth += 1;
-        self.way.mode = Mode::Between;
+        self.position.depth += 1;
+        self.position.mode = Mode::Between;
     }
 
     /// Passes over a closing parenthesis.
     fn close(&mut self)
         ensures { state_of self.new ≡ closed (state_of self.old) }
     {
-        if self.way.depth == 0 {
+        if self.position.depth == 0 {
             self.fail(LexKind::StrayClose);
         } else {
-            self.way.depth -= 1;
-            self.way.mode = Mode::Between;
+            self.position.depth -= 1;
+            self.position.mode = Mode::Between;
         }
     }
 
     /// Passes over an octet outside comments and tokens. After an error nothing has changed.
     fn between_tokens(&mut self, alloc: Global, octet: u8) -> Result<(), NoMemory>
-        requires line { self.old.way.line < 2 ^ 32 - 1 }
-        requires depth { self.old.way.depth < 2 ^ 32 - 1 }
-        ensures ok { OnOk result (state_of self.new ≡ between (state_of self.old) octet) }
+        requires line { self.old.position.line < 2 ^ 32 - 1 }
+        requires depth { self.old.position.depth < 2 ^ 32 - 1 }
+        ensures ok { OnOk result (state_of self.new ≡ between_by (kind octet) (state_of self.old) octet) }
         ensures err { OnErr result (state_of self.new ≡ state_of self.old) }
     {
         match kind_of(octet) {
-            OctetKind::Plain => return self.keep(alloc, octet, false, Escape::Outside),
-            OctetKind::Backslash => return self.keep(alloc, octet, false, Escape::Begun),
+            OctetKind::Plain => return self.keep(&[octet], false),
             OctetKind::LineFeed => return self.end_line(alloc),
-            OctetKind::Blank => self.way.mode = Mode::Between,
-            OctetKind::Semicolon => self.way.mode = Mode::Comment,
+            OctetKind::Backslash => self.begin_escape(false),
+            OctetKind::Blank => self.position.mode = Mode::Between,
+            OctetKind::Semicolon => self.position.mode = Mode::Comment,
             OctetKind::Open => self.open(),
             OctetKind::Close => self.close(),
             OctetKind::Quote => {
-                self.way.mode = Mode::InToken {
+                self.position.mode = Mode::InToken {
                     quoted: true,
                     escape: Escape::Outside,
                 };
@@ -261,16 +278,19 @@ impl Passage {
 
     /// Passes over an octet in a token without quotes. After an error the octet wasn't passed.
     fn in_word(&mut self, alloc: Global, octet: u8) -> Result<(), NoMemory>
-        requires line { self.old.way.line < 2 ^ 32 - 1 }
-        requires depth { self.old.way.depth < 2 ^ 32 - 1 }
+        requires line { self.old.position.line < 2 ^ 32 - 1 }
+        requires depth { self.old.position.depth < 2 ^ 32 - 1 }
         ensures ok { OnOk result (state_of self.new ≡ in_word_by (kind octet) (state_of self.old) octet) }
         ensures err { OnErr result (IsHalfway (state_of self.old) (state_of self.new)) }
     {
         match kind_of(octet) {
-            OctetKind::Plain => self.keep(alloc, octet, false, Escape::Outside),
-            OctetKind::Backslash => self.keep(alloc, octet, false, Escape::Begun),
+            OctetKind::Plain => self.keep(&[octet], false),
+            OctetKind::Backslash => {
+                self.begin_escape(false);
+                Ok(())
+            }
             _ => {
-                self.end_token(false)?;
+                self.end_token(alloc, false)?;
                 self.between_tokens(alloc, octet)
             }
         }
@@ -282,60 +302,69 @@ impl Passage {
         ensures err { OnErr result (state_of self.new ≡ state_of self.old) }
     {
         match kind_of(octet) {
-            OctetKind::Quote => self.end_token(true),
+            OctetKind::Quote => self.end_token(alloc, true),
             OctetKind::LineFeed => {
                 self.fail(LexKind::OpenQuote);
                 Ok(())
             }
-            OctetKind::Backslash => self.keep(alloc, octet, true, Escape::Begun),
-            _ => self.keep(alloc, octet, true, Escape::Outside),
+            OctetKind::Backslash => {
+                self.begin_escape(true);
+                Ok(())
+            }
+            _ => self.keep(&[octet], true),
         }
     }
 
     /// Passes over the octet behind a `\`. After an error nothing has changed.
-    fn begin_escape(&mut self, alloc: Global, octet: u8, quoted: bool) -> Result<(), NoMemory>
-        ensures ok { OnOk result (state_of self.new ≡ in_escape Escape.Begun (state_of self.old) octet quoted) }
+    fn behind_backslash(&mut self, octet: u8, quoted: bool) -> Result<(), NoMemory>
+        ensures ok { OnOk result (state_of self.new ≡ behind_backslash (state_of self.old) octet quoted) }
         ensures err { OnErr result (state_of self.new ≡ state_of self.old) }
     {
-        match (kind_of(octet), with_digit(0, octet, 2)) {
-            (OctetKind::LineFeed, _) => self.fail(LexKind::BadEscape),
-            (_, Some(value)) => return self.push(alloc, octet, quoted, Escape::One(value)),
-            (_, None) if octet.is_ascii_digit() => self.fail(LexKind::BadEscape),
-            (_, None) => return self.keep(alloc, octet, quoted, Escape::Outside),
+        if octet.is_ascii_digit() {
+            self.go_on(is_code(octet, b'0', b'0'), quoted, Escape::One(octet));
+            return Ok(());
         }
+        if octet == b'\n' {
+            self.fail(LexKind::BadEscape);
+            return Ok(());
+        }
+        self.keep(&[b'\\', octet], quoted)
+    }
+
+    /// Passes over the third of three digits. After an error nothing has changed.
+    fn behind_digits(&mut self, first: u8, second: u8, octet: u8, quoted: bool) -> Result<(), NoMemory>
+        ensures ok { OnOk result (state_of self.new ≡ behind_digits first second (state_of self.old) octet quoted) }
+        ensures err { OnErr result (state_of self.new ≡ state_of self.old) }
+    {
+        if is_code(first, second, octet) {
+            return self.keep(&[b'\\', first, second, octet], quoted);
+        }
+        self.fail(LexKind::BadEscape);
         Ok(())
     }
 
-    /// Passes over an octet in an escape. After an error nothing has changed.
-    fn go_on_with_escape(
-        &mut self,
-        alloc: Global,
-        octet: u8,
-        quoted: bool,
-        escape: Escape,
-    ) -> Result<(), NoMemory>
-        ensures ok { OnOk result (state_of self.new ≡ in_escape escape (state_of self.old) octet quoted) }
-        ensures err { OnErr result (state_of self.new ≡ state_of self.old) }
+    /// Passes over an octet in a token. After an error it wasn't passed.
+    fn in_token(&mut self, alloc: Global, octet: u8, quoted: bool, escape: Escape) -> Result<(), NoMemory>
+        requires line { self.old.position.line < 2 ^ 32 - 1 }
+        requires depth { self.old.position.depth < 2 ^ 32 - 1 }
+        ensures ok { OnOk result (state_of self.new ≡ in_token quoted escape (state_of self.old) octet) }
+        ensures err { OnErr result (IsHalfway (state_of self.old) (state_of self.new)) }
     {
-        let (value, limit) = match escape {
-            Escape::Outside => return Ok(()),
-            Escape::Begun => return self.begin_escape(alloc, octet, quoted),
-            Escape::One(value) => (value, 25),
-            Escape::Two(value) => (value, 255),
-        };
-        match (with_digit(value, octet, limit), escape) {
-            (Some(value), Escape::One(_)) => self.push(alloc, octet, quoted, Escape::Two(value)),
-            (Some(_), _) => self.keep(alloc, octet, quoted, Escape::Outside),
-            (None, _) => {
-                self.fail(LexKind::BadEscape);
+        match escape {
+            Escape::Outside if quoted => self.in_quotes(alloc, octet),
+            Escape::Outside => self.in_word(alloc, octet),
+            Escape::Begun => self.behind_backslash(octet, quoted),
+            Escape::One(first) => {
+                self.go_on(is_code(first, octet, b'0'), quoted, Escape::Two(first, octet));
                 Ok(())
             }
+            Escape::Two(first, second) => self.behind_digits(first, second, octet, quoted),
         }
     }
 
     /// Passes over an octet in a comment. After an error nothing has changed.
     fn in_comment(&mut self, alloc: Global, octet: u8) -> Result<(), NoMemory>
-        requires { self.old.way.line < 2 ^ 32 - 1 }
+        requires { self.old.position.line < 2 ^ 32 - 1 }
         ensures ok { OnOk result (state_of self.new ≡ in_comment_by (kind octet) (state_of self.old)) }
         ensures err { OnErr result (state_of self.new ≡ state_of self.old) }
     {
@@ -346,31 +375,21 @@ impl Passage {
     }
 
     /// Passes over one octet. After an error it wasn't passed.
-    #[tactic(auto, unfolding(crate::specs::Passing::passed))]
+    #[tactic(auto, unfolding(crate::specs::States::passed))]
     pub fn pass(&mut self, alloc: Global, octet: u8) -> Result<(), NoMemory>
-        requires line { self.old.way.line < 2 ^ 32 - 1 }
-        requires depth { self.old.way.depth < 2 ^ 32 - 1 }
+        requires line { self.old.position.line < 2 ^ 32 - 1 }
+        requires depth { self.old.position.depth < 2 ^ 32 - 1 }
         ensures ok { OnOk result (state_of self.new ≡ passed (state_of self.old) octet) }
         ensures err { OnErr result (IsHalfway (state_of self.old) (state_of self.new)) }
     {
-        match self.way.mode {
+        match self.position.mode {
             Mode::Start => {
-                self.way.blank_start = is_space_octet(octet);
+                self.position.blank_start = is_space_octet(octet);
                 self.between_tokens(alloc, octet)
             }
             Mode::Between => self.between_tokens(alloc, octet),
             Mode::Comment => self.in_comment(alloc, octet),
-            Mode::InToken {
-                quoted: false,
-                escape: Escape::Outside,
-            } => self.in_word(alloc, octet),
-            Mode::InToken {
-                quoted: true,
-                escape: Escape::Outside,
-            } => self.in_quotes(alloc, octet),
-            Mode::InToken { quoted, escape } => self.go_on_with_escape(
-                alloc, octet, quoted, escape,
-            ),
+            Mode::InToken { quoted, escape } => self.in_token(alloc, octet, quoted, escape),
             Mode::Faulty(_) => Ok(()),
         }
     }
@@ -378,17 +397,17 @@ impl Passage {
     /// Passes over octets. After an error what was held before can be brought back.
     pub fn pass_all(&mut self, alloc: Global, octets: &[u8]) -> Result<(), NoMemory>
         requires tidy { IsTidy (state_of self.old) }
-        requires line { self.old.way.line + length octets.now < 2 ^ 32 }
-        requires depth { self.old.way.depth + length octets.now < 2 ^ 32 }
+        requires line { self.old.position.line + length octets.now < 2 ^ 32 }
+        requires depth { self.old.position.depth + length octets.now < 2 ^ 32 }
         ensures ok { OnOk result (state_of self.new ≡ run (state_of self.old) octets.now) }
         ensures tidy { OnOk result (IsTidy (state_of self.new)) }
-        ensures line { OnOk result (self.new.way.line ≤ self.old.way.line + length octets.now) }
-        ensures depth { OnOk result (self.new.way.depth ≤ self.old.way.depth + length octets.now) }
+        ensures line { OnOk result (self.new.position.line ≤ self.old.position.line + length octets.now) }
+        ensures depth { OnOk result (self.new.position.depth ≤ self.old.position.depth + length octets.now) }
         ensures err { OnErr result (Grew (state_of self.old) (state_of self.new)) }
     {
         let mut passed = 0;
         loop {
-            passed += self.pass_plain(alloc, &octets[passed..])?;
+            passed += self.pass_plain(&octets[passed..])?;
             let Some(octet) = octets.get(passed) else {
                 return Ok(());
             };

@@ -1,0 +1,78 @@
+-- The pieces of a master file's text (RFC 1035 section 5.1). The octets: 9 is the tab, 10 the line feed, 13 the
+-- carriage return, 32 the space, and 34 40 41 59 92 are " ( ) ; \
+use Rattle.std.specs.Prelude.{ℕ, Bool, true, false, ◌&&◌, ◌||◌, ◌==◌, nat_le, if◌then◌else◌, List, [], ◌∷◌, ◌++◌}
+use Rattle.dns_data.specs.Octet.{is_digit, three_digit_value}
+use Rattle.master_lex.specs.declared.fault.LexKind.{LexKind}
+use Rattle.master_lex.specs.declared.fault.LexKind.TheVariants.{OpenQuote, BadEscape}
+
+-- What a text is made of: octets of white space and of comments, line feeds, parentheses, tokens, in quotes or not, with
+-- their octets as written, and a fault, behind which nothing is read.
+pub data Piece : Type 0 where
+  Skipped : (octet : ℕ) → Piece
+  LineEnd : Piece
+  Opening : Piece
+  Closing : Piece
+  Written : (quoted : Bool) (octets : List ℕ) → Piece
+  Broken : (kind : LexKind) → Piece
+
+-- three digits of a value up to 255
+abbrev pub is_code : ℕ → ℕ → ℕ → Bool
+is_code first second third =
+    is_digit first && is_digit second && is_digit third && nat_le (three_digit_value first second third) 255
+
+-- octets of a token before what follows, which may be more of it
+abbrev pub before : Bool → List ℕ → List Piece → List Piece
+before false octets (Written false more ∷ rest) = Written false (octets ++ more) ∷ rest
+before true octets (Written true more ∷ rest) = Written true (octets ++ more) ∷ rest
+before quoted octets rest = Written quoted octets ∷ rest
+
+-- a backslash that spells nothing; it is an octet of its token
+abbrev pub bad_escape : Bool → List Piece
+bad_escape quoted = Written quoted (92 ∷ []) ∷ Broken BadEscape ∷ []
+
+abbrev mutual
+  -- the pieces of a text, up to the first fault
+  pub pieces : List ℕ → List Piece
+  pieces [] = []
+  pieces (octet ∷ text) =
+      if octet == 32 || octet == 9 || octet == 13 then Skipped octet ∷ pieces text
+      else (if octet == 10 then LineEnd ∷ pieces text
+      else (if octet == 59 then Skipped octet ∷ comment text
+      else (if octet == 40 then Opening ∷ pieces text
+      else (if octet == 41 then Closing ∷ pieces text
+      else (if octet == 34 then before true [] (in_quotes text)
+      else (if octet == 92 then escaped false text
+      else before false (octet ∷ []) (pieces text)))))))
+
+  -- in a comment, up to the line's end
+  pub comment : List ℕ → List Piece
+  comment [] = []
+  comment (octet ∷ text) = if octet == 10 then LineEnd ∷ pieces text else Skipped octet ∷ comment text
+
+  -- in a token in quotes, up to the next quote
+  pub in_quotes : List ℕ → List Piece
+  in_quotes [] = Broken OpenQuote ∷ []
+  in_quotes (octet ∷ text) =
+      if octet == 34 then Written true [] ∷ pieces text
+      else (if octet == 10 then Broken OpenQuote ∷ []
+      else (if octet == 92 then escaped true text
+      else before true (octet ∷ []) (in_quotes text)))
+
+  -- behind a backslash: any octet but a digit and the line feed, or three digits of a value up to 255
+  pub escaped : Bool → List ℕ → List Piece
+  escaped quoted [] = bad_escape quoted
+  escaped quoted (octet ∷ text) =
+      if is_digit octet then second_digit quoted octet text
+      else (if octet == 10 then bad_escape quoted
+      else before quoted (92 ∷ octet ∷ []) (if quoted then in_quotes text else pieces text))
+
+  pub second_digit : Bool → ℕ → List ℕ → List Piece
+  second_digit quoted first [] = bad_escape quoted
+  second_digit quoted first (second ∷ text) = third_digit quoted first second text
+
+  pub third_digit : Bool → ℕ → ℕ → List ℕ → List Piece
+  third_digit quoted first second [] = bad_escape quoted
+  third_digit quoted first second (third ∷ text) =
+      if is_code first second third
+      then before quoted (92 ∷ first ∷ second ∷ third ∷ []) (if quoted then in_quotes text else pieces text)
+      else bad_escape quoted
