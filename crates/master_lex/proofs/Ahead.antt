@@ -1,16 +1,15 @@
 -- What the octets of a text make of what is held is what the text holds.
-use Rattle.std.proofs.Common.{◌≡◌, ◌⊎◌, ℕ, ◌+◌, ◌-◌, ◌<◌, ◌≤◌, Bool, true, false, cond, List, [], ◌∷◌, ◌++◌, length, refl, sym, ap, ◌∙◌, append_assoc, arith, inl, inr}
-use Rattle.std.specs.Prelude.{◌||◌, ◌==◌, nat_eq, nat_lt, nat_le, if◌then◌else◌}
+use Rattle.std.proofs.Common.{◌≡◌, ℕ, ◌<◌, Bool, true, false, List, [], ◌∷◌, ◌++◌, length, refl, sym, ap, append_assoc, arith}
+use Rattle.std.specs.Prelude.{◌||◌, ◌==◌, nat_lt, if◌then◌else◌}
 use Rattle.std.proofs.lemmas.List.{length-append}
-use Rattle.std.proofs.lemmas.Bool.{lt-ltb, le-ltb, cases_lt}
-use Rattle.std.proofs.lemmas.Bool.Decides.{nat_tests}
+use Rattle.std.proofs.lemmas.Bool.{lt-ltb}
 use Rattle.master_lex.specs.declared.fault.LexKind.TheVariants.{TokenTooLong}
 use Rattle.master_lex.specs.declared.octet.OctetKind.{OctetKind}
 use Rattle.master_lex.specs.declared.octet.OctetKind.TheVariants.{Plain, Blank, LineFeed, Semicolon, Open, Close, Quote, Backslash}
 use Rattle.master_lex.specs.declared.scanner.TheConstants.{MOST}
 use Rattle.master_lex.specs.Octets.{kind}
-use Rattle.master_lex.specs.Pieces.{Piece, Skipped, LineEnd, Opening, Closing, Written, Broken, before, pieces, comment, in_quotes, escaped}
-use Rattle.master_lex.specs.Contents.{Place, Contents, fails, contents_from}
+use Rattle.master_lex.specs.Pieces.{Piece, Skipped, LineEnd, Opening, Closing, Written, before, pieces, comment, in_quotes, escaped}
+use Rattle.master_lex.specs.Contents.{Place, fails, contents_from}
 
 -- ---- the pieces of a text by what its first octet means
 

@@ -8,3 +8,5 @@ pub mod LastLemmas
 pub mod Settled
 pub mod StandsLemmas
 pub mod Values
+pub mod Spelled
+mod Worked

@@ -8,7 +8,7 @@ use Rattle.std.proofs.Math.Seq.{take-length}
 use Rattle.std.proofs.lemmas.List.Sums.{prefix_len-le-length}
 use Rattle.master_lex.specs.declared.fault.LexFault.{LexFault}
 use Rattle.master_lex.specs.declared.octet.OctetKind.{OctetKind}
-use Rattle.master_lex.specs.declared.octet.OctetKind.TheVariants.{Plain, Blank, LineFeed, Semicolon, Open, Close, Quote, Backslash}
+use Rattle.master_lex.specs.declared.octet.OctetKind.TheVariants.{Plain, Blank, LineFeed, Quote, Backslash}
 use Rattle.master_lex.specs.declared.scanner.Mode.TheVariants.{Start, Between, Comment, InToken, Faulty}
 use Rattle.master_lex.specs.declared.scanner.Escape.TheVariants.{Outside}
 use Rattle.master_lex.specs.declared.scanner.TheConstants.{MOST}
@@ -132,9 +132,9 @@ comment_run s [] (suc n) h = refl
 comment_run s (c ∷ cs) (suc n) h =
     let p = prefix_step (not (is_feed (kind c))) n (prefix_len (λ octet. not (is_feed (kind octet))) cs) (omega arith) in
     ap (λ x. run x (take n cs)) (same (kind c) p.0) ∙ comment_run s cs n p.1 where
-  same : (k : OctetKind) → not (is_feed k) ≡ true → in_comment_by k (with_mode s Comment) ≡ with_mode s Comment
-  same LineFeed h = absurd cc
-  same _ h = refl
+      same : (k : OctetKind) → not (is_feed k) ≡ true → in_comment_by k (with_mode s Comment) ≡ with_mode s Comment
+      same LineFeed h = absurd cc
+      same _ h = refl
 
 pub comment_first : (s : State) (octets : List ℕ) (count : ℕ) → s.position.mode ≡ Comment → count ≡ prefix_len (λ octet. not (is_feed (kind octet))) octets → PassedFirst s s octets count
 comment_first s octets count m e =

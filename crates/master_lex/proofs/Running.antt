@@ -9,7 +9,7 @@ use Rattle.master_lex.specs.declared.scanner.Mode.TheVariants.{Start, Between, C
 use Rattle.master_lex.specs.declared.scanner.Escape.TheVariants.{Outside, Begun, One, Two}
 use Rattle.master_lex.specs.Pieces.{Broken}
 use Rattle.master_lex.specs.Contents.{Contents, entry_at, fails, behind, contents_from}
-use Rattle.master_lex.specs.States.{State, token_ended, passed, run, Fits, IsTidy, place_of, ahead_by, ahead, paren_fault, fault_by, last_fault, whole_by, made, without_fault, last_entry}
+use Rattle.master_lex.specs.States.{State, token_ended, passed, run, Fits, IsTidy, place_of, ahead_by, ahead, fault_by, last_fault, whole_by, made, without_fault, last_entry}
 use Rattle.master_lex.proofs.UndoLemmas.{moves}
 use Rattle.master_lex.proofs.Steps.{ended_ahead, bad_ahead, step}
 

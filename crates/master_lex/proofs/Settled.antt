@@ -1,6 +1,6 @@
 -- A fault is held as soon as no later octet can change it.
-use Rattle.std.proofs.Common.{◌≡◌, ◌⊎◌, ℕ, suc, zero, ◌+◌, ◌-◌, ◌<◌, ◌≤◌, Bool, true, false, List, [], ◌∷◌, ◌++◌, length, refl, sym, ap, ◌∙◌, arith, inl, inr, Option, Some, None, add-one}
-use Rattle.std.specs.Prelude.{nat_eq, if◌then◌else◌}
+use Rattle.std.proofs.Common.{◌≡◌, ℕ, suc, zero, ◌+◌, ◌-◌, ◌<◌, ◌≤◌, Bool, true, false, List, [], ◌∷◌, ◌++◌, length, refl, sym, ap, ◌∙◌, arith, inl, inr, Option, Some, None}
+use Rattle.std.specs.Prelude.{nat_eq}
 use Rattle.std.proofs.lemmas.Bool.{cases_lt, le-ltb}
 use Rattle.std.proofs.lemmas.Bool.Decides.{nat_tests}
 use Rattle.std.proofs.lemmas.List.{append-nil}
@@ -12,7 +12,7 @@ use Rattle.master_lex.specs.declared.scanner.Mode.TheVariants.{Start, Between, C
 use Rattle.master_lex.specs.declared.scanner.Escape.{Escape}
 use Rattle.master_lex.specs.declared.scanner.Escape.TheVariants.{Outside, Begun, One, Two}
 use Rattle.master_lex.specs.declared.scanner.TheConstants.{MOST}
-use Rattle.master_lex.specs.Pieces.{Piece, Written, before, pieces, comment}
+use Rattle.master_lex.specs.Pieces.{Written, before, pieces, comment}
 use Rattle.master_lex.specs.Contents.{Place, fails, with_token, contents_from}
 use Rattle.master_lex.specs.States.{State, CanGoOn, Fits, place_of, rest_of_token, ahead_by}
 use Rattle.master_lex.proofs.Ahead.{before_before, too_long}
@@ -92,16 +92,17 @@ module _ (place : Place) (quoted : Bool) (w : List ℕ) where
             let same : None ≡ Some fault = sym none ∙ sym more ∙ there in
             absurd cc
       ] where
-    ends : (e : Escape) → IsUnderWay e → contents_from place (before quoted w (rest_of_token quoted e [])) ≡ fails place.line BadEscape
-    ends Outside on = absurd on
-    ends Begun on = bad_ahead place quoted w room
-    ends (One first) on = bad_ahead place quoted w room
-    ends (Two first second) on = bad_ahead place quoted w room
-    different : ◌≡◌ {A = Option LexFault} (Some (record { line = place.line; kind = BadEscape })) (Some (record { line = place.line; kind = TokenTooLong })) → ⊥
-    different same = let k : BadEscape ≡ TokenTooLong = ap kind_in same in cc where
-      kind_in : Option LexFault → LexKind
-      kind_in None = OpenParen
-      kind_in (Some fault) = fault.kind
+        ends : (e : Escape) → IsUnderWay e → contents_from place (before quoted w (rest_of_token quoted e [])) ≡ fails place.line BadEscape
+        ends Outside on = absurd on
+        ends Begun on = bad_ahead place quoted w room
+        ends (One first) on = bad_ahead place quoted w room
+        ends (Two first second) on = bad_ahead place quoted w room
+
+        different : ◌≡◌ {A = Option LexFault} (Some (record { line = place.line; kind = BadEscape })) (Some (record { line = place.line; kind = TokenTooLong })) → ⊥
+        different same = let k : BadEscape ≡ TokenTooLong = ap kind_in same in cc where
+          kind_in : Option LexFault → LexKind
+          kind_in None = OpenParen
+          kind_in (Some fault) = fault.kind
 
 -- the fault that is held
 abbrev pub held_fault : Mode → Option LexFault

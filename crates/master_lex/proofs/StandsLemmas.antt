@@ -1,5 +1,5 @@
 -- For which text a lexer stands, and what it answers.
-use Rattle.std.proofs.Common.{◌≡◌, ◌⊎◌, ℕ, ◌+◌, Bool, true, false, List, [], ◌∷◌, ◌++◌, length, drop, refl, sym, ap, ◌∙◌, append_assoc, arith, inl, inr, Option, Some, None}
+use Rattle.std.proofs.Common.{◌≡◌, ℕ, ◌+◌, Bool, true, false, List, [], ◌∷◌, ◌++◌, length, drop, refl, sym, ap, ◌∙◌, append_assoc, arith, Option, None}
 use Rattle.std.proofs.lemmas.List.{length-append, append-nil}
 use Rattle.std.specs.Prelude.{if◌then◌else◌, Result, Ok, Err, IfOk, OnErr, MatchBool}
 use Rattle.std.proofs.lemmas.Result.{IfOk-weaker, on_err_weaker}
@@ -14,7 +14,7 @@ use Rattle.master_lex.specs.declared.taken.Taken.{Taken}
 use Rattle.master_lex.specs.declared.taken.Taken.TheVariants as answers
 use Rattle.master_lex.specs.Contents.{Contents, behind, contents, text_entries, text_fault}
 use Rattle.master_lex.specs.States.{State, empty, run, Fits, IsTidy, ahead_by, ahead, last_fault, whole_by, made, without_fault, last_entry}
-use Rattle.master_lex.specs.Taking.{entries_in, IsFault, left_answer, IsAnswer, given_with}
+use Rattle.master_lex.specs.Taking.{IsFault, left_answer, IsAnswer, given_with}
 use Rattle.master_lex.specs.Lexer.{Lexing, Remains, StandsFor, left, LastTaken}
 use Rattle.master_lex.proofs.Running.{run_ahead, end_ahead}
 use Rattle.master_lex.proofs.Settled.{held_fault, not_settled}
@@ -43,7 +43,7 @@ pub end_stands : (s : State) (n : ℕ) (finished : Bool) → finished ≡ false 
 end_stands s n finished unended tidy text given h =
     let ahead_is : (more : List ℕ) → contents (text ++ more) ≡ behind given (ahead s more) = rw unended at h.agrees in
     let all : contents text ≡ behind given (record { whole = s.ready; last = last_entry s; fault = last_fault s.position })
-        = ap contents (sym (append-nil text)) ∙ ahead_is [] ∙ ap (behind given) (end_ahead s tidy) in
+    = ap contents (sym (append-nil text)) ∙ ahead_is [] ∙ ap (behind given) (end_ahead s tidy) in
     record {
       fed = h.fed;
       agrees = record {
@@ -83,7 +83,7 @@ first_stands s s' n finished entry e text given h = record { fed = h.fed; agrees
   by : (finished : Bool) → MatchBool finished (Remains s text given) ((more : List ℕ) → contents (text ++ more) ≡ behind given (ahead s more))
       → MatchBool finished (Remains s' text (given ++ entry ∷ [])) ((more : List ℕ) → contents (text ++ more) ≡ behind (given ++ entry ∷ []) (ahead s' more))
   by true r = record {
-    entries = r.entries ∙ ap (λ (x : State). given ++ x.ready ++ last_entry x) e 
+    entries = r.entries ∙ ap (λ (x : State). given ++ x.ready ++ last_entry x) e
         ∙ ap (λ (w : List Entry). given ++ (entry ∷ s'.ready) ++ w) (same_last s' (entry ∷ s'.ready))
         ∙ ap (λ (w : List Entry). w ++ last_entry s') (sym (append_assoc given (entry ∷ []) s'.ready));
     fault = r.fault ∙ ap (λ (x : State). last_fault x.position) e;
@@ -107,6 +107,7 @@ fault_is : (s : State) (text : List ℕ) (given : List Entry) → IsTidy s → (
 fault_is s text given tidy h = by s.position.mode tidy (λ more. ap (λ (c : Contents). c.fault) (h more)) where
   none : (m : Mode) → held_fault m ≡ None → Fits m s → ((more : List ℕ) → text_fault (text ++ more) ≡ (ahead_by m s more).fault) → IsFault false text None
   none m is fits same fault said = not_settled m s fault fits is (λ more. sym (same more) ∙ said more)
+
   by : (m : Mode) → Fits m s → ((more : List ℕ) → text_fault (text ++ more) ≡ (ahead_by m s more).fault) → IsFault false text (held_fault m)
   by (Faulty fault) fits same = same
   by Start fits same = none Start refl fits same

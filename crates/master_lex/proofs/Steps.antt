@@ -1,8 +1,8 @@
 -- One octet more, and what is ahead of what is held.
-use Rattle.std.proofs.Common.{◌≡◌, ◌⊎◌, ℕ, ◌+◌, ◌-◌, ◌<◌, ◌≤◌, Bool, true, false, cond, List, [], ◌∷◌, ◌++◌, length, refl, sym, ap, ◌∙◌, append_assoc, arith, inl, inr, eqb-true, Some, None}
-use Rattle.std.specs.Prelude.{◌&&◌, ◌||◌, ◌==◌, nat_eq, nat_lt, nat_le, if◌then◌else◌}
+use Rattle.std.proofs.Common.{◌≡◌, ℕ, ◌+◌, ◌-◌, ◌<◌, ◌≤◌, Bool, true, false, List, [], ◌∷◌, ◌++◌, length, refl, sym, ap, ◌∙◌, append_assoc, arith, eqb-true}
+use Rattle.std.specs.Prelude.{◌||◌, ◌==◌, nat_eq, nat_lt, nat_le, if◌then◌else◌}
 use Rattle.std.proofs.lemmas.List.{length-append, append-nil}
-use Rattle.std.proofs.lemmas.Bool.{lt-ltb, le-ltb, cases_lt, ltb-false}
+use Rattle.std.proofs.lemmas.Bool.{le-ltb, ltb-false}
 use Rattle.std.proofs.lemmas.Bool.Decides.{nat_tests}
 use Rattle.dns_data.specs.Octet.{is_digit, three_digit_value}
 use Rattle.master_lex.specs.declared.entry.Entry.{Entry}
@@ -12,13 +12,12 @@ use Rattle.master_lex.specs.declared.octet.OctetKind.TheVariants.{Plain, Blank, 
 use Rattle.master_lex.specs.declared.scanner.TheConstants.{MOST}
 use Rattle.master_lex.specs.declared.scanner.Mode.{Mode}
 use Rattle.master_lex.specs.declared.scanner.Mode.TheVariants.{Start, Between, Comment, InToken, Faulty}
-use Rattle.master_lex.specs.declared.scanner.Escape.{Escape}
 use Rattle.master_lex.specs.declared.scanner.Escape.TheVariants.{Outside, Begun, One, Two}
 use Rattle.master_lex.specs.Lists.{is_empty}
 use Rattle.master_lex.specs.Octets.{kind, is_space}
-use Rattle.master_lex.specs.Pieces.{is_code, Piece, Skipped, LineEnd, Opening, Closing, Written, Broken, before, bad_escape, pieces, comment, in_quotes, escaped, second_digit, third_digit}
-use Rattle.master_lex.specs.Contents.{Place, Contents, begins_blank, start, with_token, entry_at, fails, behind, contents_from}
-use Rattle.master_lex.specs.States.{State, empty, with_mode, failed, pushed, kept, escape_begun, token_ended, entry_of, entry_ended, line_ended, opened, closed, between_by, in_word_by, in_quotes_by, behind_backslash, behind_digit, behind_digits, in_token, in_comment_by, passed_by, passed, run, Fits, IsTidy, place_of, rest_of_token, ahead_by, ahead}
+use Rattle.master_lex.specs.Pieces.{is_code, Piece, Skipped, LineEnd, Written, Broken, before, bad_escape, pieces, comment, in_quotes, escaped, second_digit, third_digit}
+use Rattle.master_lex.specs.Contents.{Place, begins_blank, start, entry_at, fails, behind, contents_from}
+use Rattle.master_lex.specs.States.{State, with_mode, failed, pushed, kept, escape_begun, token_ended, entry_of, entry_ended, between_by, in_word_by, in_quotes_by, behind_backslash, behind_digit, behind_digits, in_comment_by, passed_by, passed, Fits, IsTidy, place_of, rest_of_token, ahead_by, ahead}
 use Rattle.master_lex.proofs.Ahead.{by_kind, pieces_by_kind, before_before, too_long}
 
 -- what an escape spells goes on with its token
@@ -27,16 +26,20 @@ escape_of quoted text = by quoted text where
   bad_of : (q : Bool) → (more : List ℕ) × ((rest : List Piece) × (bad_escape q ≡ before q (92 ∷ more) rest))
   bad_of false = ([], (Broken BadEscape ∷ [], refl))
   bad_of true = ([], (Broken BadEscape ∷ [], refl))
+
   if_of : (q b : Bool) (x y : List Piece) → ((more : List ℕ) × ((rest : List Piece) × (x ≡ before q (92 ∷ more) rest)))
       → ((more : List ℕ) × ((rest : List Piece) × (y ≡ before q (92 ∷ more) rest))) → (more : List ℕ) × ((rest : List Piece) × ((if b then x else y) ≡ before q (92 ∷ more) rest))
   if_of q true x y h k = h
   if_of q false x y h k = k
+
   third : (q : Bool) (a b : ℕ) (text : List ℕ) → (more : List ℕ) × ((rest : List Piece) × (third_digit q a b text ≡ before q (92 ∷ more) rest))
   third q a b [] = bad_of q
   third q a b (c ∷ text) = if_of q (is_code a b c) _ _ (a ∷ b ∷ c ∷ [], (_, refl)) (bad_of q)
+
   second : (q : Bool) (a : ℕ) (text : List ℕ) → (more : List ℕ) × ((rest : List Piece) × (second_digit q a text ≡ before q (92 ∷ more) rest))
   second q a [] = bad_of q
   second q a (b ∷ text) = third q a b text
+
   by : (q : Bool) (text : List ℕ) → (more : List ℕ) × ((rest : List Piece) × (escaped q text ≡ before q (92 ∷ more) rest))
   by q [] = bad_of q
   by q (c ∷ text) = if_of q (is_digit c) _ _ (second q c text) (if_of q (c == 10) _ _ (bad_of q) (c ∷ [], (_, refl)))
@@ -67,6 +70,7 @@ module _ (s : State) (quoted : Bool) where
         ap (λ x. contents_from (place_of s) (before quoted s.raw x)) e.1.1
         ∙ ap (contents_from (place_of s)) (before_before quoted s.raw (92 ∷ e.0) e.1.0)
         ∙ too_long (place_of s) quoted (s.raw ++ 92 ∷ e.0) e.1.0 (omega (arith, l, length-append s.raw (92 ∷ e.0)))
+
     by : (short : Bool) → nat_lt (length s.raw) MOST ≡ short
         → behind s.ready (contents_from (place_of s) (before quoted s.raw (escaped quoted text)))
         ≡ ahead (if short then with_mode s (InToken quoted Begun) else failed s TokenTooLong) text
@@ -92,6 +96,7 @@ between_ahead LineFeed s octet text h = by (nat_eq s.position.depth 0) where
       ≡ behind (if none then s.ready else s.ready ++ entry_of s ∷ []) (contents_from (start (s.position.line + 1) (pieces text)) (pieces text))
   entry true = refl
   entry false = ap (λ (w : List Entry). record (contents_from (start (s.position.line + 1) (pieces text)) (pieces text)) { whole = w }) (sym (append_assoc s.ready (entry_of s ∷ []) _))
+
   by : (outside : Bool)
       → behind s.ready (if outside then behind (entry_at (place_of s)) (contents_from (start (s.position.line + 1) (pieces text)) (pieces text)) else contents_from (record (place_of s) { line = s.position.line + 1 }) (pieces text))
       ≡ ahead (if outside then entry_ended s else record s { position = record s.position { line = s.position.line + 1; mode = Between } }) text
@@ -171,8 +176,10 @@ comment_by k s octet text e m none = by (nat_eq octet 10) refl where
   same Close h = refl
   same Quote h = refl
   same Backslash h = refl
+
   feed : k ≡ LineFeed → octet ≡ 10
   feed h = grind (arith, nat_tests, e, h)
+
   by : (b : Bool) → nat_eq octet 10 ≡ b → behind s.ready (contents_from (place_of s) (if b then LineEnd ∷ pieces text else Skipped octet ∷ comment text)) ≡ ahead (in_comment_by k s) text
   by true h =
       let ten : octet ≡ 10 = eqb-true octet 10 h in
@@ -206,6 +213,7 @@ module _ (s : State) (octet : ℕ) (text : List ℕ) where
         ap (λ x. behind s.ready (contents_from (place_of s) x)) (word_ends k s.raw octet text p b)
         ∙ ap (behind s.ready) (ended_ahead s false (by_kind k octet text) h)
         ∙ between_ahead k (token_ended s false) octet text refl
+
     by : (k : OctetKind) → behind s.ready (contents_from (place_of s) (before false s.raw (by_kind k octet text))) ≡ ahead (in_word_by k s octet) text
     by Plain = ap (λ x. behind s.ready (contents_from (place_of s) x)) (before_before false s.raw (octet ∷ []) (pieces text)) ∙ kept_ahead s false (octet ∷ []) text
     by Backslash = escape_ahead s false text
@@ -228,8 +236,10 @@ module _ (s : State) (octet : ℕ) (text : List ℕ) where
     plain Semicolon q f b = refl
     plain Open q f b = refl
     plain Close q f b = refl
+
     Goal : ℕ → List Piece → Type 0
     Goal c x = behind s.ready (contents_from (place_of s) (before true s.raw x)) ≡ ahead (in_quotes_by (kind c) s c) text
+
     by : (quote feed backslash : Bool) → nat_eq octet 34 ≡ quote → nat_eq octet 10 ≡ feed → nat_eq octet 92 ≡ backslash
         → Goal octet (if quote then Written true [] ∷ pieces text else (if feed then Broken OpenQuote ∷ [] else (if backslash then escaped true text else before true (octet ∷ []) (in_quotes text))))
     by true f b e g i =

@@ -1,7 +1,7 @@
 -- What is held grows with each octet, so that the way back can be found.
-use Rattle.std.proofs.Common.{◌≡◌, ℕ, ◌+◌, ◌-◌, ◌*◌, ◌≤◌, Bool, true, false, cond, List, [], ◌∷◌, ◌++◌, length, refl, sym, ap, ◌∙◌, append_assoc, arith, inl, inr, Option, Some, None}
+use Rattle.std.proofs.Common.{◌≡◌, ℕ, ◌+◌, ◌-◌, ◌≤◌, Bool, true, false, cond, List, [], ◌∷◌, ◌++◌, length, refl, sym, ap, ◌∙◌, append_assoc, arith, inl, inr}
 use Rattle.std.proofs.lemmas.List.{append-nil, length-append}
-use Rattle.std.specs.Prelude.{nat_lt, nat_eq, nat_le, ◌&&◌}
+use Rattle.std.specs.Prelude.{nat_lt, nat_eq, nat_le}
 use Rattle.std.proofs.lemmas.Bool.Decides.{nat_tests}
 use Rattle.master_lex.specs.declared.entry.Entry.{Entry}
 use Rattle.master_lex.specs.declared.entry.Token.{Token}
@@ -18,7 +18,7 @@ use Rattle.dns_data.specs.Octet.{is_digit}
 use Rattle.master_lex.specs.Octets.{kind, is_space}
 use Rattle.master_lex.specs.Pieces.{is_code}
 use Rattle.master_lex.specs.Lists.{is_empty}
-use Rattle.master_lex.specs.States.{State, with_mode, kept, pushed, failed, escape_begun, token_ended, entry_of, entry_ended, line_ended, between_by, in_word_by, in_quotes_by, behind_backslash, behind_digit, behind_digits, in_token, in_comment_by, passed_by, passed, run, SameStores, IsHalfway, CanGoOn, begun, Fits, IsTidy}
+use Rattle.master_lex.specs.States.{State, with_mode, kept, failed, escape_begun, token_ended, entry_of, entry_ended, line_ended, between_by, in_word_by, in_quotes_by, in_token, in_comment_by, passed_by, passed, run, SameStores, IsHalfway, CanGoOn, begun, Fits, IsTidy}
 use Rattle.master_lex.specs.Undo.{TokensGrew, EntriesGrew, Grew}
 
 -- a state is what its parts are

@@ -1,6 +1,6 @@
 -- The entries and the fault of a text that are taken one after another.
-use Rattle.std.proofs.Common.{◌≡◌, ℕ, true, List, [], ◌∷◌, ◌++◌, length, drop, refl, sym, ap, ◌∙◌, append_assoc, get_or, ◌+◌, ◌<◌, ◌≤◌, suc, zero, add-one, arith, inl, inr, Option, Some, None}
-use Rattle.std.specs.Prelude.{Ok, Err}
+use Rattle.std.proofs.Common.{◌≡◌, ℕ, Bool, true, false, List, [], ◌∷◌, ◌++◌, length, drop, refl, sym, ap, ◌∙◌, append_assoc, get_or, ◌+◌, ◌<◌, ◌≤◌, suc, zero, add-one, arith, inl, inr, Option, Some, None}
+use Rattle.std.specs.Prelude.{Ok, Err, MatchBool}
 use Rattle.std.specs.List.{flat_map}
 use Rattle.std.proofs.Math.Seq.{drop-cons}
 use Rattle.std.proofs.lemmas.List.{append-nil}
@@ -9,10 +9,10 @@ use Rattle.master_lex.specs.declared.fault.LexFault.{LexFault}
 use Rattle.master_lex.specs.declared.fault.LexKind.{LexKind}
 use Rattle.master_lex.specs.declared.fault.TakeFault.TheVariants as faults
 use Rattle.master_lex.specs.declared.taken.Taken.TheVariants as answers
-use Rattle.master_lex.specs.Contents.{Contents, contents, text_entries, text_fault}
-use Rattle.master_lex.specs.States.{State, empty, run, ahead_by, last_entry, ahead}
+use Rattle.master_lex.specs.Contents.{Contents, behind, contents, text_entries, text_fault}
+use Rattle.master_lex.specs.States.{empty, run, ahead_by, last_entry, ahead}
 use Rattle.master_lex.specs.Taking.{left_answer, IsAnswer}
-use Rattle.master_lex.specs.Lexer.{Lexing, StandsFor}
+use Rattle.master_lex.specs.Lexer.{Lexing, Remains, StandsFor}
 use Rattle.master_lex.proofs.UndoLemmas.{moves_far}
 use Rattle.master_lex.proofs.Running.{run_ahead, end_ahead}
 use Rattle.master_lex.proofs.StandsLemmas.{drop_front}
@@ -24,7 +24,7 @@ whole_begins text more =
     let tidy = (moves_far empty text (refl, refl)).tidy in
     let all : contents (text ++ more) ≡ ahead s more = run_ahead empty text more (refl, refl) in
     let whole : (contents text).whole ≡ s.ready
-        = ap (λ (c : Contents). c.whole) (ap contents (sym (append-nil text)) ∙ run_ahead empty text [] (refl, refl) ∙ end_ahead s tidy) in
+    = ap (λ (c : Contents). c.whole) (ap contents (sym (append-nil text)) ∙ run_ahead empty text [] (refl, refl) ∙ end_ahead s tidy) in
     let rest = ahead_by s.position.mode s more in (
       rest.whole ++ rest.last,
       ap (λ (c : Contents). c.whole ++ c.last) all ∙ append_assoc s.ready rest.whole rest.last
@@ -100,3 +100,17 @@ nothing_left (x ∷ xs) (suc i) l = nothing_left xs i (omega arith)
 
 pub joined_all : {B : Type 0} (f : B → List ℕ) (xs : List B) (i : ℕ) (so_far total : List ℕ) → length xs ≤ i → so_far ++ flat_map f (drop i xs) ≡ total → so_far ≡ total
 joined_all f xs i so_far total l h = sym (ap (λ zs. so_far ++ flat_map f zs) (nothing_left xs i l) ∙ append-nil so_far) ∙ h
+
+-- the entries that were taken are the first of the text, however it goes on, if it hasn't ended
+pub taken_first : (lexer : Lexing) (text : List ℕ) (taken : List Entry) → StandsFor lexer text taken
+    → (more : List ℕ) → (lexer.finished ≡ true → more ≡ []) → (others : List Entry) × (text_entries (text ++ more) ≡ taken ++ others)
+taken_first lexer text taken stands more none = by lexer.finished stands.agrees none where
+  by : (finished : Bool) → MatchBool finished (Remains lexer.state text taken) ((more : List ℕ) → contents (text ++ more) ≡ behind taken (ahead lexer.state more))
+      → (finished ≡ true → more ≡ []) → (others : List Entry) × (text_entries (text ++ more) ≡ taken ++ others)
+  by true remains none = (
+    lexer.state.ready ++ last_entry lexer.state,
+    ap text_entries (ap (λ (octets : List ℕ). text ++ octets) (none refl) ∙ append-nil text) ∙ remains.entries ∙ append_assoc taken lexer.state.ready (last_entry lexer.state),
+  )
+  by false same none =
+      let rest = ahead lexer.state more in
+      (rest.whole ++ rest.last, ap (λ (c : Contents). c.whole ++ c.last) (same more) ∙ append_assoc taken rest.whole rest.last)

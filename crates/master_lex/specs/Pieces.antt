@@ -76,3 +76,18 @@ abbrev mutual
       if is_code first second third
       then before quoted (92 ∷ first ∷ second ∷ third ∷ []) (if quoted then in_quotes text else pieces text)
       else bad_escape quoted
+
+-- the octets of a piece; a fault has none
+abbrev pub spelled : Piece → List ℕ
+spelled (Skipped octet) = octet ∷ []
+spelled LineEnd = 10 ∷ []
+spelled Opening = 40 ∷ []
+spelled Closing = 41 ∷ []
+spelled (Written false octets) = octets
+spelled (Written true octets) = 34 ∷ (octets ++ 34 ∷ [])
+spelled (Broken kind) = []
+
+-- a fault
+abbrev pub is_broken : Piece → Bool
+is_broken (Broken kind) = true
+is_broken _ = false

@@ -10,7 +10,7 @@ ghost use Rattle.master_lex.specs.Lexer.{LastTaken};
 
 use crate::entry::Entry;
 use crate::fault::{LexFault, LexKind, TakeFault};
-use crate::scanner::{Escape, Mode, Scanner, Position};
+use crate::scanner::{Escape, Mode, Position, Scanner};
 use crate::taken::Taken;
 use dns_data::{List, NoMemory};
 use std::alloc::Global;

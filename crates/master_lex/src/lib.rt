@@ -23,7 +23,7 @@ mod undo;
 
 pub use entry::{Entry, Token};
 pub use fault::{LexFault, LexKind, TakeFault};
-pub use laws::what_is_whole_stays;
+pub use laws::{pieces_spell_the_text, what_is_whole_stays};
 pub use lexer::Lexer;
 pub use reading::{Reading, read_entries};
 pub use taken::Taken;

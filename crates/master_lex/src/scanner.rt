@@ -332,7 +332,13 @@ impl Scanner {
     }
 
     /// Passes over the third of three digits. After an error nothing has changed.
-    fn behind_digits(&mut self, first: u8, second: u8, octet: u8, quoted: bool) -> Result<(), NoMemory>
+    fn behind_digits(
+        &mut self,
+        first: u8,
+        second: u8,
+        octet: u8,
+        quoted: bool,
+    ) -> Result<(), NoMemory>
         ensures ok { OnOk result (state_of self.new ≡ behind_digits first second (state_of self.old) octet quoted) }
         ensures err { OnErr result (state_of self.new ≡ state_of self.old) }
     {
@@ -344,7 +350,13 @@ impl Scanner {
     }
 
     /// Passes over an octet in a token. After an error it wasn't passed.
-    fn in_token(&mut self, alloc: Global, octet: u8, quoted: bool, escape: Escape) -> Result<(), NoMemory>
+    fn in_token(
+        &mut self,
+        alloc: Global,
+        octet: u8,
+        quoted: bool,
+        escape: Escape,
+    ) -> Result<(), NoMemory>
         requires line { self.old.position.line < 2 ^ 32 - 1 }
         requires depth { self.old.position.depth < 2 ^ 32 - 1 }
         ensures ok { OnOk result (state_of self.new ≡ in_token quoted escape (state_of self.old) octet) }
@@ -355,7 +367,11 @@ impl Scanner {
             Escape::Outside => self.in_word(alloc, octet),
             Escape::Begun => self.behind_backslash(octet, quoted),
             Escape::One(first) => {
-                self.go_on(is_code(first, octet, b'0'), quoted, Escape::Two(first, octet));
+                self.go_on(
+                    is_code(first, octet, b'0'),
+                    quoted,
+                    Escape::Two(first, octet),
+                );
                 Ok(())
             }
             Escape::Two(first, second) => self.behind_digits(first, second, octet, quoted),

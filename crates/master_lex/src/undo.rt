@@ -7,7 +7,7 @@ ghost use Rattle.master_lex.specs.States.{State, state_of};
 ghost use Rattle.master_lex.specs.Undo.{mark_of, TokensGrew, EntriesGrew, Grew};
 
 use crate::entry::{Entry, Token};
-use crate::scanner::{Scanner, Position};
+use crate::scanner::{Position, Scanner};
 use std::collections::VecDeque;
 
 /// How much was held before a piece.

@@ -4,10 +4,11 @@ use Rattle.std.specs.Prelude.{Result, Ok, Err, MatchBool}
 use Rattle.std.proofs.lemmas.List.{append-nil}
 use Rattle.dns_data.specs.Answers.{AnswersOr, ◌>>=◌}
 use Rattle.dns_data.specs.Name.{Labels}
-use Rattle.master_lex.specs.Holding.{Held, Remains, StandsFor, run, empty, last_entry, entries_in, fault_in}
+use Rattle.master_lex.specs.Contents.{text_entries, text_fault}
+use Rattle.master_lex.specs.Lexer.{Lexing, StandsFor}
 use Rattle.master_lex.specs.declared.entry.Entry.{Entry}
 use Rattle.master_lex.specs.declared.fault.LexFault.{LexFault}
-use Rattle.master_lex.proofs.Values.{entries_begin}
+use Rattle.master_lex.proofs.Values.{taken_first}
 use Rattle.master_read.specs.Reader.{IsSettled, HasReadAll, Held as ReaderHeld, StandsFor as ReaderStandsFor}
 use Rattle.master_read.specs.ZoneText.{no_records, with_entry, at_line, with_entries, ended, zone_of_entries, zone_text}
 use Rattle.master_read.specs.declared.fault.TextFault.{TextFault}
@@ -46,31 +47,12 @@ fault_behind room so_far records fault xs entry ys e made =
     ∙ ap (λ (r : Result Records TextFault). r >>= (λ records'. with_entries room records' (entry ∷ ys))) e
     ∙ ap (λ (r : Result Records TextFault). r >>= (λ records'. with_entries room records' ys)) made
 
--- the entries that were taken are the first of the text, however it goes on, if it hasn't ended
-first_by : (finished : Bool) (held : Held) (text : List ℕ) (taken : List Entry)
-    → MatchBool finished (Remains held text taken) (run empty text ≡ record held.state { ready = taken ++ held.state.ready })
-    → (more : List ℕ) → (finished ≡ true → more ≡ []) → (others : List Entry) × (entries_in true (text ++ more) ≡ taken ++ others)
-first_by true held text taken remains more none = (
-  held.state.ready ++ last_entry held.state,
-  ap (λ (octets : List ℕ). entries_in true (text ++ octets)) (none refl) ∙ ap (λ (octets : List ℕ). entries_in true octets) (append-nil text)
-      ∙ remains.entries ∙ append_assoc taken held.state.ready (last_entry held.state),
-)
-first_by false held text taken same more none =
-    let begins = entries_begin text more in (
-      held.state.ready ++ begins.0,
-      begins.1 ∙ ap (λ (entries : List Entry). entries ++ begins.0) (ap (λ s. s.ready) same) ∙ append_assoc taken held.state.ready begins.0,
-    )
-
-taken_first : (held : Held) (text : List ℕ) (taken : List Entry) → StandsFor held text taken
-    → (more : List ℕ) → (held.finished ≡ true → more ≡ []) → (others : List Entry) × (entries_in true (text ++ more) ≡ taken ++ others)
-taken_first held text taken stands = first_by held.finished held text taken stands.agrees
-
 -- the fault of an entry is that of the text
-fault_of_text : (origin : Labels) (room : ℕ) (text : List ℕ) (fault : TextFault) → with_entries room (no_records origin) (entries_in true text) ≡ Err fault → zone_text origin room text ≡ Err fault
+fault_of_text : (origin : Labels) (room : ℕ) (text : List ℕ) (fault : TextFault) → with_entries room (no_records origin) (text_entries text) ≡ Err fault → zone_text origin room text ≡ Err fault
 unfolding zone_text zone_of_entries
-fault_of_text origin room text fault e = ap (λ (r : Result Records TextFault). r >>= ended (fault_in true text)) e
+fault_of_text origin room text fault e = ap (λ (r : Result Records TextFault). r >>= ended (text_fault text)) e
 
-fault_by : (origin : Labels) (room : ℕ) (text : List ℕ) (records : Records) (entry : Entry) (taken others : List Entry) → entries_in true text ≡ (taken ++ entry ∷ []) ++ others
+fault_by : (origin : Labels) (room : ℕ) (text : List ℕ) (records : Records) (entry : Entry) (taken others : List Entry) → text_entries text ≡ (taken ++ entry ∷ []) ++ others
     → with_entries room (no_records origin) taken ≡ Ok records → (fault : TextFault) → AnswersOr NoMemory (Err fault) (at_line entry.line (with_entry room records entry)) → AnswersOr NoMemory (Err fault) (zone_text origin room text)
 fault_by origin room text records entry taken others begins read fault (inl free) = inl free
 fault_by origin room text records entry taken others begins read fault (inr h) =
@@ -79,21 +61,21 @@ fault_by origin room text records entry taken others begins read fault (inr h) =
     ∙ fault_behind room (no_records origin) records fault taken entry others read h))
 
 -- where the next entry has a fault, it is settled
-pub settled : (held : Held) (text : List ℕ) (taken : List Entry) (entry : Entry) (origin : Labels) (room : ℕ) (records : Records) → StandsFor held text (taken ++ entry ∷ [])
+pub settled : (held : Lexing) (text : List ℕ) (taken : List Entry) (entry : Entry) (origin : Labels) (room : ℕ) (records : Records) → StandsFor held text (taken ++ entry ∷ [])
     → with_entries room (no_records origin) taken ≡ Ok records → (fault : TextFault) → AnswersOr NoMemory (Err fault) (at_line entry.line (with_entry room records entry)) → IsSettled held.finished fault origin room text
 settled held text taken entry origin room records stands read fault h more none =
     let first = taken_first held text (taken ++ entry ∷ []) stands more none in
     fault_by origin room (text ++ more) records entry taken first.0 first.1 read fault h
 
 -- the records and the fault of a text are those of all its entries and of what is behind them
-zone_text_is : (origin : Labels) (room : ℕ) (text : List ℕ) (records : Records) → with_entries room (no_records origin) (entries_in true text) ≡ Ok records
-    → zone_text origin room text ≡ ended (fault_in true text) records
+zone_text_is : (origin : Labels) (room : ℕ) (text : List ℕ) (records : Records) → with_entries room (no_records origin) (text_entries text) ≡ Ok records
+    → zone_text origin room text ≡ ended (text_fault text) records
 unfolding zone_text zone_of_entries
-zone_text_is origin room text records e = ap (λ (r : Result Records TextFault). r >>= ended (fault_in true text)) e
+zone_text_is origin room text records e = ap (λ (r : Result Records TextFault). r >>= ended (text_fault text)) e
 
 -- where all entries of a text were read, this is what it gives
 pub text_read : (progress : Progress) (origin : Labels) (room : ℕ) (text : List ℕ) (fault : Option LexFault) → progress.room ≡ room → HasReadAll progress origin text
-    → fault ≡ fault_in true text → zone_text origin room text ≡ ended fault progress.records
+    → fault ≡ text_fault text → zone_text origin room text ≡ ended fault progress.records
 text_read progress origin room text fault same all is =
     ap (λ (n : ℕ). zone_text origin n text) (sym same) ∙ zone_text_is origin progress.room text progress.records all
     ∙ ap (λ (f : Option LexFault). ended f progress.records) (sym is)

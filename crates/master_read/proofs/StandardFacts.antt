@@ -3,8 +3,6 @@ use Rattle.std.specs.Prelude.{◌≡◌, refl, ℕ, List, [], ◌∷◌, ◌++�
 use Rattle.dns_data.specs.declared.rdata.Rdata.TheVariants.{A, Ns, Soa, Mx}
 use Rattle.dns_data.specs.declared.rdata.Rr.{Rr}
 use Rattle.dns_data.specs.declared.rr_type.RrType.TheVariants as types
-use Rattle.master_lex.specs.Octets.{kind}
-use Rattle.master_lex.specs.Passing.{passed}
 use Rattle.rdata_forms.specs.declared.fault.RdataFault.TheVariants.{GenericKnown}
 use Rattle.master_read.specs.Entries.{record_of, owner_of, front_in, one_more, type_said, data_behind, made_of, directive_of}
 use Rattle.master_read.specs.Words.{type_word, type_numbered, class_word, is_among}
@@ -101,10 +99,10 @@ isi_edu_records =
     ∷ []
 
 isi_edu_reads : zone_text (name "isi.edu") 11 isi_edu ≡ reads isi_edu_records 11
-unfolding zone_text zone_of_entries with_entries with_entry record_of owner_of front_in one_more type_said data_behind made_of type_word class_word is_among directive_of passed kind
+unfolding zone_text zone_of_entries with_entries with_entry record_of owner_of front_in one_more type_said data_behind made_of type_word class_word is_among directive_of
 isi_edu_reads = refl
 
 -- its last line includes another file
 isi_edu_includes : zone_text (name "isi.edu") 11 (isi_edu ++ codes "$INCLUDE <SUBSYS>ISI-MAILBOXES.TXT") ≡ faulty 22 NotSupported
-unfolding zone_text zone_of_entries with_entries with_entry record_of owner_of front_in one_more type_said data_behind made_of type_word class_word is_among directive_of passed kind
+unfolding zone_text zone_of_entries with_entries with_entry record_of owner_of front_in one_more type_said data_behind made_of type_word class_word is_among directive_of
 isi_edu_includes = refl

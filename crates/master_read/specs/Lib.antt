@@ -1,6 +1,7 @@
 pub use Rattle.dns_data.specs.Name
-pub use Rattle.master_lex.specs.Holding
-pub use Rattle.master_lex.specs.Spelling
+pub use Rattle.master_lex.specs.Pieces
+pub use Rattle.master_lex.specs.Contents
+pub use Rattle.master_lex.specs.Lexer
 pub mod Words
 pub mod Context
 pub mod Fault

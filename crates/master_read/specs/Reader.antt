@@ -2,7 +2,8 @@
 use Rattle.std.specs.Prelude.{◌≡◌, ◌≢◌, ℕ, ◌≤◌, List, [], ◌++◌, length, Bool, true, false, Option, Some, None, Ok, Err, IfSome}
 use Rattle.dns_data.specs.Answers.{AnswersOr}
 use Rattle.dns_data.specs.Name.{Labels}
-use Rattle.master_lex.specs.Holding.{StandsFor as LexerStandsFor, entries_in}
+use Rattle.master_lex.specs.Contents.{text_entries}
+use Rattle.master_lex.specs.Lexer.{StandsFor as LexerStandsFor}
 use Rattle.master_lex.specs.declared.entry.Entry.{Entry}
 use Rattle.master_read.specs.Fault.{TellsOfText}
 use Rattle.master_read.specs.ZoneText.{no_records, with_entries, zone_text}
@@ -29,7 +30,7 @@ HasRead progress origin text =
 
 -- all entries of the text under this origin were taken, and these are their records
 abbrev pub HasReadAll : Progress → Labels → List ℕ → Type 0
-HasReadAll progress origin text = with_entries progress.room (no_records origin) (entries_in true text) ≡ Ok progress.records
+HasReadAll progress origin text = with_entries progress.room (no_records origin) (text_entries text) ≡ Ok progress.records
 
 -- the text's fault is settled, however the text goes on, if it hasn't ended
 abbrev pub IsSettled : Bool → TextFault → Labels → ℕ → List ℕ → Type 0

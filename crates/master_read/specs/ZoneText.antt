@@ -2,7 +2,7 @@
 use Rattle.std.specs.Prelude.{ℕ, not, filter, ◌+◌, nat_le, true, List, [], ◌∷◌, ◌++◌, option_to_list, if◌then◌else◌, Option, Some, None, Result, Ok, Err}
 use Rattle.dns_data.specs.Answers.{◌>>=◌, with_fault}
 use Rattle.dns_data.specs.Name.{Labels}
-use Rattle.master_lex.specs.Holding.{entries_in, fault_in}
+use Rattle.master_lex.specs.Contents.{text_entries, text_fault}
 use Rattle.master_lex.specs.declared.entry.Entry.{Entry}
 use Rattle.master_lex.specs.declared.fault.LexFault.{LexFault}
 use Rattle.master_read.specs.Context.{first_context}
@@ -59,7 +59,7 @@ zone_of_entries origin room entries fault = do
 
 -- the records of a text under an origin, where there is room for so many, or the text's first fault
 unfoldable pub zone_text : Labels → ℕ → List ℕ → Result ZoneText TextFault
-zone_text origin room text = zone_of_entries origin room (entries_in true text) (fault_in true text)
+zone_text origin room text = zone_of_entries origin room (text_entries text) (text_fault text)
 
 -- the entries that are records and no directives
 abbrev pub record_entries : List Entry → List Entry

@@ -5,9 +5,8 @@
 //! rest over.
 //!
 //! The layer above may rest on this: what `finish` answers is what the definition `zone_text` says of all that was
-//! fed, so neither the pieces nor the way of the lexer count; the definition is that of the entries of the text's
-//! cut into spellings (`read_by_the_cut`), each read in the context that those before it leave; and a fault that
-//! lies in a name or in data is never want of memory.
+//! fed, so the pieces don't count; the definition is that of the text's entries (master_lex's `text_entries`), each
+//! read in the context that those before it leave; and a fault that lies in a name or in data is never want of memory.
 //!
 //! Costs: each octet is passed over by the lexer once, and by the reading of its entry a bounded number of times.
 //! The entries of one piece are held until they are read, so a large text is best fed in pieces. A record takes
@@ -28,7 +27,7 @@ mod words;
 mod zone_text;
 
 pub use fault::{TextCause, TextFault};
-pub use laws::{front_is_whole, no_text_wants_memory, read_by_the_cut, seen_counts_record_entries};
+pub use laws::{front_is_whole, no_text_wants_memory, seen_counts_record_entries};
 pub use reader::ZoneReader;
 pub use zone_text::ZoneText;
 

@@ -3,7 +3,7 @@
 ghost use Rattle.std.specs.Prelude.{◌≡◌, ◌≤◌, ◌<◌, ◌+◌, ◌-◌, ◌^◌, ℕ, List, ◌++◌, length, true, false, Ok, IfOk, IfErr, OnOk};
 ghost use Rattle.dns_data.specs.Answers.{AnswersOr};
 ghost use Rattle.dns_data.specs.Name.{Labels};
-ghost use Rattle.master_lex.specs.Holding.{fault_in};
+ghost use Rattle.master_lex.specs.Contents.{text_fault};
 ghost use Rattle.master_read.specs.Fault.{TellsOfText};
 ghost use Rattle.master_read.specs.Reader.{HasRead, HasReadAll, IsSettled};
 ghost use Rattle.master_read.specs.ZoneText.{zone_text};
@@ -51,7 +51,7 @@ impl Progress {
     pub fn read_ready(&mut self, alloc: Global) -> Result<Option<LexFault>, TextFault>
         ensures read { (origin : Labels) (text : List ℕ) → HasRead self.old origin text → OnOk result (HasRead self.new origin text) }
         ensures all { self.old.lexer.finished ≡ true → (origin : Labels) (text : List ℕ) → HasRead self.old origin text
-            → IfOk result (λ fault. HasReadAll self.new origin text × (fault ≡ fault_in true text)) }
+            → IfOk result (λ fault. HasReadAll self.new origin text × (fault ≡ text_fault text)) }
         ensures fault { (origin : Labels) (text : List ℕ) → HasRead self.old origin text
             → IfErr result (λ fault. IsSettled self.old.lexer.finished fault origin self.old.room text) }
         ensures tells { IfErr result TellsOfText }

@@ -1,6 +1,6 @@
 -- With each entry less is left.
 use Rattle.std.proofs.Common.{◌≡◌, length}
-use Rattle.master_lex.specs.Holding.{left}
+use Rattle.master_lex.specs.Lexer.{left}
 use Rattle.master_lex.proofs.tests.show_held.Given as goal
 
 abbrev pub invariant-loop-entry : goal.invariant-loop-entry

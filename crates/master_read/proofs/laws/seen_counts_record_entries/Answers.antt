@@ -2,7 +2,7 @@
 use Rattle.std.proofs.Common.{◌≡◌, ℕ, ◌+◌, ◌≤◌, Bool, true, false, not, nat_le, List, [], ◌∷◌, ◌++◌, length, cond, option_to_list, refl, sym, ap, if◌then◌else◌, Option, Some, None, arith}
 use Rattle.std.specs.Prelude.{Result, Ok, Err}
 use Rattle.std.proofs.lemmas.Bool.Decides.{nat_tests}
-use Rattle.master_lex.specs.Holding.{entries_in, fault_in}
+use Rattle.master_lex.specs.Contents.{text_entries, text_fault}
 use Rattle.master_lex.specs.declared.entry.Entry.{Entry}
 use Rattle.master_lex.specs.declared.fault.LexFault.{LexFault}
 use Rattle.dns_data.specs.Answers.{◌>>=◌}
@@ -82,8 +82,8 @@ ended_counts (Some fault) records given e = absurd cc
 pub returns : goal.returns
 unfolding zone_text zone_of_entries
 returns c origin room text given e =
-    let steps = both_steps (with_entries room (no_records origin) (entries_in true text)) (ended (fault_in true text)) given e in
-    let seen = ended_counts (fault_in true text) steps.0 given steps.1.1 in
-    let counts = entries_count room (no_records origin) steps.0 (entries_in true text) steps.1.0 in
+    let steps = both_steps (with_entries room (no_records origin) (text_entries text)) (ended (text_fault text)) given e in
+    let seen = ended_counts (text_fault text) steps.0 given steps.1.1 in
+    let counts = entries_count room (no_records origin) steps.0 (text_entries text) steps.1.0 in
     let within = counts.1 (omega arith) in
     (omega arith, omega arith)

@@ -48,14 +48,14 @@ pub returns-in-Ok-More-clause-all : goal.returns-in-Ok-More-clause-all
 returns-in-Ok-More-clause-all c ended origin text begun =
     let read = c.loop-entry.invariant.read origin text begun in
     let unended = c.loop-entry.invariant.finished ∙ ended in
-    let answered = c.in-Ok-More.ensures.answer text read.0 read.1.0 in
-    absurd (never_more c.loop-entry.self.lexer text read.0 unended read.1.0 (answered ∙ ap Ok c.in-Ok-More.field-0-is))
+    let answered = rw c.in-Ok-More.field-0-is at (c.in-Ok-More.ensures.answer text read.0 read.1.0) in
+    absurd (never_more c.loop-entry.self.lexer text read.0 unended read.1.0 answered)
 
 pub returns-in-Ok-End-clause-all : goal.returns-in-Ok-End-clause-all
 returns-in-Ok-End-clause-all c ended origin text begun =
     let read = c.loop-entry.invariant.read origin text begun in
-    let answered = c.in-Ok-End.ensures.answer text read.0 read.1.0 in
-    let all = taken_all c.loop-entry.self.lexer text read.0 (c.loop-entry.invariant.finished ∙ ended) read.1.0 (answered ∙ ap Ok c.in-Ok-End.field-0-is) in
+    let answered = rw c.in-Ok-End.field-0-is at (c.in-Ok-End.ensures.answer text read.0 read.1.0) in
+    let all = taken_all c.loop-entry.self.lexer text read.0 (c.loop-entry.invariant.finished ∙ ended) read.1.0 answered in
     (rw (← all.0) read.1.1, all.1)
 
 pub returns-in-Err-Lex-clause-all : goal.returns-in-Err-Lex-clause-all

@@ -1,7 +1,7 @@
 -- What was taken so far was read, and with each entry less is left.
 use Rattle.std.proofs.Common.{◌≡◌, ℕ, List, length}
 use Rattle.dns_data.specs.Name.{Labels}
-use Rattle.master_lex.specs.Holding.{left}
+use Rattle.master_lex.specs.Lexer.{left}
 use Rattle.master_read.specs.Reader.{HasRead}
 use Rattle.master_read.proofs.progress.Progress.read_ready.Given as goal
 
