@@ -1,17 +1,17 @@
 -- Each fault of a text says something of the text: no definition speaks of want of memory.
-use Rattle.std.proofs.Common.{◌≡◌, ◌≢◌, ◌⊎◌, inl, inr, subst, ℕ, Bool, true, ◌&&◌, ◌||◌, nat_le, not, refl, List, [], ◌∷◌, codes, is_none, Option, Some, None, Result, Ok, Err}
+use Rattle.std.proofs.Common.{◌≡◌, ◌≢◌, ◌⊎◌, inl, inr, subst, ℕ, true, ◌&&◌, ◌||◌, nat_le, refl, List, [], ◌∷◌, codes, is_none, Option, Some, None, Result, Ok, Err}
 use Rattle.std.specs.Result.{IfErr}
 use Rattle.std.proofs.lemmas.Result.{MatchResult-weaker}
 use Rattle.dns_data.proofs.Answers.{if_err_then, if_err_told, if_err_or, if_err_either}
 use Rattle.dns_data.proofs.NameFaults.{IsTold as IsNameTold, name_told}
-use Rattle.dns_data.specs.Answers.{◌>>=◌, with_fault}
+use Rattle.dns_data.specs.Answers.{with_fault}
 use Rattle.dns_data.specs.Name.{Labels}
 use Rattle.dns_data.specs.Octet.{is_word}
 use Rattle.dns_data.specs.Spelling.{name_of_text}
 use Rattle.dns_data.specs.declared.fault.NameFault.{NameFault}
 use Rattle.dns_data.specs.declared.fault.NameFault.TheVariants as name_faults
 use Rattle.dns_data.specs.declared.rdata.Rdata.{Rdata}
-use Rattle.master_lex.specs.Holding.{entries_in, fault_in}
+use Rattle.master_lex.specs.Contents.{text_entries, text_fault}
 use Rattle.master_lex.specs.declared.entry.Entry.{Entry}
 use Rattle.master_lex.specs.declared.entry.Token.{Token}
 use Rattle.master_lex.specs.declared.fault.LexFault.{LexFault}
@@ -23,7 +23,7 @@ use Rattle.rdata_forms.specs.declared.fault.RdataFault.TheVariants as rdata_faul
 use Rattle.master_read.specs.Entries.{is_directive, origin_directive, ttl_directive, directive_of, written_owner, owner_of, behind_owner, Front, front_of, begins_with_digit, with_ttl, with_class, with_next, one_more, front_in, type_said, as_data, data_by, data_behind, ttl_of, made_of, record_of, Made}
 use Rattle.master_read.specs.Fault.{tells_of_name, tells_of_data, tells_of_text, TellsOfText}
 use Rattle.master_read.specs.Words.{type_word, class_word}
-use Rattle.master_read.specs.ZoneText.{no_records, with_made, with_entry, at_line, with_entries, ended, zone_of_entries, zone_text}
+use Rattle.master_read.specs.ZoneText.{no_records, with_entry, at_line, with_entries, ended, zone_of_entries, zone_text}
 use Rattle.master_read.specs.declared.context.Context.{Context}
 use Rattle.master_read.specs.declared.fault.EntryFault.TheVariants.{Cause, NoMemory as WantsMemory}
 use Rattle.master_read.specs.declared.fault.TextCause.{TextCause}
@@ -189,8 +189,8 @@ entries_told room so_far (entry ∷ entries) =
 pub text_told : (origin : Labels) (room : ℕ) (text : List ℕ) → IfErr (zone_text origin room text) IsTextFault
 unfolding zone_text zone_of_entries
 text_told origin room text =
-    if_err_then IsTextFault (with_entries room (no_records origin) (entries_in true text)) _ (entries_told room (no_records origin) (entries_in true text))
-    (λ records. end records (fault_in true text)) where
+    if_err_then IsTextFault (with_entries room (no_records origin) (text_entries text)) _ (entries_told room (no_records origin) (text_entries text))
+    (λ records. end records (text_fault text)) where
       end : (records : Records) (fault : Option LexFault) → IfErr (ended fault records) IsTextFault
       end records None = tt
       end records (Some fault) = record { own = λ e. cc; tells = refl }

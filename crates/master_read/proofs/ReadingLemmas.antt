@@ -1,7 +1,7 @@
 -- The entries of a text, read one after another.
-use Rattle.std.proofs.Common.{◌≡◌, ℕ, Bool, true, false, List, [], ◌∷◌, ◌++◌, refl, sym, ap, ◌∙◌, append_assoc, inl, inr, Option, Some}
-use Rattle.std.specs.Prelude.{Result, Ok, Err, MatchBool}
-use Rattle.std.proofs.lemmas.List.{append-nil}
+use Rattle.std.proofs.Common.{◌≡◌, ℕ, Bool, false, List, [], ◌∷◌, ◌++◌, refl, sym, ap, ◌∙◌, append_assoc, ◌+◌, length, inl, inr, Option, Some, None}
+use Rattle.std.specs.Prelude.{◌≢◌, Result, Ok, Err}
+use Rattle.std.proofs.lemmas.List.{append-nil, length-append}
 use Rattle.dns_data.specs.Answers.{AnswersOr, ◌>>=◌}
 use Rattle.dns_data.specs.Name.{Labels}
 use Rattle.master_lex.specs.Contents.{text_entries, text_fault}
@@ -9,7 +9,7 @@ use Rattle.master_lex.specs.Lexer.{Lexing, StandsFor}
 use Rattle.master_lex.specs.declared.entry.Entry.{Entry}
 use Rattle.master_lex.specs.declared.fault.LexFault.{LexFault}
 use Rattle.master_lex.proofs.Values.{taken_first}
-use Rattle.master_read.specs.Reader.{IsSettled, HasReadAll, Held as ReaderHeld, StandsFor as ReaderStandsFor}
+use Rattle.master_read.specs.Reader.{HasRead, HasReadAll, IsSettled, Held as ReaderHeld, StandsFor as ReaderStandsFor}
 use Rattle.master_read.specs.ZoneText.{no_records, with_entry, at_line, with_entries, ended, zone_of_entries, zone_text}
 use Rattle.master_read.specs.declared.fault.TextFault.{TextFault}
 use Rattle.master_read.specs.declared.fault.TextFault.TheVariants.{NoMemory}
@@ -89,3 +89,25 @@ pub met : (held : ReaderHeld) (fault : TextFault) (origin : Labels) (room : ℕ)
 met held fault origin room text is stands =
     let settle = rw is at stands.agrees in
     rw (← stands.room_is) (settled_now false fault origin held.progress.room text settle.1)
+
+-- where no fault was met, the text went on
+pub goes_on : (progress progress' : Progress) (fed : ℕ) (fault : Option TextFault) (piece : List ℕ) → fault ≡ None → progress'.room ≡ progress.room
+    → ((origin : Labels) (text : List ℕ) → HasRead progress origin text → HasRead progress' origin (text ++ piece))
+    → (origin : Labels) (room : ℕ) (text : List ℕ) → ReaderStandsFor (record { progress = progress; fed = fed; fault = fault }) origin room text
+    → ReaderStandsFor (record { progress = progress'; fed = fed + length piece; fault = fault }) origin room (text ++ piece)
+goes_on progress progress' fed fault piece none same read origin room text h = rw none (record {
+  room_is = same ∙ h.room_is;
+  fed_is = ap (λ n. n + length piece) h.fed_is ∙ sym (length-append text piece);
+  agrees = read origin text (rw none at h.agrees);
+})
+
+-- a fault that was met is that of the text that went on, however it goes on
+pub meets : (progress progress' : Progress) (fed : ℕ) (fault : Option TextFault) (new : TextFault) (piece : List ℕ) → fault ≡ None → progress'.room ≡ progress.room
+    → ((origin : Labels) (text : List ℕ) → HasRead progress origin text → IsSettled false new origin progress.room (text ++ piece)) → new ≢ NoMemory
+    → (origin : Labels) (room : ℕ) (text : List ℕ) → ReaderStandsFor (record { progress = progress; fed = fed; fault = fault }) origin room text
+    → ReaderStandsFor (record { progress = progress'; fed = fed + length piece; fault = Some new }) origin room (text ++ piece)
+meets progress progress' fed fault new piece none same settles told origin room text h = record {
+  room_is = same ∙ h.room_is;
+  fed_is = ap (λ n. n + length piece) h.fed_is ∙ sym (length-append text piece);
+  agrees = (told, rw same (settles origin text (rw none at h.agrees)));
+}

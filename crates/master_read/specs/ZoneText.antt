@@ -1,5 +1,5 @@
 -- The records of a master file's text (RFC 1035 section 5).
-use Rattle.std.specs.Prelude.{ℕ, not, filter, ◌+◌, nat_le, true, List, [], ◌∷◌, ◌++◌, option_to_list, if◌then◌else◌, Option, Some, None, Result, Ok, Err}
+use Rattle.std.specs.Prelude.{ℕ, not, filter, ◌+◌, nat_le, List, [], ◌∷◌, ◌++◌, option_to_list, if◌then◌else◌, Option, Some, None, Result, Ok, Err}
 use Rattle.dns_data.specs.Answers.{◌>>=◌, with_fault}
 use Rattle.dns_data.specs.Name.{Labels}
 use Rattle.master_lex.specs.Contents.{text_entries, text_fault}

@@ -1,5 +1,5 @@
 -- What was taken so far was read; an entry that has a fault settles the text's.
-use Rattle.std.proofs.Common.{ap, ◌∙◌, Ok, [], ◌∷◌, ◌++◌, rules}
+use Rattle.std.proofs.Common.{◌∙◌, [], ◌∷◌, ◌++◌, rules}
 use Rattle.master_lex.proofs.Values.{taken_all, never_more, taken_to_fault}
 use Rattle.master_read.proofs.ReadingLemmas.{with_one_more, settled}
 use Rattle.master_read.specs.Reader.{IsSettled}
