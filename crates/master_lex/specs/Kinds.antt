@@ -4,9 +4,9 @@ use Rattle.master_lex.specs.declared.fault.LexKind.{LexKind}
 use Rattle.master_lex.specs.declared.fault.LexKind.TheVariants.{OpenParen, OpenQuote, StrayClose, BadEscape, TokenTooLong}
 
 -- the number of a kind
-abbrev pub number_of : LexKind → ℕ
-number_of OpenParen = 1
-number_of OpenQuote = 2
-number_of StrayClose = 3
-number_of BadEscape = 4
-number_of TokenTooLong = 5
+abbrev pub kind_number : LexKind → ℕ
+kind_number OpenParen = 1
+kind_number OpenQuote = 2
+kind_number StrayClose = 3
+kind_number BadEscape = 4
+kind_number TokenTooLong = 5

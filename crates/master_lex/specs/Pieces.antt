@@ -20,7 +20,7 @@ abbrev pub is_code : ℕ → ℕ → ℕ → Bool
 is_code first second third =
     is_digit first && is_digit second && is_digit third && nat_le (three_digit_value first second third) 255
 
--- octets of a token before what follows, which may be more of it
+-- octets of a token in front of pieces, the first of which may be more of it
 abbrev pub before : Bool → List ℕ → List Piece → List Piece
 before false octets (Written false more ∷ rest) = Written false (octets ++ more) ∷ rest
 before true octets (Written true more ∷ rest) = Written true (octets ++ more) ∷ rest
@@ -58,7 +58,7 @@ abbrev mutual
       else (if octet == 92 then escaped true text
       else before true (octet ∷ []) (in_quotes text)))
 
-  -- behind a backslash: any octet but a digit and the line feed, or three digits of a value up to 255
+  -- behind a backslash: three digits of a value up to 255, or any octet but a digit and the line feed
   pub escaped : Bool → List ℕ → List Piece
   escaped quoted [] = bad_escape quoted
   escaped quoted (octet ∷ text) =
@@ -66,10 +66,12 @@ abbrev mutual
       else (if octet == 10 then bad_escape quoted
       else before quoted (92 ∷ octet ∷ []) (if quoted then in_quotes text else pieces text))
 
+  -- behind a backslash and a digit
   pub second_digit : Bool → ℕ → List ℕ → List Piece
   second_digit quoted first [] = bad_escape quoted
   second_digit quoted first (second ∷ text) = third_digit quoted first second text
 
+  -- behind a backslash and two octets, the first of which is a digit
   pub third_digit : Bool → ℕ → ℕ → List ℕ → List Piece
   third_digit quoted first second [] = bad_escape quoted
   third_digit quoted first second (third ∷ text) =

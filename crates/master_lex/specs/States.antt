@@ -31,7 +31,7 @@ pub record State : Type 0 where
 
 -- what the fields hold
 abbrev pub state_of : Scanner → State
-state_of scanner = record { ready = scanner.ready.items; tokens = scanner.tokens.items; raw = scanner.raw.items; position = scanner.position }
+state_of scanner = record { ready = scanner.ready.items; tokens = scanner.tokens.items; raw = scanner.raw; position = scanner.position }
 
 -- nothing of an entry, in this line
 abbrev pub start_of : ℕ → Position

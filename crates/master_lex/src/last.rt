@@ -56,12 +56,12 @@ impl Position {
 
 impl Scanner {
     /// Ends the token under way, if there is one. After an error nothing has changed.
-    fn end_last_token(&mut self, alloc: Global) -> Result<(), NoMemory>
+    fn end_last_token(&mut self) -> Result<(), NoMemory>
         ensures ok { OnOk result (state_of self.new ≡ whole (state_of self.old)) }
         ensures err { OnErr result (state_of self.new ≡ state_of self.old) }
     {
         match self.position.mode {
-            Mode::InToken { quoted, .. } => self.end_token(alloc, quoted),
+            Mode::InToken { quoted, .. } => self.end_token(quoted),
             _ => Ok(()),
         }
     }
@@ -84,7 +84,7 @@ impl Scanner {
         if let Some(fault) = self.position.fault_at_end() {
             return Err(fault.into());
         }
-        self.end_last_token(alloc)?;
+        self.end_last_token()?;
         if self.has_no_token() {
             return Ok(Taken::End);
         }

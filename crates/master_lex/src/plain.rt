@@ -10,10 +10,7 @@ ghost use Rattle.master_lex.specs.Plain.{KeptPlain, PassedFirst};
 use crate::octet::{is_blank_octet, is_feed_octet, is_plain_in_quotes, is_plain_in_word};
 use crate::scanner::{Escape, MOST, Mode, Scanner};
 use dns_data::NoMemory;
-
-/// How many octets a token has room for from its start: more than most names, numbers and addresses
-/// have, so that the memory of one serves the next.
-const FIRST_ROOM: usize = 48;
+use std::alloc::Global;
 
 /// How many octets in front stand for themselves in a token, in quotes or outside.
 fn token_len(octets: &[u8], quoted: bool) -> usize
@@ -54,7 +51,7 @@ fn line_len(octets: &[u8]) -> usize
 impl Scanner {
     /// Puts the octets in front that stand for themselves into a token, which they may begin, as
     /// many as it has room for, and says how many these are. After an error nothing has changed.
-    fn keep_plain(&mut self, octets: &[u8], quoted: bool) -> Result<usize, NoMemory>
+    fn keep_plain(&mut self, alloc: Global, octets: &[u8], quoted: bool) -> Result<usize, NoMemory>
         ensures ok { IfOk result (KeptPlain (state_of self.old) (state_of self.new) octets.now quoted) }
         ensures err { OnErr result (state_of self.new ≡ state_of self.old) }
     {
@@ -63,10 +60,7 @@ impl Scanner {
         if count == 0 {
             return Ok(0);
         }
-        if self.raw.is_empty() {
-            self.raw.reserve(count.max(FIRST_ROOM))?;
-        }
-        self.raw.extend_from_slice(&octets[..count])?;
+        self.raw.extend_from_slice(alloc, &octets[..count])?;
         self.position.mode = Mode::InToken {
             quoted,
             escape: Escape::Outside,
@@ -76,12 +70,12 @@ impl Scanner {
 
     /// Passes over the plain octets with which an entry begins, and says how many they are. After
     /// an error nothing has changed.
-    fn begin_entry(&mut self, octets: &[u8]) -> Result<usize, NoMemory>
+    fn begin_entry(&mut self, alloc: Global, octets: &[u8]) -> Result<usize, NoMemory>
         requires { self.old.position.mode ≡ Start }
         ensures ok { IfOk result (PassedFirst (state_of self.old) (state_of self.new) octets.now) }
         ensures err { OnErr result (state_of self.new ≡ state_of self.old) }
     {
-        let count = self.keep_plain(octets, false)?;
+        let count = self.keep_plain(alloc, octets, false)?;
         if count > 0 {
             self.position.blank_start = false;
         }
@@ -90,30 +84,30 @@ impl Scanner {
 
     /// Passes over white space and the plain octets with which a token begins behind it, and says
     /// how many they are. After an error nothing has changed.
-    fn begin_word(&mut self, octets: &[u8]) -> Result<usize, NoMemory>
+    fn begin_word(&mut self, alloc: Global, octets: &[u8]) -> Result<usize, NoMemory>
         requires { self.old.position.mode ≡ Between }
         ensures ok { IfOk result (PassedFirst (state_of self.old) (state_of self.new) octets.now) }
         ensures err { OnErr result (state_of self.new ≡ state_of self.old) }
     {
         let blank = blank_len(octets);
-        let count = self.keep_plain(&octets[blank..], false)?;
+        let count = self.keep_plain(alloc, &octets[blank..], false)?;
         Ok(blank + count)
     }
 
     /// Passes over the octets in front that begin a token or only go on with what is under way, as
     /// far as the token has room for them, and says how many they are, which may be none. After an
     /// error nothing has changed.
-    pub fn pass_plain(&mut self, octets: &[u8]) -> Result<usize, NoMemory>
+    pub fn pass_plain(&mut self, alloc: Global, octets: &[u8]) -> Result<usize, NoMemory>
         ensures ok { IfOk result (PassedFirst (state_of self.old) (state_of self.new) octets.now) }
         ensures err { OnErr result (state_of self.new ≡ state_of self.old) }
     {
         match self.position.mode {
-            Mode::Start => self.begin_entry(octets),
-            Mode::Between => self.begin_word(octets),
+            Mode::Start => self.begin_entry(alloc, octets),
+            Mode::Between => self.begin_word(alloc, octets),
             Mode::InToken {
                 quoted,
                 escape: Escape::Outside,
-            } => self.keep_plain(octets, quoted),
+            } => self.keep_plain(alloc, octets, quoted),
             Mode::InToken { .. } => Ok(0),
             Mode::Comment => Ok(line_len(octets)),
             Mode::Faulty(_) => Ok(octets.len()),

@@ -10,7 +10,7 @@ ghost use Rattle.master_lex.specs.Undo.{Grew};
 use crate::entry::{Entry, Token};
 use crate::fault::{LexFault, LexKind};
 use crate::octet::{OctetKind, is_code, is_space_octet, kind_of};
-use dns_data::{List, NoMemory};
+use dns_data::{List, NoMemory, Octets};
 use std::alloc::Global;
 use std::collections::VecDeque;
 use std::mem;
@@ -71,7 +71,7 @@ pub struct Scanner {
     /// The whole tokens of the entry under way.
     pub tokens: Vec<Token>,
     /// The octets of the token under way, without those of an escape that isn't whole.
-    pub raw: Vec<u8>,
+    pub raw: Octets,
     /// How far the entry under way has come.
     pub position: Position,
 }
@@ -100,7 +100,7 @@ impl Scanner {
         Scanner {
             ready: VecDeque::new(alloc),
             tokens: Vec::new(alloc),
-            raw: Vec::new(alloc),
+            raw: Octets::new(),
             position: Position::start(1),
         }
     }
@@ -117,11 +117,11 @@ impl Scanner {
 
     /// Puts octets into the token under way, however long it is. After an error nothing has
     /// changed.
-    fn push(&mut self, octets: &[u8], quoted: bool) -> Result<(), NoMemory>
+    fn push(&mut self, alloc: Global, octets: &[u8], quoted: bool) -> Result<(), NoMemory>
         ensures ok { OnOk result (state_of self.new ≡ pushed (state_of self.old) octets.now quoted) }
         ensures err { OnErr result (state_of self.new ≡ state_of self.old) }
     {
-        self.raw.extend_from_slice(octets)?;
+        self.raw.extend_from_slice(alloc, octets)?;
         self.position.mode = Mode::InToken {
             quoted,
             escape: Escape::Outside,
@@ -131,12 +131,12 @@ impl Scanner {
 
     /// Puts octets into the token under way, which is at most so long. After an error nothing has
     /// changed.
-    fn keep(&mut self, octets: &[u8], quoted: bool) -> Result<(), NoMemory>
+    fn keep(&mut self, alloc: Global, octets: &[u8], quoted: bool) -> Result<(), NoMemory>
         ensures ok { OnOk result (state_of self.new ≡ kept (state_of self.old) octets.now quoted) }
         ensures err { OnErr result (state_of self.new ≡ state_of self.old) }
     {
         if octets.len() <= MOST.saturating_sub(self.raw.len()) {
-            self.push(octets, quoted)
+            self.push(alloc, octets, quoted)
         } else {
             self.fail(LexKind::TokenTooLong);
             Ok(())
@@ -169,12 +169,12 @@ impl Scanner {
     }
 
     /// Ends the token under way. After an error nothing has changed.
-    pub fn end_token(&mut self, alloc: Global, quoted: bool) -> Result<(), NoMemory>
+    pub fn end_token(&mut self, quoted: bool) -> Result<(), NoMemory>
         ensures ok { OnOk result (state_of self.new ≡ token_ended (state_of self.old) quoted) }
         ensures err { OnErr result (state_of self.new ≡ state_of self.old) }
     {
         let is_first = self.tokens.is_empty();
-        let raw = List::from_vec(mem::replace(&mut self.raw, Vec::new(alloc)));
+        let raw = mem::replace(&mut self.raw, Octets::new());
         match self.tokens.push(Token { raw, quoted }) {
             Ok(()) => {
                 if is_first {
@@ -184,7 +184,7 @@ impl Scanner {
                 Ok(())
             }
             Err(failed) => {
-                self.raw = failed.value.raw.into_vec();
+                self.raw = failed.value.raw;
                 Err(NoMemory)
             }
         }
@@ -259,7 +259,7 @@ impl Scanner {
         ensures err { OnErr result (state_of self.new ≡ state_of self.old) }
     {
         match kind_of(octet) {
-            OctetKind::Plain => return self.keep(&[octet], false),
+            OctetKind::Plain => return self.keep(alloc, &[octet], false),
             OctetKind::LineFeed => return self.end_line(alloc),
             OctetKind::Backslash => self.begin_escape(false),
             OctetKind::Blank => self.position.mode = Mode::Between,
@@ -284,13 +284,13 @@ impl Scanner {
         ensures err { OnErr result (IsHalfway (state_of self.old) (state_of self.new)) }
     {
         match kind_of(octet) {
-            OctetKind::Plain => self.keep(&[octet], false),
+            OctetKind::Plain => self.keep(alloc, &[octet], false),
             OctetKind::Backslash => {
                 self.begin_escape(false);
                 Ok(())
             }
             _ => {
-                self.end_token(alloc, false)?;
+                self.end_token(false)?;
                 self.between_tokens(alloc, octet)
             }
         }
@@ -302,7 +302,7 @@ impl Scanner {
         ensures err { OnErr result (state_of self.new ≡ state_of self.old) }
     {
         match kind_of(octet) {
-            OctetKind::Quote => self.end_token(alloc, true),
+            OctetKind::Quote => self.end_token(true),
             OctetKind::LineFeed => {
                 self.fail(LexKind::OpenQuote);
                 Ok(())
@@ -311,12 +311,12 @@ impl Scanner {
                 self.begin_escape(true);
                 Ok(())
             }
-            _ => self.keep(&[octet], true),
+            _ => self.keep(alloc, &[octet], true),
         }
     }
 
     /// Passes over the octet behind a `\`. After an error nothing has changed.
-    fn behind_backslash(&mut self, octet: u8, quoted: bool) -> Result<(), NoMemory>
+    fn behind_backslash(&mut self, alloc: Global, octet: u8, quoted: bool) -> Result<(), NoMemory>
         ensures ok { OnOk result (state_of self.new ≡ behind_backslash (state_of self.old) octet quoted) }
         ensures err { OnErr result (state_of self.new ≡ state_of self.old) }
     {
@@ -328,12 +328,13 @@ impl Scanner {
             self.fail(LexKind::BadEscape);
             return Ok(());
         }
-        self.keep(&[b'\\', octet], quoted)
+        self.keep(alloc, &[b'\\', octet], quoted)
     }
 
     /// Passes over the third of three digits. After an error nothing has changed.
     fn behind_digits(
         &mut self,
+        alloc: Global,
         first: u8,
         second: u8,
         octet: u8,
@@ -343,7 +344,7 @@ impl Scanner {
         ensures err { OnErr result (state_of self.new ≡ state_of self.old) }
     {
         if is_code(first, second, octet) {
-            return self.keep(&[b'\\', first, second, octet], quoted);
+            return self.keep(alloc, &[b'\\', first, second, octet], quoted);
         }
         self.fail(LexKind::BadEscape);
         Ok(())
@@ -365,7 +366,7 @@ impl Scanner {
         match escape {
             Escape::Outside if quoted => self.in_quotes(alloc, octet),
             Escape::Outside => self.in_word(alloc, octet),
-            Escape::Begun => self.behind_backslash(octet, quoted),
+            Escape::Begun => self.behind_backslash(alloc, octet, quoted),
             Escape::One(first) => {
                 self.go_on(
                     is_code(first, octet, b'0'),
@@ -374,7 +375,7 @@ impl Scanner {
                 );
                 Ok(())
             }
-            Escape::Two(first, second) => self.behind_digits(first, second, octet, quoted),
+            Escape::Two(first, second) => self.behind_digits(alloc, first, second, octet, quoted),
         }
     }
 
@@ -423,7 +424,7 @@ impl Scanner {
     {
         let mut passed = 0;
         loop {
-            passed += self.pass_plain(&octets[passed..])?;
+            passed += self.pass_plain(alloc, &octets[passed..])?;
             let Some(octet) = octets.get(passed) else {
                 return Ok(());
             };

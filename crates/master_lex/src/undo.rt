@@ -8,6 +8,7 @@ ghost use Rattle.master_lex.specs.Undo.{mark_of, TokensGrew, EntriesGrew, Grew};
 
 use crate::entry::{Entry, Token};
 use crate::scanner::{Position, Scanner};
+use dns_data::Octets;
 use std::collections::VecDeque;
 
 /// How much was held before a piece.
@@ -25,11 +26,11 @@ pub struct Mark {
 
 /// Brings back the first `tokens_len` tokens and the first `raw_len` octets of the token behind
 /// them, from what has grown since.
-fn undo_tokens(tokens: &mut Vec<Token>, raw: &mut Vec<u8>, tokens_len: usize, raw_len: usize)
+fn undo_tokens(tokens: &mut Vec<Token>, raw: &mut Octets, tokens_len: usize, raw_len: usize)
     ensures tokens { (before : List Token) (begun : List ℕ) → length before ≡ tokens_len → length begun ≡ raw_len
-        → TokensGrew before begun tokens.old.items raw.old.items → tokens.new.items ≡ before }
+        → TokensGrew before begun tokens.old.items raw.old → tokens.new.items ≡ before }
     ensures raw { (before : List Token) (begun : List ℕ) → length before ≡ tokens_len → length begun ≡ raw_len
-        → TokensGrew before begun tokens.old.items raw.old.items → raw.new.items ≡ begun }
+        → TokensGrew before begun tokens.old.items raw.old → raw.new ≡ begun }
 {
     if tokens.len() <= tokens_len {
         raw.truncate(raw_len);
@@ -37,17 +38,17 @@ fn undo_tokens(tokens: &mut Vec<Token>, raw: &mut Vec<u8>, tokens_len: usize, ra
     }
     let token = tokens.remove(tokens_len);
     tokens.truncate(tokens_len);
-    *raw = token.raw.into_vec();
+    *raw = token.raw;
     raw.truncate(raw_len);
 }
 
 /// Brings back the first `len` entries, and the tokens of the entry behind them.
-fn undo_entries(ready: &mut VecDeque<Entry>, tokens: &mut Vec<Token>, raw: &mut Vec<u8>, len: usize)
+fn undo_entries(ready: &mut VecDeque<Entry>, tokens: &mut Vec<Token>, raw: &mut Octets, len: usize)
     ensures ready { (before : List Entry) (whole : List Token) (begun : List ℕ) → length before ≡ len
-        → EntriesGrew before whole begun ready.old.items tokens.old.items raw.old.items → ready.new.items ≡ before }
+        → EntriesGrew before whole begun ready.old.items tokens.old.items raw.old → ready.new.items ≡ before }
     ensures tokens { (before : List Entry) (whole : List Token) (begun : List ℕ) → length before ≡ len
-        → EntriesGrew before whole begun ready.old.items tokens.old.items raw.old.items
-        → TokensGrew whole begun tokens.new.items raw.new.items }
+        → EntriesGrew before whole begun ready.old.items tokens.old.items raw.old
+        → TokensGrew whole begun tokens.new.items raw.new }
 {
     let Some(entry) = ready.remove(len) else {
         return;
