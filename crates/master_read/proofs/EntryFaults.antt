@@ -20,7 +20,7 @@ use Rattle.rdata_forms.specs.Forms.{rdata_of, other_of}
 use Rattle.rdata_forms.specs.Times.{time_of}
 use Rattle.rdata_forms.specs.declared.fault.RdataFault.{RdataFault}
 use Rattle.rdata_forms.specs.declared.fault.RdataFault.TheVariants as rdata_faults
-use Rattle.master_read.specs.Entries.{is_directive, origin_directive, ttl_directive, directive_of, written_owner, owner_of, behind_owner, Front, front_of, begins_with_digit, with_ttl, with_class, with_next, one_more, front_in, type_said, as_data, data_by, data_behind, ttl_of, made_of, record_of, Made}
+use Rattle.master_read.specs.Entries.{is_directive, origin_directive, ttl_directive, directive_of, written_owner, owner_of, behind_owner, Front, front_of, begins_with_digit, with_class, with_next, one_more, front_in, type_said, as_data, data_by, data_behind, ttl_of, made_of, record_of}
 use Rattle.master_read.specs.Fault.{tells_of_name, tells_of_data, tells_of_text, TellsOfText}
 use Rattle.master_read.specs.Words.{type_word, class_word}
 use Rattle.master_read.specs.ZoneText.{no_records, with_entry, at_line, with_entries, ended, zone_of_entries, zone_text}
