@@ -5,6 +5,7 @@ ghost use Rattle.std.specs.Prelude.{◌≡◌, ◌∷◌, ◌++◌, [], IfOk, On
 use crate::memory::NoMemory;
 use crate::octets::Octets;
 use std::alloc::Global;
+use std::cmp::Ordering;
 use std::marker::Model;
 
 /// Items in order.
@@ -94,4 +95,32 @@ impl<T: Eq> Eq for List<T> {
     ghost use Rattle.std.specs.Cmp.Lexicographic.{lists_equiv};
 
     ghost laws = { lists_equiv T.Eq.laws };
+}
+
+impl<T: PartialOrd> PartialOrd for List<T> {
+    ghost use Rattle.std.specs.Cmp.Lexicographic.{slice_partial_cmp, lists_po};
+
+    ghost partial_cmp = { slice_partial_cmp T.partial_cmp };
+
+    ghost laws = { lists_po T.PartialOrd.laws };
+
+    fn partial_cmp(&self, other: &List<T>) -> Option<Ordering> {
+        self.items().partial_cmp(other.items())
+    }
+}
+
+impl<T: Ord> Ord for List<T> {
+    ghost use Rattle.std.specs.Cmp.Lexicographic.{slice_cmp, lists_total, lists_agrees, lists_ties};
+
+    ghost cmp = { slice_cmp T.cmp };
+
+    ghost total = { lists_total T.Ord.total };
+
+    ghost matches_partial_cmp = { lists_agrees T.Ord.matches_partial_cmp };
+
+    ghost matches_eq = { lists_ties T.cmp T.Ord.matches_eq };
+
+    fn cmp(&self, other: &List<T>) -> Ordering {
+        self.items().cmp(other.items())
+    }
 }

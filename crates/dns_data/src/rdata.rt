@@ -11,8 +11,8 @@ use crate::rr_type::RrType;
 use std::alloc::Global;
 
 /// A record's data. The names of the fields are those of the RFCs. Data are equal where their types are one and each
-/// field is.
-#[derive(Debug, PartialEq, Eq, Drop)]
+/// field is. Their order, in which the types come first, is one for searches alone.
+#[derive(Debug, PartialEq, Eq, PartialOrd, Ord, Drop)]
 pub enum Rdata {
     /// An IPv4 address (RFC 1035 section 3.4.1).
     A([u8; 4]),

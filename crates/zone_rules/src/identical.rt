@@ -1,0 +1,72 @@
+//! Identical records, of which a zone has one (RFC 2181 section 5).
+
+ghost use Rattle.std.specs.Prelude.{◌≡◌, map, length, IfOk};
+ghost use Rattle.std.specs.List.{list_all};
+ghost use Rattle.zone_rules.specs.First.{are_first, chosen};
+ghost use Rattle.zone_rules.specs.Told.{told, teller};
+ghost use Rattle.zone_rules.specs.Identical.{is_identical, distinct};
+
+use crate::first::are_first;
+use dns_data::{List, Name, NoMemory, Rdata, Rr};
+use std::alloc::Global;
+
+/// What tells a record from others: its owner and its data.
+#[derive(PartialEq, Eq, PartialOrd, Ord, Drop)]
+struct Identity<'a> {
+    owner: &'a Name,
+    rdata: &'a Rdata,
+}
+
+/// Of identical records the first.
+pub(crate) fn distinct(alloc: Global, rrs: List<Rr>) -> Result<List<Rr>, NoMemory>
+    ensures { IfOk result (λ kept. kept ≡ distinct rrs) }
+{
+    let firsts = first_records(alloc, rrs.items())?;
+    if are_all(firsts.as_slice()) {
+        return Ok(rrs);
+    }
+    chosen(alloc, rrs.items(), firsts.as_slice())
+}
+
+/// Of each record whether none before it is identical.
+fn first_records(alloc: Global, rrs: &[Rr]) -> Result<Vec<bool>, NoMemory>
+    ensures { IfOk result (λ firsts. firsts.items ≡ are_first is_identical rrs.now) }
+{
+    let identities = identities_of(alloc, rrs)?;
+    are_first(alloc, identities.as_slice())
+}
+
+/// What tells each record.
+fn identities_of<'a>(alloc: Global, rrs: &'a [Rr]) -> Result<Vec<Identity<'a>>, NoMemory>
+    ensures { IfOk result (λ identities. map told identities.items ≡ map teller rrs.now) }
+{
+    let mut identities = Vec::with_capacity(alloc, rrs.len())?;
+    for rr in rrs {
+        identities.push(Identity {
+            owner: &rr.owner,
+            rdata: &rr.rdata,
+        })?;
+    }
+    Ok(identities)
+}
+
+/// Whether all hold.
+fn are_all(tests: &[bool]) -> bool
+    ensures { result ≡ list_all (λ test. test) tests.now }
+{
+    tests.iter().all(|test| *test)
+}
+
+/// Copies of the records that are chosen.
+fn chosen(alloc: Global, rrs: &[Rr], are_chosen: &[bool]) -> Result<List<Rr>, NoMemory>
+    requires { length are_chosen.now ≡ length rrs.now }
+    ensures { IfOk result (λ kept. kept ≡ chosen rrs.now are_chosen.now) }
+{
+    let mut kept = List::new(alloc);
+    for (i, rr) in rrs.iter().enumerate() {
+        if are_chosen[i] {
+            kept.push(rr.copy(alloc)?)?;
+        }
+    }
+    Ok(kept)
+}

@@ -1,0 +1,139 @@
+//! The rules of a zone.
+
+ghost use Rattle.std.specs.Prelude.{◌≡◌, ◌⊎◌, ◌++◌, ◌∷◌, [], ◌&&◌, ◌||◌, not, true, None, Err, List, OnOk, IfErr, if◌then◌else◌};
+ghost use Rattle.dns_data.specs.Name.{Labels, name_eq};
+ghost use Rattle.zone_rules.specs.Apex.{is_type};
+ghost use Rattle.zone_rules.specs.Before.{has_name, StandsFor, rule_in};
+ghost use Rattle.zone_rules.specs.Rules.{had, first_fault, is_soa_elsewhere, is_star_record};
+ghost use Rattle.zone_rules.specs.ZoneOf.{checked};
+
+use crate::apex::is_wildcard;
+use crate::fault::{RuleCause, RuleFault};
+use crate::types::{is_cname, is_dname, is_ns, is_soa};
+use dns_data::{Name, NoMemory, Rr, RrType};
+use std::alloc::Global;
+use std::collections::BTreeSet;
+
+/// What rules ask of the records before one: whether an SOA record is there, and which owners have a CNAME record, one
+/// of another type, and a DNAME record.
+#[derive(Drop)]
+pub(crate) struct Before<'a> {
+    has_soa: bool,
+    cnames: BTreeSet<&'a Name>,
+    others: BTreeSet<&'a Name>,
+    dnames: BTreeSet<&'a Name>,
+}
+
+/// Looks for the first record that breaks a rule, and for an SOA record.
+pub(crate) fn check_rules(alloc: Global, origin: &Name, rrs: &[Rr]) -> Result<(), RuleFault>
+    ensures ok { OnOk result ((first_fault origin.now rrs.now ≡ None) × (had RrType.Soa rrs.now ≡ true)) }
+    ensures err { IfErr result (λ fault. (fault ≡ RuleFault.NoMemory) ⊎ (checked origin.now rrs.now ≡ Err fault)) }
+{
+    let mut before = Before::new(alloc);
+    for rr in rrs {
+        if let Some(cause) = before.rule_at(origin, rr) {
+            return Err(RuleFault::At {
+                file: rr.file,
+                line: rr.line,
+                cause,
+            });
+        }
+        before.put(rr)?;
+    }
+    if !before.has_soa {
+        return Err(RuleFault::At {
+            file: 0,
+            line: 0,
+            cause: RuleCause::NoSoa,
+        });
+    }
+    Ok(())
+}
+
+impl<'a> Before<'a> {
+    /// No record stands before.
+    fn new(alloc: Global) -> Before<'a>
+        ensures { StandsFor result [] }
+    {
+        Before {
+            has_soa: false,
+            cnames: BTreeSet::new(alloc),
+            others: BTreeSet::new(alloc),
+            dnames: BTreeSet::new(alloc),
+        }
+    }
+
+    /// One record more stands before.
+    fn put(&mut self, rr: &'a Rr) -> Result<(), NoMemory>
+        ensures { (before : List Rr) → StandsFor self.old before → OnOk result (StandsFor self.new (before ++ rr.now ∷ [])) }
+    {
+        put_if(&mut self.cnames, &rr.owner, is_cname(rr))?;
+        put_if(&mut self.others, &rr.owner, !is_cname(rr))?;
+        put_if(&mut self.dnames, &rr.owner, is_dname(rr))?;
+        self.has_soa = self.has_soa || is_soa(rr);
+        Ok(())
+    }
+
+    /// The first rule that the record breaks, if it breaks one.
+    fn rule_at(&self, origin: &Name, rr: &'a Rr) -> Option<RuleCause>
+        ensures { result ≡ rule_in self.now origin.now rr.now }
+    {
+        if is_soa_elsewhere(origin, rr) {
+            Some(RuleCause::SoaElsewhere)
+        } else if is_soa(rr) && self.has_soa {
+            Some(RuleCause::TwoSoas)
+        } else if is_star_record(rr) {
+            Some(RuleCause::StarRecord)
+        } else if is_cname(rr) && has_name(&self.cnames, &rr.owner) {
+            Some(RuleCause::TwoCnames)
+        } else if self.is_beside_cname(rr) {
+            Some(RuleCause::CnameAndOther)
+        } else if is_dname(rr) && has_name(&self.dnames, &rr.owner) {
+            Some(RuleCause::TwoDnames)
+        } else {
+            None
+        }
+    }
+
+    /// Whether a CNAME record and one of another type have one owner.
+    fn is_beside_cname(&self, rr: &'a Rr) -> bool
+        ensures { result ≡ (if is_type RrType.Cname rr.now then has_name self.now.others rr.now.owner else has_name self.now.cnames rr.now.owner) }
+    {
+        if is_cname(rr) {
+            has_name(&self.others, &rr.owner)
+        } else {
+            has_name(&self.cnames, &rr.owner)
+        }
+    }
+}
+
+/// Whether an SOA record isn't at the origin.
+fn is_soa_elsewhere(origin: &Name, rr: &Rr) -> bool
+    ensures { result ≡ is_soa_elsewhere origin.now rr.now }
+{
+    is_soa(rr) && rr.owner != *origin
+}
+
+/// Whether a wildcard has an NS or a DNAME record.
+fn is_star_record(rr: &Rr) -> bool
+    ensures { result ≡ is_star_record rr.now }
+{
+    (is_ns(rr) || is_dname(rr)) && is_wildcard(&rr.owner)
+}
+
+/// Whether the name is among these.
+fn has_name<'a>(names: &BTreeSet<&'a Name>, name: &'a Name) -> bool
+    ensures { result ≡ has_name names.now name.now }
+{
+    names.contains(&name)
+}
+
+/// Puts the name among these, where the test holds.
+fn put_if<'a>(names: &mut BTreeSet<&'a Name>, name: &'a Name, holds: bool) -> Result<(), NoMemory>
+    ensures { OnOk result ((query : Labels) → has_name names.new query ≡ (has_name names.old query || (name_eq query name.now && holds))) }
+{
+    if holds {
+        names.insert(name)?;
+    }
+    Ok(())
+}
