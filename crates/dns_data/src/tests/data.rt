@@ -33,19 +33,17 @@ fn soa(alloc: Global, mname: &str, rname: &str) -> Result<Rdata, Fail> {
     })
 }
 
-// The data have this text, and so have the data of their copy.
-fn prints(rt: &impl Abort, alloc: Global, rdata: Rdata, text: &str) -> Result<(), Fail> {
-    assert!(rt;
-        rdata.rtype().is_some(),
-        "{text:?} is of one of the twelve types"
-    );
-    let printed = rdata_text(alloc, &rdata)?;
-    assert_eq!(rt; printed.as_str(), text);
+// The text of a copy of the data, which are of one of the twelve types.
+fn text_of_copy(rt: &impl Abort, alloc: Global, rdata: Rdata) -> Result<String, NoMemory> {
     let copy = rdata.copy(alloc)?;
-    assert_eq!(rt; copy.rtype(), rdata.rtype(), "the copy of {text:?}");
-    assert!(rt; copy.rtype().is_some(), "the copy of {text:?}");
-    let printed = rdata_text(alloc, &copy)?;
-    assert_eq!(rt; printed.as_str(), text, "the copy");
+    assert!(rt; copy.rtype().is_some(), "it is of one of the twelve types");
+    rdata_text(alloc, &copy)
+}
+
+// A copy of the data has this text.
+fn prints(rt: &impl Abort, alloc: Global, rdata: Rdata, text: &str) -> Result<(), Fail> {
+    let printed = text_of_copy(rt, alloc, rdata)?;
+    assert_eq!(rt; printed.as_str(), text);
     Ok(())
 }
 
