@@ -1,21 +1,18 @@
--- A book of the work with the items 0 to 6, in which each item below 3 has two children, call by call. It has room for three tickets.
-use Rattle.std.proofs.Common.{◌≡◌, ℕ, ◌+◌, ◌*◌, true, cond, List, [], ◌∷◌, ◌++◌, Some, None, refl}
-use Rattle.std.specs.Prelude.{nat_lt}
+-- A book of the work with the items 0 to 6, call by call. It has room for three tickets.
+use Rattle.std.proofs.Common.{◌≡◌, ℕ, true, List, [], ◌∷◌, ◌++◌, Some, None, refl}
 use Rattle.std.specs.Ordering.{nat_cmp}
 use Rattle.pool_core.specs.declared.entry.Entry.{Entry}
 use Rattle.pool_core.specs.declared.entry.Entry.TheVariants.{Claim, File}
 use Rattle.pool_core.specs.declared.event.StopCause.TheVariants.{Full as FullCause, NoMemory}
 use Rattle.pool_core.specs.History.{is_legal}
 use Rattle.verdict_book.specs.Items.{items_of}
+use Rattle.verdict_book.specs.Sevens.{children}
 use Rattle.verdict_book.specs.Books.{Pages, unfiled_in, history_stopped}
 use Rattle.verdict_book.specs.Refusals.{claim_refusal, file_refusal, handed_back}
 use Rattle.verdict_book.specs.declared.claim.Kept.TheVariants.{Unknown, Claimed, Filed}
 use Rattle.verdict_book.specs.declared.claim.ClaimFault.TheVariants.{Stopped, Gone}
 use Rattle.verdict_book.specs.declared.filing.Back.{Back}
 use Rattle.verdict_book.specs.declared.filing.FileFault.TheVariants.{Foreign, Full}
-
-abbrev children : ℕ → List ℕ
-children i = cond (nat_lt i 3) ((2 * i + 1) ∷ (2 * i + 2) ∷ []) []
 
 abbrev pages : List Entry → Pages
 pages history = record { limit = 3; history = history }

@@ -3,3 +3,4 @@ pub mod Books
 pub mod Refusals
 pub mod Keeping
 pub mod Lists
+pub mod Sevens
