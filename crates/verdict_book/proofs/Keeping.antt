@@ -14,10 +14,10 @@ use Rattle.pool_core.specs.declared.entry.Entry.TheVariants.{Claim, File, Stop}
 use Rattle.pool_core.specs.declared.event.StopCause.{StopCause}
 use Rattle.pool_core.specs.declared.event.StopCause.TheVariants.{Full}
 use Rattle.pool_core.specs.History.{issued_in, is_claimed_in, is_filed_in, first_stop, may_follow, all_may_follow}
-use Rattle.pool_core.proofs.Lists.{slice_get-set_same, slice_get-set_other, count_by_push, count_by-append, or-false}
+use Rattle.pool_core.proofs.Lists.{slice_get-set_same, slice_get-set_other, count_by_push, count_by-append, count_by-cons, or-false}
 use Rattle.pool_core.proofs.Histories.{issued_push, claimed_push, filed_push, all_follow_push, first_stop_push}
 use Rattle.verdict_book.specs.Items.{Reached, ParentsApart, AreReached, ReachesExactly, ReachesMore, item_step, items_from, items_of, item_of, CountsRight, AllCountRight}
-use Rattle.verdict_book.specs.Books.{EachOnce, Pages, kept_in, claims_in, unfiled_in, is_claim, is_filing}
+use Rattle.verdict_book.specs.Books.{EachOnce, Pages, kept_in, claims_in, unfiled_in, is_claim, is_filing, is_stop}
 use Rattle.verdict_book.specs.Keeping.{StateIs, IsKept, kept_state, kept_row, new_row, rows_filed, is_taken, is_filed}
 use Rattle.verdict_book.specs.declared.row.State.{State}
 use Rattle.verdict_book.specs.declared.row.State.TheVariants.{Issued, Claimed, Filed}
@@ -88,6 +88,13 @@ equal_means Greater is = absurd cc
 
 not_below : (a b : ℕ) → b ≤ a → nat_lt a b ≡ false
 not_below a b le = elim (nat_lt a b) as (λ (x : Bool). nat_lt a b ≡ x → x ≡ false) [ true ↦ (λ e. let lt : a < b = ltb-true a b e in absurd (omega arith)) | false ↦ (λ e. refl) ] refl
+
+-- a history with no cause has no stop
+no_stop : (h : List Entry) → first_stop h ≡ None → count_by is_stop h ≡ 0
+no_stop [] none = refl
+no_stop (Claim t ∷ h) none = omega (arith, count_by-cons is_stop (Claim t) h, no_stop h none)
+no_stop (File t n ∷ h) none = omega (arith, count_by-cons is_stop (File t n) h, no_stop h none)
+no_stop (Stop cause ∷ h) none = absurd cc
 
 -- what isn't so of any ticket that was issued
 not_yet : (flag : Bool) (t n : ℕ) → (flag ≡ true → t < n) → n ≤ t → flag ≡ false
@@ -178,6 +185,7 @@ module _ {I V : Type 0} (first : I) (children : I → List I) (verdict_of : I �
           right = record {
             legal = and_from _ _ (all_follow_push [] h e parts.0 may) (ap (λ n. nat_le n limit) same ∙ parts.1);
             counts = counts_push (first ∷ []) h e kept.right.counts tt;
+            one_stop = let more = count_by_push is_stop h e in omega (arith, more, kept.right.one_stop);
             full = λ is. absurd (let none = stop' ∙ unstopped in cc (none, is));
           };
           items = map_set_same (λ (r : Row I V). r.item) rows t r r' at refl ∙ kept.items ∙ sym (items_push (first ∷ []) h e);
@@ -228,6 +236,7 @@ module _ {I V : Type 0} (first : I) (children : I → List I) (verdict_of : I �
           right = record {
             legal = and_from _ _ (all_follow_push [] h e parts.0 may) (le-leb (issued_in (h ++ e ∷ [])) limit (omega (arith, more, few)));
             counts = counts_push (first ∷ []) h e kept.right.counts (ap (λ i. length (children i)) (sym item_is));
+            one_stop = let more = count_by_push is_stop h e in omega (arith, more, kept.right.one_stop);
             full = λ is. kept.right.full (sym stop' ∙ is);
           };
           items = map-append (λ (r : Row I V). r.item) mid new
@@ -286,6 +295,7 @@ module _ {I V : Type 0} (first : I) (children : I → List I) (verdict_of : I �
           right = record {
             legal = and_from _ _ (all_follow_push [] h e parts.0 refl) (ap (λ n. nat_le n limit) same ∙ parts.1);
             counts = counts_push (first ∷ []) h e kept.right.counts tt;
+            one_stop = let more = count_by_push is_stop h e in let none = no_stop h (kept.stop_is ∙ unstopped) in omega (arith, more, none);
             full = λ is. full (some_same cause Full (sym stop' ∙ is));
           };
           items = kept.items ∙ sym (items_push (first ∷ []) h e);

@@ -1,5 +1,5 @@
 -- What contracts see of a book, and what its history replays to.
-use Rattle.std.specs.Prelude.{◌≡◌, ℕ, ◌-◌, ◌<◌, Bool, true, false, nat_lt, if◌then◌else◌, List, [], ◌∷◌, ◌++◌, count_by, Some, is_none}
+use Rattle.std.specs.Prelude.{◌≡◌, ℕ, ◌-◌, ◌<◌, ◌≤◌, Bool, true, false, nat_lt, if◌then◌else◌, List, [], ◌∷◌, ◌++◌, count_by, Some, is_none}
 use Rattle.pool_core.specs.declared.entry.Entry.{Entry}
 use Rattle.pool_core.specs.declared.entry.Entry.TheVariants.{Claim, File, Stop}
 use Rattle.pool_core.specs.declared.event.StopCause.{StopCause}
@@ -24,6 +24,11 @@ abbrev pub is_filing : Entry → Bool
 is_filing (File ticket children) = true
 is_filing entry = false
 
+-- the entry is a stop
+abbrev pub is_stop : Entry → Bool
+is_stop (Stop cause) = true
+is_stop entry = false
+
 -- how many claims were given
 abbrev pub claims_in : List Entry → ℕ
 claims_in history = count_by is_claim history
@@ -39,19 +44,25 @@ unfiled_in history = issued_in history - filings_in history
 -- each issued ticket was claimed once and filed once
 abbrev pub EachOnce : List Entry → Type 0
 EachOnce history =
-    (ticket : ℕ) → ticket < issued_in history → (count_by (claims ticket) history ≡ 1) × (count_by (files ticket) history ≡ 1)
+    (ticket : ℕ) → ticket < issued_in history
+    → (count_by (claims ticket) history ≡ 1) × (count_by (files ticket) history ≡ 1)
 
 -- what is kept of a ticket
 abbrev pub kept_in : List Entry → ℕ → Kept
 kept_in history ticket =
-    if nat_lt ticket (issued_in history) then (if is_filed_in history ticket then KeptFiled else (if is_claimed_in history ticket then KeptClaimed else KeptIssued)) else Unknown
+    if nat_lt ticket (issued_in history) then
+    (if is_filed_in history ticket then KeptFiled
+    else (if is_claimed_in history ticket then KeptClaimed else KeptIssued))
+    else Unknown
 
 -- the history after a stop: only the first one adds an entry
 abbrev pub history_stopped : List Entry → StopCause → List Entry
 history_stopped history cause = if is_none (first_stop history) then history ++ Stop cause ∷ [] else history
 
--- what holds of each book: its history is legal, each filing issues all children of its item, and where it was stopped for want of room more items than the limit are reached
+-- what holds of each book: its history is legal and has at most one stop, each filing issues all children of its item,
+-- and where it was stopped for want of room more items than the limit are reached
 pub record IsBookOf {I : Type 0} (first : I) (children : I → List I) (pages : Pages) : Type 0 where
   pub legal : is_legal pages.limit pages.history ≡ true
   pub counts : AllCountRight first children (first ∷ []) pages.history
+  pub one_stop : count_by is_stop pages.history ≤ 1
   pub full : first_stop pages.history ≡ Some Full → ReachesMore first children pages.limit

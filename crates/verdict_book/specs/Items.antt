@@ -11,7 +11,8 @@ IsChildAt children parent place item = slice_get (children parent) place ≡ Som
 -- each next item of the path is a child of the one before, from this item to the last one
 abbrev pub IsChain : {I : Type 0} → (I → List I) → I → List I → I → Type 0
 IsChain children from [] to = from ≡ to
-IsChain children from (next ∷ path) to = ((place : ℕ) × IsChildAt children from place next) × IsChain children next path to
+IsChain children from (next ∷ path) to =
+    ((place : ℕ) × IsChildAt children from place next) × IsChain children next path to
 
 -- there is a chain from the first item
 abbrev pub Reached : {I : Type 0} → I → (I → List I) → I → Type 0
@@ -19,12 +20,18 @@ Reached {I} first children item = (path : List I) × IsChain children first path
 
 -- no item is a child twice, of one or of two reached items, and the first item is a child of no reached item
 pub record ParentsApart {I : Type 0} (first : I) (children : I → List I) : Type 0 where
-  pub one : (parent other : I) (place place' : ℕ) (item : I) → Reached first children parent → Reached first children other → IsChildAt children parent place item → IsChildAt children other place' item → (parent ≡ other) × (place ≡ place')
-  pub none_of_first : (parent : I) (place : ℕ) → Reached first children parent → IsChildAt children parent place first → ⊥
+  pub one : (parent other : I) (place place' : ℕ) (item : I)
+      → Reached first children parent → Reached first children other
+      → IsChildAt children parent place item → IsChildAt children other place' item
+      → (parent ≡ other) × (place ≡ place')
+  pub none_of_first : (parent : I) (place : ℕ) → Reached first children parent
+      → IsChildAt children parent place first → ⊥
 
 -- no item stands at two places
 abbrev pub NoneTwice : {I : Type 0} → List I → Type 0
-NoneTwice {I} items = (place place' : ℕ) (item : I) → slice_get items place ≡ Some item → slice_get items place' ≡ Some item → place ≡ place'
+NoneTwice {I} items =
+    (place place' : ℕ) (item : I) → slice_get items place ≡ Some item → slice_get items place' ≡ Some item
+    → place ≡ place'
 
 -- the items are the reached ones, each once
 pub record AreReached {I : Type 0} (first : I) (children : I → List I) (items : List I) : Type 0 where
@@ -53,7 +60,8 @@ item_step first children items entry = items
 abbrev pub items_from : {I : Type 0} → I → (I → List I) → List I → List Entry → List I
 items_from first children items history = fold (item_step first children) items history
 
--- the items of a history, by ticket: ticket 0 has the first item, and the tickets of each filing have the children of the filed item, in order
+-- the items of a history, by ticket: ticket 0 has the first item, and the tickets of each filing have the children of
+-- the filed item, in order
 abbrev pub items_of : {I : Type 0} → I → (I → List I) → List Entry → List I
 items_of first children history = items_from first children (first ∷ []) history
 
@@ -72,7 +80,8 @@ AllCountRight first children items [] = Unit {0}
 AllCountRight first children items (entry ∷ entries) =
     CountsRight first children items entry × AllCountRight first children (item_step first children items entry) entries
 
--- where a legal history files every issued ticket, and the number in each filing is that of the children of the filed item, its items are the reached items, each once
+-- where a legal history files every issued ticket, and the number in each filing is that of the children of the filed
+-- item, its items are the reached items, each once
 abbrev pub FilesAllReached : {I : Type 0} → I → (I → List I) → Type 0
 FilesAllReached first children =
     (limit : ℕ) (history : List Entry) → is_legal limit history ≡ true

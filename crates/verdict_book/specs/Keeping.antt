@@ -10,12 +10,13 @@ use Rattle.verdict_book.specs.declared.row.Row.{Row}
 use Rattle.verdict_book.specs.declared.claim.Kept.{Kept}
 use Rattle.verdict_book.specs.declared.claim.Kept.TheVariants.{Unknown, Issued as KeptIssued, Claimed as KeptClaimed, Filed as KeptFiled}
 
--- what is kept of a ticket, by its state and by its row
+-- what is kept of a ticket, by its state
 abbrev pub kept_state : {V : Type 0} → State V → Kept
 kept_state Issued = KeptIssued
 kept_state Claimed = KeptClaimed
 kept_state (Filed verdict) = KeptFiled
 
+-- what is kept of a ticket, by its row, which only an issued one has
 abbrev pub kept_row : {I V : Type 0} → Option (Row I V) → Kept
 kept_row None = Unknown
 kept_row (Some row) = kept_state row.state
@@ -47,11 +48,14 @@ StateIs verdict_of item Issued claimed filed = (claimed ≡ false) × (filed ≡
 StateIs verdict_of item Claimed claimed filed = (claimed ≡ true) × (filed ≡ false)
 StateIs verdict_of item (Filed verdict) claimed filed = (claimed ≡ true) × (filed ≡ true) × (verdict ≡ verdict_of item)
 
--- the rows are the tickets of the history, with their items, states and verdicts; the cause is that of the first stop, so many are filed, and an unstopped book has room for the entry of its stop
-pub record IsKept {I V : Type 0} (first : I) (children : I → List I) (verdict_of : I → V) (pages : Pages) (rows : List (Row I V)) (stopped : Option StopCause) (filed places : ℕ) : Type 0 where
+-- the rows are the tickets of the history, with their items, states and verdicts; the cause is that of the first stop,
+-- so many are filed, and an unstopped book has room for the entry of its stop
+pub record IsKept {I V : Type 0} (first : I) (children : I → List I) (verdict_of : I → V) (pages : Pages)
+    (rows : List (Row I V)) (stopped : Option StopCause) (filed places : ℕ) : Type 0 where
   pub right : IsBookOf first children pages
   pub items : map (λ (r : Row I V). r.item) rows ≡ items_of first children pages.history
-  pub states : (t : ℕ) (r : Row I V) → slice_get rows t ≡ Some r → StateIs verdict_of r.item r.state (is_claimed_in pages.history t) (is_filed_in pages.history t)
+  pub states : (t : ℕ) (r : Row I V) → slice_get rows t ≡ Some r
+      → StateIs verdict_of r.item r.state (is_claimed_in pages.history t) (is_filed_in pages.history t)
   pub stop_is : first_stop pages.history ≡ stopped
   pub filed_is : filings_in pages.history ≡ filed
   pub claimed_rows : claims_in pages.history ≡ count_by (λ (r : Row I V). is_taken r.state) rows

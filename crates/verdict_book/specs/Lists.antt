@@ -15,17 +15,19 @@ use Rattle.verdict_book.specs.declared.row.Row.{Row}
 abbrev pub Judges : {W I V : Type 0} → (I → V) → Filed W I V → Type 0
 Judges verdict_of filed = filed.verdict ≡ verdict_of filed.item
 
--- the row is that of a filed ticket, with the verdict of its item
+-- the state is that of a filed ticket, with the verdict of its item
 abbrev pub JudgesState : {I V : Type 0} → (I → V) → I → State V → Type 0
 JudgesState verdict_of item Issued = ⊥
 JudgesState verdict_of item Claimed = ⊥
 JudgesState verdict_of item (FiledState verdict) = verdict ≡ verdict_of item
 
+-- the row is that of a filed ticket, with the verdict of its item
 abbrev pub JudgesRow : {I V : Type 0} → (I → V) → Row I V → Type 0
 JudgesRow verdict_of row = JudgesState verdict_of row.item row.state
 
 -- the list has each reached item once, in order, with its verdict
-pub record IsWholeTree {W I V : Type 0} (cmp : I → I → Ordering) (first : I) (children : I → List I) (verdict_of : I → V) (list : List (Filed W I V)) : Type 0 where
+pub record IsWholeTree {W I V : Type 0} (cmp : I → I → Ordering) (first : I) (children : I → List I)
+    (verdict_of : I → V) (list : List (Filed W I V)) : Type 0 where
   pub reached : AreReached first children (map (λ (f : Filed W I V). f.item) list)
   pub sorted : IsSortedByKey (λ (f : Filed W I V). f.item) cmp list
   pub verdicts : All (Judges verdict_of) list

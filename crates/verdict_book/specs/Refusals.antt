@@ -44,11 +44,14 @@ keeps_claim cmp first children history claim =
 abbrev pub handed_back : {W I V : Type 0} → Claim I → V → List I → Back W I V
 handed_back claim verdict children = record { claim = claim; verdict = verdict; children = children }
 
--- why the filing is refused, with all that was handed in: its claim isn't kept, or more tickets than the limit would be issued
-abbrev pub file_refusal : {W I V : Type 0} → (I → I → Ordering) → I → (I → List I) → Pages → Back W I V → Option (FileFault W I V)
+-- why the filing is refused, with all that was handed in: its claim isn't kept, or more tickets than the limit would be
+-- issued
+abbrev pub file_refusal : {W I V : Type 0} → (I → I → Ordering) → I → (I → List I) → Pages → Back W I V
+    → Option (FileFault W I V)
 file_refusal cmp first children pages back =
     if keeps_claim cmp first children pages.history back.claim then
-    (if nat_le (issued_in pages.history + length back.children) pages.limit then None else Some (Full (issued_in pages.history) pages.limit back))
+    (if nat_le (issued_in pages.history + length back.children) pages.limit then None
+    else Some (Full (issued_in pages.history) pages.limit back))
     else Some (Foreign (kept_in pages.history back.claim.ticket) back)
 
 -- the refusal is for want of room

@@ -8,7 +8,8 @@ abbrev pub children : ℕ → List ℕ
 children i = cond (nat_lt i 3) ((2 * i + 1) ∷ (2 * i + 2) ∷ []) []
 
 -- a child says its parent and its place there
-child_is : (below : Bool) (i place item : ℕ) → slice_get (cond below ((2 * i + 1) ∷ (2 * i + 2) ∷ []) []) place ≡ Some item
+child_is : (below : Bool) (i place item : ℕ)
+    → slice_get (cond below ((2 * i + 1) ∷ (2 * i + 2) ∷ []) []) place ≡ Some item
     → (item ≡ 2 * i + 1 + place) × (place < 2)
 child_is true i zero item h = let is : 2 * i + 1 ≡ item = cc in (omega (arith, is), omega arith)
 child_is true i (suc zero) item h = let is : 2 * i + 2 ≡ item = cc in (omega (arith, is), omega arith)

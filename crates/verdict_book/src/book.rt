@@ -5,7 +5,7 @@ ghost use Rattle.pool_core.specs.declared.event.StopCause.TheVariants.{Full};
 ghost use Rattle.pool_core.specs.declared.entry.Entry.TheVariants.{Claim as ClaimOf, File as FileOf};
 ghost use Rattle.pool_core.specs.History.{issued_in, first_stop};
 ghost use Rattle.pool_core.specs.Refusals.{RefusesOr};
-ghost use Rattle.verdict_book.specs.Items.{Reached, ReachesExactly, ReachesMore, item_of};
+ghost use Rattle.verdict_book.specs.Items.{Reached, AreReached, ReachesExactly, ReachesMore, item_of, items_of};
 ghost use Rattle.verdict_book.specs.Books.{claims_in, unfiled_in, kept_in, IsBookOf, EachOnce, history_stopped};
 ghost use Rattle.verdict_book.specs.Lists.{IsWholeTree};
 ghost use Rattle.verdict_book.specs.Refusals.{claim_refusal, file_refusal, keeps_claim, handed_back, is_full};
@@ -263,6 +263,7 @@ impl<W: Work> Book<W> {
         requires { unfiled_in self.history ≡ 0 }
         ensures whole { IfOk result (IsWholeTree W.Item.cmp W.first_item W.children_of W.verdict_of) }
         ensures count { IfOk result (λ list. length list ≡ issued_in self.history) }
+        ensures reached { AreReached W.first_item W.children_of (items_of W.first_item W.children_of self.history) }
         ensures once { EachOnce self.history }
         ensures few { OnOk result (issued_in self.history ≤ self.limit) }
     {

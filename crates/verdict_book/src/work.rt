@@ -5,31 +5,38 @@ ghost use Rattle.std.specs.declared.cmp.Ordering.TheVariants.{Equal};
 ghost use Rattle.verdict_book.specs.Items.{Reached, ParentsApart};
 
 use dns_data::{List, NoMemory};
+use std::marker::Model;
 
-/// Counts the judging calls of one worker.
+/// Counts the judging calls of one worker. Contracts see how many there were.
 #[derive(Debug, Drop)]
 pub struct JudgeShare {
     calls: u64,
 }
 
+impl Model for JudgeShare {
+    ghost Value = { ℕ };
+
+    ghost view = { λ share. share.calls };
+}
+
 impl JudgeShare {
     /// No call.
     pub fn new() -> JudgeShare
-        ensures { result.calls ≡ 0 }
+        ensures { result ≡ 0 }
     {
         JudgeShare { calls: 0 }
     }
 
     /// One call more, up to the type's end.
     pub fn raise(&mut self)
-        ensures { self.new.calls ≡ min (self.old.calls + 1) (2 ^ 64 - 1) }
+        ensures { self.new ≡ min (self.old + 1) (2 ^ 64 - 1) }
     {
         self.calls = self.calls.saturating_add(1);
     }
 
     /// How many calls there were.
     pub fn calls(&self) -> u64
-        ensures { result ≡ self.now.calls }
+        ensures { result ≡ self.now }
     {
         self.calls
     }
@@ -64,7 +71,7 @@ pub trait Work {
     fn judge(&self, item: &Self::Item, share: &mut JudgeShare) -> Result<Self::Verdict, NoMemory>
         requires { Reached first_item children_of item.now }
         ensures verdict { IfOk result (λ verdict. verdict ≡ verdict_of item.now) }
-        ensures calls { share.new.calls ≡ min (share.old.calls + 1) (2 ^ 64 - 1) };
+        ensures calls { share.new ≡ min (share.old + 1) (2 ^ 64 - 1) };
 
     /// An equal item.
     fn copy_item(&self, item: &Self::Item) -> Result<Self::Item, NoMemory>

@@ -4,7 +4,7 @@ use Rattle.std.proofs.lemmas.List.{length-map}
 use Rattle.std.proofs.lemmas.List.Sorted.{All-permutation, length_permutation}
 use Rattle.pool_core.specs.History.{issued_in}
 use Rattle.verdict_book.specs.Books.{Pages, EachOnce, unfiled_in}
-use Rattle.verdict_book.specs.Items.{AreReached}
+use Rattle.verdict_book.specs.Items.{AreReached, items_of}
 use Rattle.verdict_book.specs.Lists.{Judges, JudgesRow, IsWholeTree}
 use Rattle.verdict_book.specs.declared.filed.Filed.{Filed}
 use Rattle.verdict_book.specs.declared.row.Row.{Row}
@@ -61,6 +61,15 @@ returns-clause-count g c =
     ∙ length_permutation rows rows' c.sort_rows.ensures.same
     ∙ rows_are first children verdicts g.met.W.Work.parents_apart _ _ rows _ _ _ c.self.invariant
     ∙ ap (λ (p : Pages). issued_in p.history) c.self.view_is)
+
+pub returns-clause-reached : goal.returns-clause-reached
+returns-clause-reached g c =
+    let first = g.W.Work.first_item in
+    let children = g.W.Work.children_of in
+    let verdicts = g.W.Work.verdict_of in
+    let rows = c.self.inside.rows.items in
+    let none = ap (λ (p : Pages). unfiled_in p.history) c.self.view_is ∙ c.requires in
+    subst (λ (p : Pages). AreReached first children (items_of first children p.history)) c.self.view_is (items_reached first children verdicts g.met.W.Work.parents_apart _ _ rows _ _ _ c.self.invariant none)
 
 pub returns-clause-once : goal.returns-clause-once
 returns-clause-once g c =
