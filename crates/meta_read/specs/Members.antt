@@ -1,4 +1,4 @@
--- Values of JSON, and members of objects (RFC 8259). Of members with one name the last counts; a value that is no
+-- Values that serde_json reads, and members of objects. Of members with one name the last counts; a value that is no
 -- object has none.
 use Rattle.std.specs.Prelude.{ℕ, List, [], ◌∷◌, Option, None, option_and_then, if◌then◌else◌}
 use Rattle.std.specs.Option.{option_map}
@@ -7,7 +7,7 @@ use Rattle.serde_json.specs.Data.{Data, Items, no_items, item}
 use Rattle.serde_json.specs.Find.{get, as_str, as_array}
 use Rattle.serde_json.specs.Read.{read}
 
--- the value that a file's octets are the text of, in UTF-8 (RFC 8259 section 8.1)
+-- the value that serde_json reads of a file's octets; it reads UTF-8 alone (RFC 8259 section 8.1)
 abbrev pub value_of : List ℕ → Option Data
 value_of octets = if is_utf8 octets then read octets else None
 

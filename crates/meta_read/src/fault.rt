@@ -10,7 +10,8 @@ use thiserror::Error;
 /// Why octets are no metadata. A row is its number, counted from 1, or 0 where the fault is in none.
 #[derive(Debug, Drop, Error)]
 pub enum MetaFault {
-    /// The octets aren't a text of JSON (RFC 8259).
+    /// The octets are no value that `serde_json` reads: no text of JSON, or one with a number past the greatest float, an
+    /// escape of a lone surrogate, or values within one another to a depth over 127.
     #[error("not JSON")]
     NotJson,
     /// A member isn't there or isn't of its kind.

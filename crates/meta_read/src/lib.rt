@@ -5,7 +5,7 @@
 //! octets, step by step in the order of the format, so the first fault decides, with the number of its row.
 //!
 //! Costs: the text is read once, and its value is held until the metadata are made. Names of top servers are made
-//! single, and looked up among the servers of rows, by maps in the order of names, so a list of any length takes its
+//! single, and looked up among the servers of rows, by sets in the order of names, so a list of any length takes its
 //! length times a logarithm. A list of more than 10,000 rows is refused before a row is looked at.
 #![tactic(auto)]
 

@@ -78,7 +78,8 @@ fn file_of(row: &Value) -> Option<&str>
     Some(file)
 }
 
-/// The origin's text, `None` within where there is none or null, and `None` where there is another value.
+/// The text of a row's origin, `None` within where the member isn't there or is null, and `None` where it is another
+/// value than a string.
 fn origin_of(row: &Value) -> Option<Option<&str>>
     ensures { option_map (λ origin. option_map (λ text. text.now) origin) result ≡ origin_at (get (codes "Origin") (view row.now)) }
 {
@@ -88,7 +89,7 @@ fn origin_of(row: &Value) -> Option<Option<&str>>
     }
 }
 
-/// The same of a value.
+/// The text of an origin's value, `None` within where it is null, and `None` where it is no string and not null.
 fn origin_text(value: &Value) -> Option<Option<&str>>
     ensures { option_map (λ origin. option_map (λ text. text.now) origin) result ≡ origin_text (view value.now) }
 {

@@ -5,5 +5,5 @@ pub mod Before
 pub mod Tellers
 pub mod FirstFaults
 pub mod Wildcards
-pub mod Standards
+pub mod KeptRules
 mod Worked

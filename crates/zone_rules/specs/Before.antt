@@ -1,4 +1,5 @@
--- What is kept of the records before one, and what it tells of the rules.
+-- What is kept of the records before one, and what it tells of the rules: for the contracts of the loop alone that
+-- goes through the records.
 use Rattle.std.specs.Prelude.{◌≡◌, Bool, ◌&&◌, List, if◌then◌else◌, Option, Some, None}
 use Rattle.std.specs.BTreeSet as tree
 use Rattle.dns_data.specs.Name.{Labels, name_cmp}

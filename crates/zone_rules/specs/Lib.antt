@@ -5,4 +5,4 @@ pub mod Apex
 pub mod Rules
 pub mod Before
 pub mod ZoneOf
-pub mod Standards
+pub mod KeptRules

@@ -24,7 +24,7 @@ had_at rtype owner before = list_any (λ rr. name_eq owner rr.owner && is_type r
 abbrev pub had_other_at : RrType → Labels → List Rr → Bool
 had_other_at rtype owner before = list_any (λ rr. name_eq owner rr.owner && not (is_type rtype rr)) before
 
--- an SOA record below the top of the zone (RFC 1035 section 5.2)
+-- an SOA record that isn't at the origin (RFC 1035 section 5.2)
 abbrev pub is_soa_elsewhere : Labels → Rr → Bool
 is_soa_elsewhere origin rr = is_type types.Soa rr && not (name_eq rr.owner origin)
 
@@ -32,7 +32,8 @@ is_soa_elsewhere origin rr = is_type types.Soa rr && not (name_eq rr.owner origi
 abbrev pub is_second_soa : List Rr → Rr → Bool
 is_second_soa before rr = is_type types.Soa rr && had types.Soa before
 
--- an NS or a DNAME record of a wildcard (RFC 4592 sections 4.2 and 4.4)
+-- an NS record of a wildcard, which RFC 4592 section 4.2 discourages and this profile refuses, or a DNAME record of one
+-- (RFC 4592 section 4.4)
 abbrev pub is_star_record : Rr → Bool
 is_star_record rr = (is_type types.Ns rr || is_type types.Dname rr) && is_wildcard rr.owner
 

@@ -1,4 +1,4 @@
--- What tells a record from others, as references hold it.
+-- What tells a record from others, as references hold it: for the contracts of the search for identical records alone.
 use Rattle.dns_data.specs.Name.{Labels}
 use Rattle.dns_data.specs.declared.rdata.Rdata.{Rdata}
 use Rattle.dns_data.specs.declared.rdata.Rr.{Rr}

@@ -28,7 +28,8 @@ unless_faulty None origin rrs =
 abbrev pub checked : Labels → List Rr → Result Zone RuleFault
 checked origin rrs = unless_faulty (first_fault origin rrs) origin rrs
 
--- the zone of distinct records under an origin, which is no wildcard (RFC 4592 section 4.1)
+-- the zone of distinct records under an origin, which is no wildcard: this profile refuses it, RFC 4592 section 4.1
+-- lets it stand
 abbrev pub zone_under : List Rr → Apex → Result Zone RuleFault
 zone_under rrs apex =
     if is_wildcard apex.name then Err (At apex.file apex.line StarOrigin) else checked apex.name (within apex.name rrs)

@@ -28,10 +28,11 @@ pub enum RuleCause {
     /// A second DNAME record of an owner (RFC 6672 section 2.4).
     #[error("a second DNAME record")]
     TwoDnames,
-    /// An NS or DNAME record of a wildcard (RFC 4592 sections 4.2 and 4.4).
+    /// An NS or DNAME record of a wildcard. RFC 4592 section 4.2 only discourages the NS record; this profile refuses it
+    /// (RFC 4592 sections 4.2 and 4.4).
     #[error("an NS or DNAME record of a wildcard")]
     StarRecord,
-    /// The origin is a wildcard (RFC 4592 section 4.1).
+    /// The origin is a wildcard. This profile refuses it; RFC 4592 section 4.1 lets it stand.
     #[error("the origin is a wildcard")]
     StarOrigin,
 }

@@ -1,9 +1,9 @@
--- The records of a zone that isn't refused are as the standards ask.
+-- A zone that isn't refused keeps the rules.
 use Rattle.std.proofs.Common.{◌≡◌, ◌≢◌, ℕ, ◌<◌, Bool, true, false, cond, not, ◌&&◌, ◌||◌, List, [], ◌∷◌, ◌++◌, Option, Some, None, Result, Ok, Err, Contains, All, AllPairs, refl, sym, ap, ◌∙◌, subst, inl, inr, arith}
 use Rattle.std.specs.Option.{option_or, option_map}
 use Rattle.std.specs.List.{list_any, filter}
 use Rattle.std.proofs.lemmas.List.Elements.{All-nil, All-cons, Contains-append_left, Contains-append_right}
-use Rattle.std.proofs.lemmas.List.Kept.{AllPairs-cons}
+use Rattle.std.proofs.lemmas.List.Kept.{AllPairs-cons, AllPairs-filter}
 use Rattle.dns_data.specs.Answers.{◌>>=◌}
 use Rattle.dns_data.specs.Name.{Labels, name_eq, is_prefix}
 use Rattle.dns_data.specs.declared.rdata.Rr.{Rr}
@@ -12,9 +12,9 @@ use Rattle.dns_data.proofs.Membership.{has_first, none_in_nil, first_or_later}
 use Rattle.dns_data.proofs.Names.{name_eq_decides}
 use Rattle.net_model.specs.declared.config.Zone.{Zone}
 use Rattle.zone_rules.specs.Apex.{apex_of, is_type, is_wildcard}
-use Rattle.zone_rules.specs.Identical.{distinct}
+use Rattle.zone_rules.specs.Identical.{is_identical, distinct, distinct_behind}
 use Rattle.zone_rules.specs.Rules.{had, had_at, had_other_at, is_soa_elsewhere, is_second_soa, is_star_record, is_second_cname, is_beside_cname, is_second_dname, rule_at, first_fault, first_fault_behind}
-use Rattle.zone_rules.specs.Standards.{IsStandard}
+use Rattle.zone_rules.specs.KeptRules.{KeepsRules}
 use Rattle.zone_rules.specs.ZoneOf.{within, unless_faulty, checked, zone_under, zone_of}
 use Rattle.zone_rules.specs.declared.apex.Apex.{Apex}
 use Rattle.zone_rules.specs.declared.fault.RuleCause.TheVariants.{NoSoa, StarOrigin, TwoSoas, SoaElsewhere, CnameAndOther, TwoCnames, TwoDnames, StarRecord}
@@ -172,6 +172,40 @@ module _ (origin : Labels) where
         (later-clear (before ++ rr ∷ []) rrs parts.1 rr (Contains-append_right before (rr ∷ []) rr (has_first rr [])))
         (pairs-clear (before ++ rr ∷ []) rrs parts.1)
 
+-- ---- of identical records the first
+
+-- a record comes later, and isn't identical to the earlier one
+abbrev are_two : Rr → Rr → Type 0
+are_two earlier later = is_identical later earlier ≡ false
+
+-- one record more is kept, or isn't, of which none is identical to one before
+one-more : (before : List Rr) (rr : Rr) (rest : List Rr) (earlier : Rr) → Contains before earlier → (b : Bool) → list_any (is_identical rr) before ≡ b → All (are_two earlier) rest
+    → All (are_two earlier) (cond b rest (rr ∷ rest))
+one-more before rr rest earlier has true some all = all
+one-more before rr rest earlier has false none all = All-cons (are_two earlier) rr rest (none-has (is_identical rr) before earlier none has) all
+
+-- no record that is kept is identical to one before
+others-kept : (before rrs : List Rr) (earlier : Rr) → Contains before earlier → All (are_two earlier) (distinct_behind before rrs)
+others-kept before [] earlier has = All-nil (are_two earlier)
+others-kept before (rr ∷ rrs) earlier has =
+    one-more before rr (distinct_behind (before ++ rr ∷ []) rrs) earlier has (list_any (is_identical rr) before) refl
+    (others-kept (before ++ rr ∷ []) rrs earlier (Contains-append_left before (rr ∷ []) earlier has))
+
+-- a record that is kept, or isn't, and those behind it
+pairs-more : (rr : Rr) (rest : List Rr) (b : Bool) → All (are_two rr) rest → AllPairs are_two rest → AllPairs are_two (cond b rest (rr ∷ rest))
+pairs-more rr rest true all pairs = pairs
+pairs-more rr rest false all pairs = AllPairs-cons are_two rr rest all pairs
+
+-- so it is of each pair that is kept
+pairs-kept : (before rrs : List Rr) → AllPairs are_two (distinct_behind before rrs)
+pairs-kept before [] = λ i j d below within. absurd (not-below j within) where
+  not-below : (j : ℕ) → j < 0 → ⊥
+  not-below j within = omega arith
+pairs-kept before (rr ∷ rrs) =
+    pairs-more rr (distinct_behind (before ++ rr ∷ []) rrs) (list_any (is_identical rr) before)
+    (others-kept (before ++ rr ∷ []) rrs rr (Contains-append_right before (rr ∷ []) rr (has_first rr [])))
+    (pairs-kept (before ++ rr ∷ []) rrs)
+
 -- ---- the zone
 
 -- a zone as a result
@@ -188,10 +222,12 @@ passing : {A : Type 0} (test : A → Bool) (items : List A) → All (λ item. te
 passing test [] = All-nil (λ item. test item ≡ true)
 passing test (item ∷ items) = passing-more test item (filter test items) (test item) refl (passing test items)
 
--- the zone of records at or below an origin of which none breaks a rule
-standard : (origin : Labels) (rrs : List Rr) → first_fault origin (within origin rrs) ≡ None → had types.Soa (within origin rrs) ≡ true → IsStandard (record { origin = origin; rrs = within origin rrs })
-standard origin rrs none some = record {
+-- the zone of distinct records at or below an origin of which none breaks a rule
+keeps-rules : (origin : Labels) (rrs : List Rr) → is_wildcard origin ≡ false → AllPairs are_two rrs → first_fault origin (within origin rrs) ≡ None → had types.Soa (within origin rrs) ≡ true → KeepsRules (record { origin = origin; rrs = within origin rrs })
+keeps-rules origin rrs plain single none some = record {
+  plain_origin = plain;
   within = passing (λ rr. is_prefix origin rr.owner) rrs;
+  distinct = AllPairs-filter are_two (λ rr. is_prefix origin rr.owner) rrs single;
   some_soa = some;
   soa_at_top = each-clear origin (λ rr. is_type types.Soa rr ≡ true → rr.owner ≡ origin) (at_top origin) [] (within origin rrs) none;
   one_soa = pairs-clear origin (λ a b. is_type types.Soa a ≡ true → is_type types.Soa b ≡ false) (soa_pair origin) [] (within origin rrs) none;
@@ -205,24 +241,24 @@ ok-same : (x y : Zone) → ok_of x ≡ ok_of y → x ≡ y
 ok-same x y e = cc
 
 -- a zone that isn't refused
-module _ (rrs : List Rr) (zone : Zone) where
-  by_soa : (name : Labels) (some : Bool) → had types.Soa (within name rrs) ≡ some → first_fault name (within name rrs) ≡ None
-      → cond some (ok_of (record { origin = name; rrs = within name rrs })) (Err (At 0 0 NoSoa)) ≡ ok_of zone → IsStandard zone
-  by_soa name true some none e =
-      subst IsStandard (ok-same (record { origin = name; rrs = within name rrs }) zone e) (standard name rrs none some)
-  by_soa name false some none e = cc
+module _ (rrs : List Rr) (zone : Zone) (single : AllPairs are_two rrs) where
+  by_soa : (name : Labels) (some : Bool) → is_wildcard name ≡ false → had types.Soa (within name rrs) ≡ some → first_fault name (within name rrs) ≡ None
+      → cond some (ok_of (record { origin = name; rrs = within name rrs })) (Err (At 0 0 NoSoa)) ≡ ok_of zone → KeepsRules zone
+  by_soa name true plain some none e =
+      subst KeepsRules (ok-same (record { origin = name; rrs = within name rrs }) zone e) (keeps-rules name rrs plain single none some)
+  by_soa name false plain some none e = cc
 
-  by_fault : (name : Labels) (fault : Option RuleFault) → first_fault name (within name rrs) ≡ fault → unless_faulty fault name (within name rrs) ≡ ok_of zone → IsStandard zone
-  by_fault name None none e = by_soa name (had types.Soa (within name rrs)) refl none e
-  by_fault name (Some fault) some e = cc
+  by_fault : (name : Labels) (fault : Option RuleFault) → is_wildcard name ≡ false → first_fault name (within name rrs) ≡ fault → unless_faulty fault name (within name rrs) ≡ ok_of zone → KeepsRules zone
+  by_fault name None plain none e = by_soa name (had types.Soa (within name rrs)) plain refl none e
+  by_fault name (Some fault) plain some e = cc
 
-  by_star : (apex : Apex) (star : Bool) → cond star (Err (At apex.file apex.line StarOrigin)) (checked apex.name (within apex.name rrs)) ≡ ok_of zone → IsStandard zone
-  by_star apex true e = cc
-  by_star apex false e = by_fault apex.name (first_fault apex.name (within apex.name rrs)) refl e
+  by_star : (apex : Apex) (star : Bool) → is_wildcard apex.name ≡ star → cond star (Err (At apex.file apex.line StarOrigin)) (checked apex.name (within apex.name rrs)) ≡ ok_of zone → KeepsRules zone
+  by_star apex true is e = cc
+  by_star apex false plain e = by_fault apex.name (first_fault apex.name (within apex.name rrs)) plain refl e
 
-  by_apex : (apex : Result Apex RuleFault) → (apex >>= zone_under rrs) ≡ ok_of zone → IsStandard zone
-  by_apex (Ok apex) e = by_star apex (is_wildcard apex.name) e
+  by_apex : (apex : Result Apex RuleFault) → (apex >>= zone_under rrs) ≡ ok_of zone → KeepsRules zone
+  by_apex (Ok apex) e = by_star apex (is_wildcard apex.name) refl e
   by_apex (Err fault) e = cc
 
-pub zone-standard : (origin : Option Labels) (rrs : List Rr) (zone : Zone) → zone_of origin rrs ≡ Ok zone → IsStandard zone
-zone-standard origin rrs zone e = by_apex (distinct rrs) zone (apex_of origin (distinct rrs)) e
+pub zone-keeps-rules : (origin : Option Labels) (rrs : List Rr) (zone : Zone) → zone_of origin rrs ≡ Ok zone → KeepsRules zone
+zone-keeps-rules origin rrs zone e = by_apex (distinct rrs) zone (pairs-kept [] rrs) (apex_of origin (distinct rrs)) e
