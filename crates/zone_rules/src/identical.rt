@@ -1,6 +1,6 @@
 //! Identical records, of which a zone has one (RFC 2181 section 5).
 
-ghost use Rattle.std.specs.Prelude.{◌≡◌, map, length, IfOk};
+ghost use Rattle.std.specs.Prelude.{◌≡◌, map, IfOk};
 ghost use Rattle.std.specs.List.{list_all};
 ghost use Rattle.zone_rules.specs.First.{are_first, chosen};
 ghost use Rattle.zone_rules.specs.Told.{told, teller};
@@ -9,6 +9,7 @@ ghost use Rattle.zone_rules.specs.Identical.{is_identical, distinct};
 use crate::first::are_first;
 use dns_data::{List, Name, NoMemory, Rdata, Rr};
 use std::alloc::Global;
+use std::collections::VecDeque;
 
 /// What tells a record from others: its owner and its data.
 #[derive(PartialEq, Eq, PartialOrd, Ord, Drop)]
@@ -25,7 +26,7 @@ pub(crate) fn distinct(alloc: Global, rrs: List<Rr>) -> Result<List<Rr>, NoMemor
     if are_all(firsts.as_slice()) {
         return Ok(rrs);
     }
-    chosen(alloc, rrs.items(), firsts.as_slice())
+    chosen(alloc, rrs, firsts.as_slice())
 }
 
 /// Of each record whether none before it is identical.
@@ -57,15 +58,17 @@ fn are_all(tests: &[bool]) -> bool
     tests.iter().all(|test| *test)
 }
 
-/// Copies of the records that are chosen.
-fn chosen(alloc: Global, rrs: &[Rr], are_chosen: &[bool]) -> Result<List<Rr>, NoMemory>
-    requires { length are_chosen.now ≡ length rrs.now }
-    ensures { IfOk result (λ kept. kept ≡ chosen rrs.now are_chosen.now) }
+/// The records that are chosen.
+fn chosen(alloc: Global, rrs: List<Rr>, are_chosen: &[bool]) -> Result<List<Rr>, NoMemory>
+    ensures { IfOk result (λ kept. kept ≡ chosen rrs are_chosen.now) }
 {
     let mut kept = List::new(alloc);
-    for (i, rr) in rrs.iter().enumerate() {
-        if are_chosen[i] {
-            kept.push(rr.copy(alloc)?)?;
+    let mut left = VecDeque::from_vec(rrs.into_vec());
+    for is_chosen in are_chosen {
+        if let Some(rr) = left.pop_front() {
+            if *is_chosen {
+                kept.push(rr)?;
+            }
         }
     }
     Ok(kept)

@@ -6,8 +6,7 @@
 //! isn't refused keeps the rules of `KeepsRules` (`zones_keep_rules`).
 //!
 //! Costs: each record is put into an ordered set of records, and its owner into one of owners, so that records of one
-//! owner, or all identical, take no longer than those of as many owners. Records are copied only where some are
-//! identical: then those that are kept.
+//! owner, or all identical, take no longer than those of as many owners. No record is copied.
 #![tactic(auto)]
 
 mod apex;

@@ -3,5 +3,6 @@ use Rattle.zone_rules.specs.First.{chosen}
 use Rattle.zone_rules.proofs.identical.chosen.Given as goal
 
 -- the records that were chosen, and then those of the others
-abbrev pub invariant-loop-i : goal.invariant-loop-i
-invariant-loop-i l = chosen l.rrs l.are_chosen ≡ l.kept ++ chosen (drop l.i l.rrs) (drop l.i l.are_chosen)
+abbrev pub invariant-loop-is_chosen : goal.invariant-loop-is_chosen
+invariant-loop-is_chosen l =
+    chosen l.initial.left.items l.are_chosen ≡ l.kept ++ chosen l.left.items (drop l.is_chosen-index l.are_chosen)

@@ -1,9 +1,9 @@
-use Rattle.std.proofs.Common.{◌≡◌, Bool, List, [], length, sym, ap, ◌∙◌}
+use Rattle.std.proofs.Common.{◌≡◌, Bool, List, [], sym, ap, ◌∙◌}
 use Rattle.std.specs.List.{list_all}
 use Rattle.std.proofs.lemmas.Result.{IfOk-weaker}
 use Rattle.zone_rules.specs.First.{are_first, chosen}
 use Rattle.zone_rules.specs.Identical.{is_identical}
-use Rattle.zone_rules.proofs.Distinct.{all-first, as_many, chosen-first}
+use Rattle.zone_rules.proofs.Distinct.{all-first, chosen-first}
 use Rattle.zone_rules.proofs.identical.distinct.Goals as goal
 
 pub returns-then-are_all : goal.returns-then-are_all
@@ -12,16 +12,11 @@ returns-then-are_all c =
     let firsts_are : c.in_ok-firsts.firsts.items ≡ are_first is_identical c.args.rrs = c.in_ok-firsts.ensures ∙ ap (are_first is_identical) c.items.ensures in
     sym (all-first [] c.args.rrs (ap tests (sym firsts_are) ∙ (ap tests (sym c.as_slice.ensures.value) ∙ (sym c.are_all.ensures ∙ c.if-are_all.true))))
 
-pub chosen-requires : goal.chosen-requires
-chosen-requires c =
-    let firsts_are : c.in_ok-firsts.firsts.items ≡ are_first is_identical c.args.rrs = c.in_ok-firsts.ensures ∙ ap (are_first is_identical) c.items.ensures in
-    ap length c.as_slice-2.ensures.value ∙ (as_many c.args.rrs c.in_ok-firsts.firsts.items firsts_are ∙ ap length (sym c.items-2.ensures))
-
 pub returns : goal.returns
 returns c =
     let firsts_are : c.in_ok-firsts.firsts.items ≡ are_first is_identical c.args.rrs = c.in_ok-firsts.ensures ∙ ap (are_first is_identical) c.items.ensures in
     IfOk-weaker c.chosen.result _ _
     (λ kept said. said
-    ∙ ((λ j. chosen (c.items-2.ensures j) (c.as_slice-2.ensures.value j))
+    ∙ (ap (chosen c.args.rrs) c.as_slice-2.ensures.value
     ∙ (ap (chosen c.args.rrs) firsts_are ∙ chosen-first [] c.args.rrs)))
     c.chosen.ensures
