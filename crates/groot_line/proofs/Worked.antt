@@ -1,0 +1,93 @@
+-- Words, and what they ask for.
+use Rattle.std.specs.Prelude.{◌≡◌, refl, List, ℕ, [], ◌∷◌, codes, Result, Ok, Err}
+use Rattle.dns_data.specs.declared.rr_type.RrType.TheVariants as types
+use Rattle.groot_line.specs.Job.{job_of}
+use Rattle.groot_line.specs.declared.fault.LineFault.{LineFault}
+use Rattle.groot_line.specs.declared.fault.LineFault.TheVariants.{Usage}
+use Rattle.groot_line.specs.declared.job.Job.{Job}
+use Rattle.groot_line.specs.declared.job.Job.TheVariants.{Check, Ask, Classes}
+
+-- the job of a command and the words behind it
+abbrev said : List ℕ → List (List ℕ) → Result Job LineFault
+said command words = job_of (command ∷ words)
+
+abbrev check : List (List ℕ) → Result Job LineFault
+check words = said (codes "check") (codes "m.json" ∷ words)
+
+-- without options the numbers are those of the format
+plain_check : check [] ≡ Ok (Check (codes "m.json") 4 100000 12)
+plain_check = refl
+
+plain_classes : said (codes "classes") (codes "m.json" ∷ []) ≡ Ok (Classes (codes "m.json") 100000)
+plain_classes = refl
+
+-- a value in the next word, and one behind an equals sign, before and behind the metadata file
+options : said (codes "check") (codes "--classes=1000000" ∷ codes "m.json" ∷ codes "--rewrites" ∷ codes "64" ∷ codes "--workers=0000001" ∷ [])
+    ≡ Ok (Check (codes "m.json") 1 1000000 64)
+options = refl
+
+-- a name without its last dot, and a type in any case
+query : said (codes "ask") (codes "m.json" ∷ codes "A.t" ∷ codes "aAaA" ∷ []) ≡ Ok (Ask (codes "m.json") (codes "t" ∷ codes "a" ∷ []) types.Aaaa)
+query = refl
+
+-- no words, and no metadata file
+no_words : job_of [] ≡ Err Usage
+no_words = refl
+
+no_meta : said (codes "check") [] ≡ Err Usage
+no_meta = refl
+
+empty_meta : said (codes "classes") ([] ∷ []) ≡ Err Usage
+empty_meta = refl
+
+two_metas : check (codes "n.json" ∷ []) ≡ Err Usage
+two_metas = refl
+
+-- numbers out of range, of too many digits, and other texts
+no_workers : check (codes "--workers" ∷ codes "0" ∷ []) ≡ Err Usage
+no_workers = refl
+
+too_many_workers : check (codes "--workers=65" ∷ []) ≡ Err Usage
+too_many_workers = refl
+
+eight_digits : check (codes "--workers=00000001" ∷ []) ≡ Err Usage
+eight_digits = refl
+
+no_digits : check (codes "--workers=" ∷ []) ≡ Err Usage
+no_digits = refl
+
+signed : check (codes "--workers=+2" ∷ []) ≡ Err Usage
+signed = refl
+
+-- an option twice, one whose value is missing or another option, one of another command, and one of none
+twice : check (codes "--workers" ∷ codes "2" ∷ codes "--workers" ∷ codes "3" ∷ []) ≡ Err Usage
+twice = refl
+
+no_value : check (codes "--workers" ∷ []) ≡ Err Usage
+no_value = refl
+
+option_for_a_value : check (codes "--workers" ∷ codes "--classes" ∷ codes "3" ∷ []) ≡ Err Usage
+option_for_a_value = refl
+
+other_command : said (codes "classes") (codes "m.json" ∷ codes "--workers=2" ∷ []) ≡ Err Usage
+other_command = refl
+
+help : check (codes "--help" ∷ []) ≡ Err Usage
+help = refl
+
+two_dashes : said (codes "check") (codes "--" ∷ codes "m.json" ∷ []) ≡ Err Usage
+two_dashes = refl
+
+-- a type that is none of the twelve, and a text that is no name
+other_type : said (codes "ask") (codes "m.json" ∷ codes "t." ∷ codes "ANY" ∷ []) ≡ Err Usage
+other_type = refl
+
+no_name : said (codes "ask") (codes "m.json" ∷ codes "a..t" ∷ codes "A" ∷ []) ≡ Err Usage
+no_name = refl
+
+-- a command in another case, and one that the program doesn't have yet
+upper_case : said (codes "CHECK") (codes "m.json" ∷ []) ≡ Err Usage
+upper_case = refl
+
+no_drill : said (codes "drill") (codes "1" ∷ []) ≡ Err Usage
+no_drill = refl

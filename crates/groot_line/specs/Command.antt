@@ -1,0 +1,32 @@
+-- The commands, and which options each has.
+use Rattle.std.specs.Prelude.{ℕ, Bool, true, false, List, [], ◌∷◌, codes, Option}
+use Rattle.std.specs.List.{find}
+use Rattle.dns_data.specs.Rdata.{octets_eq}
+use Rattle.groot_line.specs.declared.command.Command.{Command}
+use Rattle.groot_line.specs.declared.command.Command.TheVariants.{Check, Ask, Classes, Drill}
+use Rattle.groot_line.specs.declared.line_option.LineOption.{LineOption}
+use Rattle.groot_line.specs.declared.line_option.LineOption.TheVariants as options
+
+-- the word of a command
+abbrev pub command_word : Command → List ℕ
+command_word Check = codes "check"
+command_word Ask = codes "ask"
+command_word Classes = codes "classes"
+command_word Drill = codes "drill"
+
+-- the commands that the program has: `drill` isn't among them yet
+abbrev pub commands : List Command
+commands = Check ∷ Ask ∷ Classes ∷ []
+
+-- the command of a word, which is compared as written
+abbrev pub command_of : List ℕ → Option Command
+command_of word = find (λ command. octets_eq word (command_word command)) commands
+
+-- the command has the option
+abbrev pub has_option : Command → LineOption → Bool
+has_option Check option = true
+has_option Ask option = false
+has_option Classes options.Classes = true
+has_option Classes option = false
+has_option Drill options.Workers = true
+has_option Drill option = false

@@ -1,0 +1,58 @@
+//! The commands.
+
+ghost use Rattle.std.specs.Prelude.{◌≡◌};
+ghost use Rattle.groot_line.specs.Command.{command_word, command_of, has_option};
+
+use crate::line_option::LineOption;
+
+/// What the first word asks for.
+#[derive(Clone, Copy, Debug, PartialEq, Eq)]
+pub(crate) enum Command {
+    /// The report of a configuration.
+    Check,
+    /// All walks of one query.
+    Ask,
+    /// The classes of query names.
+    Classes,
+    /// A report on files that are made for it.
+    Drill,
+}
+
+impl Command {
+    /// The commands that the program has. `drill` isn't among them yet.
+    const ALL: [Command; 3] = [Command::Check, Command::Ask, Command::Classes];
+
+    /// The command's word.
+    fn word(&self) -> &'static str
+        ensures { result.now ≡ command_word self.now }
+    {
+        match self {
+            Command::Check => "check",
+            Command::Ask => "ask",
+            Command::Classes => "classes",
+            Command::Drill => "drill",
+        }
+    }
+
+    /// The command with this word, if the program has it. The word is compared as written.
+    pub fn from_word(word: &[u8]) -> Option<Command>
+        ensures { result ≡ command_of word.now }
+    {
+        Command::ALL
+            .iter()
+            .copied()
+            .find(|command| word == command.word().as_bytes())
+    }
+
+    /// Whether the command has the option.
+    pub fn has(&self, option: LineOption) -> bool
+        ensures { result ≡ has_option self.now option }
+    {
+        match (self, option) {
+            (Command::Check, _) => true,
+            (Command::Classes, LineOption::Classes) => true,
+            (Command::Drill, LineOption::Workers) => true,
+            _ => false,
+        }
+    }
+}

@@ -1,0 +1,22 @@
+//! The words of the command line.
+//!
+//! The layer above may rest on this: what `read_words` answers is what the definition `job_of` says of the words: the
+//! job that they ask for, and `Usage` for all words that the format doesn't have.
+//!
+//! Costs: the words are gone through once, and each that is neither an option nor its value is copied.
+#![tactic(auto)]
+
+mod arguments;
+mod command;
+mod fault;
+mod job;
+mod line_option;
+mod operands;
+mod usage;
+
+pub use fault::LineFault;
+pub use job::{Job, read_words};
+pub use usage::usage_line;
+
+#[cfg(test)]
+mod tests;

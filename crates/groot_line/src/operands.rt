@@ -1,0 +1,66 @@
+//! The words behind a command that are neither options nor their values.
+
+ghost use Rattle.dns_data.specs.Answers.{AnswersOr};
+ghost use Rattle.groot_line.specs.Operands.{meta_of, name_of, type_of, only_meta, drill_number};
+
+use crate::arguments::number_to;
+use crate::fault::LineFault;
+use dns_data::{Name, NameFault, RrType, Text};
+use std::alloc::Global;
+
+/// The most files that a drill makes.
+const MOST_FILES: u32 = 5_000;
+
+/// The metadata file, if its word is the only operand.
+pub(crate) fn only_meta(alloc: Global, operands: &[Text]) -> Result<Text, LineFault>
+    ensures { AnswersOr LineFault.NoMemory result (only_meta operands.now) }
+{
+    match operands {
+        [meta] => meta_of(alloc, meta),
+        _ => Err(LineFault::Usage),
+    }
+}
+
+/// The metadata file that a word names. It has an octet.
+pub(crate) fn meta_of(alloc: Global, word: &Text) -> Result<Text, LineFault>
+    ensures { AnswersOr LineFault.NoMemory result (meta_of word.now) }
+{
+    if word.as_str().is_empty() {
+        return Err(LineFault::Usage);
+    }
+    Ok(word.copy(alloc)?)
+}
+
+/// The query name that a word stands for under the root.
+pub(crate) fn name_of(alloc: Global, word: &Text) -> Result<Name, LineFault>
+    ensures { AnswersOr LineFault.NoMemory result (name_of word.now) }
+{
+    match Name::from_text(alloc, word.as_str().as_bytes(), &Name::root()) {
+        Ok(name) => Ok(name),
+        Err(NameFault::NoMemory) => Err(LineFault::NoMemory),
+        Err(_) => Err(LineFault::Usage),
+    }
+}
+
+/// The type with this word, in any case.
+pub(crate) fn type_of(word: &Text) -> Result<RrType, LineFault>
+    ensures { AnswersOr LineFault.NoMemory result (type_of word.now) }
+{
+    match RrType::from_word(word.as_str().as_bytes()) {
+        Some(rtype) => Ok(rtype),
+        None => Err(LineFault::Usage),
+    }
+}
+
+/// How many files a drill makes, if the word for it is the only operand.
+pub(crate) fn drill_number(operands: &[Text]) -> Result<u32, LineFault>
+    ensures { AnswersOr LineFault.NoMemory result (drill_number operands.now) }
+{
+    let [word] = operands else {
+        return Err(LineFault::Usage);
+    };
+    match number_to(MOST_FILES, word.as_str().as_bytes()) {
+        Some(number) => Ok(number),
+        None => Err(LineFault::Usage),
+    }
+}

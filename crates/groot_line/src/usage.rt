@@ -1,0 +1,11 @@
+//! The line for words that ask for nothing.
+
+ghost use Rattle.std.specs.Prelude.{◌≡◌};
+ghost use Rattle.groot_line.specs.Usage.{usage_line};
+
+/// The line on err where the words are no job, with its line feed.
+pub fn usage_line() -> &'static str
+    ensures { result.now ≡ usage_line }
+{
+    "usage: groot check META [--workers N] [--classes N] [--rewrites K] | ask META NAME TYPE | classes META [--classes N] | drill N [--workers N]\n"
+}
