@@ -1,5 +1,5 @@
 -- The least item of a list that passes a test.
-use Rattle.std.proofs.Common.{◌≡◌, ℕ, Bool, true, false, ◌⊎◌, List, [], ◌∷◌, Contains, Ordering, Less, Equal, Greater, is_eq, sym, refl, ap, ◌∙◌, subst, inl, inr, true≢false}
+use Rattle.std.proofs.Common.{◌≡◌, Bool, true, false, ◌⊎◌, List, [], ◌∷◌, Contains, Ordering, Less, Equal, Greater, is_eq, sym, refl, ap, ◌∙◌, subst, inl, inr, true≢false}
 use Rattle.std.specs.Cmp.{IsTotalOrder}
 use Rattle.dns_data.proofs.Membership.{none_in_nil, has_first, has_later, first_or_later}
 use Rattle.dns_data.proofs.OrderedLists.{never_before_itself}

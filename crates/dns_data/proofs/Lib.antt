@@ -3,8 +3,11 @@ pub mod DataFacts
 pub mod DataTexts
 pub mod DifferentItems
 pub mod Digits
+pub mod Distinct
 pub mod Encodings
 pub mod EqualData
+pub mod FirstItems
+pub mod IdenticalRecords
 pub mod LeastItems
 pub mod Membership
 pub mod NameFaults
@@ -17,8 +20,10 @@ pub mod Plain
 pub mod Reading
 pub mod RoundTrip
 pub mod Searches
+pub mod SeenItems
 pub mod Separators
 pub mod Sets
 pub mod Spellings
 pub mod StandardFacts
+pub mod Tellers
 pub mod TextsTellData

@@ -1,14 +1,15 @@
 -- Names: prefixes, and names that are one.
-use Rattle.std.proofs.Common.{◌≡◌, ℕ, zero, suc, ◌+◌, ◌*◌, ◌≤◌, ◌++◌, Bool, true, List, [], ◌∷◌, length, take, drop, Ordering, sym, refl, ap, ◌∙◌, arith}
-use Rattle.std.specs.Prelude.{◌↔◌, sum_by}
-use Rattle.std.specs.List.{AllByRecursion}
+use Rattle.std.proofs.Common.{◌≡◌, ℕ, zero, suc, ◌+◌, ◌*◌, ◌≤◌, ◌++◌, Bool, true, ◌&&◌, nat_le, List, [], ◌∷◌, length, take, drop, Ordering, sym, refl, ap, ◌∙◌, subst, arith}
+use Rattle.std.specs.Prelude.{◌↔◌, sum_by, nat_lt}
+use Rattle.std.specs.List.{AllByRecursion, list_all}
+use Rattle.std.proofs.lemmas.Bool.{and_parts, and_from, lt-ltb, ltb-true, le-leb, leb-true}
 use Rattle.std.proofs.lemmas.List.Sums.{sum_by-cons, sum_by-append}
 use Rattle.std.specs.Bool.{IsTrue}
 use Rattle.std.specs.Cmp.Lexicographic.{pointwise_decides, bytes_decides, lists_ties, texts_ties}
 use Rattle.std.specs.declared.cmp.Ordering.TheVariants.{Less, Equal, Greater}
 use Rattle.std.specs.Ordering.{is_eq}
 use Rattle.std.proofs.lemmas.List.{take-append-drop, take_at}
-use Rattle.dns_data.specs.Label.{IsLabel, label_eq, label_cmp}
+use Rattle.dns_data.specs.Label.{IsLabel, is_label_octet, label_eq, label_cmp}
 use Rattle.dns_data.specs.Name.{Labels, IsName, wire_octets, name_eq, name_cmp, is_prefix}
 
 -- labels that are one are equal
@@ -76,3 +77,47 @@ name_front n a h =
       labels = all_front IsLabel n a h.labels;
       short = omega (arith, h.short, ap (sum_by size) (take-append-drop n a), sum_by-append size (take n a) (drop n a));
     }
+
+-- the root is a name
+pub root_is_name : IsName []
+root_is_name = record { labels = tt; short = omega arith }
+
+-- so is a name that begins another
+pub prefix_is_name : (above name below : Labels) → above ++ below ≡ name → IsName name → IsName above
+prefix_is_name above name below e h =
+    subst IsName (ap (take (length above)) (sym e) ∙ take_at above below (length above) refl) (name_front (length above) name h)
+
+-- ---- tests of labels and names
+
+-- the test of a label
+abbrev pub is_label : List ℕ → Bool
+is_label label = nat_lt 0 (length label) && nat_le (length label) 63 && list_all is_label_octet label
+
+-- what passes is a label
+pub is_label_tells : (label : List ℕ) → is_label label ≡ true → IsLabel label
+is_label_tells label e =
+    let parts = and_parts _ _ e in
+    let sizes = and_parts _ _ parts.0 in
+    record { not_empty = ltb-true 0 (length label) sizes.0; short = leb-true (length label) 63 sizes.1; octets = parts.1 }
+
+-- and a label passes
+pub is_label_told : (label : List ℕ) → IsLabel label → is_label label ≡ true
+is_label_told label is =
+    and_from _ _ (and_from _ _ (lt-ltb 0 (length label) is.not_empty) (le-leb (length label) 63 is.short)) is.octets
+
+-- what all pass are labels
+labels_tell : (labels : Labels) → list_all is_label labels ≡ true → AllByRecursion IsLabel labels
+labels_tell [] e = tt
+labels_tell (label ∷ labels) e =
+    let parts = and_parts (is_label label) (list_all is_label labels) e in
+    (is_label_tells label parts.0, labels_tell labels parts.1)
+
+-- the test of a name
+abbrev pub is_name : Labels → Bool
+is_name name = list_all is_label name && nat_le (wire_octets name) 255
+
+-- what passes is a name
+pub is_name_tells : (name : Labels) → is_name name ≡ true → IsName name
+is_name_tells name e =
+    let parts = and_parts (list_all is_label name) (nat_le (wire_octets name) 255) e in
+    record { labels = labels_tell name parts.0; short = leb-true (wire_octets name) 255 parts.1 }

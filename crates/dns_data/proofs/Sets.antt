@@ -6,7 +6,7 @@ use Rattle.std.specs.List.{AllByRecursion, find, list_all}
 use Rattle.std.proofs.lemmas.Bool.{cases_eq, cases_Bool, and_parts, leb-true}
 use denote.Param.Members.{Mut}
 use Rattle.dns_data.specs.RrType.{types, number_of}
-use Rattle.dns_data.specs.TypeSet.{place_of, has_type}
+use Rattle.dns_data.specs.TypeSet.{place_of, has_bit}
 use Rattle.dns_data.specs.declared.rr_type.RrType.{RrType}
 use Rattle.dns_data.specs.declared.rr_type.RrType.TheVariants.{A, Ns, Cname, Soa, Ptr, Hinfo, Mx, Txt, Aaaa, Srv, Dname, Caa}
 
@@ -36,7 +36,7 @@ place_below Dname = omega arith
 place_below Caa = omega arith
 
 -- a set whose marks a closure gave
-pub made : {F : Type 0} (g : Mut F (ℕ × Unit {0}) Bool) (test : ℕ → Bool) (f : F) (marks : List Bool) → IsFromFnResult g f marks 12 → ((i : ℕ) (y : Bool) (q : F) → Called g f (i, tt) y q → (q ≡ f) × (y ≡ test i)) → (t : RrType) → has_type marks t ≡ test (place_of t)
+pub made : {F : Type 0} (g : Mut F (ℕ × Unit {0}) Bool) (test : ℕ → Bool) (f : F) (marks : List Bool) → IsFromFnResult g f marks 12 → ((i : ℕ) (y : Bool) (q : F) → Called g f (i, tt) y q → (q ≡ f) × (y ≡ test i)) → (t : RrType) → has_bit marks t ≡ test (place_of t)
 made g test f marks all calls t = let below = place_below t in made_each g test f marks calls 12 0 all.each (place_of t) (omega arith) (omega arith)
 
 -- what holds of each of the twelve types holds of every type

@@ -1,8 +1,8 @@
 -- The texts of record data (RFC 1035 section 5.1, RFC 3596 section 2.4, RFC 8659 section 4.1.1).
-use Rattle.std.specs.Prelude.{ℕ, ◌+◌, ◌*◌, false, ◌&&◌, ◌||◌, nat_le, List, [], ◌∷◌, ◌++◌, map, slice_index, codes, if◌then◌else◌, ◌==◌}
+use Rattle.std.specs.Prelude.{ℕ, ◌+◌, ◌*◌, false, ◌&&◌, ◌||◌, nat_le, List, [], ◌∷◌, ◌++◌, map, slice_index, codes, ◌==◌}
 use Rattle.std.specs.List.{flat_map}
 use Rattle.std.specs.Fmt.{decimal, digits}
-use Rattle.dns_data.specs.Octet.{decimal_escape}
+use Rattle.dns_data.specs.Octet.{escaped_as}
 use Rattle.dns_data.specs.Spelling.{name_text}
 use Rattle.dns_data.specs.declared.rdata.Rdata.{Rdata}
 use Rattle.dns_data.specs.declared.rdata.Rdata.TheVariants.{A, Ns, Cname, Soa, Ptr, Hinfo, Mx, Txt, Aaaa, Srv, Dname, Caa, Other}
@@ -14,9 +14,7 @@ separated between (text ∷ texts) = text ++ flat_map (λ next. between ++ next)
 
 -- an octet of a string, as text
 abbrev pub string_octet_text : ℕ → List ℕ
-string_octet_text octet =
-    if (octet == 34) || (octet == 92) then 92 ∷ octet ∷ []
-    else (if nat_le 32 octet && nat_le octet 126 then octet ∷ [] else decimal_escape octet)
+string_octet_text octet = escaped_as ((octet == 34) || (octet == 92)) (nat_le 32 octet && nat_le octet 126) octet
 
 -- the octets of a string, as text
 abbrev pub plain : List ℕ → List ℕ

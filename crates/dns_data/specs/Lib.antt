@@ -1,10 +1,13 @@
 pub mod Answers
+pub mod Options
+pub mod Distinct
 pub mod Label
 pub mod Name
 pub mod NameOrder
 pub mod Number
 pub mod Octet
 pub mod Rdata
+pub mod Identical
 pub mod RrType
 pub mod Spelling
 pub mod DataText
@@ -12,3 +15,5 @@ pub mod Encoding
 pub mod Put
 pub mod TypeSet
 pub mod Storage
+pub mod First
+pub mod Told

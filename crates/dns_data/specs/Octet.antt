@@ -38,3 +38,9 @@ three_digit_value a b c = digits_after 0 (a ∷ b ∷ c ∷ [])
 -- a backslash, and the octet's number in three decimal digits (RFC 1035 section 5.1)
 abbrev pub decimal_escape : ℕ → List ℕ
 decimal_escape octet = 92 ∷ (48 + octet / 100) ∷ (48 + octet / 10 % 10) ∷ (48 + octet % 10) ∷ []
+
+-- an octet of a text: behind a backslash where it has a meaning of its own there, as it is where it may stand, or else
+-- in three digits (RFC 1035 section 5.1)
+abbrev pub escaped_as : Bool → Bool → ℕ → List ℕ
+escaped_as has_meaning may_stand octet =
+    if has_meaning then 92 ∷ octet ∷ [] else (if may_stand then octet ∷ [] else decimal_escape octet)

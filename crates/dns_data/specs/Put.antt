@@ -1,5 +1,5 @@
 -- For the code alone, no public clause cites it: labels that a text spells, put into octets from their end.
-use Rattle.std.specs.Prelude.{◌≡◌, ℕ, ◌+◌, ◌<◌, ◌≤◌, Bool, false, ◌&&◌, not, List, [], ◌∷◌, ◌++◌, Ok, Option, MatchOption, IfSome, drop, length, reverse, ◌==◌}
+use Rattle.std.specs.Prelude.{◌≡◌, ℕ, ◌+◌, ◌<◌, ◌≤◌, Bool, false, ◌&&◌, not, List, [], ◌∷◌, ◌++◌, Ok, Option, MatchOption, drop, length, reverse, ◌==◌}
 use denote.Ref.{Bor}
 use Rattle.std.specs.List.{AllByRecursion}
 use Rattle.dns_data.specs.Label.{IsLabel}

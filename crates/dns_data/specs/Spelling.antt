@@ -2,7 +2,7 @@
 use Rattle.std.specs.Prelude.{ℕ, Bool, true, false, ◌&&◌, nat_eq, nat_le, List, [], ◌∷◌, ◌++◌, length, reverse, codes, if◌then◌else◌, ◌==◌, Result, Ok, Err}
 use Rattle.std.specs.List.{flat_map, list_any}
 use lib.Pointwise.{pointwise}
-use Rattle.dns_data.specs.Octet.{is_digit, folded, three_digit_value, decimal_escape}
+use Rattle.dns_data.specs.Octet.{is_digit, folded, three_digit_value, escaped_as}
 use Rattle.dns_data.specs.Name.{Labels, wire_octets}
 use Rattle.dns_data.specs.declared.fault.NameFault.{NameFault}
 use Rattle.dns_data.specs.declared.fault.NameFault.TheVariants.{EmptyLabel, LabelTooLong, NameTooLong, BadEscape}
@@ -84,9 +84,7 @@ is_special octet = list_any (nat_eq octet) (codes ".\\\"();@$")
 
 -- an octet of a label, as text
 abbrev pub octet_text : ℕ → List ℕ
-octet_text octet =
-    if is_special octet then 92 ∷ octet ∷ []
-    else (if nat_le 33 octet && nat_le octet 126 then octet ∷ [] else decimal_escape octet)
+octet_text octet = escaped_as (is_special octet) (nat_le 33 octet && nat_le octet 126) octet
 
 -- a label and the dot that ends it
 abbrev pub label_text : List ℕ → List ℕ

@@ -1,4 +1,4 @@
--- Sets of record types, as twelve marks in the order of the types' numbers.
+-- Sets of record types, as a bit for each of the twelve in the order of their numbers.
 use Rattle.std.specs.Prelude.{ℕ, Bool, false, List, slice_index_or}
 use Rattle.dns_data.specs.declared.rr_type.RrType.{RrType}
 use Rattle.dns_data.specs.declared.rr_type.RrType.TheVariants.{A, Ns, Cname, Soa, Ptr, Hinfo, Mx, Txt, Aaaa, Srv, Dname, Caa}
@@ -19,5 +19,5 @@ place_of Dname = 10
 place_of Caa = 11
 
 -- whether the set has the type
-abbrev pub has_type : List Bool → RrType → Bool
-has_type set rtype = slice_index_or set (place_of rtype) false
+abbrev pub has_bit : List Bool → RrType → Bool
+has_bit set rtype = slice_index_or set (place_of rtype) false

@@ -3,6 +3,8 @@
 #![tactic(auto)]
 
 mod fault;
+mod first;
+mod identical;
 mod label;
 mod labels;
 mod laws;
@@ -20,9 +22,10 @@ mod type_set;
 mod words;
 
 pub use fault::{JoinFault, NameFault};
+pub use identical::first_of_identical;
 pub use label::Label;
 pub use labels::Labels;
-pub use laws::texts_tell_data;
+pub use laws::{identical_records, texts_tell_data};
 pub use list::List;
 pub use memory::NoMemory;
 pub use name::Name;

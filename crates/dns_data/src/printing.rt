@@ -12,7 +12,7 @@ use crate::name::Name;
 use crate::octets::Octets;
 use crate::rdata::Rdata;
 use crate::rr_type::RrType;
-use crate::spelling::push_decimal_escape;
+use crate::spelling::push_octet;
 use std::alloc::Global;
 use std::fmt::Write;
 
@@ -201,22 +201,19 @@ fn push_plain(text: &mut String, octets: &[u8]) -> Result<(), NoMemory>
     ensures { OnOk result (string_bytes text.new ≡ string_bytes text.old ++ plain octets.now) }
 {
     for octet in octets {
-        push_octet(text, *octet)?;
+        push_string_octet(text, *octet)?;
     }
     Ok(())
 }
 
 /// Puts an octet of a string at the end.
-fn push_octet(text: &mut String, octet: u8) -> Result<(), NoMemory>
+fn push_string_octet(text: &mut String, octet: u8) -> Result<(), NoMemory>
     ensures { OnOk result (string_bytes text.new ≡ string_bytes text.old ++ string_octet_text octet) }
 {
-    match octet {
-        b'"' | b'\\' => {
-            text.push('\\')?;
-            text.push(char::from(octet))?;
-        }
-        b' '..=b'~' => text.push(char::from(octet))?,
-        _ => push_decimal_escape(text, octet)?,
-    }
-    Ok(())
+    push_octet(
+        text,
+        octet,
+        octet == b'"' || octet == b'\\',
+        (b' '..=b'~').contains(&octet),
+    )
 }

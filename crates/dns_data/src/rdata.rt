@@ -68,8 +68,8 @@ pub enum Rdata {
     },
 }
 
-/// A record of a zone with its TTL in seconds, and where it was read: the number of its file, counted from 0, and its
-/// line, counted from 1.
+/// A record of a zone with its TTL in seconds, and where it was read: the number of its file, counted from 0 in the
+/// order in which the files of a zone were opened, and its line, counted from 1.
 #[derive(Debug, Drop)]
 pub struct Rr {
     pub owner: Name,

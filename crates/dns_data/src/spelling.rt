@@ -6,9 +6,9 @@ ghost use Rattle.std.specs.String.{string_bytes};
 ghost use Rattle.dns_data.specs.Answers.{AnswersOr};
 ghost use Rattle.dns_data.specs.Encoding.{labels_of, EncodesName};
 ghost use Rattle.dns_data.specs.Label.{IsLabel};
-ghost use Rattle.dns_data.specs.Octet.{is_digit, folded, three_digit_value, decimal_escape};
+ghost use Rattle.dns_data.specs.Octet.{is_digit, folded, three_digit_value, decimal_escape, escaped_as};
 ghost use Rattle.dns_data.specs.Put.{IsPut, IsSpelled, PutsFirst, BeginsWith, is_plain};
-ghost use Rattle.dns_data.specs.Spelling.{Sign, signs, escaped, escape_octets, spelled, after_label, placed, name_of_text, octet_text, label_text, name_text};
+ghost use Rattle.dns_data.specs.Spelling.{Sign, signs, escaped, escape_octets, spelled, after_label, placed, name_of_text, is_special, octet_text, label_text, name_text};
 
 use crate::fault::NameFault;
 use crate::labels::Labels;
@@ -260,29 +260,52 @@ fn push_label(text: &mut String, label: &[u8]) -> Result<(), NoMemory>
     ensures { OnOk result (string_bytes text.new ≡ string_bytes text.old ++ label_text label.now) }
 {
     for octet in label {
-        push_octet(text, *octet)?;
+        push_label_octet(text, *octet)?;
     }
     text.push('.')?;
     Ok(())
 }
 
 /// Puts the text of a label's octet at the end.
-fn push_octet(text: &mut String, octet: u8) -> Result<(), NoMemory>
+fn push_label_octet(text: &mut String, octet: u8) -> Result<(), NoMemory>
     ensures { OnOk result (string_bytes text.new ≡ string_bytes text.old ++ octet_text octet) }
 {
-    match octet {
-        b'.' | b'\\' | b'"' | b'(' | b')' | b';' | b'@' | b'$' => {
-            text.push('\\')?;
-            text.push(char::from(octet))?;
-        }
-        33..=126 => text.push(char::from(octet))?,
-        _ => push_decimal_escape(text, octet)?,
+    push_octet(text, octet, is_special(octet), (33..=126).contains(&octet))
+}
+
+/// Whether the octet stands behind a backslash in a name's text.
+fn is_special(octet: u8) -> bool
+    ensures special { result ≡ is_special octet }
+    ensures ascii { result ≡ true → octet < 128 }
+{
+    matches!(octet, b'.' | b'\\' | b'"' | b'(' | b')' | b';' | b'@' | b'$')
+}
+
+/// Puts an octet at the end: behind a backslash where it has a meaning of its own in the text, as it is where it may
+/// stand, or else in three digits.
+pub(crate) fn push_octet(
+    text: &mut String,
+    octet: u8,
+    has_meaning: bool,
+    may_stand: bool,
+) -> Result<(), NoMemory>
+    requires meaning { has_meaning ≡ true → octet < 128 }
+    requires stands { may_stand ≡ true → octet < 128 }
+    ensures { OnOk result (string_bytes text.new ≡ string_bytes text.old ++ escaped_as has_meaning may_stand octet) }
+{
+    if has_meaning {
+        text.push('\\')?;
+        text.push(char::from(octet))?;
+    } else if may_stand {
+        text.push(char::from(octet))?;
+    } else {
+        push_decimal_escape(text, octet)?;
     }
     Ok(())
 }
 
 /// Puts a backslash and the octet's number in three digits at the end.
-pub(crate) fn push_decimal_escape(text: &mut String, octet: u8) -> Result<(), NoMemory>
+fn push_decimal_escape(text: &mut String, octet: u8) -> Result<(), NoMemory>
     ensures { OnOk result (string_bytes text.new ≡ string_bytes text.old ++ decimal_escape octet) }
 {
     text.push('\\')?;

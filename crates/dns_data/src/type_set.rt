@@ -3,7 +3,7 @@
 ghost use Rattle.std.specs.Prelude.{◌≡◌, ◌↔◌, ◌≤◌, ◌&&◌, ◌||◌, not, true, false, IsNone, IfSome};
 ghost use Rattle.std.specs.List.{find};
 ghost use Rattle.dns_data.specs.RrType.{types, type_eq, number_of};
-ghost use Rattle.dns_data.specs.TypeSet.{has_type};
+ghost use Rattle.dns_data.specs.TypeSet.{has_bit};
 
 use crate::rr_type::RrType;
 use std::array;
@@ -28,7 +28,7 @@ impl Model for TypeSet {
 impl TypeSet {
     /// The set without a type.
     pub fn empty() -> TypeSet
-        ensures { (t : RrType) → has_type result t ≡ false }
+        ensures { (t : RrType) → has_bit result t ≡ false }
     {
         TypeSet {
             members: [false; 12],
@@ -37,7 +37,7 @@ impl TypeSet {
 
     /// The set of the twelve types.
     pub fn all() -> TypeSet
-        ensures { (t : RrType) → has_type result t ≡ true }
+        ensures { (t : RrType) → has_bit result t ≡ true }
     {
         TypeSet {
             members: [true; 12],
@@ -46,7 +46,7 @@ impl TypeSet {
 
     /// The set of one type.
     pub fn one(t: RrType) -> TypeSet
-        ensures { (other : RrType) → has_type result other ≡ type_eq t other }
+        ensures { (other : RrType) → has_bit result other ≡ type_eq t other }
     {
         let mut set = TypeSet::empty();
         set.members[t as usize] = true;
@@ -55,14 +55,14 @@ impl TypeSet {
 
     /// Whether the set has the type.
     pub fn has(&self, t: RrType) -> bool
-        ensures { result ≡ has_type self.now t }
+        ensures { result ≡ has_bit self.now t }
     {
         self.members[t as usize]
     }
 
     /// The types that one of the sets has.
     pub fn union(&self, other: TypeSet) -> TypeSet
-        ensures { (t : RrType) → has_type result t ≡ (has_type self.now t || has_type other t) }
+        ensures { (t : RrType) → has_bit result t ≡ (has_bit self.now t || has_bit other t) }
     {
         TypeSet {
             members: array::from_fn(|place| self.members[place] || other.members[place]),
@@ -71,7 +71,7 @@ impl TypeSet {
 
     /// The types that this set has and the other hasn't.
     pub fn minus(&self, other: TypeSet) -> TypeSet
-        ensures { (t : RrType) → has_type result t ≡ (has_type self.now t && not (has_type other t)) }
+        ensures { (t : RrType) → has_bit result t ≡ (has_bit self.now t && not (has_bit other t)) }
     {
         TypeSet {
             members: array::from_fn(|place| self.members[place] && !other.members[place]),
@@ -80,10 +80,10 @@ impl TypeSet {
 
     /// The type of the set with the least number, or `None` where the set is empty.
     pub fn first(&self) -> Option<RrType>
-        ensures found { result ≡ find (has_type self.now) types }
-        ensures none { IsNone result ↔ ((t : RrType) → has_type self.now t ≡ false) }
-        ensures member { IfSome result (λ t. has_type self.now t ≡ true) }
-        ensures least { IfSome result (λ t. (other : RrType) → has_type self.now other ≡ true → number_of t ≤ number_of other) }
+        ensures found { result ≡ find (has_bit self.now) types }
+        ensures none { IsNone result ↔ ((t : RrType) → has_bit self.now t ≡ false) }
+        ensures member { IfSome result (λ t. has_bit self.now t ≡ true) }
+        ensures least { IfSome result (λ t. (other : RrType) → has_bit self.now other ≡ true → number_of t ≤ number_of other) }
     {
         RrType::ALL.iter().copied().find(|t| self.has(*t))
     }

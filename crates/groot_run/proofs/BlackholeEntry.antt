@@ -1,13 +1,13 @@
 -- The entry of a blackhole in the report of a configuration of the first shape: the query for its alias's owner is the
 -- representative of the owner's own class, no other class's shows it, and type A is the first type.
-use Rattle.std.proofs.Common.{◌≡◌, ℕ, ◌≤◌, false, List, [], ◌∷◌, map, Contains, Some, Less, Equal, sym, refl, ap, ◌∙◌, subst, append-nil, arith}
+use Rattle.std.proofs.Common.{◌≡◌, ℕ, ◌≤◌, false, List, [], ◌∷◌, map, All, Contains, Some, Less, Equal, sym, refl, ap, ◌∙◌, subst, append-nil, arith}
 use Rattle.std.specs.List.{flat_map}
 use Rattle.std.specs.Prelude.{◌≢◌}
 use Rattle.std.proofs.lemmas.Bool.{and_right, or_from}
 use Rattle.std.proofs.lemmas.Cmp.{tied_itself}
-use Rattle.std.proofs.lemmas.List.Elements.{Contains-append_left}
+use Rattle.std.proofs.lemmas.List.Elements.{All-contains, Contains-append_left}
 use Rattle.std.proofs.lemmas.Option.{same_Some}
-use Rattle.dns_data.specs.Name.{Labels, wire_octets, name_cmp, name_eq}
+use Rattle.dns_data.specs.Name.{Labels, IsName, name_cmp, name_eq}
 use Rattle.dns_data.specs.RrType.{number_of}
 use Rattle.dns_data.specs.declared.rdata.Rr.{Rr}
 use Rattle.dns_data.specs.declared.rr_type.RrType.{RrType}
@@ -23,7 +23,7 @@ use Rattle.net_model.specs.Class.{class_cmp}
 use Rattle.net_model.specs.Nearest.{server_names}
 use Rattle.net_model.specs.Prefix.{prefixes}
 use Rattle.net_model.specs.Reading.{IsNamed, records, origins_and_owners, ground_of}
-use Rattle.net_model.specs.Shown.{ShowsIn}
+use Rattle.net_model.specs.Shown.{ShowsIn, with_sets}
 use Rattle.net_model.specs.Walk.{walk_along}
 use Rattle.groot_run.specs.Blackholes.{Alias, IsBlackhole, alias_place, blackhole_walk, blackhole_entry}
 use Rattle.groot_run.specs.Outcome.{default_rewrites}
@@ -54,7 +54,7 @@ a_first types.Srv = omega arith
 a_first types.Dname = omega arith
 a_first types.Caa = omega arith
 
-module _ (server : Labels) (zone : Zone) (first : IsFirstZone zone) where
+module _ (server : Labels) (zone : Zone) (first : IsFirstZone zone) (named : All (λ (rr : Rr). IsName rr.owner) zone.rrs) where
   -- the configuration of a server that holds the zone
   abbrev config : Config
   config = config_for server zone
@@ -71,10 +71,9 @@ module _ (server : Labels) (zone : Zone) (first : IsFirstZone zone) where
       (has_later zone.origin (map (λ (rr : Rr). rr.owner) (records config)) alias.owner owner)
       (prefixes_have alias.owner alias.owner ([], append-nil alias.owner))))
 
-  -- and short
-  owner_short : (alias : Alias) → IsBlackhole zone alias → wire_octets alias.owner ≤ 255
-  owner_short alias is =
-      let short = subst (λ (name : Labels). wire_octets name ≤ 200) is.owned (first.records is.rr is.among).short in omega arith
+  -- and a name
+  pub owner_is_name : (alias : Alias) → IsBlackhole zone alias → IsName alias.owner
+  owner_is_name alias is = subst IsName is.owned (All-contains (λ (rr : Rr). IsName rr.owner) zone.rrs is.rr named is.among)
 
   -- only the query for an alias's owner shows its blackhole
   owner_is_query : (alias : Alias) (query : Labels) (rtype : RrType)
@@ -99,7 +98,7 @@ module _ (server : Labels) (zone : Zone) (first : IsFirstZone zone) where
       → ClassShows config default_rewrites (Exact alias.owner) alias.owner types.A (Blackhole (alias_place server zone.origin alias))
   owner_class_shows alias is =
       record {
-        is_class = (owner_named alias is, owner_short alias is);
+        is_class = (owner_named alias is, owner_is_name alias is);
         represents = refl;
         shows = owner_shows server zone first alias types.A refl is;
       }
@@ -114,7 +113,7 @@ module _ (server : Labels) (zone : Zone) (first : IsFirstZone zone) where
       → PathsShow (setting_for server zone (server_names config)) alias.owner types.A (Blackhole (alias_place server zone.origin alias)) others walks
       → paths_cmp others ((0 ∷ 0 ∷ 0 ∷ []) ∷ []) ≢ Less
   no_walk_before alias is others walks paths =
-      let one = shown_by_one (setting_for server zone (server_names config)) (alias_place server zone.origin alias) walks paths.show in
+      let one = shown_by_one (with_sets (setting_for server zone (server_names config))) (alias_place server zone.origin alias) walks paths.show in
       by others one.0 (paths.are_walks ∙ ap (map (λ (w : Walk). Some w)) one.1)
     where
       by : (others : List (List ℕ)) (walk : Walk)

@@ -10,7 +10,6 @@
 use Rattle.std.proofs.Common.{◌≡◌, ℕ, true, List, [], ◌∷◌, map, All, Contains, get_or, Less, sym, refl, ap, ◌∙◌, subst}
 use Rattle.std.specs.Ordering.{ordering_then}
 use Rattle.std.proofs.lemmas.Cmp.{tied_itself}
-use Rattle.std.proofs.lemmas.List.Elements.{All-contains}
 use Rattle.dns_data.specs.Name.{Labels, IsName, name_cmp}
 use Rattle.dns_data.specs.declared.rdata.Rr.{Rr}
 use Rattle.dns_data.specs.declared.rr_type.RrType.TheVariants as types
@@ -26,7 +25,7 @@ use Rattle.groot_run.specs.Blackholes.{Alias, IsBlackhole, AreBlackholes, alias_
 use Rattle.groot_run.specs.FirstShape.{is_first_shape, one_zone, IsFirstConfig}
 use Rattle.groot_run.specs.Outcome.{default_rewrites}
 use Rattle.groot_run.specs.Report.{Entry, is_looked_for, IsEntry, IsShown, IsTreeSize, IsReport}
-use Rattle.groot_run.proofs.BlackholeEntry.{entry_right}
+use Rattle.groot_run.proofs.BlackholeEntry.{owner_is_name, entry_right}
 use Rattle.groot_run.proofs.FirstBlackholes.{shown_is_alias, owner_shows}
 use Rattle.groot_run.proofs.FirstNearest.{config_for}
 use Rattle.groot_run.proofs.FirstRecords.{IsFirstZone, first_zone, how_made}
@@ -57,7 +56,7 @@ module _ (server : Labels) (zone : Zone) (first : IsFirstZone zone) where
         looked_for = refl;
         query = alias.owner;
         rtype = types.A;
-        is_name = subst IsName is.owned (All-contains (λ (rr : Rr). IsName rr.owner) zone.rrs is.rr named is.among);
+        is_name = owner_is_name server zone first named alias is;
         shows = owner_shows server zone first alias types.A refl is;
       }
 
@@ -84,7 +83,7 @@ module _ (server : Labels) (zone : Zone) (first : IsFirstZone zone) where
             (λ i j d before within. places_as_owners server zone.origin (get_or aliases i d) (get_or aliases j d) (are.ordered i j d before within));
         each_right =
             all_images (blackhole_entry server zone.origin) (IsEntry config default_rewrites) aliases
-            (λ alias among. entry_right server zone first alias ((are.all alias).0 among));
+            (λ alias among. entry_right server zone first named alias ((are.all alias).0 among));
         each_shown =
             all_images (blackhole_entry server zone.origin) (λ (entry : Entry). IsShown config default_rewrites entry.fault) aliases
             (λ alias among. entry_shown named alias ((are.all alias).0 among));

@@ -19,6 +19,7 @@ use Rattle.groot_run.proofs.FirstGround.{no_redirections, ground_has, from_groun
 use Rattle.groot_run.proofs.FirstRecords.{first_zone, how_made}
 use Rattle.dns_data.proofs.NameOrder.{turned, UpTo, Before, names_total, pairs_from_rising}
 use Rattle.dns_data.proofs.NameFronts.{octets_of_prefix, octets_with_label}
+use Rattle.dns_data.proofs.Names.{root_is_name, prefix_is_name, name_append}
 use Rattle.dns_data.proofs.Membership.{has_first, from_map, map_has, all_from_contains}
 use Rattle.net_model.proofs.Naming.{named_among, among_named}
 use Rattle.net_model.proofs.FreeLabel.{free_label}
@@ -51,7 +52,7 @@ abbrev most_records : ℕ
 most_records = 1000000
 
 module _ (server : Labels) (first : Rr) (rest : List Rr) (shape : is_first_shape (first ∷ rest) ≡ true) (sorted : List Labels)
-    (same : IsPermutation (map (λ rr. rr.owner) (first ∷ rest)) sorted) where
+    (same : IsPermutation (map (λ rr. rr.owner) (first ∷ rest)) sorted) (named : All (λ (rr : Rr). IsName rr.owner) (first ∷ rest)) where
   abbrev owners : List Labels
   owners = map (λ (rr : Rr). rr.owner) (first ∷ rest)
 
@@ -65,6 +66,19 @@ module _ (server : Labels) (first : Rr) (rest : List Rr) (shape : is_first_shape
   owner_short name has =
       let found = from_map (λ (rr : Rr). rr.owner) (first ∷ rest) name (is_owner name has) in
       subst (λ (x : Labels). wire_octets x ≤ 200) found.2 ((first_zone first rest shape).records found.0 found.1).short
+
+  owner_is_name : (name : Labels) → Contains sorted name → IsName name
+  owner_is_name name has =
+      let found = from_map (λ (rr : Rr). rr.owner) (first ∷ rest) name (is_owner name has) in
+      subst IsName found.2 (All-contains (λ (rr : Rr). IsName rr.owner) (first ∷ rest) found.0 named found.1)
+
+  -- the tree's members are names
+  tree_of_names : (above : Labels) → Contains (tree_of sorted) above → IsName above
+  tree_of_names above has =
+      elim (from_tree sorted above has) [
+        | inl root ↦ subst IsName (sym root) root_is_name
+        | inr (name, among, begins) ↦ prefix_is_name above name begins.0 begins.1 (owner_is_name name among)
+      ]
 
   -- the tree's names are those of the ground, and short
   named_by_tree : (above : Labels) → Contains (tree_of sorted) above → Contains ground.names above × (wire_octets above ≤ 200)
@@ -94,15 +108,15 @@ module _ (server : Labels) (first : Rr) (rest : List Rr) (shape : is_first_shape
   stands_below few above has =
       let fits : length owners < 16 ^ 5 = omega (arith, length-map (first ∷ rest) (λ (rr : Rr). rr.owner)) in
       let free = free_label 5 above owners (omega arith) (omega arith) fits in
-      chosen above (named_by_tree above has).1 free.0 free.2
+      chosen above (tree_of_names above has) (named_by_tree above has).1 free.0 free.2
       (first_unnamed ground none above free.0 free.1
       (λ found. (let one = from_ground server first rest shape (above ++ free.0 ∷ []) found in free.3 one.0 one.1 one.2)))
     where
-      chosen : (above : Labels) → wire_octets above ≤ 200 → (label : List ℕ) → length label ≡ 5
+      chosen : (above : Labels) → IsName above → wire_octets above ≤ 200 → (label : List ℕ) → length label ≡ 5
           → (least : List ℕ) × IsFirstUnnamed ground above least × (length least ≤ length label)
           → (name : Labels) × IsRepresentative ground (Below above) name
-      chosen above short label long (least, is_first, fits) =
-          (above ++ least ∷ [], record { label = least; first = is_first; extends = refl; short = omega (arith, octets_with_label above least) })
+      chosen above is short label long (least, is_first, fits) =
+          (above ++ least ∷ [], record { label = least; first = is_first; extends = refl; is_name = name_append above (least ∷ []) is.labels (is_first.is_label, tt) (omega (arith, octets_with_label above least)) })
 
   pub size_of_tree : IsSorted name_cmp sorted → length (first ∷ rest) ≤ most_records
       → IsTreeSize ground (length (tree_of sorted)) (2 * length (tree_of sorted))
@@ -114,7 +128,7 @@ module _ (server : Labels) (first : Rr) (rest : List Rr) (shape : is_first_shape
         is_tree = record {
           ordered = ordered;
           all = λ name. (
-            λ has. (let found = named_by_tree name has in (among_named ground name found.0, le_trans found.1 (omega arith))),
+            λ has. (among_named ground name (named_by_tree name has).0, tree_of_names name has),
             λ named. in_tree name (named_among ground none name named.0),
           );
         };
@@ -153,27 +167,28 @@ counted_more names i shared before labels owners owner below is same value so_fa
 SizedBy : Config → Type 0
 SizedBy config =
     length (records config) ≤ most_records → (sorted : List Labels) → IsPermutation (map (λ rr. rr.owner) (records config)) sorted
-    → IsSorted name_cmp sorted → IsTreeSize (ground_of config) (length (tree_of sorted)) (2 * length (tree_of sorted))
+    → IsSorted name_cmp sorted → All (λ (rr : Rr). IsName rr.owner) (records config) → IsTreeSize (ground_of config) (length (tree_of sorted)) (2 * length (tree_of sorted))
 
 sized_by_parts : (server : Labels) (first : Rr) (rest : List Rr) → is_first_shape (first ∷ rest) ≡ true → SizedBy (one_zone server first.owner (first ∷ rest))
 unfolding SizedBy
-sized_by_parts server first rest shape few sorted same order =
+sized_by_parts server first rest shape few sorted same order named =
     let whole : (first ∷ rest) ++ [] ≡ first ∷ rest = append-nil (first ∷ rest) in
     size_of_tree server first rest shape sorted
     (subst (λ (list : List Rr). IsPermutation (map (λ rr. rr.owner) list) sorted) whole same)
+    (subst (All (λ (rr : Rr). IsName rr.owner)) whole named)
     order
     (subst (λ (list : List Rr). length list ≤ most_records) whole few)
 
 -- where the owners are behind references to the names of these records
 pub size_of_first : (config : Config) → IsFirstConfig config → length (records config) ≤ most_records → (rrs : List Rr) → rrs ≡ records config
     → (owners : List (Bor Labels)) → IsPermutation (map (λ rr. rr.owner) rrs) (map (λ (o : Bor Labels). o.now) owners)
-    → IsSorted name_cmp (map (λ (o : Bor Labels). o.now) owners)
+    → IsSorted name_cmp (map (λ (o : Bor Labels). o.now) owners) → All (λ (rr : Rr). IsName rr.owner) (records config)
     → IsTreeSize (ground_of config) (length (tree_of (map (λ (o : Bor Labels). o.now) owners))) (2 * length (tree_of (map (λ (o : Bor Labels). o.now) owners)))
 unfolding SizedBy
-size_of_first config is few rrs of_config owners same order =
+size_of_first config is few rrs of_config owners same order named =
     let made = how_made config is in
     subst SizedBy made.made (sized_by_parts made.server made.first made.rest made.shape) few (map (λ (o : Bor Labels). o.now) owners)
-    (subst (λ (list : List Rr). IsPermutation (map (λ rr. rr.owner) list) (map (λ (o : Bor Labels). o.now) owners)) of_config same) order
+    (subst (λ (list : List Rr). IsPermutation (map (λ rr. rr.owner) list) (map (λ (o : Bor Labels). o.now) owners)) of_config same) order named
 
 -- there are as many owners as records
 pub as_many_owners : (rrs : List Rr) (owners : List (Bor Labels)) → IsPermutation (map (λ rr. rr.owner) rrs) (map (λ (o : Bor Labels). o.now) owners)

@@ -1,7 +1,6 @@
 pub mod BlackholeEntry
 pub mod BlackholeReport
 pub mod Directories
-pub mod DistinctRecords
 pub mod FewRecords
 pub mod FirstAliases
 pub mod FirstBlackholes
@@ -12,7 +11,6 @@ pub mod FirstRecords
 pub mod FirstTree
 pub mod FirstWalks
 pub mod Fronts
-pub mod IdenticalRecords
 pub mod Json
 pub mod LastDot
 pub mod NameSearches

@@ -10,7 +10,7 @@ use Rattle.net_model.specs.declared.fault.Fault.{Fault}
 use Rattle.net_model.specs.declared.walk.Walk.{Walk}
 use Rattle.net_model.specs.Class.{class_cmp, IsRepresentative}
 use Rattle.net_model.specs.Reading.{ground_of}
-use Rattle.net_model.specs.Shown.{ShowsIn, WalksShow}
+use Rattle.net_model.specs.Shown.{FaultSetting, ShowsIn, WalksShow, with_sets}
 use Rattle.net_model.specs.Step.{Setting}
 use Rattle.net_model.specs.Walk.{path_cmp, walk_along}
 use Rattle.groot_run.specs.Report.{Entry, ClassShows, PathsShow, paths_cmp, IsEntry}
@@ -35,7 +35,7 @@ same_items (x ∷ xs) (y ∷ ys) e =
     cc
 
 -- walks that show a fault are some walks
-some_walk : (setting : Setting) (walks : List Walk) (fault : Fault)
+some_walk : (setting : FaultSetting) (walks : List Walk) (fault : Fault)
     → WalksShow setting walks fault → (first : Walk) × (slice_get walks 0 ≡ Some first)
 some_walk setting [] fault show = absurd show
 some_walk setting (walk ∷ walks) fault show = (walk, refl)
@@ -103,7 +103,7 @@ module _ (config : Config) (rewrites : ℕ) where
 
   same_repeats : (a b : Entry) → IsEntry config rewrites a → IsEntry config rewrites b → a.walks ≡ b.walks → a.repeats ≡ b.repeats
   same_repeats a b p q walks =
-      let first = some_walk (setting p.followed) a.walks a.fault p.walks.show in
+      let first = some_walk (with_sets (setting p.followed)) a.walks a.fault p.walks.show in
       p.repeats first.0 first.1 ∙ sym (q.repeats first.0 (ap (λ (ws : List Walk). slice_get ws 0) (sym walks) ∙ first.1))
 
   -- entries of one fault are one

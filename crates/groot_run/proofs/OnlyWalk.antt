@@ -13,7 +13,7 @@ use Rattle.net_model.specs.declared.walk.Hop.{Hop}
 use Rattle.net_model.specs.declared.walk.Leaf.{Leaf}
 use Rattle.net_model.specs.declared.walk.State.{State}
 use Rattle.net_model.specs.declared.walk.Walk.{Walk}
-use Rattle.net_model.specs.Shown.{ShowsBlackhole, WalksShow}
+use Rattle.net_model.specs.Shown.{FaultSetting, ShowsBlackhole, WalksShow, with_sets}
 use Rattle.net_model.specs.Step.{Setting, Branch, Go, End, start, next}
 use Rattle.net_model.specs.Walk.{led_on, branched, walk_from, walk_along, IsWalk}
 
@@ -133,7 +133,7 @@ same_walk setting query rtype numbers walk one others other is =
     same_Some other walk (sym is ∙ ap (walk_along setting query rtype) same ∙ one.is_walk)
 
 -- walks that show a blackhole are one walk that does
-pub shown_by_one : (setting : Setting) (place : Place) (walks : List Walk)
+pub shown_by_one : (setting : FaultSetting) (place : Place) (walks : List Walk)
     → WalksShow setting walks (Blackhole place) → (walk : Walk) × (walks ≡ walk ∷ []) × ShowsBlackhole walk place
 shown_by_one setting place [] show = absurd show
 shown_by_one setting place (walk ∷ []) show = (walk, refl, show)
@@ -143,8 +143,8 @@ shown_by_one setting place (walk ∷ other ∷ third ∷ rest) show = absurd sho
 -- where a query has one walk, that walk shows each blackhole that the query shows
 pub only_walk_shows : (setting : Setting) (query : Labels) (rtype : RrType) (place : Place)
     (numbers : List ℕ) (walk : Walk) (walks : List Walk) → IsOnlyWalk setting query rtype numbers walk
-    → AllByRecursion (IsWalk setting query rtype) walks → WalksShow setting walks (Blackhole place) → ShowsBlackhole walk place
+    → AllByRecursion (IsWalk setting query rtype) walks → WalksShow (with_sets setting) walks (Blackhole place) → ShowsBlackhole walk place
 only_walk_shows setting query rtype place numbers walk walks one are show =
-    let by = shown_by_one setting place walks show in
+    let by = shown_by_one (with_sets setting) place walks show in
     let is = subst (AllByRecursion (IsWalk setting query rtype)) by.1 are in
     subst (λ (w : Walk). ShowsBlackhole w place) (same_walk setting query rtype numbers walk one is.0.0 by.0 is.0.1) by.2

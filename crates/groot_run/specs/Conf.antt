@@ -1,6 +1,8 @@
 -- What the files of a job give: a configuration, the first refusal, or a file that isn't held.
 use Rattle.std.specs.Prelude.{◌≡◌, ℕ, ◌⊎◌, nat_eq, nat_le, List, [], ◌∷◌, ◌++◌, length, codes, decimal, Option, Some, None, Result, Ok, Err, if◌then◌else◌}
 use Rattle.std.specs.List.{list_any, starts_with}
+use Rattle.dns_data.specs.Distinct.{distinct}
+use Rattle.dns_data.specs.Identical.{is_identical}
 use Rattle.dns_data.specs.Name.{Labels}
 use Rattle.net_model.specs.declared.config.Config.{Config}
 use Rattle.master_read.specs.ZoneText.{zone_text}
@@ -8,7 +10,6 @@ use Rattle.master_read.specs.declared.fault.TextFault.{TextFault}
 use Rattle.master_read.specs.declared.fault.TextFault.TheVariants as text_faults
 use Rattle.master_read.specs.declared.zone_text.ZoneText.{ZoneText}
 use Rattle.groot_run.specs.Codes.{cause_code}
-use Rattle.groot_run.specs.Identical.{distinct}
 use Rattle.groot_run.specs.FirstShape.{config_of}
 use Rattle.groot_run.specs.Metadata.{meta_of}
 use Rattle.groot_run.specs.declared.metadata.Metadata.{Metadata}
@@ -66,7 +67,7 @@ most_records = 1000000
 -- What the records of a zone file give, or the fault in it: a zone has one of identical records. The last equation has
 -- no case, since no text is refused for want of memory (`no_text_wants_memory` of master_read).
 abbrev pub text_reading : Labels → List ℕ → Result ZoneText TextFault → Reading
-text_reading server file (Ok text) = config_or file (config_of server (distinct text.rrs))
+text_reading server file (Ok text) = config_or file (config_of server (distinct is_identical text.rrs))
 text_reading server file (Err (text_faults.At number line cause)) =
     Refuses (record { file = file; line = line; code = cause_code cause })
 text_reading server file (Err text_faults.NoMemory) = not_yet file

@@ -1,3 +1,5 @@
+pub use Rattle.dns_data.specs.Distinct
+pub use Rattle.dns_data.specs.Identical
 pub use Rattle.dns_data.specs.Name
 pub use Rattle.dns_data.specs.RrType
 pub use Rattle.dns_data.specs.Spelling
@@ -13,7 +15,6 @@ pub use Rattle.serde_json.specs.Read
 pub use Rattle.serde_json.specs.Written
 pub use Rattle.master_read.specs.ZoneText
 pub mod Codes
-pub mod Identical
 pub mod Conf
 pub mod ServerName
 pub mod FirstShape

@@ -2,6 +2,7 @@
 use Rattle.std.specs.Prelude.{ℕ, Bool, ◌&&◌, not, nat_eq, List, length, codes, Option, Some, None, is_none, option_and_then, if◌then◌else◌, ◌==◌}
 use Rattle.std.specs.Str.{is_utf8}
 use lib.Pointwise.{pointwise}
+use Rattle.dns_data.specs.Options.{◌>>=◌}
 use Rattle.serde_json.specs.Data.{Data, Items, no_items, item}
 use Rattle.serde_json.specs.Find.{get, as_str, as_array}
 use Rattle.serde_json.specs.Read.{read}
@@ -16,10 +17,6 @@ value_of bytes = if is_utf8 bytes then read bytes else None
 abbrev pub only_item : Items → Option Data
 only_item (item value no_items) = Some value
 only_item items = None
-
-infixl 10 ◌>>=◌
-abbrev pub ◌>>=◌ : {A B : Type 0} → Option A → (A → Option B) → Option B
-o >>= f = option_and_then f o
 
 -- the text of a member
 abbrev pub text_at : List ℕ → Data → Option (List ℕ)

@@ -4,7 +4,7 @@ use Rattle.std.specs.List.{list_any, AllByRecursion}
 use Rattle.std.specs.Cmp.Lexicographic.{slice_cmp}
 use Rattle.std.specs.declared.cmp.Ordering.{Ordering}
 use Rattle.std.specs.declared.cmp.Ordering.TheVariants.{Less}
-use Rattle.dns_data.specs.Name.{Labels, IsName, name_eq, wire_octets}
+use Rattle.dns_data.specs.Name.{Labels, IsName, name_eq}
 use Rattle.dns_data.specs.RrType.{number_of}
 use Rattle.dns_data.specs.declared.rr_type.RrType.{RrType}
 use Rattle.net_model.specs.declared.class.Class.{Class}
@@ -18,7 +18,7 @@ use Rattle.net_model.specs.Class.{class_cmp, IsRepresentative}
 use Rattle.net_model.specs.FaultOrder.{fault_cmp}
 use Rattle.net_model.specs.Learnt.{IsInForce}
 use Rattle.net_model.specs.Reading.{Ground, ground_of, IsNamed}
-use Rattle.net_model.specs.Shown.{ShowsIn, WalksShow}
+use Rattle.net_model.specs.Shown.{ShowsIn, WalksShow, with_sets}
 use Rattle.net_model.specs.Step.{Setting, following}
 use Rattle.net_model.specs.Tree.{IsClassTree, AreBelowClasses}
 use Rattle.net_model.specs.Walk.{walk_along, path_cmp}
@@ -52,10 +52,10 @@ abbrev pub repeats : List State → Bool
 repeats [] = false
 repeats (state ∷ states) = list_any (is_same_place state) states || repeats states
 
--- it is a class of the tree: of a named name of at most 255 octets
+-- it is a class of the tree: of a name that is named
 abbrev pub IsClass : Config → Class → Type 0
-IsClass config (Exact name) = IsNamed (ground_of config) name × (wire_octets name ≤ 255)
-IsClass config (Below name) = IsNamed (ground_of config) name × (wire_octets name ≤ 255)
+IsClass config (Exact name) = IsNamed (ground_of config) name × IsName name
+IsClass config (Below name) = IsNamed (ground_of config) name × IsName name
 
 -- the class's representative shows the fault with the type
 pub record ClassShows (config : Config) (rewrites : ℕ) (class : Class) (query : Labels) (rtype : RrType) (fault : Fault) : Type 0 where
@@ -66,7 +66,7 @@ pub record ClassShows (config : Config) (rewrites : ℕ) (class : Class) (query 
 -- the walks along these lists of branch numbers, in order, are walks of the query that show the fault
 pub record PathsShow (setting : Setting) (query : Labels) (rtype : RrType) (fault : Fault) (paths : List (List ℕ)) (walks : List Walk) : Type 0 where
   pub are_walks : map (walk_along setting query rtype) paths ≡ map Some walks
-  pub show : WalksShow setting walks fault
+  pub show : WalksShow (with_sets setting) walks fault
 
 -- the order of walks, and of pairs of walks by the earlier and then the later one
 abbrev pub paths_cmp : List (List ℕ) → List (List ℕ) → Ordering

@@ -24,7 +24,7 @@ mod status;
 mod tree;
 mod zone_file;
 
-pub use laws::{identical_records, one_report};
+pub use laws::one_report;
 pub use run::groot;
 pub use status::Status;
 

@@ -8,7 +8,7 @@ use Rattle.std.specs.FinMap as map
 use Rattle.std.specs.declared.cmp.Ordering.{Ordering}
 use Rattle.std.specs.declared.cmp.Ordering.TheVariants.{Less, Equal, Greater}
 use Rattle.std.proofs.lemmas.Bool.Decides.{nat_tests}
-use Rattle.io_edges.specs.Counts.{last_count, raised, Rose, NoneFell}
+use Rattle.io_edges.specs.Counts.{last_count, one_more, Rose, NoneFell}
 use Rattle.io_edges.specs.MemoryFiles.{Stored, FileMap, FilesInMemory, octets_at, held_by, failed_once_more, failures_of, with_file, after_failure}
 
 -- what relates each file to itself, and the file of one name to another, relates the files at each name to those after the other was put there
@@ -40,33 +40,33 @@ octets_at-failed files name (Some file) e other =
 pub held_by-after_failure : (m new : FilesInMemory) (name : List ℕ) → new ≡ after_failure m name → held_by new ≡ held_by m
 held_by-after_failure m new name e = ap held_by e ∙ λ i. Some (λ other. octets_at-failed m.files name (map.get m.files name) refl other i)
 
-raised-le : (count : ℕ) → count ≤ raised count
-raised-le count = grind (arith, nat_tests)
+one_more-le : (count : ℕ) → count ≤ one_more count
+one_more-le count = grind (arith, nat_tests)
 
 -- after one more, a count rose
-pub Rose-raised : (count : ℕ) → Rose count (raised count)
-Rose-raised count = elim (nat_lt count last_count) as (λ b. nat_lt count last_count ≡ b → Rose count (if b then count + 1 else count)) [ true ↦ λ e. inl (omega arith) | false ↦ λ e. inr (grind (arith, nat_tests)) ] refl
+pub Rose-one_more : (count : ℕ) → Rose count (one_more count)
+Rose-one_more count = elim (nat_lt count last_count) as (λ b. nat_lt count last_count ≡ b → Rose count (if b then count + 1 else count)) [ true ↦ λ e. inl (omega arith) | false ↦ λ e. inr (grind (arith, nat_tests)) ] refl
 
-not_below : (absent : ℕ) (files : FileMap) (name : List ℕ) (o : Option Stored) → map.get files name ≡ o → (other : List ℕ) → option_map_or (λ file. file.failures) (map.get files other) absent ≤ option_map_or (λ file. file.failures) (map.get (failed_once_more files name o) other) (if is_none o then raised absent else absent)
+not_below : (absent : ℕ) (files : FileMap) (name : List ℕ) (o : Option Stored) → map.get files name ≡ o → (other : List ℕ) → option_map_or (λ file. file.failures) (map.get files other) absent ≤ option_map_or (λ file. file.failures) (map.get (failed_once_more files name o) other) (if is_none o then one_more absent else absent)
 not_below absent files name None e other = larger (map.get files other)
   where
-    larger : (o : Option Stored) → option_map_or (λ file. file.failures) o absent ≤ option_map_or (λ file. file.failures) o (raised absent)
-    larger None = raised-le absent
+    larger : (o : Option Stored) → option_map_or (λ file. file.failures) o absent ≤ option_map_or (λ file. file.failures) o (one_more absent)
+    larger None = one_more-le absent
     larger (Some file) = omega arith
 not_below absent files name (Some file) e other =
     at_change (λ old new. option_map_or (λ file. file.failures) old absent ≤ option_map_or (λ file. file.failures) new absent) (λ o. omega arith) files name _
-    (subst (λ o. option_map_or (λ file. file.failures) o absent ≤ raised file.failures) (sym e) (raised-le file.failures)) other
+    (subst (λ o. option_map_or (λ file. file.failures) o absent ≤ one_more file.failures) (sym e) (one_more-le file.failures)) other
 
 -- a failure lets no count fall
 pub NoneFell-after_failure : (m new : FilesInMemory) (name : List ℕ) → new ≡ after_failure m name → NoneFell (failures_of m) (failures_of new)
 NoneFell-after_failure m new name e other = subst (λ after. failures_of m other ≤ failures_of after other) (sym e) (not_below m.absent m.files name (map.get m.files name) refl other)
 
-rose-here : (absent : ℕ) (files : FileMap) (name : List ℕ) (o : Option Stored) → map.get files name ≡ o → Rose (option_map_or (λ file. file.failures) o absent) (option_map_or (λ file. file.failures) (map.get (failed_once_more files name o) name) (if is_none o then raised absent else absent))
-rose-here absent files name None e = subst (λ o. Rose absent (option_map_or (λ file. file.failures) o (raised absent))) (sym e) (Rose-raised absent)
+rose-here : (absent : ℕ) (files : FileMap) (name : List ℕ) (o : Option Stored) → map.get files name ≡ o → Rose (option_map_or (λ file. file.failures) o absent) (option_map_or (λ file. file.failures) (map.get (failed_once_more files name o) name) (if is_none o then one_more absent else absent))
+rose-here absent files name None e = subst (λ o. Rose absent (option_map_or (λ file. file.failures) o (one_more absent))) (sym e) (Rose-one_more absent)
 rose-here absent files name (Some file) e =
-    let put : Stored = record { octets = file.octets; failures = raised file.failures } in
+    let put : Stored = record { octets = file.octets; failures = one_more file.failures } in
     let got = map.get-insert nat_list_cmp_total files name put name ∙ ap (λ b. cond b (Some put) (map.get files name)) ((eq_by_cmp_equiv nat_list_cmp_total).refl name) in
-    subst (λ o. Rose file.failures (option_map_or (λ file. file.failures) o absent)) (sym got) (Rose-raised file.failures)
+    subst (λ o. Rose file.failures (option_map_or (λ file. file.failures) o absent)) (sym got) (Rose-one_more file.failures)
 
 -- a failure raises the count of its name
 pub Rose-after_failure : (m new : FilesInMemory) (name : List ℕ) → new ≡ after_failure m name → Rose (failures_of m name) (failures_of new name)

@@ -1,7 +1,7 @@
 -- A sink in memory: what it took, which calls fail, and what a call of `write` does to it.
 use Rattle.std.specs.Prelude.{ℕ, ◌-◌, List, [], ◌++◌, Bool, ◌||◌, ◌&&◌, ◌==◌, nat_lt, if◌then◌else◌, Option, Some, length, take, min, refl}
 use Rattle.std.specs.Coded.{Coded, code_by, coded×, coded_ℕ, coded_list}
-use Rattle.io_edges.specs.Counts.{raised, is_listed}
+use Rattle.io_edges.specs.Counts.{one_more, is_listed}
 
 -- a sink in memory
 pub record SinkInMemory : Type 0 where
@@ -36,13 +36,13 @@ fitting s piece = min (length piece) (room_left s)
 
 -- whether the next call fails, at this piece: its number is listed, or no byte fits of a piece that has some
 abbrev pub refuses_next : SinkInMemory → List ℕ → Bool
-refuses_next s piece = is_listed s.fails (raised s.calls) || (nat_lt 0 (length piece) && fitting s piece == 0)
+refuses_next s piece = is_listed s.fails (one_more s.calls) || (nat_lt 0 (length piece) && fitting s piece == 0)
 
 -- after one call more, with this piece
 abbrev pub after_write : SinkInMemory → List ℕ → SinkInMemory
 after_write s piece =
-    let counted : SinkInMemory = record s { calls = raised s.calls } in
-    if refuses_next s piece then record counted { failures = raised s.failures }
+    let counted : SinkInMemory = record s { calls = one_more s.calls } in
+    if refuses_next s piece then record counted { failures = one_more s.failures }
     else record counted { taken = s.taken ++ take (fitting s piece) piece }
 
 -- nothing taken, and no call so far

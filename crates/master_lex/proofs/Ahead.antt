@@ -9,7 +9,7 @@ use Rattle.master_lex.specs.declared.octet.OctetKind.TheVariants.{Plain, Blank, 
 use Rattle.master_lex.specs.declared.scanner.TheConstants.{MOST}
 use Rattle.master_lex.specs.Octets.{kind}
 use Rattle.master_lex.specs.Pieces.{Piece, Skipped, LineEnd, Opening, Closing, Written, before, pieces, comment, in_quotes, escaped}
-use Rattle.master_lex.specs.Contents.{Place, fails, contents_from}
+use Rattle.master_lex.specs.Contents.{EntrySoFar, fails, contents_from}
 
 -- ---- the pieces of a text by what its first octet means
 
@@ -66,7 +66,7 @@ over : (w more : List ℕ) → MOST < length w → nat_lt 131072 (length (w ++ m
 over w more h = lt-ltb 131072 (length (w ++ more)) (omega (arith, length-append w more))
 
 -- a token that is too long, whatever comes behind
-pub too_long : (place : Place) (quoted : Bool) (w : List ℕ) (rest : List Piece) → MOST < length w → contents_from place (before quoted w rest) ≡ fails place.line TokenTooLong
+pub too_long : (place : EntrySoFar) (quoted : Bool) (w : List ℕ) (rest : List Piece) → MOST < length w → contents_from place (before quoted w rest) ≡ fails place.line TokenTooLong
 too_long place false w (Written false more ∷ rest) h = rw (over w more h) refl
 too_long place true w (Written true more ∷ rest) h = rw (over w more h) refl
 too_long place false w _ h = rw (lt-ltb 131072 (length w) h) refl

@@ -9,7 +9,7 @@ use Rattle.master_lex.specs.declared.scanner.Mode.TheVariants.{Start, Between, C
 use Rattle.master_lex.specs.declared.scanner.Escape.TheVariants.{Outside, Begun, One, Two}
 use Rattle.master_lex.specs.Pieces.{Broken}
 use Rattle.master_lex.specs.Contents.{Contents, entry_at, fails, behind, contents_from}
-use Rattle.master_lex.specs.States.{State, token_ended, passed, run, Fits, IsTidy, place_of, ahead_by, ahead, fault_by, last_fault, whole_by, made, without_fault, last_entry}
+use Rattle.master_lex.specs.States.{State, token_ended, passed, run, Fits, IsTidy, entry_so_far, ahead_by, ahead, fault_by, last_fault, whole_by, made, without_fault, last_entry}
 use Rattle.master_lex.proofs.UndoLemmas.{moves}
 use Rattle.master_lex.proofs.Steps.{ended_ahead, bad_ahead, step}
 
@@ -29,9 +29,9 @@ ended_by m s = record { whole = s.ready; last = without_fault (fault_by m s.posi
 no_more : (ready last : List Entry) (fault : _) → ◌≡◌ {A = Contents} (record { whole = ready ++ []; last = last; fault = fault }) (record { whole = ready; last = last; fault = fault })
 no_more ready last fault = ap (λ (w : List Entry). record { whole = w; last = last; fault = fault }) (append-nil ready)
 
-end_between : (s : State) → behind s.ready (contents_from (place_of s) []) ≡ ended_by Between s
+end_between : (s : State) → behind s.ready (contents_from (entry_so_far s) []) ≡ ended_by Between s
 end_between s = by (nat_eq s.position.depth 0) where
-  by : (outside : Bool) → behind s.ready (if outside then record { whole = []; last = entry_at (place_of s); fault = None } else fails s.position.opened OpenParen)
+  by : (outside : Bool) → behind s.ready (if outside then record { whole = []; last = entry_at (entry_so_far s); fault = None } else fails s.position.opened OpenParen)
       ≡ record {
         whole = s.ready;
         last = without_fault (if outside then None else Some (record { line = s.position.opened; kind = OpenParen })) (made s);
@@ -46,9 +46,9 @@ end_by Between s fits = end_between s
 end_by Comment s fits = end_between s
 end_by (InToken false Outside) s (go, room) = ap (behind s.ready) (ended_ahead s false [] (omega (arith, room))) ∙ end_between (token_ended s false)
 end_by (InToken true Outside) s (go, room) = ap (behind s.ready) (ended_ahead s true (Broken OpenQuote ∷ []) (omega (arith, room))) ∙ no_more s.ready _ _
-end_by (InToken quoted Begun) s (go, room) = ap (behind s.ready) (bad_ahead (place_of s) quoted s.raw (omega (arith, room))) ∙ no_more s.ready _ _
-end_by (InToken quoted (One first)) s (go, room) = ap (behind s.ready) (bad_ahead (place_of s) quoted s.raw (omega (arith, room))) ∙ no_more s.ready _ _
-end_by (InToken quoted (Two first second)) s (go, room) = ap (behind s.ready) (bad_ahead (place_of s) quoted s.raw (omega (arith, room))) ∙ no_more s.ready _ _
+end_by (InToken quoted Begun) s (go, room) = ap (behind s.ready) (bad_ahead (entry_so_far s) quoted s.raw (omega (arith, room))) ∙ no_more s.ready _ _
+end_by (InToken quoted (One first)) s (go, room) = ap (behind s.ready) (bad_ahead (entry_so_far s) quoted s.raw (omega (arith, room))) ∙ no_more s.ready _ _
+end_by (InToken quoted (Two first second)) s (go, room) = ap (behind s.ready) (bad_ahead (entry_so_far s) quoted s.raw (omega (arith, room))) ∙ no_more s.ready _ _
 end_by (Faulty fault) s fits = no_more s.ready _ _
 
 -- what is ahead of what is held, if the text ends here

@@ -13,8 +13,8 @@ use Rattle.master_lex.specs.declared.scanner.Escape.{Escape}
 use Rattle.master_lex.specs.declared.scanner.Escape.TheVariants.{Outside, Begun, One, Two}
 use Rattle.master_lex.specs.declared.scanner.TheConstants.{MOST}
 use Rattle.master_lex.specs.Pieces.{Written, before, pieces, comment}
-use Rattle.master_lex.specs.Contents.{Place, fails, with_token, contents_from}
-use Rattle.master_lex.specs.States.{State, CanGoOn, Fits, place_of, rest_of_token, ahead_by}
+use Rattle.master_lex.specs.Contents.{EntrySoFar, fails, with_token, contents_from}
+use Rattle.master_lex.specs.States.{State, CanGoOn, Fits, entry_so_far, rest_of_token, ahead_by}
 use Rattle.master_lex.proofs.Ahead.{before_before, too_long}
 use Rattle.master_lex.proofs.Steps.{bad_ahead}
 
@@ -26,14 +26,14 @@ closing (suc depth) = 41 ∷ closing depth
 less_one : (n : ℕ) → suc n - 1 ≡ n
 less_one n = omega arith
 
-closed : (place : Place) (depth : ℕ) → place.depth ≡ depth → (contents_from place (pieces (closing depth))).fault ≡ None
+closed : (place : EntrySoFar) (depth : ℕ) → place.depth ≡ depth → (contents_from place (pieces (closing depth))).fault ≡ None
 closed place zero e = rw e refl
 closed place (suc depth) e =
     let open' : nat_eq (suc depth) 0 ≡ false = grind (arith, nat_tests) in
     rw (e, open') (closed (record place { depth = suc depth - 1 }) depth (less_one depth))
 
 -- a comment ends with its line
-comment_ends : (place : Place) → (contents_from place (comment (10 ∷ closing place.depth))).fault ≡ None
+comment_ends : (place : EntrySoFar) → (contents_from place (comment (10 ∷ closing place.depth))).fault ≡ None
 comment_ends place = by place.depth refl where
   by : (depth : ℕ) → place.depth ≡ depth → (contents_from place (comment (10 ∷ closing depth))).fault ≡ None
   by zero e = rw e refl
@@ -44,7 +44,7 @@ abbrev ending : Bool → List ℕ → List ℕ
 ending false text = 32 ∷ text
 ending true text = 34 ∷ text
 
-token_ends : (place : Place) (quoted : Bool) (w : List ℕ) → length w ≤ MOST → (contents_from place (before quoted w (rest_of_token quoted Outside (ending quoted (closing place.depth))))).fault ≡ None
+token_ends : (place : EntrySoFar) (quoted : Bool) (w : List ℕ) → length w ≤ MOST → (contents_from place (before quoted w (rest_of_token quoted Outside (ending quoted (closing place.depth))))).fault ≡ None
 token_ends place false w h = rw (le-ltb 131072 (length w) h) (closed (with_token place false w) place.depth refl)
 token_ends place true w h =
     ap (λ (v : List ℕ). (contents_from place (Written true v ∷ pieces (closing place.depth))).fault) (append-nil w)
@@ -67,7 +67,7 @@ abbrev IsUnderWay : Escape → Type 0
 IsUnderWay Outside = ⊥
 IsUnderWay _ = Unit {0}
 
-module _ (place : Place) (quoted : Bool) (w : List ℕ) where
+module _ (place : EntrySoFar) (quoted : Bool) (w : List ℕ) where
   whole_escape : (e : Escape) (text : List ℕ) → CanGoOn e → IsUnderWay e
       → contents_from place (before quoted w (rest_of_token quoted e (missing e ++ text))) ≡ contents_from place (before quoted (w ++ escape e) (rest_of_token quoted Outside text))
   whole_escape Outside text go on = absurd on
@@ -115,12 +115,12 @@ ended (Some fault) said h k = cc
 
 -- where none is held, none is settled
 pub not_settled : (m : Mode) (s : State) (fault : LexFault) → Fits m s → held_fault m ≡ None → ((more : List ℕ) → (ahead_by m s more).fault ≡ Some fault) → ⊥
-not_settled Start s fault fits none h = ended _ fault (closed (record (place_of s) { blank_start = _ }) s.position.depth refl) (h (closing s.position.depth))
-not_settled Between s fault fits none h = ended _ fault (closed (place_of s) s.position.depth refl) (h (closing s.position.depth))
-not_settled Comment s fault fits none h = ended _ fault (comment_ends (place_of s)) (h (10 ∷ closing s.position.depth))
+not_settled Start s fault fits none h = ended _ fault (closed (record (entry_so_far s) { blank_start = _ }) s.position.depth refl) (h (closing s.position.depth))
+not_settled Between s fault fits none h = ended _ fault (closed (entry_so_far s) s.position.depth refl) (h (closing s.position.depth))
+not_settled Comment s fault fits none h = ended _ fault (comment_ends (entry_so_far s)) (h (10 ∷ closing s.position.depth))
 not_settled (InToken quoted Outside) s fault (go, room) none h =
-    ended _ fault (token_ends (place_of s) quoted s.raw (omega (arith, room))) (h (ending quoted (closing s.position.depth)))
-not_settled (InToken quoted Begun) s fault (go, room) none h = not_escape (place_of s) quoted s.raw Begun fault go tt (omega (arith, room)) h
-not_settled (InToken quoted (One first)) s fault (go, room) none h = not_escape (place_of s) quoted s.raw (One first) fault go tt (omega (arith, room)) h
-not_settled (InToken quoted (Two first second)) s fault (go, room) none h = not_escape (place_of s) quoted s.raw (Two first second) fault go tt (omega (arith, room)) h
+    ended _ fault (token_ends (entry_so_far s) quoted s.raw (omega (arith, room))) (h (ending quoted (closing s.position.depth)))
+not_settled (InToken quoted Begun) s fault (go, room) none h = not_escape (entry_so_far s) quoted s.raw Begun fault go tt (omega (arith, room)) h
+not_settled (InToken quoted (One first)) s fault (go, room) none h = not_escape (entry_so_far s) quoted s.raw (One first) fault go tt (omega (arith, room)) h
+not_settled (InToken quoted (Two first second)) s fault (go, room) none h = not_escape (entry_so_far s) quoted s.raw (Two first second) fault go tt (omega (arith, room)) h
 not_settled (Faulty f) s fault fits none h = absurd cc

@@ -16,8 +16,8 @@ use Rattle.master_lex.specs.declared.scanner.Escape.TheVariants.{Outside, Begun,
 use Rattle.master_lex.specs.Lists.{is_empty}
 use Rattle.master_lex.specs.Octets.{kind, is_space}
 use Rattle.master_lex.specs.Pieces.{is_code, Piece, Skipped, LineEnd, Written, Broken, before, bad_escape, pieces, comment, in_quotes, escaped, second_digit, third_digit}
-use Rattle.master_lex.specs.Contents.{Place, begins_blank, start, entry_at, fails, behind, contents_from}
-use Rattle.master_lex.specs.States.{State, with_mode, failed, pushed, kept, escape_begun, token_ended, entry_of, entry_ended, between_by, in_word_by, in_quotes_by, behind_backslash, behind_digit, behind_digits, in_comment_by, passed_by, passed, Fits, IsTidy, place_of, rest_of_token, ahead_by, ahead}
+use Rattle.master_lex.specs.Contents.{EntrySoFar, begins_blank, entry_start, entry_at, fails, behind, contents_from}
+use Rattle.master_lex.specs.States.{State, with_mode, failed, pushed, kept, escape_begun, token_ended, entry_of, entry_ended, between_by, in_word_by, in_quotes_by, behind_backslash, behind_digit, behind_digits, in_comment_by, passed_by, passed, Fits, IsTidy, entry_so_far, rest_of_token, ahead_by, ahead}
 use Rattle.master_lex.proofs.Ahead.{by_kind, pieces_by_kind, before_before, too_long}
 
 -- what an escape spells goes on with its token
@@ -53,52 +53,52 @@ escape_alone quoted text =
 
 module _ (s : State) (quoted : Bool) where
   -- octets that are kept
-  kept_ahead : (w text : List ℕ) → behind s.ready (contents_from (place_of s) (before quoted (s.raw ++ w) (rest_of_token quoted Outside text))) ≡ ahead (kept s w quoted) text
+  kept_ahead : (w text : List ℕ) → behind s.ready (contents_from (entry_so_far s) (before quoted (s.raw ++ w) (rest_of_token quoted Outside text))) ≡ ahead (kept s w quoted) text
   kept_ahead w text = by (nat_le (length w) (MOST - length s.raw)) refl where
     by : (short : Bool) → nat_le (length w) (MOST - length s.raw) ≡ short
-        → behind s.ready (contents_from (place_of s) (before quoted (s.raw ++ w) (rest_of_token quoted Outside text)))
+        → behind s.ready (contents_from (entry_so_far s) (before quoted (s.raw ++ w) (rest_of_token quoted Outside text)))
         ≡ ahead (if short then pushed s w quoted else failed s TokenTooLong) text
     by true h = refl
-    by false h = ap (behind s.ready) (too_long (place_of s) quoted (s.raw ++ w) (rest_of_token quoted Outside text) (let l : MOST - length s.raw < length w = grind (arith, nat_tests) in omega (arith, l, length-append s.raw w)))
+    by false h = ap (behind s.ready) (too_long (entry_so_far s) quoted (s.raw ++ w) (rest_of_token quoted Outside text) (let l : MOST - length s.raw < length w = grind (arith, nat_tests) in omega (arith, l, length-append s.raw w)))
 
   -- a backslash
-  escape_ahead : (text : List ℕ) → behind s.ready (contents_from (place_of s) (before quoted s.raw (escaped quoted text))) ≡ ahead (escape_begun s quoted) text
+  escape_ahead : (text : List ℕ) → behind s.ready (contents_from (entry_so_far s) (before quoted s.raw (escaped quoted text))) ≡ ahead (escape_begun s quoted) text
   escape_ahead text = by (nat_lt (length s.raw) MOST) refl where
-    long : MOST ≤ length s.raw → contents_from (place_of s) (before quoted s.raw (escaped quoted text)) ≡ fails s.position.line TokenTooLong
+    long : MOST ≤ length s.raw → contents_from (entry_so_far s) (before quoted s.raw (escaped quoted text)) ≡ fails s.position.line TokenTooLong
     long l =
         let e = escape_of quoted text in
-        ap (λ x. contents_from (place_of s) (before quoted s.raw x)) e.1.1
-        ∙ ap (contents_from (place_of s)) (before_before quoted s.raw (92 ∷ e.0) e.1.0)
-        ∙ too_long (place_of s) quoted (s.raw ++ 92 ∷ e.0) e.1.0 (omega (arith, l, length-append s.raw (92 ∷ e.0)))
+        ap (λ x. contents_from (entry_so_far s) (before quoted s.raw x)) e.1.1
+        ∙ ap (contents_from (entry_so_far s)) (before_before quoted s.raw (92 ∷ e.0) e.1.0)
+        ∙ too_long (entry_so_far s) quoted (s.raw ++ 92 ∷ e.0) e.1.0 (omega (arith, l, length-append s.raw (92 ∷ e.0)))
 
     by : (short : Bool) → nat_lt (length s.raw) MOST ≡ short
-        → behind s.ready (contents_from (place_of s) (before quoted s.raw (escaped quoted text)))
+        → behind s.ready (contents_from (entry_so_far s) (before quoted s.raw (escaped quoted text)))
         ≡ ahead (if short then with_mode s (InToken quoted Begun) else failed s TokenTooLong) text
     by true h = refl
     by false h = ap (behind s.ready) (long (ltb-false _ _ h))
 
   -- a token that is whole
-  pub ended_ahead : (rest : List Piece) → length s.raw ≤ MOST → contents_from (place_of s) (Written quoted s.raw ∷ rest) ≡ contents_from (place_of (token_ended s quoted)) rest
+  pub ended_ahead : (rest : List Piece) → length s.raw ≤ MOST → contents_from (entry_so_far s) (Written quoted s.raw ∷ rest) ≡ contents_from (entry_so_far (token_ended s quoted)) rest
   ended_ahead rest h = rw (le-ltb 131072 (length s.raw) h) refl
 
 -- a backslash that spells nothing
-pub bad_ahead : (place : Place) (quoted : Bool) (w : List ℕ) → length w < MOST → contents_from place (before quoted w (bad_escape quoted)) ≡ fails place.line BadEscape
+pub bad_ahead : (place : EntrySoFar) (quoted : Bool) (w : List ℕ) → length w < MOST → contents_from place (before quoted w (bad_escape quoted)) ≡ fails place.line BadEscape
 bad_ahead place false w h = rw (le-ltb 131072 (length (w ++ 92 ∷ [])) (omega (arith, h, length-append w (92 ∷ [])))) refl
 bad_ahead place true w h = rw (le-ltb 131072 (length (w ++ 92 ∷ [])) (omega (arith, h, length-append w (92 ∷ [])))) refl
 
 -- ---- outside tokens and comments
 
-between_ahead : (k : OctetKind) (s : State) (octet : ℕ) (text : List ℕ) → s.raw ≡ [] → behind s.ready (contents_from (place_of s) (by_kind k octet text)) ≡ ahead (between_by k s octet) text
-between_ahead Plain s octet text h = ap (λ (w : List ℕ). behind s.ready (contents_from (place_of s) (before false (w ++ octet ∷ []) (pieces text)))) (sym h) ∙ kept_ahead s false (octet ∷ []) text
+between_ahead : (k : OctetKind) (s : State) (octet : ℕ) (text : List ℕ) → s.raw ≡ [] → behind s.ready (contents_from (entry_so_far s) (by_kind k octet text)) ≡ ahead (between_by k s octet) text
+between_ahead Plain s octet text h = ap (λ (w : List ℕ). behind s.ready (contents_from (entry_so_far s) (before false (w ++ octet ∷ []) (pieces text)))) (sym h) ∙ kept_ahead s false (octet ∷ []) text
 between_ahead Blank s octet text h = refl
 between_ahead LineFeed s octet text h = by (nat_eq s.position.depth 0) where
-  entry : (none : Bool) → behind s.ready (behind (if none then [] else entry_of s ∷ []) (contents_from (start (s.position.line + 1) (pieces text)) (pieces text)))
-      ≡ behind (if none then s.ready else s.ready ++ entry_of s ∷ []) (contents_from (start (s.position.line + 1) (pieces text)) (pieces text))
+  entry : (none : Bool) → behind s.ready (behind (if none then [] else entry_of s ∷ []) (contents_from (entry_start (s.position.line + 1) (pieces text)) (pieces text)))
+      ≡ behind (if none then s.ready else s.ready ++ entry_of s ∷ []) (contents_from (entry_start (s.position.line + 1) (pieces text)) (pieces text))
   entry true = refl
-  entry false = ap (λ (w : List Entry). record (contents_from (start (s.position.line + 1) (pieces text)) (pieces text)) { whole = w }) (sym (append_assoc s.ready (entry_of s ∷ []) _))
+  entry false = ap (λ (w : List Entry). record (contents_from (entry_start (s.position.line + 1) (pieces text)) (pieces text)) { whole = w }) (sym (append_assoc s.ready (entry_of s ∷ []) _))
 
   by : (outside : Bool)
-      → behind s.ready (if outside then behind (entry_at (place_of s)) (contents_from (start (s.position.line + 1) (pieces text)) (pieces text)) else contents_from (record (place_of s) { line = s.position.line + 1 }) (pieces text))
+      → behind s.ready (if outside then behind (entry_at (entry_so_far s)) (contents_from (entry_start (s.position.line + 1) (pieces text)) (pieces text)) else contents_from (record (entry_so_far s) { line = s.position.line + 1 }) (pieces text))
       ≡ ahead (if outside then entry_ended s else record s { position = record s.position { line = s.position.line + 1; mode = Between } }) text
   by true = entry (is_empty s.tokens)
   by false = refl
@@ -106,14 +106,14 @@ between_ahead Semicolon s octet text h = refl
 between_ahead Open s octet text h = refl
 between_ahead Close s octet text h = by (nat_eq s.position.depth 0) where
   by : (outside : Bool)
-      → behind s.ready (if outside then fails s.position.line StrayClose else contents_from (record (place_of s) { depth = s.position.depth - 1 }) (pieces text))
+      → behind s.ready (if outside then fails s.position.line StrayClose else contents_from (record (entry_so_far s) { depth = s.position.depth - 1 }) (pieces text))
       ≡ ahead (if outside then failed s StrayClose else record s { position = record s.position { depth = s.position.depth - 1; mode = Between } }) text
   by true = refl
   by false = refl
-between_ahead Quote s octet text h = ap (λ (w : List ℕ). behind s.ready (contents_from (place_of s) (before true w (in_quotes text)))) (sym h)
+between_ahead Quote s octet text h = ap (λ (w : List ℕ). behind s.ready (contents_from (entry_so_far s) (before true w (in_quotes text)))) (sym h)
 between_ahead Backslash s octet text h =
-    ap (λ x. behind s.ready (contents_from (place_of s) x)) (sym (escape_alone false text))
-    ∙ ap (λ (w : List ℕ). behind s.ready (contents_from (place_of s) (before false w (escaped false text)))) (sym h)
+    ap (λ x. behind s.ready (contents_from (entry_so_far s) x)) (sym (escape_alone false text))
+    ∙ ap (λ (w : List ℕ). behind s.ready (contents_from (entry_so_far s) (before false w (escaped false text)))) (sym h)
     ∙ escape_ahead s false text
 
 -- ---- the start of an entry
@@ -164,7 +164,7 @@ begins octet text = ap begins_blank (pieces_by_kind octet text) ∙ begins_by (k
 -- ---- comments
 
 comment_by : (k : OctetKind) (s : State) (octet : ℕ) (text : List ℕ) → kind octet ≡ k → s.position.mode ≡ Comment → s.raw ≡ []
-    → behind s.ready (contents_from (place_of s) (comment (octet ∷ text))) ≡ ahead (in_comment_by k s) text
+    → behind s.ready (contents_from (entry_so_far s) (comment (octet ∷ text))) ≡ ahead (in_comment_by k s) text
 unfolding kind
 comment_by k s octet text e m none = by (nat_eq octet 10) refl where
   same : (k : OctetKind) → (k ≡ LineFeed → ⊥) → in_comment_by k s ≡ s
@@ -180,7 +180,7 @@ comment_by k s octet text e m none = by (nat_eq octet 10) refl where
   feed : k ≡ LineFeed → octet ≡ 10
   feed h = grind (arith, nat_tests, e, h)
 
-  by : (b : Bool) → nat_eq octet 10 ≡ b → behind s.ready (contents_from (place_of s) (if b then LineEnd ∷ pieces text else Skipped octet ∷ comment text)) ≡ ahead (in_comment_by k s) text
+  by : (b : Bool) → nat_eq octet 10 ≡ b → behind s.ready (contents_from (entry_so_far s) (if b then LineEnd ∷ pieces text else Skipped octet ∷ comment text)) ≡ ahead (in_comment_by k s) text
   by true h =
       let ten : octet ≡ 10 = eqb-true octet 10 h in
       let is : k ≡ LineFeed = sym e ∙ ap kind ten in
@@ -205,17 +205,17 @@ word_ends Quote w octet text p b = by (in_quotes text) where
   by _ = refl
 
 module _ (s : State) (octet : ℕ) (text : List ℕ) where
-  word_ahead_by : (k : OctetKind) → length s.raw ≤ MOST → behind s.ready (contents_from (place_of s) (before false s.raw (by_kind k octet text))) ≡ ahead (in_word_by k s octet) text
+  word_ahead_by : (k : OctetKind) → length s.raw ≤ MOST → behind s.ready (contents_from (entry_so_far s) (before false s.raw (by_kind k octet text))) ≡ ahead (in_word_by k s octet) text
   word_ahead_by k h = by k where
     ended : (k : OctetKind) → (k ≡ Plain → ⊥) → (k ≡ Backslash → ⊥)
-        → behind s.ready (contents_from (place_of s) (before false s.raw (by_kind k octet text))) ≡ ahead (between_by k (token_ended s false) octet) text
+        → behind s.ready (contents_from (entry_so_far s) (before false s.raw (by_kind k octet text))) ≡ ahead (between_by k (token_ended s false) octet) text
     ended k p b =
-        ap (λ x. behind s.ready (contents_from (place_of s) x)) (word_ends k s.raw octet text p b)
+        ap (λ x. behind s.ready (contents_from (entry_so_far s) x)) (word_ends k s.raw octet text p b)
         ∙ ap (behind s.ready) (ended_ahead s false (by_kind k octet text) h)
         ∙ between_ahead k (token_ended s false) octet text refl
 
-    by : (k : OctetKind) → behind s.ready (contents_from (place_of s) (before false s.raw (by_kind k octet text))) ≡ ahead (in_word_by k s octet) text
-    by Plain = ap (λ x. behind s.ready (contents_from (place_of s) x)) (before_before false s.raw (octet ∷ []) (pieces text)) ∙ kept_ahead s false (octet ∷ []) text
+    by : (k : OctetKind) → behind s.ready (contents_from (entry_so_far s) (before false s.raw (by_kind k octet text))) ≡ ahead (in_word_by k s octet) text
+    by Plain = ap (λ x. behind s.ready (contents_from (entry_so_far s) x)) (before_before false s.raw (octet ∷ []) (pieces text)) ∙ kept_ahead s false (octet ∷ []) text
     by Backslash = escape_ahead s false text
     by Blank = ended Blank (λ h. cc) (λ h. cc)
     by LineFeed = ended LineFeed (λ h. cc) (λ h. cc)
@@ -224,7 +224,7 @@ module _ (s : State) (octet : ℕ) (text : List ℕ) where
     by Close = ended Close (λ h. cc) (λ h. cc)
     by Quote = ended Quote (λ h. cc) (λ h. cc)
 
-  quotes_ahead : length s.raw ≤ MOST → behind s.ready (contents_from (place_of s) (before true s.raw (in_quotes (octet ∷ text)))) ≡ ahead (in_quotes_by (kind octet) s octet) text
+  quotes_ahead : length s.raw ≤ MOST → behind s.ready (contents_from (entry_so_far s) (before true s.raw (in_quotes (octet ∷ text)))) ≡ ahead (in_quotes_by (kind octet) s octet) text
   unfolding kind
   quotes_ahead h = by (nat_eq octet 34) (nat_eq octet 10) (nat_eq octet 92) refl refl refl where
     plain : (k : OctetKind) → (k ≡ Quote → ⊥) → (k ≡ LineFeed → ⊥) → (k ≡ Backslash → ⊥) → in_quotes_by k s octet ≡ kept s (octet ∷ []) true
@@ -238,13 +238,13 @@ module _ (s : State) (octet : ℕ) (text : List ℕ) where
     plain Close q f b = refl
 
     Goal : ℕ → List Piece → Type 0
-    Goal c x = behind s.ready (contents_from (place_of s) (before true s.raw x)) ≡ ahead (in_quotes_by (kind c) s c) text
+    Goal c x = behind s.ready (contents_from (entry_so_far s) (before true s.raw x)) ≡ ahead (in_quotes_by (kind c) s c) text
 
     by : (quote feed backslash : Bool) → nat_eq octet 34 ≡ quote → nat_eq octet 10 ≡ feed → nat_eq octet 92 ≡ backslash
         → Goal octet (if quote then Written true [] ∷ pieces text else (if feed then Broken OpenQuote ∷ [] else (if backslash then escaped true text else before true (octet ∷ []) (in_quotes text))))
     by true f b e g i =
         let is : octet ≡ 34 = eqb-true octet 34 e in
-        ap (λ (w : List ℕ). behind s.ready (contents_from (place_of s) (Written true w ∷ pieces text))) (append-nil s.raw)
+        ap (λ (w : List ℕ). behind s.ready (contents_from (entry_so_far s) (Written true w ∷ pieces text))) (append-nil s.raw)
         ∙ ap (behind s.ready) (ended_ahead s true (pieces text) h) ∙ sym (ap (λ c. ahead (in_quotes_by (kind c) s c) text) is)
     by false true b e g i =
         let is : octet ≡ 10 = eqb-true octet 10 g in
@@ -253,7 +253,7 @@ module _ (s : State) (octet : ℕ) (text : List ℕ) where
         let is : octet ≡ 92 = eqb-true octet 92 i in
         escape_ahead s true text ∙ sym (ap (λ c. ahead (in_quotes_by (kind c) s c) text) is)
     by false false false e g i =
-        ap (λ x. behind s.ready (contents_from (place_of s) x)) (before_before true s.raw (octet ∷ []) (in_quotes text)) ∙ kept_ahead s true (octet ∷ []) text
+        ap (λ x. behind s.ready (contents_from (entry_so_far s) x)) (before_before true s.raw (octet ∷ []) (in_quotes text)) ∙ kept_ahead s true (octet ∷ []) text
         ∙ sym (ap (λ (x : State). ahead x text) (plain (kind octet) (λ is. grind (arith, nat_tests, is, e, g, i)) (λ is. grind (arith, nat_tests, is, e, g, i)) (λ is. grind (arith, nat_tests, is, e, g, i))))
 
 -- ---- escapes
@@ -278,33 +278,33 @@ second_bad quoted a (b ∷ c ∷ text) h = by (is_code a b c) refl where
   by true e = absurd (grind (arith, nat_tests))
 
 module _ (s : State) (quoted : Bool) (octet : ℕ) (text : List ℕ) (room : length s.raw + 1 ≤ MOST) where
-  bad : behind s.ready (contents_from (place_of s) (before quoted s.raw (bad_escape quoted))) ≡ ahead (failed s BadEscape) text
-  bad = ap (behind s.ready) (bad_ahead (place_of s) quoted s.raw (omega (arith, room)))
+  bad : behind s.ready (contents_from (entry_so_far s) (before quoted s.raw (bad_escape quoted))) ≡ ahead (failed s BadEscape) text
+  bad = ap (behind s.ready) (bad_ahead (entry_so_far s) quoted s.raw (omega (arith, room)))
 
-  more : (w : List ℕ) → behind s.ready (contents_from (place_of s) (before quoted s.raw (before quoted w (rest_of_token quoted Outside text)))) ≡ ahead (kept s w quoted) text
-  more w = ap (λ x. behind s.ready (contents_from (place_of s) x)) (before_before quoted s.raw w (rest_of_token quoted Outside text)) ∙ kept_ahead s quoted w text
+  more : (w : List ℕ) → behind s.ready (contents_from (entry_so_far s) (before quoted s.raw (before quoted w (rest_of_token quoted Outside text)))) ≡ ahead (kept s w quoted) text
+  more w = ap (λ x. behind s.ready (contents_from (entry_so_far s) x)) (before_before quoted s.raw w (rest_of_token quoted Outside text)) ∙ kept_ahead s quoted w text
 
-  backslash_ahead : behind s.ready (contents_from (place_of s) (before quoted s.raw (escaped quoted (octet ∷ text)))) ≡ ahead (behind_backslash s octet quoted) text
+  backslash_ahead : behind s.ready (contents_from (entry_so_far s) (before quoted s.raw (escaped quoted (octet ∷ text)))) ≡ ahead (behind_backslash s octet quoted) text
   backslash_ahead = by (is_digit octet) (nat_eq octet 10) (is_code octet 48 48) refl where
     by : (digit feed code : Bool) → is_code octet 48 48 ≡ code
-        → behind s.ready (contents_from (place_of s) (before quoted s.raw (if digit then second_digit quoted octet text else (if feed then bad_escape quoted
+        → behind s.ready (contents_from (entry_so_far s) (before quoted s.raw (if digit then second_digit quoted octet text else (if feed then bad_escape quoted
         else before quoted (92 ∷ octet ∷ []) (rest_of_token quoted Outside text)))))
         ≡ ahead (if digit then (if code then with_mode s (InToken quoted (One octet)) else failed s BadEscape) else (if feed then failed s BadEscape else kept s (92 ∷ octet ∷ []) quoted)) text
     by true feed true e = refl
-    by true feed false e = ap (λ x. behind s.ready (contents_from (place_of s) (before quoted s.raw x))) (second_bad quoted octet text e) ∙ bad
+    by true feed false e = ap (λ x. behind s.ready (contents_from (entry_so_far s) (before quoted s.raw x))) (second_bad quoted octet text e) ∙ bad
     by false true code e = bad
     by false false code e = more (92 ∷ octet ∷ [])
 
-  digit_ahead : (first : ℕ) → behind s.ready (contents_from (place_of s) (before quoted s.raw (second_digit quoted first (octet ∷ text)))) ≡ ahead (behind_digit first s octet quoted) text
+  digit_ahead : (first : ℕ) → behind s.ready (contents_from (entry_so_far s) (before quoted s.raw (second_digit quoted first (octet ∷ text)))) ≡ ahead (behind_digit first s octet quoted) text
   digit_ahead first = by (is_code first octet 48) refl where
-    by : (code : Bool) → is_code first octet 48 ≡ code → behind s.ready (contents_from (place_of s) (before quoted s.raw (third_digit quoted first octet text)))
+    by : (code : Bool) → is_code first octet 48 ≡ code → behind s.ready (contents_from (entry_so_far s) (before quoted s.raw (third_digit quoted first octet text)))
         ≡ ahead (if code then with_mode s (InToken quoted (Two first octet)) else failed s BadEscape) text
     by true e = refl
-    by false e = ap (λ x. behind s.ready (contents_from (place_of s) (before quoted s.raw x))) (third_bad quoted first octet text e) ∙ bad
+    by false e = ap (λ x. behind s.ready (contents_from (entry_so_far s) (before quoted s.raw x))) (third_bad quoted first octet text e) ∙ bad
 
-  digits_ahead : (first second : ℕ) → behind s.ready (contents_from (place_of s) (before quoted s.raw (third_digit quoted first second (octet ∷ text)))) ≡ ahead (behind_digits first second s octet quoted) text
+  digits_ahead : (first second : ℕ) → behind s.ready (contents_from (entry_so_far s) (before quoted s.raw (third_digit quoted first second (octet ∷ text)))) ≡ ahead (behind_digits first second s octet quoted) text
   digits_ahead first second = by (is_code first second octet) where
-    by : (code : Bool) → behind s.ready (contents_from (place_of s) (before quoted s.raw (if code then before quoted (92 ∷ first ∷ second ∷ octet ∷ []) (rest_of_token quoted Outside text) else bad_escape quoted)))
+    by : (code : Bool) → behind s.ready (contents_from (entry_so_far s) (before quoted s.raw (if code then before quoted (92 ∷ first ∷ second ∷ octet ∷ []) (rest_of_token quoted Outside text) else bad_escape quoted)))
         ≡ ahead (if code then kept s (92 ∷ first ∷ second ∷ octet ∷ []) quoted else failed s BadEscape) text
     by true = more (92 ∷ first ∷ second ∷ octet ∷ [])
     by false = bad
@@ -313,14 +313,14 @@ module _ (s : State) (quoted : Bool) (octet : ℕ) (text : List ℕ) (room : len
 
 step_by : (m : Mode) (s : State) (octet : ℕ) (text : List ℕ) → s.position.mode ≡ m → Fits m s → behind s.ready (ahead_by m s (octet ∷ text)) ≡ ahead (passed_by m s octet) text
 step_by Start s octet text e (none, blank) =
-    ap (λ (b : Bool). behind s.ready (contents_from (record (place_of s) { blank_start = b }) (pieces (octet ∷ text)))) (begins octet text)
-    ∙ ap (λ x. behind s.ready (contents_from (record (place_of s) { blank_start = is_space octet }) x)) (pieces_by_kind octet text)
+    ap (λ (b : Bool). behind s.ready (contents_from (record (entry_so_far s) { blank_start = b }) (pieces (octet ∷ text)))) (begins octet text)
+    ∙ ap (λ x. behind s.ready (contents_from (record (entry_so_far s) { blank_start = is_space octet }) x)) (pieces_by_kind octet text)
     ∙ between_ahead (kind octet) (record s { position = record s.position { blank_start = is_space octet } }) octet text none
 step_by Between s octet text e none =
-    ap (λ x. behind s.ready (contents_from (place_of s) x)) (pieces_by_kind octet text) ∙ between_ahead (kind octet) s octet text none
+    ap (λ x. behind s.ready (contents_from (entry_so_far s) x)) (pieces_by_kind octet text) ∙ between_ahead (kind octet) s octet text none
 step_by Comment s octet text e none = comment_by (kind octet) s octet text refl e none
 step_by (InToken false Outside) s octet text e (go, room) =
-    ap (λ x. behind s.ready (contents_from (place_of s) (before false s.raw x))) (pieces_by_kind octet text) ∙ word_ahead_by s octet text (kind octet) (omega (arith, room))
+    ap (λ x. behind s.ready (contents_from (entry_so_far s) (before false s.raw x))) (pieces_by_kind octet text) ∙ word_ahead_by s octet text (kind octet) (omega (arith, room))
 step_by (InToken true Outside) s octet text e (go, room) = quotes_ahead s octet text (omega (arith, room))
 step_by (InToken quoted Begun) s octet text e (go, room) = backslash_ahead s quoted octet text room
 step_by (InToken quoted (One first)) s octet text e (go, room) = digit_ahead s quoted octet text room first

@@ -6,7 +6,7 @@ use Rattle.master_lex.specs.declared.fault.LexFault.{LexFault}
 use Rattle.master_lex.specs.declared.fault.LexKind.{LexKind}
 use Rattle.master_lex.specs.declared.fault.LexKind.TheVariants.{OpenParen, OpenQuote, StrayClose, BadEscape, TokenTooLong}
 use Rattle.master_lex.specs.Pieces.{Written, before, pieces}
-use Rattle.master_lex.specs.Contents.{Place, with_token, fails, contents_from, text_entries, text_fault}
+use Rattle.master_lex.specs.Contents.{EntrySoFar, with_token, fails, contents_from, text_entries, text_fault}
 use Rattle.std.proofs.lemmas.List.{length-append}
 
 abbrev word : List ℕ → Token
@@ -147,15 +147,15 @@ a_stray_close_before_an_open_quote = (refl, refl)
 -- ---- the length of a token
 
 -- a token of 131,072 octets, which is as long as one may be, and one of an octet more
-longest : (place : Place) (quoted : Bool) (octets : List ℕ) → length octets ≡ 131072 → contents_from place (Written quoted octets ∷ []) ≡ contents_from (with_token place quoted octets) []
+longest : (place : EntrySoFar) (quoted : Bool) (octets : List ℕ) → length octets ≡ 131072 → contents_from place (Written quoted octets ∷ []) ≡ contents_from (with_token place quoted octets) []
 longest place quoted octets long = rw long refl
 
-too_long : (place : Place) (quoted : Bool) (octets : List ℕ) → length octets ≡ 131073 → contents_from place (Written quoted octets ∷ []) ≡ fails place.line TokenTooLong
+too_long : (place : EntrySoFar) (quoted : Bool) (octets : List ℕ) → length octets ≡ 131073 → contents_from place (Written quoted octets ∷ []) ≡ fails place.line TokenTooLong
 too_long place quoted octets long = rw long refl
 
 -- a backslash that spells nothing counts as an octet: as the last that a token may have it is a bad escape, and one later the token is too long
-last_backslash : (place : Place) (octets : List ℕ) → length octets ≡ 131071 → contents_from place (before false octets (pieces (codes "\\"))) ≡ fails place.line BadEscape
+last_backslash : (place : EntrySoFar) (octets : List ℕ) → length octets ≡ 131071 → contents_from place (before false octets (pieces (codes "\\"))) ≡ fails place.line BadEscape
 last_backslash place octets long = rw (length-append octets (92 ∷ []), long) refl
 
-later_backslash : (place : Place) (octets : List ℕ) → length octets ≡ 131072 → contents_from place (before false octets (pieces (codes "\\"))) ≡ fails place.line TokenTooLong
+later_backslash : (place : EntrySoFar) (octets : List ℕ) → length octets ≡ 131072 → contents_from place (before false octets (pieces (codes "\\"))) ≡ fails place.line TokenTooLong
 later_backslash place octets long = rw (length-append octets (92 ∷ []), long) refl

@@ -10,7 +10,7 @@ use Rattle.master_lex.specs.Pieces.{Piece, Skipped, LineEnd, Opening, Closing, W
 
 -- Where an entry has come to: the line, whether the entry's line began with a space or a tab, how many parentheses
 -- are open, the lines of the outermost of them and of the first token, and the tokens.
-pub record Place : Type 0 where
+pub record EntrySoFar : Type 0 where
   pub line : ℕ
   pub blank_start : Bool
   pub depth : ℕ
@@ -30,22 +30,22 @@ begins_blank (Skipped octet ∷ rest) = octet == 32 || octet == 9
 begins_blank _ = false
 
 -- no entry yet, in this line, whose pieces these are
-abbrev pub start : ℕ → List Piece → Place
-start line rest = record { line = line; blank_start = begins_blank rest; depth = 0; opened = 0; first = 0; tokens = [] }
+abbrev pub entry_start : ℕ → List Piece → EntrySoFar
+entry_start line rest = record { line = line; blank_start = begins_blank rest; depth = 0; opened = 0; first = 0; tokens = [] }
 
 -- a token more
-abbrev pub with_token : Place → Bool → List ℕ → Place
+abbrev pub with_token : EntrySoFar → Bool → List ℕ → EntrySoFar
 with_token place quoted octets = record place {
   first = (if is_empty place.tokens then place.line else place.first);
   tokens = place.tokens ++ record { raw = octets; quoted = quoted } ∷ [];
 }
 
 -- a parenthesis more
-abbrev pub with_parenthesis : Place → Place
+abbrev pub with_parenthesis : EntrySoFar → EntrySoFar
 with_parenthesis place = record place { depth = place.depth + 1; opened = (if place.depth == 0 then place.line else place.opened) }
 
 -- the entry, which is none without a token
-abbrev pub entry_at : Place → List Entry
+abbrev pub entry_at : EntrySoFar → List Entry
 entry_at place = if is_empty place.tokens then [] else record { line = place.first; blank_start = place.blank_start; tokens = place.tokens } ∷ []
 
 -- a fault, reported at this line
@@ -58,13 +58,13 @@ behind entries rest = record rest { whole = entries ++ rest.whole }
 
 -- what pieces hold from this place on: a line feed ends the entry outside parentheses, and a token has at most
 -- 131,072 octets
-abbrev pub contents_from : Place → List Piece → Contents
+abbrev pub contents_from : EntrySoFar → List Piece → Contents
 contents_from place [] =
     if place.depth == 0 then record { whole = []; last = entry_at place; fault = None }
     else fails place.opened OpenParen
 contents_from place (Skipped octet ∷ rest) = contents_from place rest
 contents_from place (LineEnd ∷ rest) =
-    if place.depth == 0 then behind (entry_at place) (contents_from (start (place.line + 1) rest) rest)
+    if place.depth == 0 then behind (entry_at place) (contents_from (entry_start (place.line + 1) rest) rest)
     else contents_from (record place { line = place.line + 1 }) rest
 contents_from place (Opening ∷ rest) = contents_from (with_parenthesis place) rest
 contents_from place (Closing ∷ rest) =
@@ -77,7 +77,7 @@ contents_from place (Broken kind ∷ rest) = fails place.line kind
 
 -- what a text holds
 abbrev pub contents : List ℕ → Contents
-contents text = contents_from (start 1 (pieces text)) (pieces text)
+contents text = contents_from (entry_start 1 (pieces text)) (pieces text)
 
 -- the entries of a text, up to its first fault
 abbrev pub text_entries : List ℕ → List Entry

@@ -4,9 +4,9 @@ use Rattle.master_lex.specs.declared.fault.LexKind.{LexKind}
 use Rattle.master_lex.specs.declared.fault.LexKind.TheVariants.{OpenParen, OpenQuote, StrayClose, BadEscape, TokenTooLong}
 
 -- the number of a kind
-abbrev pub kind_number : LexKind → ℕ
-kind_number OpenParen = 1
-kind_number OpenQuote = 2
-kind_number StrayClose = 3
-kind_number BadEscape = 4
-kind_number TokenTooLong = 5
+abbrev pub lex_kind_number : LexKind → ℕ
+lex_kind_number OpenParen = 1
+lex_kind_number OpenQuote = 2
+lex_kind_number StrayClose = 3
+lex_kind_number BadEscape = 4
+lex_kind_number TokenTooLong = 5

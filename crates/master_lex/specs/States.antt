@@ -19,7 +19,7 @@ use Rattle.master_lex.specs.declared.scanner.TheConstants.{MOST}
 use Rattle.master_lex.specs.Lists.{is_empty}
 use Rattle.master_lex.specs.Octets.{kind, is_space}
 use Rattle.master_lex.specs.Pieces.{is_code, Piece, pieces, comment, in_quotes, escaped, second_digit, third_digit, before}
-use Rattle.master_lex.specs.Contents.{Place, Contents, begins_blank, behind, contents_from}
+use Rattle.master_lex.specs.Contents.{EntrySoFar, Contents, begins_blank, behind, contents_from}
 
 -- the whole entries that weren't taken, and the entry under way: its whole tokens, the octets of the
 -- token under way, and how far it has come
@@ -201,8 +201,8 @@ abbrev pub IsTidy : State → Type 0
 IsTidy s = Fits s.position.mode s
 
 -- the place where the entry under way has come to
-abbrev pub place_of : State → Place
-place_of s = record {
+abbrev pub entry_so_far : State → EntrySoFar
+entry_so_far s = record {
   line = s.position.line;
   blank_start = s.position.blank_start;
   depth = s.position.depth;
@@ -220,10 +220,10 @@ rest_of_token quoted (Two first second) text = third_digit quoted first second t
 
 -- what a text holds that goes on from here
 abbrev pub ahead_by : Mode → State → List ℕ → Contents
-ahead_by Start s text = contents_from (record (place_of s) { blank_start = begins_blank (pieces text) }) (pieces text)
-ahead_by Between s text = contents_from (place_of s) (pieces text)
-ahead_by Comment s text = contents_from (place_of s) (comment text)
-ahead_by (InToken quoted escape) s text = contents_from (place_of s) (before quoted s.raw (rest_of_token quoted escape text))
+ahead_by Start s text = contents_from (record (entry_so_far s) { blank_start = begins_blank (pieces text) }) (pieces text)
+ahead_by Between s text = contents_from (entry_so_far s) (pieces text)
+ahead_by Comment s text = contents_from (entry_so_far s) (comment text)
+ahead_by (InToken quoted escape) s text = contents_from (entry_so_far s) (before quoted s.raw (rest_of_token quoted escape text))
 ahead_by (Faulty fault) s text = record { whole = []; last = []; fault = Some fault }
 
 -- the whole entries that weren't taken, and behind them what a text holds that goes on from here

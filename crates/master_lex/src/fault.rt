@@ -1,7 +1,7 @@
 //! What may be wrong in the text of a master file.
 
 ghost use Rattle.std.specs.Prelude.{◌≡◌};
-ghost use Rattle.master_lex.specs.Kinds.{kind_number};
+ghost use Rattle.master_lex.specs.Kinds.{lex_kind_number};
 ghost use Rattle.master_lex.specs.declared.fault.TakeFault.TheVariants.{Lex, NoMemory as OutOfMemory};
 
 use dns_data::NoMemory;
@@ -31,7 +31,7 @@ pub enum LexKind {
 impl LexKind {
     /// The number of the kind, from 1 to 5.
     pub fn number(&self) -> u8
-        ensures { result ≡ kind_number self.now }
+        ensures { result ≡ lex_kind_number self.now }
     {
         match self {
             LexKind::OpenParen => 1,

@@ -10,14 +10,8 @@ use Rattle.std.specs.BTreeMap.{is_at}
 use Rattle.std.specs.BTreeSet as tree
 use Rattle.dns_data.specs.Label.{label_cmp}
 use Rattle.dns_data.specs.Name.{Labels, name_eq, name_cmp}
-use Rattle.meta_read.specs.Names.{once_behind}
-
--- one more alternative, in the words of a set that was added to
-or-from_cond : (here before : Bool) → cond here true before ≡ (before || here)
-or-from_cond true true = refl
-or-from_cond true false = refl
-or-from_cond false true = refl
-or-from_cond false false = refl
+use Rattle.dns_data.specs.Distinct.{distinct_behind}
+use Rattle.dns_data.proofs.SeenItems.{or-from_cond}
 
 module _ {A : Type 0} (name_of : A → Labels) (items : List A) where
   -- the set has the names of the first items, and no others
@@ -47,29 +41,19 @@ module _ (names : List Labels) (i : ℕ) where
   before name below is = take_more names i name below ∙ (λ j. take i names ++ sym is j ∷ [])
 
   -- a name that came before
-  pub once-old : (name : Labels) → i < length names → name ≡ get_or names i name → list_any (name_eq name) (take i names) ≡ true → once_behind (take i names) (drop i names) ≡ once_behind (take (i + 1) names) (drop (i + 1) names)
+  pub once-old : (name : Labels) → i < length names → name ≡ get_or names i name → list_any (name_eq name) (take i names) ≡ true → distinct_behind name_eq (take i names) (drop i names) ≡ distinct_behind name_eq (take (i + 1) names) (drop (i + 1) names)
   once-old name below is old =
-      ap (once_behind (take i names)) (here name below is)
-      ∙ (ap (λ b. cond b (once_behind (take i names ++ name ∷ []) (drop (i + 1) names)) (name ∷ once_behind (take i names ++ name ∷ []) (drop (i + 1) names))) old
-      ∙ ap (λ front. once_behind front (drop (i + 1) names)) (sym (before name below is)))
+      ap (distinct_behind name_eq (take i names)) (here name below is)
+      ∙ (ap (λ b. cond b (distinct_behind name_eq (take i names ++ name ∷ []) (drop (i + 1) names)) (name ∷ distinct_behind name_eq (take i names ++ name ∷ []) (drop (i + 1) names))) old
+      ∙ ap (λ front. distinct_behind name_eq front (drop (i + 1) names)) (sym (before name below is)))
 
   -- a name that didn't
-  pub once-new : (name : Labels) → i < length names → name ≡ get_or names i name → list_any (name_eq name) (take i names) ≡ false → once_behind (take i names) (drop i names) ≡ name ∷ once_behind (take (i + 1) names) (drop (i + 1) names)
+  pub once-new : (name : Labels) → i < length names → name ≡ get_or names i name → list_any (name_eq name) (take i names) ≡ false → distinct_behind name_eq (take i names) (drop i names) ≡ name ∷ distinct_behind name_eq (take (i + 1) names) (drop (i + 1) names)
   once-new name below is new =
-      ap (once_behind (take i names)) (here name below is)
-      ∙ (ap (λ b. cond b (once_behind (take i names ++ name ∷ []) (drop (i + 1) names)) (name ∷ once_behind (take i names ++ name ∷ []) (drop (i + 1) names))) new
-      ∙ ap (λ front. name ∷ once_behind front (drop (i + 1) names)) (sym (before name below is)))
+      ap (distinct_behind name_eq (take i names)) (here name below is)
+      ∙ (ap (λ b. cond b (distinct_behind name_eq (take i names ++ name ∷ []) (drop (i + 1) names)) (name ∷ distinct_behind name_eq (take i names ++ name ∷ []) (drop (i + 1) names))) new
+      ∙ ap (λ front. name ∷ distinct_behind name_eq front (drop (i + 1) names)) (sym (before name below is)))
 
   -- no name is left
-  pub once-end : (single : List Labels) → length names ≤ i → single ++ once_behind (take i names) (drop i names) ≡ single
-  once-end single past = ap (λ rest. single ++ once_behind (take i names) rest) (drop_of_length-le names past) ∙ append-nil single
-
--- what a set says that a name was new
-pub not-true : (b : Bool) → not b ≡ true → b ≡ false
-not-true true e = sym e
-not-true false e = refl
-
--- what a set says that a name was there
-pub not-false : (b : Bool) → not b ≡ false → b ≡ true
-not-false true e = refl
-not-false false e = sym e
+  pub once-end : (single : List Labels) → length names ≤ i → single ++ distinct_behind name_eq (take i names) (drop i names) ≡ single
+  once-end single past = ap (λ rest. single ++ distinct_behind name_eq (take i names) rest) (drop_of_length-le names past) ∙ append-nil single

@@ -1,8 +1,7 @@
 -- Names in metadata, and what is said of each item of a list.
-use Rattle.std.specs.Prelude.{ℕ, ◌+◌, List, [], ◌∷◌, ◌++◌, if◌then◌else◌, Result, Ok}
-use Rattle.std.specs.List.{list_any}
+use Rattle.std.specs.Prelude.{ℕ, ◌+◌, List, [], ◌∷◌, Result, Ok}
 use Rattle.dns_data.specs.Answers.{◌>>=◌, with_fault}
-use Rattle.dns_data.specs.Name.{Labels, name_eq}
+use Rattle.dns_data.specs.Name.{Labels}
 use Rattle.dns_data.specs.Spelling.{name_of_text}
 use Rattle.meta_read.specs.declared.fault.MetaFault.{MetaFault}
 use Rattle.meta_read.specs.declared.fault.MetaFault.TheVariants.{BadName}
@@ -18,14 +17,3 @@ each step number (item ∷ items) = do
 -- the name that a text of a row stands for: the root is the origin (RFC 1035 section 5.1)
 abbrev pub name_in : ℕ → List ℕ → Result Labels MetaFault
 name_in row text = with_fault (λ fault. BadName row) (name_of_text text [])
-
--- of equal names the first, behind those that came before
-abbrev pub once_behind : List Labels → List Labels → List Labels
-once_behind before [] = []
-once_behind before (name ∷ names) =
-    if list_any (name_eq name) before then once_behind (before ++ name ∷ []) names
-    else name ∷ once_behind (before ++ name ∷ []) names
-
--- of equal names the first
-abbrev pub once : List Labels → List Labels
-once names = once_behind [] names

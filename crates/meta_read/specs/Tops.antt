@@ -5,9 +5,10 @@ use Rattle.std.specs.List.{list_all}
 use Rattle.serde_json.specs.Data.{Data}
 use Rattle.serde_json.specs.Find.{as_str}
 use Rattle.dns_data.specs.Answers.{◌>>=◌}
-use Rattle.dns_data.specs.Name.{Labels}
+use Rattle.dns_data.specs.Distinct.{distinct}
+use Rattle.dns_data.specs.Name.{Labels, name_eq}
 use Rattle.meta_read.specs.Members.{list_at}
-use Rattle.meta_read.specs.Names.{each, name_in, once}
+use Rattle.meta_read.specs.Names.{each, name_in}
 use Rattle.meta_read.specs.declared.fault.MetaFault.{MetaFault}
 use Rattle.meta_read.specs.declared.fault.MetaFault.TheVariants.{Shape, NoTops}
 
@@ -29,4 +30,4 @@ abbrev pub tops_of : Data → Result (List Labels) MetaFault
 tops_of value = do
   values ← ok_or (list_at (codes "TopNameServers") value) (Shape 0)
   names ← tops_in values
-  Ok (once names)
+  Ok (distinct name_eq names)

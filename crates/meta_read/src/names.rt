@@ -4,8 +4,9 @@ ghost use Rattle.std.specs.Prelude.{IfOk, OnOk, OnErr, ◌≡◌, List, ℕ};
 ghost use Rattle.std.specs.List.{list_any};
 ghost use Rattle.std.specs.BTreeSet as tree;
 ghost use Rattle.dns_data.specs.Answers.{AnswersOr};
+ghost use Rattle.dns_data.specs.Distinct.{distinct};
 ghost use Rattle.dns_data.specs.Name.{name_eq, name_cmp};
-ghost use Rattle.meta_read.specs.Names.{name_in, once};
+ghost use Rattle.meta_read.specs.Names.{name_in};
 
 use crate::fault::MetaFault;
 use dns_data::{List, Name, NameFault, NoMemory};
@@ -25,7 +26,7 @@ pub(crate) fn name_in(alloc: Global, row: u32, text: &str) -> Result<Name, MetaF
 
 /// Of equal names the first.
 pub(crate) fn once(alloc: Global, names: &[Name]) -> Result<List<Name>, NoMemory>
-    ensures { IfOk result (λ single. single ≡ once names.now) }
+    ensures { IfOk result (λ single. single ≡ distinct name_eq names.now) }
 {
     let mut seen = BTreeSet::new(alloc);
     let mut single = List::new(alloc);

@@ -6,6 +6,7 @@ use Rattle.std.specs.Ordering.{ordering_then}
 use Rattle.std.proofs.lemmas.Bool.{and_parts, and_from, not-true, le-ltb, ne_eqb, cases_lt}
 use Rattle.dns_data.specs.Label.{IsLabel, is_label_octet}
 use Rattle.dns_data.specs.Name.{Labels, name_eq}
+use Rattle.dns_data.proofs.Names.{is_label, is_label_tells, is_label_told}
 use Rattle.dns_data.proofs.LeastItems.{IsLeastItem, least_or_none}
 use Rattle.dns_data.proofs.Membership.{has_first, has_later, map_has, flat_map_has}
 use Rattle.net_model.specs.Class.{octet_rank, trial_cmp, IsFirstUnnamed}
@@ -40,22 +41,6 @@ first_not_longer a b e =
           cc)
       | inr fits ↦ fits
     ]
-
--- the test of a label
-abbrev is_label : List ℕ → Bool
-is_label label = nat_lt 0 (length label) && nat_le (length label) 63 && list_all is_label_octet label
-
--- what passes is a label
-is_label_tells : (label : List ℕ) → is_label label ≡ true → IsLabel label
-is_label_tells label e =
-    let parts = and_parts _ _ e in
-    let sizes = and_parts _ _ parts.0 in
-    record { not_empty = ltb-true 0 (length label) sizes.0; short = leb-true (length label) 63 sizes.1; octets = parts.1 }
-
--- and a label passes
-is_label_told : (label : List ℕ) → IsLabel label → is_label label ≡ true
-is_label_told label is =
-    and_from _ _ (and_from _ _ (lt-ltb 0 (length label) is.not_empty) (le-leb (length label) 63 is.short)) is.octets
 
 -- ---- lists of octets
 

@@ -4,10 +4,12 @@ mod Showing
 mod Words
 mod Worked
 pub mod Counting
+pub mod Descent
 pub mod FaultOrder
 pub mod FirstLabel
 pub mod Followed
 pub mod FreeLabel
+pub mod GivenSets
 pub mod Leads
 pub mod LearntSets
 pub mod Naming

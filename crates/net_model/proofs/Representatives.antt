@@ -8,7 +8,8 @@ use Rattle.std.specs.declared.cmp.Ordering.TheVariants.{Less, Equal, Greater}
 use Rattle.std.proofs.lemmas.Bool.{and_parts, leb-true, lt-ltb, and_right}
 use Rattle.std.proofs.lemmas.Bool.Decides.{leb_tells}
 use Rattle.dns_data.specs.Label.{IsLabel, is_label_octet}
-use Rattle.dns_data.specs.Name.{Labels, wire_octets}
+use Rattle.dns_data.specs.Name.{Labels}
+use Rattle.dns_data.proofs.Names.{is_name, is_name_tells}
 use Rattle.std.specs.List.{list_all}
 use Rattle.dns_data.specs.Octet.{is_lower, is_upper, is_digit}
 use Rattle.net_model.specs.declared.class.Class.TheVariants.{Below}
@@ -115,11 +116,11 @@ letter_named depth (suc n) ground above y h low high =
 pub below_represented : (depth : ℕ) (ground : Ground) (names : List Labels) (above : Labels) (letter n : ℕ)
     → letter ≡ 97 + n → octet_rank letter ≡ n → nat_le n 25 ≡ true
     → (unnamed_all ground names && listed names (above ++ (letter ∷ []) ∷ []) && letters_named depth n ground above
-    && nat_le (wire_octets (above ++ (letter ∷ []) ∷ [])) 255) ≡ true
+    && is_name (above ++ (letter ∷ []) ∷ [])) ≡ true
     → IsRepresentative ground (Below above) (above ++ (letter ∷ []) ∷ [])
 below_represented depth ground names above letter n is rank small h =
     let three : (unnamed_all ground names && listed names (above ++ (letter ∷ []) ∷ []) && letters_named depth n ground above) ≡ true =
-    (and_parts _ (nat_le (wire_octets (above ++ (letter ∷ []) ∷ [])) 255) h).0 in
+    (and_parts _ (is_name (above ++ (letter ∷ []) ∷ [])) h).0 in
     let two : (unnamed_all ground names && listed names (above ++ (letter ∷ []) ∷ [])) ≡ true =
     (and_parts _ (letters_named depth n ground above) three).0 in
     let bound : n ≤ 25 = leb-true n 25 small in
@@ -138,5 +139,5 @@ below_represented depth ground names above letter n is rank small h =
             (letter_named depth n ground above y (and_parts (unnamed_all ground names && listed names (above ++ (letter ∷ []) ∷ [])) _ three).1 low high);
       };
       extends = refl;
-      short = leb-true _ 255 (and_parts (unnamed_all ground names && listed names (above ++ (letter ∷ []) ∷ []) && letters_named depth n ground above) _ h).1;
+      is_name = is_name_tells _ (and_parts (unnamed_all ground names && listed names (above ++ (letter ∷ []) ∷ []) && letters_named depth n ground above) _ h).1;
     }

@@ -17,7 +17,7 @@ use Rattle.net_model.specs.declared.walk.Walk.{Walk}
 use Rattle.net_model.specs.Class.{IsClassOf}
 use Rattle.net_model.specs.Nearest.{server_names}
 use Rattle.net_model.specs.Reading.{ground_of}
-use Rattle.net_model.specs.Shown.{MayShow, WalksShow, ShowsAnswers, ShowsIn}
+use Rattle.net_model.specs.Shown.{FaultSetting, with_sets, MayShow, WalksShow, ShowsAnswers, ShowsIn}
 use Rattle.net_model.specs.Step.{Setting, Branch, Go, End, start, next}
 use Rattle.net_model.specs.Walk.{walk_along, IsWalk}
 use Rattle.net_model.proofs.WalkEnds.{LeadsSo, walk_ends}
@@ -27,7 +27,7 @@ use Rattle.net_model.proofs.Words.{following_all}
 pub shown_by : (config : Config) (rewrites : ℕ) (query : Labels) (rtype : RrType) (fault : Fault) (numbers : List ℕ) (walk : Walk)
     → walk_along (following_all config rewrites) query rtype numbers ≡ Some walk
     → MayShow config query rtype fault
-    → WalksShow (following_all config rewrites) (walk ∷ []) fault
+    → WalksShow (with_sets (following_all config rewrites)) (walk ∷ []) fault
     → ShowsIn config rewrites query rtype fault
 shown_by config rewrites query rtype fault numbers walk along may show =
     record {
@@ -97,9 +97,9 @@ abbrev pub isnt_nxdomain : Leaf → Bool
 isnt_nxdomain leaves.NxDomain = false
 isnt_nxdomain leaf = true
 
-no_walk_shows : (setting : Setting) (query : Labels) (rtype : RrType) (place : Place) (walks : List Walk)
-    → ((walk : Walk) → IsWalk setting query rtype walk → isnt_nxdomain walk.leaf ≡ true)
-    → AllByRecursion (IsWalk setting query rtype) walks → WalksShow setting walks (Blackhole place) → ⊥
+no_walk_shows : (setting : FaultSetting) (query : Labels) (rtype : RrType) (place : Place) (walks : List Walk)
+    → ((walk : Walk) → IsWalk setting.walks query rtype walk → isnt_nxdomain walk.leaf ≡ true)
+    → AllByRecursion (IsWalk setting.walks query rtype) walks → WalksShow setting walks (Blackhole place) → ⊥
 no_walk_shows setting query rtype place [] none are show = show
 no_walk_shows setting query rtype place (walk ∷ []) none are show =
     let exists : isnt_nxdomain walk.leaf ≡ true = none walk are.0 in

@@ -5,7 +5,7 @@ use Rattle.std.specs.Ordering.{nat_cmp, ordering_then}
 use Rattle.std.specs.declared.cmp.Ordering.{Ordering}
 use Rattle.std.specs.declared.cmp.Ordering.TheVariants.{Less, Greater}
 use Rattle.dns_data.specs.Label.{IsLabel}
-use Rattle.dns_data.specs.Name.{Labels, wire_octets, name_cmp}
+use Rattle.dns_data.specs.Name.{Labels, IsName, name_cmp}
 use Rattle.dns_data.specs.Octet.{is_lower, is_digit}
 use Rattle.net_model.specs.declared.class.Class.{Class}
 use Rattle.net_model.specs.declared.class.Class.TheVariants.{Exact, Below}
@@ -47,7 +47,7 @@ pub record StandsBelow (ground : Ground) (above name : Labels) : Type 0 where
   pub label : List ℕ
   pub first : IsFirstUnnamed ground above label
   pub extends : name ≡ above ++ label ∷ []
-  pub short : wire_octets name ≤ 255
+  pub is_name : IsName name
 
 -- the name is the class's representative. A class that has none is empty.
 abbrev pub IsRepresentative : Ground → Class → Labels → Type 0

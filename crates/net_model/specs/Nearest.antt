@@ -26,9 +26,9 @@ nearest server name =
 abbrev pub nearest_of : Config → Labels → Labels → Option Zone
 nearest_of config server name = option_and_then (λ holder. nearest holder name) (server_named config server)
 
--- a server's zone by both names
-abbrev pub zone_of : Config → Labels → Labels → Option Zone
-zone_of config server origin =
+-- the zone with this origin that the server of this name holds
+abbrev pub held_zone : Config → Labels → Labels → Option Zone
+held_zone config server origin =
     option_and_then (λ holder. zone_with_origin holder origin) (server_named config server)
 
 -- the server is configured

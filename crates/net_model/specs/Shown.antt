@@ -18,11 +18,32 @@ use Rattle.net_model.specs.declared.walk.State.{State}
 use Rattle.net_model.specs.declared.walk.Walk.{Walk}
 use Rattle.net_model.specs.Class.{IsClassOf, IsRepresentative}
 use Rattle.net_model.specs.Learnt.{IsInForce, InLeast, InGreatest}
-use Rattle.net_model.specs.Nearest.{zone_of, is_configured, is_top}
+use Rattle.net_model.specs.Nearest.{held_zone, is_configured, is_top}
 use Rattle.net_model.specs.Reading.{ground_of}
 use Rattle.net_model.specs.Step.{Setting, following, has_glue}
 use Rattle.net_model.specs.Walk.{IsWalk}
 use Rattle.net_model.specs.Zone.{ns_names, addresses}
+
+-- What faults are read in: what walks are read in, and of which names of name servers it holds that their addresses can
+-- be learnt: those of the least set, and those of the greatest. Two given lists can stand in the place of the two sets.
+pub record FaultSetting : Type 1 where
+  pub walks : Setting
+  pub in_least : Labels → Type 0
+  pub in_greatest : Labels → Type 0
+
+-- with two lists of names in the place of the least and the greatest set
+abbrev pub with_lists : Setting → List Labels → List Labels → FaultSetting
+with_lists setting least greatest =
+    record { walks = setting; in_least = Contains least; in_greatest = Contains greatest }
+
+-- with the least and the greatest set of the configuration
+abbrev pub with_sets : Setting → FaultSetting
+with_sets setting =
+    record {
+      walks = setting;
+      in_least = InLeast setting.config setting.rewrites;
+      in_greatest = InGreatest setting.config setting.rewrites;
+    }
 
 -- the walk goes through the referral to this name server
 abbrev pub Refers : Walk → Cut → Type 0
@@ -43,8 +64,8 @@ pub record LastRewriteAt (walk : Walk) (place : Place) : Type 0 where
 pub record BothSides (config : Config) (cut : Cut) : Type 0 where
   pub above : Zone
   pub below : Zone
-  pub refers : zone_of config cut.server cut.zone ≡ Some above
-  pub serves : zone_of config cut.ns cut.cut ≡ Some below
+  pub refers : held_zone config cut.server cut.zone ≡ Some above
+  pub serves : held_zone config cut.ns cut.cut ≡ Some below
 
 -- lame delegation (RFC 1912 section 2.8): the walk ends at a server that doesn't serve the delegated zone
 pub record ShowsLame (walk : Walk) (cut : Cut) : Type 0 where
@@ -75,13 +96,13 @@ pub record ShowsGlueDiffers (config : Config) (walk : Walk) (cut : Cut) : Type 0
 
 -- cyclic dependency (RFC 1034 section 4.2.1): without glue the name server's address is learnt only by way of
 -- name servers of which the same is true
-pub record ShowsCyclic (setting : Setting) (walk : Walk) (cut : Cut) : Type 0 where
+pub record ShowsCyclic (setting : FaultSetting) (walk : Walk) (cut : Cut) : Type 0 where
   pub refers : Refers walk cut
-  pub configured : is_configured setting.config cut.ns ≡ true
-  pub no_top : is_top setting.config cut.ns ≡ false
-  pub no_glue : has_glue setting.config cut ≡ false
-  pub learnt_at_most : InGreatest setting.config setting.rewrites cut.ns
-  pub not_at_least : InLeast setting.config setting.rewrites cut.ns → ⊥
+  pub configured : is_configured setting.walks.config cut.ns ≡ true
+  pub no_top : is_top setting.walks.config cut.ns ≡ false
+  pub no_glue : has_glue setting.walks.config cut ≡ false
+  pub learnt_at_most : setting.in_greatest cut.ns
+  pub not_at_least : setting.in_least cut.ns → ⊥
 
 -- rewrite limit: the walk ends where one more rewrite isn't allowed
 abbrev pub ShowsLimit : Walk → Place → Type 0
@@ -110,10 +131,10 @@ abbrev pub ShowsOverlong : Walk → Place → Type 0
 ShowsOverlong walk place = walk.leaf ≡ leaves.Overlong place
 
 -- no address: the walk ends at a name server that isn't in the greatest set
-pub record ShowsNoAddress (setting : Setting) (walk : Walk) (cut : Cut) : Type 0 where
+pub record ShowsNoAddress (setting : FaultSetting) (walk : Walk) (cut : Cut) : Type 0 where
   pub behind : EndsBehind walk cut
   pub ends : walk.leaf ≡ leaves.NoAddress cut.ns
-  pub not_at_most : InGreatest setting.config setting.rewrites cut.ns → ⊥
+  pub not_at_most : setting.in_greatest cut.ns → ⊥
 
 -- the query is the representative of its class
 abbrev pub Represents : Config → Labels → Type 0
@@ -128,11 +149,11 @@ MayShow config query rtype (faults.Overlong place) = Represents config query
 MayShow config query rtype fault = Unit {0}
 
 -- Walks of the query show the fault: one by itself, but two where answers differ. No other number of walks shows one.
-abbrev pub WalksShow : Setting → List Walk → Fault → Type 0
+abbrev pub WalksShow : FaultSetting → List Walk → Fault → Type 0
 WalksShow setting (walk ∷ []) (faults.Lame cut) = ShowsLame walk cut
-WalksShow setting (walk ∷ []) (faults.Differs cut) = ShowsDiffers setting.config walk cut
-WalksShow setting (walk ∷ []) (faults.NoGlue cut) = ShowsNoGlue setting.config walk cut
-WalksShow setting (walk ∷ []) (faults.GlueDiffers cut) = ShowsGlueDiffers setting.config walk cut
+WalksShow setting (walk ∷ []) (faults.Differs cut) = ShowsDiffers setting.walks.config walk cut
+WalksShow setting (walk ∷ []) (faults.NoGlue cut) = ShowsNoGlue setting.walks.config walk cut
+WalksShow setting (walk ∷ []) (faults.GlueDiffers cut) = ShowsGlueDiffers setting.walks.config walk cut
 WalksShow setting (walk ∷ []) (faults.Cyclic cut) = ShowsCyclic setting walk cut
 WalksShow setting (walk ∷ []) (faults.Limit place) = ShowsLimit walk place
 WalksShow setting (walk ∷ []) (faults.Blackhole place) = ShowsBlackhole walk place
@@ -142,14 +163,15 @@ WalksShow setting (walk ∷ []) (faults.NoAddress cut) = ShowsNoAddress setting 
 WalksShow setting walks fault = ⊥
 
 -- the query shows the fault with the type, by some of its walks
-pub record Shows (setting : Setting) (query : Labels) (rtype : RrType) (fault : Fault) : Type 0 where
-  pub may : MayShow setting.config query rtype fault
+pub record Shows (setting : FaultSetting) (query : Labels) (rtype : RrType) (fault : Fault) : Type 0 where
+  pub may : MayShow setting.walks.config query rtype fault
   pub walks : List Walk
-  pub are_walks : AllByRecursion (IsWalk setting query rtype) walks
+  pub are_walks : AllByRecursion (IsWalk setting.walks query rtype) walks
   pub show : WalksShow setting walks fault
 
--- the query shows the fault with the type in the configuration, with the set in force
+-- the query shows the fault with the type in the configuration, with the set in force and the two sets of learnt
+-- addresses
 pub record ShowsIn (config : Config) (rewrites : ℕ) (query : Labels) (rtype : RrType) (fault : Fault) : Type 0 where
   pub followed : List Labels
   pub in_force : IsInForce config rewrites followed
-  pub shows : Shows (following config rewrites followed) query rtype fault
+  pub shows : Shows (with_sets (following config rewrites followed)) query rtype fault

@@ -16,7 +16,7 @@ use Rattle.net_model.specs.declared.walk.Leaf.{Leaf}
 use Rattle.net_model.specs.declared.walk.Leaf.TheVariants.{Answer, NoData, NxDomain, Outside, Unhosted, Lame, Limit, Overlong, NoAddress}
 use Rattle.net_model.specs.declared.walk.State.{State}
 use Rattle.net_model.specs.Lookup.{found}
-use Rattle.net_model.specs.Nearest.{nearest_of, zone_of, is_configured, is_top}
+use Rattle.net_model.specs.Nearest.{nearest_of, held_zone, is_configured, is_top}
 use Rattle.net_model.specs.Zone.{has_address}
 
 -- What walks are read in: the configuration, how many rewrites a walk may use, and the names of the servers
@@ -40,7 +40,7 @@ pub data Branch : Type 0 where
 abbrev pub has_glue : Config → Cut → Bool
 has_glue config cut =
     is_prefix cut.cut cut.ns
-    && option_map_or (λ zone. has_address zone cut.ns) (zone_of config cut.server cut.zone) false
+    && option_map_or (λ zone. has_address zone cut.ns) (held_zone config cut.server cut.zone) false
 
 -- the name server's address is known: it is a top server, has glue in the referral or is followed
 abbrev pub may_follow : Config → Cut → List Labels → Bool

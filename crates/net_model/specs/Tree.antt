@@ -1,8 +1,8 @@
 -- The class tree of a configuration, the state pairs of a query, and what it is that there are more than so many.
-use Rattle.std.specs.Prelude.{◌≡◌, ◌≢◌, ◌↔◌, ℕ, ◌<◌, ◌≤◌, List, length, Contains, AllPairs}
+use Rattle.std.specs.Prelude.{◌≡◌, ◌≢◌, ◌↔◌, ℕ, ◌<◌, List, length, Contains, AllPairs}
 use Rattle.std.specs.List.{AllByRecursion}
 use Rattle.std.specs.declared.cmp.Ordering.TheVariants.{Less}
-use Rattle.dns_data.specs.Name.{Labels, wire_octets, name_cmp}
+use Rattle.dns_data.specs.Name.{Labels, IsName, name_cmp}
 use Rattle.dns_data.specs.declared.rr_type.RrType.{RrType}
 use Rattle.net_model.specs.declared.class.Class.TheVariants.{Below}
 use Rattle.net_model.specs.declared.config.Config.{Config}
@@ -14,10 +14,10 @@ use Rattle.net_model.specs.Reading.{Ground, IsNamed}
 use Rattle.net_model.specs.Step.{following}
 use Rattle.net_model.specs.Walk.{IsWalk}
 
--- the class tree: the named names of at most 255 octets, in the order of names
+-- the class tree: the names that are named, in the order of names
 pub record IsClassTree (ground : Ground) (names : List Labels) : Type 0 where
   pub ordered : AllPairs (λ a b. name_cmp a b ≡ Less) names
-  pub all : (name : Labels) → Contains names name ↔ (IsNamed ground name × (wire_octets name ≤ 255))
+  pub all : (name : Labels) → Contains names name ↔ (IsNamed ground name × IsName name)
 
 -- the names of the tree below which there is a class that isn't empty, in the order of names
 pub record AreBelowClasses (ground : Ground) (names below : List Labels) : Type 0 where

@@ -6,6 +6,7 @@
 mod class;
 mod config;
 mod fault;
+mod follow;
 mod found;
 pub mod laws;
 mod place;
@@ -14,6 +15,7 @@ mod walk;
 pub use class::Class;
 pub use config::{Config, Server, Zone};
 pub use fault::Fault;
+pub use follow::may_follow;
 pub use found::Found;
 pub use place::{Cut, Place};
 pub use walk::{Hop, Leaf, State, Walk};

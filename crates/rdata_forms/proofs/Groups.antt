@@ -2,7 +2,8 @@
 use Rattle.std.proofs.Common.{◌≡◌, ℕ, ◌+◌, ◌-◌, ◌<◌, ◌≤◌, Bool, List, [], ◌∷◌, ◌++◌, length, drop, replicate, eqb, leb, Option, Some, None, option_map, IfSome, refl, ap, sym, subst, ◌∙◌, arith, append_assoc, length-append}
 use Rattle.std.proofs.lemmas.Bool.{cond-true, eq-eqb, le-leb}
 use Rattle.std.proofs.lemmas.List.{length-replicate, drop-replicate}
-use Rattle.rdata_forms.specs.Addresses.{◌>>=◌, split_on, group_of, octets_of_pieces, octets_of, if_whole, if_short, ipv4_of_parts}
+use Rattle.dns_data.specs.Options.{◌>>=◌}
+use Rattle.rdata_forms.specs.Addresses.{split_on, group_of, octets_of_pieces, octets_of, if_whole, if_short, ipv4_of_parts}
 use Rattle.rdata_forms.proofs.Pieces.{split-some}
 
 -- the parts of an address with zeros between them are sixteen octets

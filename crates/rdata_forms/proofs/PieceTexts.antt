@@ -7,7 +7,8 @@ use Rattle.std.proofs.lemmas.Option.{cond_some}
 use Rattle.std.proofs.lemmas.List.{append-nil, length-map, length-append}
 use Rattle.dns_data.specs.DataText.{separated, data_text}
 use Rattle.dns_data.specs.declared.rdata.Rdata.TheVariants.{A}
-use Rattle.rdata_forms.specs.Addresses.{◌>>=◌, Piece, Group, Dotted, IsPiece, ArePieces, IsWholeText, IsShortText, IsIpv6Text, IsIpv4Text, is_octet, is_hex, is_group, group_octets, group_of, last_of, piece_text, piece_octets, pieces_text, pieces_octets, octets_of_pieces, octets_of, side_of, Sides, sides_of, if_whole, if_short, ipv4_of, ipv6_of_sides, ipv6_of, split_on}
+use Rattle.dns_data.specs.Options.{◌>>=◌}
+use Rattle.rdata_forms.specs.Addresses.{Piece, Group, Dotted, IsPiece, ArePieces, IsWholeText, IsShortText, IsIpv6Text, IsIpv4Text, is_octet, is_hex, is_group, group_octets, group_of, last_of, piece_text, piece_octets, pieces_text, pieces_octets, octets_of_pieces, octets_of, side_of, Sides, sides_of, if_whole, if_short, ipv4_of, ipv6_of_sides, ipv6_of, split_on}
 use Rattle.dns_data.proofs.Separators.{Lacks, AllLack, rest_of, separated-split, split-separated}
 use Rattle.rdata_forms.proofs.DottedTexts.{tested-lack, dotted-lacks, ipv4-sound, ipv4-complete}
 use Rattle.rdata_forms.proofs.DoubleColon.{AreWords, separated-before, sides-sound}

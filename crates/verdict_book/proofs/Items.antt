@@ -3,7 +3,7 @@ use Rattle.std.proofs.Common.{◌≡◌, ℕ, zero, suc, ◌+◌, ◌<◌, Bool,
 use Rattle.std.specs.Prelude.{slice_index_or, nat_lt, is_none}
 use Rattle.std.proofs.lemmas.Option.{slice_get_within, slice_get-get_or}
 use Rattle.std.proofs.lemmas.List.{append-nil}
-use Rattle.std.proofs.lemmas.Bool.{eqb-true, eq-eqb, and_parts, ltb-true}
+use Rattle.std.proofs.lemmas.Bool.{eqb-true, eq-eqb, and_parts, ltb-true, not-true}
 use Rattle.pool_core.specs.declared.entry.Entry.{Entry}
 use Rattle.pool_core.specs.declared.entry.Entry.TheVariants.{Claim, File, Stop}
 use Rattle.pool_core.specs.History.{children_of, claims, files, issued_in, is_claimed_in, is_filed_in, first_stop, may_follow, all_may_follow, is_legal}
@@ -113,10 +113,6 @@ module _ {I : Type 0} (first : I) (children : I → List I) where
               (filed_cases h e u f);
         }
 
-    not_true : (b : Bool) → not b ≡ true → b ≡ false
-    not_true true h = absurd cc
-    not_true false h = refl
-
     pub step : (h : List Entry) (e : Entry) (items : List I) → Known h items → may_follow h e ≡ true → CountsRight first children items e → Known (h ++ e ∷ []) (item_step first children items e)
     step h (Claim t) items k may count =
         let parts = and_parts (nat_lt t (issued_in h) && not (is_claimed_in h t)) (is_none (first_stop h)) may in
@@ -126,7 +122,7 @@ module _ {I : Type 0} (first : I) (children : I → List I) where
     step h (File t n) items k may count =
         let parts = and_parts (is_claimed_in h t) (not (is_filed_in h t)) may in
         let low = k.claimed t parts.0 in
-        filing h items t n (slice_index_or items t first) k (slice_get-get_or items t first (omega (arith, low, k.len))) parts.0 (not_true _ parts.1) count
+        filing h items t n (slice_index_or items t first) k (slice_get-get_or items t first (omega (arith, low, k.len))) parts.0 (not-true _ parts.1) count
     step h (Stop cause) items k may count = quiet h (Stop cause) items k refl (λ u. refl) (λ u c. absurd cc)
 
     pub walk : (before h : List Entry) (items : List I) → Known before items → all_may_follow before h ≡ true → AllCountRight first children items h → Known (before ++ h) (items_from first children items h)

@@ -2,6 +2,7 @@
 use Rattle.std.proofs.Common.{◌≡◌, ℕ, zero, suc, ◌+◌, ◌<◌, ◌≤◌, Bool, true, false, ◌||◌, List, [], ◌∷◌, ◌++◌, length, map, get_or, set, Option, Some, None, slice_get, refl, sym, ◌∙◌, ap, subst, arith, ⊎_elim, cond, length-append}
 use Rattle.std.specs.Prelude.{slice_index_or, nat_lt, nat_le, count_by, All}
 use Rattle.std.specs.Option.{option_or, IfSome}
+use Rattle.std.specs.Cmp.{Equal-is}
 use Rattle.std.specs.Ordering.{is_eq}
 use Rattle.std.specs.declared.cmp.Ordering.{Ordering}
 use Rattle.std.specs.declared.cmp.Ordering.TheVariants.{Less, Equal, Greater}
@@ -80,11 +81,6 @@ claimed_means Unknown is = absurd cc
 claimed_means KeptIssued is = absurd cc
 claimed_means KeptClaimed is = refl
 claimed_means KeptFiled is = absurd cc
-
-equal_means : (o : Ordering) → is_eq o ≡ true → o ≡ Equal
-equal_means Less is = absurd cc
-equal_means Equal is = refl
-equal_means Greater is = absurd cc
 
 not_below : (a b : ℕ) → b ≤ a → nat_lt a b ≡ false
 not_below a b le = elim (nat_lt a b) as (λ (x : Bool). nat_lt a b ≡ x → x ≡ false) [ true ↦ (λ e. let lt : a < b = ltb-true a b e in absurd (omega arith)) | false ↦ (λ e. refl) ] refl
@@ -369,7 +365,7 @@ module _ {I V : Type 0} (first : I) (children : I → List I) (verdict_of : I �
         let p = and_parts (is_claimed (kept_in h claim.ticket)) (is_eq (cmp (item_of first children h claim.ticket) claim.item)) keeps in
         let there = row_there claim.ticket KeptClaimed (claimed_means _ p.0) (λ e. cc) in
         let item_is = get_or_from_slice_get (items_of first children h) claim.ticket there.0.item first (item_at claim.ticket there.0 there.1) in
-        (there.0, there.1, there.2, sym item_is ∙ same _ _ (equal_means _ p.1))
+        (there.0, there.1, there.2, sym item_is ∙ same _ _ ((Equal-is _).0 p.1))
 
     -- a filing of a claim that is kept, with the verdict and the children of its item, keeps the book
     pub filing_keeps : (cmp : I → I → Ordering) (same : (x y : I) → cmp x y ≡ Equal → x ≡ y) (claim : ClaimedTicket I) (verdict : V) (kids : List I) (before after : List (Row I V)) (h' : List Entry) (places' : ℕ)

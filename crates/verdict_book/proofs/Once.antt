@@ -1,7 +1,7 @@
 -- A legal history claims each ticket at most once, and files it at most once.
 use Rattle.std.proofs.Common.{◌≡◌, ℕ, ◌+◌, Bool, true, false, not, ◌&&◌, ◌||◌, List, [], ◌∷◌, ◌++◌, count_by, refl, sym, ◌∙◌, ap, subst, arith, append_assoc, cond}
 use Rattle.std.specs.Prelude.{nat_lt, is_none}
-use Rattle.std.proofs.lemmas.Bool.{and_parts, eqb-true}
+use Rattle.std.proofs.lemmas.Bool.{and_parts, eqb-true, not-true}
 use Rattle.std.proofs.lemmas.List.{append-nil}
 use Rattle.pool_core.specs.declared.entry.Entry.{Entry}
 use Rattle.pool_core.specs.declared.entry.Entry.TheVariants.{Claim, File, Stop}
@@ -9,15 +9,11 @@ use Rattle.pool_core.specs.History.{claims, files, issued_in, is_claimed_in, is_
 use Rattle.pool_core.proofs.Lists.{count_by_push}
 use Rattle.pool_core.proofs.Histories.{claimed_push, filed_push}
 
-not_true : (b : Bool) → not b ≡ true → b ≡ false
-not_true true h = absurd cc
-not_true false h = refl
-
 unclaimed_before : (h : List Entry) (e : Entry) (t : ℕ) → may_follow h e ≡ true → claims t e ≡ true → is_claimed_in h t ≡ false
 unclaimed_before h (Claim u) t may is =
     let parts = and_parts (nat_lt u (issued_in h) && not (is_claimed_in h u)) (is_none (first_stop h)) may in
     let open_ticket = and_parts (nat_lt u (issued_in h)) (not (is_claimed_in h u)) parts.0 in
-    subst (λ k. is_claimed_in h k ≡ false) (eqb-true u t is) (not_true _ open_ticket.1)
+    subst (λ k. is_claimed_in h k ≡ false) (eqb-true u t is) (not-true _ open_ticket.1)
 unclaimed_before h (File u n) t may is = absurd cc
 unclaimed_before h (Stop cause) t may is = absurd cc
 
@@ -25,7 +21,7 @@ unfiled_before : (h : List Entry) (e : Entry) (t : ℕ) → may_follow h e ≡ t
 unfiled_before h (Claim u) t may is = absurd cc
 unfiled_before h (File u n) t may is =
     let parts = and_parts (is_claimed_in h u) (not (is_filed_in h u)) may in
-    subst (λ k. is_filed_in h k ≡ false) (eqb-true u t is) (not_true _ parts.1)
+    subst (λ k. is_filed_in h k ≡ false) (eqb-true u t is) (not-true _ parts.1)
 unfiled_before h (Stop cause) t may is = absurd cc
 
 counted_more : (n : ℕ) (was now : Bool) → n ≡ cond was 1 0 → (now ≡ true → was ≡ false) → n + cond now 1 0 ≡ cond (was || now) 1 0

@@ -1,5 +1,6 @@
 -- A zone that isn't refused keeps the rules.
 use Rattle.std.proofs.Common.{◌≡◌, ◌≢◌, ℕ, ◌<◌, Bool, true, false, cond, not, ◌&&◌, ◌||◌, List, [], ◌∷◌, ◌++◌, Option, Some, None, Result, Ok, Err, Contains, All, AllPairs, refl, sym, ap, ◌∙◌, subst, inl, inr, arith}
+use Rattle.std.proofs.lemmas.Bool.{not-false}
 use Rattle.std.specs.Option.{option_or, option_map}
 use Rattle.std.specs.List.{list_any, filter}
 use Rattle.std.proofs.lemmas.List.Elements.{All-nil, All-cons, Contains-append_left, Contains-append_right}
@@ -12,7 +13,8 @@ use Rattle.dns_data.proofs.Membership.{has_first, none_in_nil, first_or_later}
 use Rattle.dns_data.proofs.Names.{name_eq_decides}
 use Rattle.net_model.specs.declared.config.Zone.{Zone}
 use Rattle.zone_rules.specs.Apex.{apex_of, is_type, is_wildcard}
-use Rattle.zone_rules.specs.Identical.{is_identical, distinct, distinct_behind}
+use Rattle.dns_data.specs.Distinct.{distinct, distinct_behind}
+use Rattle.dns_data.specs.Identical.{is_identical}
 use Rattle.zone_rules.specs.Rules.{had, had_at, had_other_at, is_soa_elsewhere, is_second_soa, is_star_record, is_second_cname, is_beside_cname, is_second_dname, rule_at, first_fault, first_fault_behind}
 use Rattle.zone_rules.specs.KeptRules.{KeepsRules}
 use Rattle.zone_rules.specs.ZoneOf.{within, unless_faulty, checked, zone_under, zone_of}
@@ -124,10 +126,6 @@ module _ (origin : Labels) (before : List Rr) (earlier rr : Rr) (has : Contains 
 
 -- ---- one record that breaks no rule
 
-not-false : (b : Bool) → not b ≡ false → b ≡ true
-not-false true e = refl
-not-false false e = sym e
-
 at_top : (origin : Labels) (before : List Rr) (rr : Rr) → Keeps origin before rr → is_type types.Soa rr ≡ true → rr.owner ≡ origin
 at_top origin before rr kept is =
     (name_eq_decides rr.owner origin).0
@@ -185,10 +183,10 @@ one-more before rr rest earlier has true some all = all
 one-more before rr rest earlier has false none all = All-cons (are_two earlier) rr rest (none-has (is_identical rr) before earlier none has) all
 
 -- no record that is kept is identical to one before
-others-kept : (before rrs : List Rr) (earlier : Rr) → Contains before earlier → All (are_two earlier) (distinct_behind before rrs)
+others-kept : (before rrs : List Rr) (earlier : Rr) → Contains before earlier → All (are_two earlier) (distinct_behind is_identical before rrs)
 others-kept before [] earlier has = All-nil (are_two earlier)
 others-kept before (rr ∷ rrs) earlier has =
-    one-more before rr (distinct_behind (before ++ rr ∷ []) rrs) earlier has (list_any (is_identical rr) before) refl
+    one-more before rr (distinct_behind is_identical (before ++ rr ∷ []) rrs) earlier has (list_any (is_identical rr) before) refl
     (others-kept (before ++ rr ∷ []) rrs earlier (Contains-append_left before (rr ∷ []) earlier has))
 
 -- a record that is kept, or isn't, and those behind it
@@ -197,12 +195,12 @@ pairs-more rr rest true all pairs = pairs
 pairs-more rr rest false all pairs = AllPairs-cons are_two rr rest all pairs
 
 -- so it is of each pair that is kept
-pairs-kept : (before rrs : List Rr) → AllPairs are_two (distinct_behind before rrs)
+pairs-kept : (before rrs : List Rr) → AllPairs are_two (distinct_behind is_identical before rrs)
 pairs-kept before [] = λ i j d below within. absurd (not-below j within) where
   not-below : (j : ℕ) → j < 0 → ⊥
   not-below j within = omega arith
 pairs-kept before (rr ∷ rrs) =
-    pairs-more rr (distinct_behind (before ++ rr ∷ []) rrs) (list_any (is_identical rr) before)
+    pairs-more rr (distinct_behind is_identical (before ++ rr ∷ []) rrs) (list_any (is_identical rr) before)
     (others-kept (before ++ rr ∷ []) rrs rr (Contains-append_right before (rr ∷ []) rr (has_first rr [])))
     (pairs-kept (before ++ rr ∷ []) rrs)
 
@@ -261,4 +259,4 @@ module _ (rrs : List Rr) (zone : Zone) (single : AllPairs are_two rrs) where
   by_apex (Err fault) e = cc
 
 pub zone-keeps-rules : (origin : Option Labels) (rrs : List Rr) (zone : Zone) → zone_of origin rrs ≡ Ok zone → KeepsRules zone
-zone-keeps-rules origin rrs zone e = by_apex (distinct rrs) zone (pairs-kept [] rrs) (apex_of origin (distinct rrs)) e
+zone-keeps-rules origin rrs zone e = by_apex (distinct is_identical rrs) zone (pairs-kept [] rrs) (apex_of origin (distinct is_identical rrs)) e

@@ -2,11 +2,11 @@
 -- section 2.4), nor of NS records beside a DNAME record (RFC 6672 section 2.3).
 use Rattle.std.specs.Prelude.{◌≡◌, ◌≢◌, true, false, ◌||◌}
 use Rattle.std.specs.List.{All, AllPairs}
+use Rattle.dns_data.specs.Identical.{is_identical}
 use Rattle.dns_data.specs.Name.{is_prefix}
 use Rattle.dns_data.specs.declared.rr_type.RrType.TheVariants as types
 use Rattle.net_model.specs.declared.config.Zone.{Zone}
 use Rattle.zone_rules.specs.Apex.{is_type, is_wildcard}
-use Rattle.zone_rules.specs.Identical.{is_identical}
 use Rattle.zone_rules.specs.Rules.{had}
 
 -- the zone keeps the rules; of each pair of records the earlier comes first

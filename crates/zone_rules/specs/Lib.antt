@@ -1,6 +1,5 @@
-pub mod First
-pub mod Identical
-pub mod Told
+pub use Rattle.dns_data.specs.Distinct
+pub use Rattle.dns_data.specs.Identical
 pub mod Apex
 pub mod Rules
 pub mod Before

@@ -2,11 +2,12 @@
 use Rattle.std.specs.Prelude.{List, if◌then◌else◌, Option, Some, None, Result, Ok, Err}
 use Rattle.std.specs.List.{filter}
 use Rattle.dns_data.specs.Answers.{◌>>=◌}
+use Rattle.dns_data.specs.Distinct.{distinct}
+use Rattle.dns_data.specs.Identical.{is_identical}
 use Rattle.dns_data.specs.Name.{Labels, is_prefix}
 use Rattle.dns_data.specs.declared.rdata.Rr.{Rr}
 use Rattle.dns_data.specs.declared.rr_type.RrType.TheVariants as types
 use Rattle.net_model.specs.declared.config.Zone.{Zone}
-use Rattle.zone_rules.specs.Identical.{distinct}
 use Rattle.zone_rules.specs.Apex.{apex_of, is_wildcard}
 use Rattle.zone_rules.specs.Rules.{had, first_fault}
 use Rattle.zone_rules.specs.declared.apex.Apex.{Apex}
@@ -36,4 +37,4 @@ zone_under rrs apex =
 
 -- the zone of records: of identical ones the first; the origin; the records at or below it; their rules in file order
 abbrev pub zone_of : Option Labels → List Rr → Result Zone RuleFault
-zone_of origin rrs = apex_of origin (distinct rrs) >>= zone_under (distinct rrs)
+zone_of origin rrs = apex_of origin (distinct is_identical rrs) >>= zone_under (distinct is_identical rrs)

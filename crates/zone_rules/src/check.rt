@@ -8,9 +8,8 @@ ghost use Rattle.zone_rules.specs.ZoneOf.{zone_of, within, checked};
 
 use crate::apex::{apex_of, is_wildcard};
 use crate::fault::{RuleCause, RuleFault};
-use crate::identical::distinct;
 use crate::rules::check_rules;
-use dns_data::{List, Name, Rr};
+use dns_data::{List, Name, Rr, first_of_identical};
 use net_model::Zone;
 use std::alloc::Global;
 
@@ -22,7 +21,7 @@ use std::alloc::Global;
 pub fn check_zone(alloc: Global, origin: Option<&Name>, rrs: List<Rr>) -> Result<Zone, RuleFault>
     ensures { AnswersOr RuleFault.NoMemory result (zone_of (option_map (λ name. name.now) origin.entry) rrs) }
 {
-    let rrs = distinct(alloc, rrs)?;
+    let rrs = first_of_identical(alloc, rrs)?;
     let apex = apex_of(alloc, origin, rrs.items())?;
     if is_wildcard(&apex.name) {
         return Err(RuleFault::At {

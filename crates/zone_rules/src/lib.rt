@@ -5,15 +5,13 @@
 //! record, records outside are dropped, and the first of the others that breaks a rule is the fault. A zone that
 //! isn't refused keeps the rules of `KeepsRules` (`zones_keep_rules`).
 //!
-//! Costs: each record is put into an ordered set of records, and its owner into one of owners, so that records of one
+//! Costs: each record is put into an ordered set of records (`first_of_identical`), and its owner into one of owners, so that records of one
 //! owner, or all identical, take no longer than those of as many owners. No record is copied.
 #![tactic(auto)]
 
 mod apex;
 mod check;
 mod fault;
-mod first;
-mod identical;
 mod laws;
 mod rules;
 mod types;

@@ -14,7 +14,10 @@ pub returns-clause-size : goal.returns-clause-size
 returns-clause-size c =
     let size =
     size_of_first c.args.config.now c.requires (few_config c.args.config.now c.requires) c.items.result.now (c.items.ensures ∙ c.only_zone.ensures.records)
-    c.in_ok-owners.owners.items c.in_ok-owners.ensures.same c.in_ok-owners.ensures.sorted in
+    c.in_ok-owners.owners.items c.in_ok-owners.ensures.same c.in_ok-owners.ensures.sorted
+    (subst (All (λ (rr : Rr). IsName rr.owner)) (c.items.ensures ∙ c.only_zone.ensures.records)
+    (owners_named c.items.result.now c.in_ok-owners.owners.items c.in_ok-owners.ensures.same
+    (rw (← c.as_slice.ensures.value) c.count_names-names.ensures.names))) in
     rw (c.count_names-names.ensures.value, c.as_slice.ensures.value) size
 
 pub returns-clause-names : goal.returns-clause-names

@@ -1,8 +1,9 @@
 use Rattle.std.proofs.Common.{◌∙◌, ◌∷◌, [], ◌++◌, take, drop, sym, subst, ap, true, append_assoc, ◌+◌}
 use Rattle.std.specs.BTreeSet as tree
-use Rattle.dns_data.specs.Name.{name_cmp}
-use Rattle.meta_read.specs.Names.{once_behind}
-use Rattle.meta_read.proofs.Single.{has-more, once-old, once-new, not-true, not-false}
+use Rattle.std.proofs.lemmas.Bool.{not-true, not-false}
+use Rattle.dns_data.specs.Distinct.{distinct_behind}
+use Rattle.dns_data.specs.Name.{name_eq, name_cmp}
+use Rattle.meta_read.proofs.Single.{has-more, once-old, once-new}
 use Rattle.meta_read.proofs.names.once.Goals.{then-branch+in_ok-copy-2+in_ok-push, else-branch}
 use Rattle.meta_read.proofs.names.once.Goals as goal
 
@@ -20,13 +21,13 @@ loop-name-preserved c =
             c.loop-name.invariant.so_far
             ∙ (ap (λ rest. c.loop-name.single ++ rest) (once-new c.args.names.now i c.name-item.result c.loop-name-test.true c.name-item.is
             (sym was ∙ (sym asked ∙ not-true _ (sym c.in_ok-insert.ensures.added ∙ w.if-branch.true))))
-            ∙ (sym (append_assoc c.loop-name.single (c.name-item.result ∷ []) (once_behind (take (i + 1) c.args.names.now) (drop (i + 1) c.args.names.now)))
-            ∙ ap (λ single. single ++ once_behind (take (i + 1) c.args.names.now) (drop (i + 1) c.args.names.now))
+            ∙ (sym (append_assoc c.loop-name.single (c.name-item.result ∷ []) (distinct_behind name_eq (take (i + 1) c.args.names.now) (drop (i + 1) c.args.names.now)))
+            ∙ ap (λ single. single ++ distinct_behind name_eq (take (i + 1) c.args.names.now) (drop (i + 1) c.args.names.now))
             (ap (λ name. c.loop-name.single ++ name ∷ []) (sym w.in_ok-copy-2.ensures) ∙ (sym w.in_ok-push.ensures.ok ∙ sym w.single-is))))
         | else-branch w ↦
             c.loop-name.invariant.so_far
             ∙ (ap (λ rest. c.loop-name.single ++ rest) (once-old c.args.names.now i c.name-item.result c.loop-name-test.true c.name-item.is
             (sym was ∙ (sym asked ∙ not-false _ (sym c.in_ok-insert.ensures.added ∙ w.if-branch.false))))
-            ∙ ap (λ single. single ++ once_behind (take (i + 1) c.args.names.now) (drop (i + 1) c.args.names.now)) (sym w.single-is))
+            ∙ ap (λ single. single ++ distinct_behind name_eq (take (i + 1) c.args.names.now) (drop (i + 1) c.args.names.now)) (sym w.single-is))
       ];
     }

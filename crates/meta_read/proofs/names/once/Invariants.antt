@@ -1,5 +1,6 @@
 use Rattle.std.proofs.Common.{◌≡◌, ◌++◌, take, drop}
-use Rattle.meta_read.specs.Names.{once, once_behind}
+use Rattle.dns_data.specs.Distinct.{distinct, distinct_behind}
+use Rattle.dns_data.specs.Name.{name_eq}
 use Rattle.meta_read.proofs.Single.{HasFirst}
 use Rattle.meta_read.proofs.names.once.Given as goal
 
@@ -7,5 +8,5 @@ use Rattle.meta_read.proofs.names.once.Given as goal
 abbrev pub invariant-loop-name : goal.invariant-loop-name
 invariant-loop-name l = record {
   has : HasFirst (λ name. name) l.names l.name-index l.seen;
-  so_far : once l.names ≡ l.single ++ once_behind (take l.name-index l.names) (drop l.name-index l.names);
+  so_far : distinct name_eq l.names ≡ l.single ++ distinct_behind name_eq (take l.name-index l.names) (drop l.name-index l.names);
 }

@@ -3,7 +3,8 @@ use Rattle.std.specs.Cmp.Lexicographic.{lists_ties, texts_ties, lists_total, nat
 use Rattle.dns_data.specs.Label.{label_cmp}
 use Rattle.dns_data.specs.Name.{name_eq, name_cmp}
 use Rattle.zone_rules.specs.Before.{has_name}
-use Rattle.zone_rules.proofs.Sets.{has-added, and-yes}
+use Rattle.dns_data.proofs.SeenItems.{has-added}
+use Rattle.zone_rules.proofs.Sets.{and-yes}
 use Rattle.zone_rules.proofs.rules.put_if.Goals as goal
 
 pub returns-in_ok-insert : goal.returns-in_ok-insert

@@ -1,4 +1,4 @@
-use Rattle.std.proofs.Common.{◌≡◌, ◌∙◌, ap, sym, arith, take}
+use Rattle.std.proofs.Common.{◌∙◌, ap, sym, arith, take}
 use Rattle.std.proofs.lemmas.List.{length-take-le}
 use Rattle.dns_data.proofs.Encodings.{passed_none, passed_more, passed_within, front_of, all_passed, flat_length}
 use Rattle.dns_data.proofs.labels.Labels.front.Goals as goal
