@@ -278,7 +278,10 @@ fn is_special(octet: u8) -> bool
     ensures special { result ≡ is_special octet }
     ensures ascii { result ≡ true → octet < 128 }
 {
-    matches!(octet, b'.' | b'\\' | b'"' | b'(' | b')' | b';' | b'@' | b'$')
+    matches!(
+        octet,
+        b'.' | b'\\' | b'"' | b'(' | b')' | b';' | b'@' | b'$'
+    )
 }
 
 /// Puts an octet at the end: behind a backslash where it has a meaning of its own in the text, as it is where it may

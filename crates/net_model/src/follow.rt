@@ -58,14 +58,22 @@ fn held_zone<'a>(config: &'a Config, server: &Name, origin: &Name) -> Option<&'a
 fn server_named<'a>(config: &'a Config, name: &Name) -> Option<&'a Server>
     ensures { option_map (λ server. server.now) result ≡ server_named config.now name.now }
 {
-    config.servers.items().iter().find(|server| server.name == *name)
+    config
+        .servers
+        .items()
+        .iter()
+        .find(|server| server.name == *name)
 }
 
 /// The server's zone with this origin.
 fn zone_with_origin<'a>(server: &'a Server, origin: &Name) -> Option<&'a Zone>
     ensures { option_map (λ zone. zone.now) result ≡ zone_with_origin server.now origin.now }
 {
-    server.zones.items().iter().find(|zone| zone.origin == *origin)
+    server
+        .zones
+        .items()
+        .iter()
+        .find(|zone| zone.origin == *origin)
 }
 
 /// Whether the name owns an address record.
