@@ -1,0 +1,2 @@
+pub use Rattle.dns_data.specs.Name
+pub mod SymName

@@ -1,0 +1,13 @@
+//! What a DNAME record makes of a name, also of one with an open tail.
+//!
+//! The layer above may rest on this: each call is the definition `swap`, and `TooLong` comes exactly where the name
+//! that it makes, with its tail, has more than 255 octets.
+//!
+//! Costs: a substitution copies the labels once.
+#![tactic(auto)]
+
+mod substitution;
+mod sym_name;
+
+pub use substitution::{fits, substitute, substitute_sym};
+pub use sym_name::SymName;

@@ -1,0 +1,11 @@
+//! The lookup of a name and a type in a zone.
+//!
+//! The layer above may rest on this: `find` answers what the definition `found` says of the zone.
+//!
+//! Costs: of the name's prefixes each is looked for once, from the origin down to the first that decides or doesn't
+//! exist. No record is looked at but those that are answered.
+#![tactic(auto)]
+
+mod lookup;
+
+pub use lookup::find;

@@ -1,0 +1,107 @@
+-- The names of a tree are those that exist in its zone.
+use Rattle.std.proofs.Common.{◌≡◌, Bool, true, false, ◌&&◌, ◌⊎◌, List, [], ◌∷◌, ◌++◌, map, Contains, filter, IsPermutation, IsSorted, sym, refl, ap, ◌∙◌, subst, inl, inr, append_assoc, arith}
+use Rattle.std.specs.List.{list_any}
+use Rattle.std.proofs.lemmas.Bool.{and_parts, and_from, or_cases, or_left, or_right}
+use Rattle.std.proofs.lemmas.List.Sorted.{IsPermutation-sym, Contains-permutation}
+use Rattle.dns_data.specs.Name.{Labels, name_eq, name_cmp, is_prefix}
+use Rattle.dns_data.specs.declared.rdata.Rr.{Rr}
+use Rattle.net_model.specs.declared.config.Zone.{Zone}
+use Rattle.net_model.specs.Zone.{exists_in}
+use Rattle.zone_tree.specs.Names.{tree_after, AreExisting}
+use Rattle.dns_data.proofs.Membership.{has_first, has_later, first_or_later, filter_has, from_filter, map_has, from_map}
+use Rattle.dns_data.proofs.NameFronts.{Begins, is_prefix_tells, is_prefix_told, two_fronts}
+use Rattle.dns_data.proofs.NameOrder.{UpTo, Before, Rising, prefix_up_to, before_up_to, names_total, pairs_from_rising}
+use Rattle.dns_data.proofs.Names.{name_eq_decides}
+use Rattle.dns_data.proofs.OrderedLists.{never_before_itself}
+use Rattle.dns_data.proofs.Searches.{from_any, any_has}
+use Rattle.zone_tree.proofs.SortedTree.{InOrder, in_order, tree_stands_after, rising_after, tree_after_has, from_tree_after, both_up_to}
+
+-- a name begins each that a name below it begins
+pub begins_along : (a b c : Labels) → Begins a b → Begins b c → Begins a c
+begins_along a b c (x, e) (y, f) = (x ++ y, sym (append_assoc a x y) ∙ ap (λ (z : Labels). z ++ y) e ∙ f)
+
+-- a name doesn't stand behind one that it begins
+pub begins_up_to : (a b : Labels) → Begins a b → UpTo a b
+begins_up_to a b (x, e) = subst (UpTo a) e (prefix_up_to a x)
+
+-- names that begin each other are one
+pub begin_each_other : (a b : Labels) → Begins a b → Begins b a → a ≡ b
+begin_each_other a b there back = both_up_to a b (begins_up_to a b there) (begins_up_to b a back)
+
+module _ (zone : Zone) (owners : List Labels) (same : IsPermutation (filter (is_prefix zone.origin) (map (λ rr. rr.owner) zone.rrs)) owners)
+    (sorted : IsSorted name_cmp owners) where
+  -- an owner is at or below the origin, and some record's
+  owner_of : (name : Labels) → Contains owners name → Contains (map (λ (rr : Rr). rr.owner) zone.rrs) name × (is_prefix zone.origin name ≡ true)
+  owner_of name has =
+      from_filter (is_prefix zone.origin) (map (λ (rr : Rr). rr.owner) zone.rrs) name
+      (Contains-permutation owners (filter (is_prefix zone.origin) (map (λ (rr : Rr). rr.owner) zone.rrs)) name
+      (IsPermutation-sym (filter (is_prefix zone.origin) (map (λ (rr : Rr). rr.owner) zone.rrs)) owners same) has)
+
+  below : (name : Labels) → Contains owners name → Begins zone.origin name
+  below name has = is_prefix_tells zone.origin name (owner_of name has).1
+
+  order : InOrder zone.origin owners
+  order = in_order zone.origin owners sorted below
+
+  abbrev names : List Labels
+  names = zone.origin ∷ tree_after zone.origin owners
+
+  -- a name of the tree exists
+  exists_there : (name : Labels) → Contains names name → exists_in zone name ≡ true
+  exists_there name has =
+      elim (first_or_later zone.origin (tree_after zone.origin owners) name has) [
+        | inl first ↦ or_left (name_eq name zone.origin) _ ((name_eq_decides name zone.origin).1 (sym first))
+        | inr later ↦ (
+            let found = from_tree_after zone.origin owners name later in
+            let stands : Before zone.origin name = tree_stands_after zone.origin owners name order later in
+            or_right (name_eq name zone.origin) (is_prefix zone.origin name && list_any (λ rr. is_prefix name rr.owner) zone.rrs)
+            (and_from (is_prefix zone.origin name) (list_any (λ rr. is_prefix name rr.owner) zone.rrs)
+            (at_or_below stands (below found.0 found.1) found.2)
+            (owned found.0 (owner_of found.0 found.1).0 found.2)))
+      ]
+    where
+      owned : (owner : Labels) → Contains (map (λ (rr : Rr). rr.owner) zone.rrs) owner → Begins name owner → list_any (λ rr. is_prefix name rr.owner) zone.rrs ≡ true
+      owned owner has begins =
+          let found = from_map (λ (rr : Rr). rr.owner) zone.rrs owner has in
+          any_has (λ (rr : Rr). is_prefix name rr.owner) zone.rrs found.0 found.1
+          (is_prefix_told name found.0.owner (subst (Begins name) (sym found.2) begins))
+
+      at_or_below : {owner : Labels} → Before zone.origin name → Begins zone.origin owner → Begins name owner → is_prefix zone.origin name ≡ true
+      at_or_below {owner} stands (x, e) (y, f) =
+          elim (two_fronts zone.origin x name y (e ∙ sym f)) [
+            | inl down ↦ is_prefix_told zone.origin name down
+            | inr up ↦ absurd (never_before_itself name_cmp names_total zone.origin
+                (before_up_to zone.origin name zone.origin stands (begins_up_to name zone.origin up)))
+          ]
+
+  -- an existing name is in the tree
+  there_if_exists : (name : Labels) → exists_in zone name ≡ true → Contains names name
+  there_if_exists name exists =
+      elim (or_cases (name_eq name zone.origin) (is_prefix zone.origin name && list_any (λ rr. is_prefix name rr.owner) zone.rrs) exists) [
+        | inl origin ↦ at_origin (sym ((name_eq_decides name zone.origin).0 origin))
+        | inr beneath ↦ (
+            let parts = and_parts (is_prefix zone.origin name) (list_any (λ rr. is_prefix name rr.owner) zone.rrs) beneath in
+            let found = from_any (λ (rr : Rr). is_prefix name rr.owner) zone.rrs parts.1 in
+            let begins = is_prefix_tells name found.0.owner found.2 in
+            let down = is_prefix_tells zone.origin name parts.0 in
+            let all : Begins zone.origin found.0.owner = begins_along zone.origin name found.0.owner down begins in
+            elim (tree_after_has zone.origin owners found.0.owner name
+              (Contains-permutation (filter (is_prefix zone.origin) (map (λ (rr : Rr). rr.owner) zone.rrs)) owners found.0.owner same
+              (filter_has (is_prefix zone.origin) (map (λ (rr : Rr). rr.owner) zone.rrs) found.0.owner
+              (map_has (λ (rr : Rr). rr.owner) zone.rrs found.0 found.1) (is_prefix_told zone.origin found.0.owner all)))
+              begins) [
+              | inl up ↦ at_origin (begin_each_other zone.origin name down up)
+              | inr later ↦ has_later zone.origin (tree_after zone.origin owners) name later
+            ])
+      ]
+    where
+      at_origin : zone.origin ≡ name → Contains names name
+      at_origin e = subst (Contains names) e (has_first zone.origin (tree_after zone.origin owners))
+
+  pub are_existing : AreExisting zone names
+  are_existing = record {
+    ordered = pairs_from_rising names (λ later has. tree_stands_after zone.origin owners later order has, rising_after zone.origin owners order);
+    some = omega arith;
+    origin_first = refl;
+    all = λ name. (exists_there name, there_if_exists name);
+  }

@@ -1,0 +1,42 @@
+use Rattle.std.proofs.Common.{◌≡◌, ℕ, ◌+◌, ◌-◌, ◌<◌, true, List, ◌∷◌, map, drop, length, get_or, Option, Some, Bor, sym, refl, ap, ◌∙◌, arith}
+use Rattle.std.specs.List.{cons_option, filter, filter_map}
+use Rattle.std.proofs.lemmas.List.{drop_more}
+use Rattle.dns_data.specs.Name.{Labels, name_cmp}
+use Rattle.dns_data.specs.Rdata.{has_type}
+use Rattle.dns_data.specs.declared.rdata.Rdata.{Rdata}
+use Rattle.dns_data.specs.declared.rr_type.RrType.{RrType}
+use Rattle.dns_data.specs.declared.rr_type.RrType.TheVariants as types
+use Rattle.net_model.specs.Order.{in_order, put_in_order}
+use Rattle.net_model.specs.Zone.{target_of}
+use Rattle.zone_tree.specs.Records.{targets_of}
+use Rattle.zone_tree.proofs.ByText.{put_name, now_of}
+use Rattle.zone_tree.proofs.order.server_set.Goals as goal
+
+target_first : (rtype : RrType) (rdata : Rdata) (rest : List Rdata) (target : Labels) → has_type rtype rdata ≡ true → target_of rdata ≡ Some target
+    → targets_of (rdata ∷ rest) rtype ≡ target ∷ targets_of rest rtype
+target_first rtype rdata rest target is has = rw is (ap (λ (o : Option Labels). cons_option o (targets_of rest rtype)) has)
+
+pub loop-left-preserved-in_ok-insert : goal.loop-left-preserved-in_ok-insert
+loop-left-preserved-in_ok-insert c =
+    let all = c.args.all.now in
+    let before = c.loop-left.left - 1 in
+    let item = c.index-all-left.result in
+    let server = c.in-Some.server in
+    let up : before + 1 ≡ c.loop-left.left = omega arith in
+    let within : before < length all = omega (arith, c.loop-left.invariant.within) in
+    let rest : List Rdata = map (λ (rdata : Bor Rdata). rdata.now) (drop c.loop-left.left all) in
+    let opened : map (λ (rdata : Bor Rdata). rdata.now) (drop before all) ≡ item.now ∷ rest =
+    ap (map (λ (rdata : Bor Rdata). rdata.now))
+    (drop_more all before item within ∙ ap (λ (x : Bor Rdata). x ∷ drop (before + 1) all) (sym c.index-all-left.is)
+    ∙ ap (λ (n : ℕ). item ∷ drop n all) up) in
+    let targets : targets_of (item.now ∷ rest) types.Ns ≡ server.now ∷ targets_of rest types.Ns =
+    target_first types.Ns item.now rest server.now (sym c.if-is_of_type.ensures) (sym c.in-Some.ensures) in
+    record {
+      within = omega (arith, c.loop-left.invariant.within);
+      servers =
+          ap (map now_of) c.in_ok-insert.ensures.keys
+          ∙ put_name server c.loop-left.servers.keys
+          ∙ ap (put_in_order name_cmp server.now) c.loop-left.invariant.servers
+          ∙ ap (in_order name_cmp) (sym targets)
+          ∙ ap (λ (xs : List Rdata). in_order name_cmp (targets_of xs types.Ns)) (sym opened);
+    }

@@ -1,0 +1,19 @@
+use Rattle.std.proofs.Common.{◌≡◌, ◌≤◌, length, map, drop}
+use Rattle.std.specs.List.{filter, AllByRecursion}
+use Rattle.dns_data.specs.DataText.{data_text}
+use Rattle.dns_data.specs.Rdata.{has_type}
+use Rattle.net_model.specs.Order.{in_order}
+use Rattle.net_model.specs.Zone.{data_cmp}
+use Rattle.zone_tree.proofs.order.text_map.Given as goal
+
+-- the data looked at, by their texts
+abbrev pub invariant-loop-left : goal.invariant-loop-left
+invariant-loop-left l = record {
+  within : l.left ≤ length l.all;
+  keyed : AllByRecursion (λ entry. entry.0 ≡ data_text entry.1.now) l.set.entries;
+  items : map (λ entry. entry.1.now) l.set.entries
+      ≡ in_order data_cmp (filter (has_type l.rtype) (map (λ rdata. rdata.now) (drop l.left l.all)));
+}
+
+abbrev pub decreases-loop-left : goal.decreases-loop-left
+decreases-loop-left l = l.left

@@ -1,0 +1,6 @@
+pub use Rattle.net_model.specs.Lookup
+pub use Rattle.net_model.specs.Order
+pub use Rattle.net_model.specs.Zone
+pub mod Names
+pub mod Records
+pub mod Tree

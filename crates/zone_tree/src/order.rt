@@ -1,0 +1,112 @@
+//! Data and name servers in their order, each once.
+
+ghost use Rattle.std.specs.Prelude.{◌≡◌, map, IfOk, OnOk};
+ghost use Rattle.std.specs.List.{filter, AllByRecursion};
+ghost use Rattle.dns_data.specs.DataText.{data_text};
+ghost use Rattle.dns_data.specs.Name.{name_cmp};
+ghost use Rattle.dns_data.specs.Rdata.{has_type};
+ghost use Rattle.dns_data.specs.declared.rr_type.RrType.TheVariants as types;
+ghost use Rattle.net_model.specs.Order.{in_order, put_in_order};
+ghost use Rattle.net_model.specs.Zone.{data_cmp};
+ghost use Rattle.zone_tree.specs.Records.{targets_of};
+
+use crate::records::{is_of_type, target_of};
+use dns_data::{rdata_text, List, Name, NoMemory, Octets, Rdata, RrType};
+use std::alloc::Global;
+use std::collections::{BTreeMap, BTreeSet};
+
+/// The names of the name servers in the order of names.
+pub(crate) fn servers_in_order<'a>(alloc: Global, all: &[&'a Rdata]) -> Result<Vec<&'a Name>, NoMemory>
+    ensures { IfOk result (λ servers. map (λ server. server.now) servers.items ≡ in_order name_cmp (targets_of (map (λ rdata. rdata.now) all.now) types.Ns)) }
+{
+    let servers = server_set(alloc, all)?;
+    Ok(servers.into_iter().collect(alloc)?)
+}
+
+/// The names of the name servers. The last data are looked at first.
+fn server_set<'a>(alloc: Global, all: &[&'a Rdata]) -> Result<BTreeSet<&'a Name>, NoMemory>
+    ensures { IfOk result (λ servers. map (λ server. server.now) servers.keys ≡ in_order name_cmp (targets_of (map (λ rdata. rdata.now) all.now) types.Ns)) }
+{
+    let mut servers = BTreeSet::new(alloc);
+    let mut left = all.len();
+    while left > 0 {
+        left -= 1;
+        let rdata = all[left];
+        if is_of_type(rdata, RrType::Ns) {
+            if let Some(server) = target_of(rdata) {
+                servers.insert(server)?;
+            }
+        }
+    }
+    Ok(servers)
+}
+
+/// The data of a type in the order of their texts.
+pub(crate) fn set_in_order(alloc: Global, all: &[&Rdata], rtype: RrType) -> Result<List<Rdata>, NoMemory>
+    ensures { IfOk result (λ set. set ≡ in_order data_cmp (filter (has_type rtype) (map (λ rdata. rdata.now) all.now))) }
+{
+    let set = text_map(alloc, all, rtype)?;
+    let ordered = in_text_order(alloc, set)?;
+    copies(alloc, ordered.as_slice())
+}
+
+/// The data of a map in the order of their texts.
+fn in_text_order<'a>(alloc: Global, set: BTreeMap<Octets, &'a Rdata>) -> Result<Vec<&'a Rdata>, NoMemory>
+    ensures { IfOk result (λ ordered. ordered.items ≡ map (λ pair. pair.1) set.entry.entries) }
+{
+    Ok(set.into_values().collect(alloc)?)
+}
+
+/// Copies of data.
+fn copies(alloc: Global, items: &[&Rdata]) -> Result<List<Rdata>, NoMemory>
+    ensures { IfOk result (λ copies. copies ≡ map (λ rdata. rdata.now) items.now) }
+{
+    let mut copies = List::new(alloc);
+    for rdata in items {
+        copies.push(rdata.copy(alloc)?)?;
+    }
+    Ok(copies)
+}
+
+/// The data of a type by their texts. The last data are looked at first, and stay where others have their text.
+fn text_map<'a>(alloc: Global, all: &[&'a Rdata], rtype: RrType) -> Result<BTreeMap<Octets, &'a Rdata>, NoMemory>
+    ensures { IfOk result (λ set. map (λ entry. entry.1.now) set.entries ≡ in_order data_cmp (filter (has_type rtype) (map (λ rdata. rdata.now) all.now))) }
+{
+    let mut set = BTreeMap::new(alloc);
+    let mut left = all.len();
+    while left > 0 {
+        left -= 1;
+        let rdata = all[left];
+        if is_of_type(rdata, rtype) {
+            put_by_text(alloc, &mut set, rdata)?;
+        }
+    }
+    Ok(set)
+}
+
+/// Puts data in their place, unless others have their text.
+fn put_by_text<'a>(alloc: Global, set: &mut BTreeMap<Octets, &'a Rdata>, rdata: &'a Rdata) -> Result<(), NoMemory>
+    requires { AllByRecursion (λ entry. entry.0 ≡ data_text entry.1.now) set.old.entries }
+    ensures keyed { OnOk result (AllByRecursion (λ entry. entry.0 ≡ data_text entry.1.now) set.new.entries) }
+    ensures put { OnOk result (map (λ entry. entry.1.now) set.new.entries ≡ put_in_order data_cmp rdata.now (map (λ entry. entry.1.now) set.old.entries)) }
+{
+    let _ = set.len();
+    let text = text_of(alloc, rdata)?;
+    if !set.contains_key(&text) {
+        set.insert(text, rdata)?;
+    }
+    Ok(())
+}
+
+/// The octets of the text of data, or none where the data are of no type that has texts.
+fn text_of(alloc: Global, rdata: &Rdata) -> Result<Octets, NoMemory>
+    ensures { IfOk result (λ text. text ≡ data_text rdata.now) }
+{
+    match rdata.rtype() {
+        Some(_) => {
+            let text = rdata_text(alloc, rdata)?;
+            Octets::from_octets(alloc, text.as_bytes())
+        }
+        None => Ok(Octets::new()),
+    }
+}

@@ -1,0 +1,175 @@
+//! Trees of zones.
+
+ghost use Rattle.std.specs.Prelude.{◌≡◌, ◌↔◌, ◌<◌, ◌++◌, ◌∷◌, [], map, true, false, ℕ, Contains, AllPairs, IsNone, IfSome, IfOk};
+ghost use Rattle.std.specs.Option.{option_map};
+ghost use Rattle.std.specs.declared.cmp.Ordering.TheVariants.{Less};
+ghost use Rattle.dns_data.specs.Name.{Labels, name_cmp};
+ghost use Rattle.dns_data.specs.TypeSet.{has_type};
+ghost use Rattle.dns_data.specs.declared.rr_type.RrType.{RrType};
+ghost use Rattle.dns_data.specs.declared.rr_type.RrType.TheVariants as rr_type;
+ghost use Rattle.net_model.specs.Lookup.{first_name};
+ghost use Rattle.net_model.specs.Order.{in_order};
+ghost use Rattle.net_model.specs.Zone.{exists_in, owns, data_at, data_cmp, targets_at, ns_names};
+ghost use Rattle.zone_tree.specs.Records.{data_of, Tells};
+ghost use Rattle.zone_tree.specs.Tree.{IsNode, name_of};
+
+use crate::names::existing_names;
+use crate::node::NodeId;
+use crate::places::{data_by_name, place_among, place_below};
+use crate::records::{all_records, data_in, Records};
+use dns_data::{Label, Labels, Name, NoMemory, Rdata, RrType, TypeSet};
+use net_model::Zone;
+use std::alloc::Global;
+use std::marker::Model;
+
+/// The existing names of a zone, in order, each with what it owns (RFC 1034 section 4.2, RFC 4592 section 2.2.2).
+#[derive(Debug, Drop)]
+pub struct Tree<'a> {
+    zone: &'a Zone,
+    names: Vec<Name>,
+    records: Vec<Records<'a>>,
+}
+
+impl<'a> Model for Tree<'a> {
+    ghost use Rattle.zone_tree.specs.Tree.{ZoneTree};
+
+    ghost Value = { ZoneTree };
+
+    ghost view = { λ tree. record { zone = tree.zone.now; names = tree.names.items } };
+
+    ghost use Rattle.zone_tree.specs.Records.{IsTree};
+
+    ghost invariant = { λ tree. IsTree tree.zone.now tree.names.items tree.records.items };
+}
+
+impl<'a> Tree<'a> {
+    /// The tree of a zone.
+    pub fn build(alloc: Global, zone: &'a Zone) -> Result<Tree<'a>, NoMemory>
+        ensures { IfOk result (λ tree. tree.zone ≡ zone.now) }
+    {
+        let names = existing_names(alloc, zone)?;
+        let lists = data_by_name(alloc, names.as_slice(), zone.rrs.items())?;
+        let records = all_records(alloc, lists.as_slice())?;
+        Ok(Tree {
+            zone,
+            names,
+            records,
+        })
+    }
+
+    /// The zone. Of its existing names, and of them alone, the tree has each once.
+    pub fn zone(&self) -> &'a Zone
+        ensures zone { result.now ≡ self.now.zone }
+        ensures names { (name : Labels) → Contains self.now.names name ↔ (exists_in self.now.zone name ≡ true) }
+        ensures once { AllPairs (λ a b. name_cmp a b ≡ Less) self.now.names }
+    {
+        self.zone
+    }
+
+    /// The node of the origin.
+    pub fn apex(&self) -> NodeId
+        ensures node { IsNode self.now result }
+        ensures name { name_of self.now result ≡ self.now.zone.origin }
+    {
+        let _ = self.names.len();
+        NodeId::at(0)
+    }
+
+    /// The name that a node stands for.
+    pub fn name(&self, node: NodeId) -> &Name
+        requires { IsNode self.now node }
+        ensures { result.now ≡ name_of self.now node }
+    {
+        &self.names[node.place()]
+    }
+
+    /// The node of a name, or `None` where the name doesn't exist in the zone.
+    pub fn node_at(&self, name: &Name) -> Option<NodeId>
+        ensures node { IfSome result (IsNode self.now) }
+        ensures name { IfSome result (λ node. name_of self.now node ≡ name.now) }
+        ensures none { IsNone result ↔ (exists_in self.now.zone name.now ≡ false) }
+    {
+        self.node_of(&name.labels())
+    }
+
+    /// The node of the name with these labels, or `None` where that name doesn't exist in the zone.
+    pub fn node_of(&self, labels: &Labels<'_>) -> Option<NodeId>
+        ensures node { IfSome result (IsNode self.now) }
+        ensures name { IfSome result (λ node. name_of self.now node ≡ labels.now) }
+        ensures none { IsNone result ↔ (exists_in self.now.zone labels.now ≡ false) }
+    {
+        let place = place_among(self.names.as_slice(), labels)?;
+        Some(NodeId::at(place))
+    }
+
+    /// The node of the name with this label directly below a node's name, or `None` where that name doesn't exist in
+    /// the zone.
+    pub fn child(&self, node: NodeId, label: &Label) -> Option<NodeId>
+        requires { IsNode self.now node }
+        ensures node { IfSome result (IsNode self.now) }
+        ensures name { IfSome result (λ child. name_of self.now child ≡ name_of self.now node ++ label.now ∷ []) }
+        ensures none { IsNone result ↔ (exists_in self.now.zone (name_of self.now node ++ label.now ∷ []) ≡ false) }
+    {
+        self.child_with(node, label.items())
+    }
+
+    /// The same of a label's octets.
+    pub(crate) fn child_with(&self, node: NodeId, label: &[u8]) -> Option<NodeId>
+        requires { IsNode self.now node }
+        ensures node { IfSome result (IsNode self.now) }
+        ensures name { IfSome result (λ child. name_of self.now child ≡ name_of self.now node ++ label.now ∷ []) }
+        ensures none { IsNone result ↔ (exists_in self.now.zone (name_of self.now node ++ label.now ∷ []) ≡ false) }
+    {
+        let above = self.name(node).labels();
+        let place = place_below(self.names.as_slice(), &above, label)?;
+        Some(NodeId::at(place))
+    }
+
+    /// The types of which a node's name owns records.
+    pub fn types(&self, node: NodeId) -> TypeSet
+        requires { IsNode self.now node }
+        ensures { (rtype : RrType) → has_type result rtype ≡ owns self.now.zone (name_of self.now node) rtype }
+    {
+        self.records(node).types
+    }
+
+    /// The data of a type that a node's name owns, in the order of their texts, each once.
+    pub fn set(&self, node: NodeId, t: RrType) -> &[Rdata]
+        requires { IsNode self.now node }
+        ensures { result.now ≡ in_order data_cmp (data_at self.now.zone (name_of self.now node) t) }
+    {
+        data_in(self.records(node).sets.as_slice(), t)
+    }
+
+    /// The target of the CNAME record that a node's name owns, the first in file order.
+    pub fn alias(&self, node: NodeId) -> Option<&'a Name>
+        requires { IsNode self.now node }
+        ensures { option_map (λ target. target.now) result ≡ first_name (targets_at self.now.zone (name_of self.now node) rr_type.Cname) }
+    {
+        self.records(node).alias
+    }
+
+    /// The target of the DNAME record that a node's name owns, the first in file order.
+    pub fn redirection(&self, node: NodeId) -> Option<&'a Name>
+        requires { IsNode self.now node }
+        ensures { option_map (λ target. target.now) result ≡ first_name (targets_at self.now.zone (name_of self.now node) rr_type.Dname) }
+    {
+        self.records(node).redirection
+    }
+
+    /// The names of the name servers that a node's name owns, in the order of names.
+    pub fn name_servers(&self, node: NodeId) -> &[&'a Name]
+        requires { IsNode self.now node }
+        ensures { map (λ server. server.now) result.now ≡ ns_names self.now.zone (name_of self.now node) }
+    {
+        self.records(node).servers.as_slice()
+    }
+
+    /// What tells of all data of a node's name.
+    fn records(&self, node: NodeId) -> &Records<'a>
+        requires { IsNode self.now node }
+        ensures { Tells (data_of self.now.zone.rrs (name_of self.now node)) result.now }
+    {
+        &self.records[node.place()]
+    }
+}
