@@ -1,7 +1,9 @@
 mod ByText
+mod Descents
 mod Existing
 mod NameData
 mod Pairs
+mod Prefixes
 mod SearchedNames
 mod SortedTree
 mod Types

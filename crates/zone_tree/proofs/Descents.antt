@@ -1,0 +1,383 @@
+-- The way down the labels of a name: what exists on it, and what decides.
+use Rattle.std.proofs.Common.{◌≡◌, ℕ, zero, suc, ◌+◌, ◌<◌, ◌≤◌, Bool, true, false, cond, ◌&&◌, ◌||◌, List, [], ◌∷◌, ◌++◌, map, length, get_or, take, drop, ◌-◌, Contains, Option, Some, None, nat_lt, nat_le, sym, refl, ap, ◌∙◌, subst, inl, inr, true≢false, arith, append_assoc, length-append}
+use Rattle.std.specs.List.{list_any}
+use Rattle.std.proofs.lemmas.List.{take_more, drop_more, take-append-drop, take-append-le, take_all}
+use Rattle.std.proofs.lemmas.Bool.Decides.{nat_tests}
+use Rattle.std.proofs.lemmas.Bool.{ltb-true, and_parts, and_from, and_left, and_right, or_cases, or_left, or_right}
+use Rattle.dns_data.specs.Name.{Labels, name_eq, is_prefix}
+use Rattle.dns_data.specs.Rdata.{has_type}
+use Rattle.dns_data.specs.declared.rdata.Rr.{Rr}
+use Rattle.dns_data.specs.declared.rr_type.RrType.{RrType}
+use Rattle.dns_data.specs.declared.rr_type.RrType.TheVariants as types
+use Rattle.net_model.specs.declared.config.Zone.{Zone}
+use Rattle.net_model.specs.Lookup.{zone_cut, dname_owner, closest_encloser, source_of_synthesis, synthesized, decided, deciding, by_dname, Deciding, ByCut, ByRecords, ByNothing}
+use Rattle.net_model.specs.Prefix.{prefixes, shortest, longest}
+use Rattle.net_model.specs.Zone.{exists_in, owns, is_of}
+use Rattle.dns_data.proofs.Membership.{from_map}
+use Rattle.dns_data.proofs.NameFronts.{Begins, is_prefix_tells, is_prefix_told, begins_itself}
+use Rattle.dns_data.proofs.Names.{name_eq_decides}
+use Rattle.dns_data.proofs.Searches.{from_any, any_has}
+use Rattle.net_model.proofs.Prefixes.{longer, shortest_above, longest_above}
+use Rattle.zone_tree.proofs.Existing.{begins_along, begin_each_other}
+use Rattle.zone_tree.proofs.Prefixes.{longest_itself, shortest_alone, shortest_next, found_beyond, found_above}
+
+module _ (zone : Zone) where
+  -- some owner is at or below the name
+  abbrev owned_at_or_below : Labels → Bool
+  owned_at_or_below name = list_any (λ rr. is_prefix name rr.owner) zone.rrs
+
+  -- a name at or below the origin exists where one below it does
+  pub prefix_exists : (above below : Labels) → is_prefix zone.origin above ≡ true → exists_in zone (above ++ below) ≡ true → exists_in zone above ≡ true
+  prefix_exists above below inside exists =
+      elim (or_cases (name_eq (above ++ below) zone.origin) (is_prefix zone.origin (above ++ below) && owned_at_or_below (above ++ below)) exists) [
+        | inl origin ↦ (
+            let is : above ++ below ≡ zone.origin = (name_eq_decides (above ++ below) zone.origin).0 origin in
+            let same : above ≡ zone.origin = begin_each_other above zone.origin (below, is) (is_prefix_tells zone.origin above inside) in
+            or_left (name_eq above zone.origin) (is_prefix zone.origin above && owned_at_or_below above) ((name_eq_decides above zone.origin).1 same))
+        | inr beneath ↦ (
+            let parts = and_parts (is_prefix zone.origin (above ++ below)) (owned_at_or_below (above ++ below)) beneath in
+            let found = from_any (λ (rr : Rr). is_prefix (above ++ below) rr.owner) zone.rrs parts.1 in
+            let begins = begins_along above (above ++ below) found.0.owner (below, refl) (is_prefix_tells (above ++ below) found.0.owner found.2) in
+            or_right (name_eq above zone.origin) (is_prefix zone.origin above && owned_at_or_below above)
+            (and_from (is_prefix zone.origin above) (owned_at_or_below above) inside
+            (any_has (λ (rr : Rr). is_prefix above rr.owner) zone.rrs found.0 found.1 (is_prefix_told above found.0.owner begins))))
+      ]
+
+  -- a name at or below the origin that owns a record exists
+  pub owner_exists : (name : Labels) (rtype : RrType) → is_prefix zone.origin name ≡ true → owns zone name rtype ≡ true → exists_in zone name ≡ true
+  owner_exists name rtype inside owner =
+      let found = from_any (is_of name rtype) zone.rrs owner in
+      let is : found.0.owner ≡ name =
+      (name_eq_decides found.0.owner name).0 (and_parts (name_eq found.0.owner name) (has_type rtype found.0.rdata) found.2).0 in
+      or_right (name_eq name zone.origin) (is_prefix zone.origin name && owned_at_or_below name)
+      (and_from (is_prefix zone.origin name) (owned_at_or_below name) inside
+      (any_has (λ (rr : Rr). is_prefix name rr.owner) zone.rrs found.0 found.1 (subst (λ (x : Labels). is_prefix name x ≡ true) (sym is) (begins_itself name))))
+
+  module _ (above : Labels) (label : List ℕ) (rest : Labels) (inside : is_prefix zone.origin above ≡ true)
+      (absent : exists_in zone (above ++ label ∷ []) ≡ false) where
+    further : (below : Labels) → Contains (longer (label ∷ rest)) below → (beneath : Labels) × (above ++ below ≡ (above ++ label ∷ []) ++ beneath)
+    further below has =
+        let found = from_map (λ (x : Labels). label ∷ x) (prefixes rest) below has in
+        (found.0, ap (λ (x : Labels). above ++ x) (sym found.2) ∙ sym (append_assoc above (label ∷ []) found.0))
+
+    inside_further : (beneath : Labels) → is_prefix zone.origin ((above ++ label ∷ []) ++ beneath) ≡ true
+    inside_further beneath =
+        is_prefix_told zone.origin ((above ++ label ∷ []) ++ beneath)
+        (begins_along zone.origin above ((above ++ label ∷ []) ++ beneath) (is_prefix_tells zone.origin above inside)
+        ((label ∷ []) ++ beneath, sym (append_assoc above (label ∷ []) beneath)))
+
+    -- no name further down exists
+    pub none_exists : (below : Labels) → Contains (longer (label ∷ rest)) below → exists_in zone (above ++ below) ≡ false
+    none_exists below has =
+        let way = further below has in
+        let inner : is_prefix zone.origin (above ++ label ∷ []) ≡ true =
+        is_prefix_told zone.origin (above ++ label ∷ []) (begins_along zone.origin above (above ++ label ∷ []) (is_prefix_tells zone.origin above inside) (label ∷ [], refl)) in
+        ap (exists_in zone) way.1 ∙ by way.0 (exists_in zone ((above ++ label ∷ []) ++ way.0)) refl inner
+      where
+        by : (beneath : Labels) (b : Bool) → exists_in zone ((above ++ label ∷ []) ++ beneath) ≡ b → is_prefix zone.origin (above ++ label ∷ []) ≡ true → b ≡ false
+        by beneath false e inner = refl
+        by beneath true e inner = absurd (true≢false (sym (prefix_exists (above ++ label ∷ []) beneath inner e) ∙ absent))
+
+    -- and none owns a record
+    pub none_owns : (rtype : RrType) (below : Labels) → Contains (longer (label ∷ rest)) below → owns zone (above ++ below) rtype ≡ false
+    none_owns rtype below has = by (owns zone (above ++ below) rtype) refl where
+      by : (b : Bool) → owns zone (above ++ below) rtype ≡ b → b ≡ false
+      by false e = refl
+      by true e =
+          let way = further below has in
+          absurd (true≢false (sym (owner_exists (above ++ below) rtype (subst (λ (x : Labels). is_prefix zone.origin x ≡ true) (sym way.1) (inside_further way.0)) e)
+          ∙ none_exists below has))
+
+    -- so the name above is the closest encloser, if it exists
+    pub encloses : exists_in zone above ≡ true → closest_encloser zone (above ++ label ∷ rest) ≡ Some above
+    encloses exists =
+        longest_above (exists_in zone) above (label ∷ rest) none_exists ∙ longest_itself (exists_in zone) above exists
+
+-- one label more of a name
+pub one_label_more : (name : Labels) (k : ℕ) → k < length name → take (k + 1) name ≡ take k name ++ get_or name k [] ∷ []
+one_label_more name k below = take_more name k [] below
+
+-- a name in two, at a label
+pub at_label : (name : Labels) (k : ℕ) → k < length name → take k name ++ get_or name k [] ∷ drop (k + 1) name ≡ name
+at_label name k below =
+    ap (λ (xs : Labels). take k name ++ xs) (sym (drop_more name k [] below)) ∙ take-append-drop k name
+
+-- the first labels of a name with others below it, if they are more than it has
+take_beyond : (above below : Labels) (k : ℕ) → length above ≤ k → take k (above ++ below) ≡ above ++ take (k - length above) below
+take_beyond [] below k long = ap (λ (n : ℕ). take n below) (let e : k ≡ k - 0 = omega arith in e)
+take_beyond (label ∷ above) below zero long = absurd (omega arith)
+take_beyond (label ∷ above) below (suc k) long =
+    ap (λ (xs : Labels). label ∷ xs)
+    (take_beyond above below k (omega arith) ∙ ap (λ (n : ℕ). above ++ take n below) (let e : k - length above ≡ suc k - suc (length above) = omega arith in e))
+
+-- the origin begins each front of the name with as many labels
+pub origin_begins : (origin name : Labels) (k : ℕ) → is_prefix origin name ≡ true → length origin ≤ k → is_prefix origin (take k name) ≡ true
+origin_begins origin name k inside long =
+    let begins = is_prefix_tells origin name inside in
+    is_prefix_told origin (take k name) (take (k - length origin) begins.0, sym (take_beyond origin begins.0 k long) ∙ ap (take k) begins.1)
+
+-- the origin is the front of the name with as many labels
+pub origin_front : (origin name : Labels) → is_prefix origin name ≡ true → take (length origin) name ≡ origin
+origin_front origin name inside =
+    let begins = is_prefix_tells origin name inside in
+    ap (take (length origin)) (sym begins.1) ∙ take-append-le (length origin) origin begins.0 (omega arith) ∙ take_all (length origin) origin (omega arith)
+
+-- the closest encloser of a name, where a front of it exists and the next one doesn't
+pub encloser_at : (zone : Zone) (name : Labels) (k : ℕ) → is_prefix zone.origin name ≡ true → length zone.origin ≤ k → k < length name
+    → exists_in zone (take k name) ≡ true → exists_in zone (take (k + 1) name) ≡ false → closest_encloser zone name ≡ Some (take k name)
+encloser_at zone name k inside long below exists absent =
+    ap (closest_encloser zone) (sym (at_label name k below))
+    ∙ encloses zone (take k name) (get_or name k []) (drop (k + 1) name) (origin_begins zone.origin name k inside long)
+    (ap (exists_in zone) (sym (one_label_more name k below)) ∙ absent) exists
+
+-- ---- what decides
+
+-- the name is a zone cut
+abbrev pub cuts : Zone → Labels → Bool
+cuts zone above = nat_lt (length zone.origin) (length above) && owns zone above types.Ns
+
+-- the name redirects another
+abbrev pub redirects : Zone → Labels → Labels → Bool
+redirects zone name above = nat_le (length zone.origin) (length above) && nat_lt (length above) (length name) && owns zone above types.Dname
+
+-- no prefix of a front of the name decides, and the front exists
+pub record Undecided (zone : Zone) (name above : Labels) : Type 0 where
+  pub inside : is_prefix zone.origin above ≡ true
+  pub exists : exists_in zone above ≡ true
+  pub no_cut : shortest (cuts zone) above ≡ None
+  pub no_redirection : shortest (redirects zone name) above ≡ None
+
+-- tests of two numbers
+less : (a b : ℕ) → a < b → nat_lt a b ≡ true
+less a b h = grind (arith, nat_tests)
+
+not_less : (a b : ℕ) → b ≤ a → nat_lt a b ≡ false
+not_less a b h = grind (arith, nat_tests)
+
+up_to : (a b : ℕ) → a ≤ b → nat_le a b ≡ true
+up_to a b h = grind (arith, nat_tests)
+
+not_up_to : (a b : ℕ) → b < a → nat_le a b ≡ false
+not_up_to a b h = grind (arith, nat_tests)
+
+-- a name with as many labels as the origin, or fewer, is no zone cut
+short_cut : (zone : Zone) (above : Labels) → length above ≤ length zone.origin → cuts zone above ≡ false
+short_cut zone above short =
+    and_left (nat_lt (length zone.origin) (length above)) (owns zone above types.Ns) (not_less (length zone.origin) (length above) short)
+
+-- one with fewer redirects none
+short_redirection : (zone : Zone) (name above : Labels) → length above < length zone.origin → redirects zone name above ≡ false
+short_redirection zone name above short =
+    and_left (nat_le (length zone.origin) (length above) && nat_lt (length above) (length name)) (owns zone above types.Dname)
+    (and_left (nat_le (length zone.origin) (length above)) (nat_lt (length above) (length name)) (not_up_to (length zone.origin) (length above) short))
+
+-- the owner of a DNAME record redirects the names below it
+redirects_below : (zone : Zone) (name above : Labels) → length zone.origin ≤ length above → length above < length name
+    → owns zone above types.Dname ≡ true → redirects zone name above ≡ true
+redirects_below zone name above long below owner =
+    and_from (nat_le (length zone.origin) (length above) && nat_lt (length above) (length name)) (owns zone above types.Dname)
+    (and_from (nat_le (length zone.origin) (length above)) (nat_lt (length above) (length name))
+    (up_to (length zone.origin) (length above) long) (less (length above) (length name) below))
+    owner
+
+-- and no other does
+redirects_none : (zone : Zone) (name above : Labels) → (length above < length name → owns zone above types.Dname ≡ false) → redirects zone name above ≡ false
+redirects_none zone name above other = by (nat_lt (length above) (length name)) refl where
+  by : (b : Bool) → nat_lt (length above) (length name) ≡ b → redirects zone name above ≡ false
+  by true e =
+      and_right (nat_le (length zone.origin) (length above) && nat_lt (length above) (length name)) (owns zone above types.Dname)
+      (other (ltb-true (length above) (length name) e))
+  by false e =
+      and_left (nat_le (length zone.origin) (length above) && nat_lt (length above) (length name)) (owns zone above types.Dname)
+      (and_right (nat_le (length zone.origin) (length above)) (nat_lt (length above) (length name)) e)
+
+-- a name is at least as long as the origin that begins it
+as_long : (zone : Zone) (above : Labels) → is_prefix zone.origin above ≡ true → length zone.origin ≤ length above
+as_long zone above inside =
+    let begins = is_prefix_tells zone.origin above inside in
+    omega (arith, ap (λ (x : Labels). length x) begins.1, length-append zone.origin begins.0)
+
+-- an owner of a DNAME record decides, where no prefix of it is a zone cut
+by_redirection : (zone : Zone) (name owner rest : Labels) → owner ++ rest ≡ name → shortest (cuts zone) owner ≡ None
+    → shortest (redirects zone name) owner ≡ Some owner → deciding zone name ≡ by_dname zone owner
+by_redirection zone name owner rest is no_cut first =
+    ap (decided zone name (zone_cut zone name)) in_name ∙ by (zone_cut zone name) refl
+  where
+    in_name : dname_owner zone name ≡ Some owner
+    in_name = subst (λ (x : Labels). shortest (redirects zone name) x ≡ Some owner) is (found_above (redirects zone name) owner rest owner first)
+
+    by : (cut : Option Labels) → zone_cut zone name ≡ cut → decided zone name cut (Some owner) ≡ by_dname zone owner
+    by None e = refl
+    by (Some cut) e =
+        let longer_cut : length owner < length cut =
+        found_beyond (cuts zone) owner no_cut rest cut (ap (shortest (cuts zone)) is ∙ e) in
+        ap (λ (b : Bool). cond b (by_dname zone owner) (ByCut cut)) (less (length owner) (length cut) longer_cut)
+
+-- a zone cut decides, where no shorter prefix redirects the name
+by_cut : (zone : Zone) (name above tail cut : Labels) → above ++ tail ≡ name → shortest (cuts zone) name ≡ Some cut
+    → shortest (redirects zone name) above ≡ None → length cut ≤ length above + 1 → deciding zone name ≡ ByCut cut
+by_cut zone name above tail cut is first none short =
+    ap (λ (c : Option Labels). decided zone name c (dname_owner zone name)) first ∙ by (dname_owner zone name) refl
+  where
+    by : (owner : Option Labels) → dname_owner zone name ≡ owner → decided zone name (Some cut) owner ≡ ByCut cut
+    by None e = refl
+    by (Some owner) e =
+        let beyond : length above < length owner = found_beyond (redirects zone name) above none tail owner (ap (shortest (redirects zone name)) is ∙ e) in
+        ap (λ (b : Bool). cond b (by_dname zone owner) (ByCut cut)) (not_less (length owner) (length cut) (omega arith))
+
+module _ (zone : Zone) (name : Labels) (inside : is_prefix zone.origin name ≡ true) where
+  -- no prefix of the origin is a zone cut
+  uncut_apex : shortest (cuts zone) zone.origin ≡ None
+  uncut_apex =
+      shortest_alone (cuts zone) zone.origin (λ above short. short_cut zone above (omega arith))
+      ∙ ap (λ (b : Bool). cond b (Some zone.origin) None) (short_cut zone zone.origin (omega arith))
+
+  -- and only it redirects a name
+  apex_alone : shortest (redirects zone name) zone.origin ≡ cond (redirects zone name zone.origin) (Some zone.origin) None
+  apex_alone = shortest_alone (redirects zone name) zone.origin (λ above short. short_redirection zone name above short)
+
+  -- a DNAME record of the origin decides at each name below it
+  pub apex_redirects : length zone.origin < length name → owns zone zone.origin types.Dname ≡ true → deciding zone name ≡ by_dname zone zone.origin
+  apex_redirects below owner =
+      let begins = is_prefix_tells zone.origin name inside in
+      by_redirection zone name zone.origin begins.0 begins.1 uncut_apex
+      (apex_alone ∙ ap (λ (b : Bool). cond b (Some zone.origin) None) (redirects_below zone name zone.origin (omega arith) below owner))
+
+  -- else nothing does so far
+  pub apex_undecided : (length zone.origin < length name → owns zone zone.origin types.Dname ≡ false) → Undecided zone name zone.origin
+  apex_undecided other = record {
+    inside = begins_itself zone.origin;
+    exists = or_left (name_eq zone.origin zone.origin) (is_prefix zone.origin zone.origin && owned_at_or_below zone zone.origin)
+        ((name_eq_decides zone.origin zone.origin).1 refl);
+    no_cut = uncut_apex;
+    no_redirection = apex_alone ∙ ap (λ (b : Bool). cond b (Some zone.origin) None) (redirects_none zone name zone.origin other);
+  }
+
+module _ (zone : Zone) (above : Labels) (label : List ℕ) (rest : Labels) (so_far : Undecided zone (above ++ label ∷ rest) above) where
+  abbrev name : Labels
+  name = above ++ label ∷ rest
+
+  abbrev next : Labels
+  next = above ++ label ∷ []
+
+  long : length next ≡ length above + 1
+  long = length-append above (label ∷ [])
+
+  whole : next ++ rest ≡ name
+  whole = append_assoc above (label ∷ []) rest
+
+  cut_next : shortest (cuts zone) next ≡ cond (cuts zone next) (Some next) None
+  cut_next = shortest_next (cuts zone) above so_far.no_cut label
+
+  redirection_next : shortest (redirects zone name) next ≡ cond (redirects zone name next) (Some next) None
+  redirection_next = shortest_next (redirects zone name) above so_far.no_redirection label
+
+  uncut_next : owns zone next types.Ns ≡ false → shortest (cuts zone) next ≡ None
+  uncut_next uncut =
+      cut_next ∙ ap (λ (b : Bool). cond b (Some next) None) (and_right (nat_lt (length zone.origin) (length next)) (owns zone next types.Ns) uncut)
+
+  -- the next front decides, if it is a zone cut
+  pub cut_decides : owns zone next types.Ns ≡ true → deciding zone name ≡ ByCut next
+  cut_decides owner =
+      let behind : length zone.origin < length next = omega (arith, as_long zone above so_far.inside, long) in
+      let first : shortest (cuts zone) next ≡ Some next =
+      cut_next ∙ ap (λ (b : Bool). cond b (Some next) None)
+      (and_from (nat_lt (length zone.origin) (length next)) (owns zone next types.Ns) (less (length zone.origin) (length next) behind) owner) in
+      by_cut zone name above (label ∷ rest) next refl
+      (subst (λ (x : Labels). shortest (cuts zone) x ≡ Some next) whole (found_above (cuts zone) next rest next first))
+      so_far.no_redirection (omega (arith, long))
+
+  -- or redirects the name
+  pub redirection_decides : length next < length name → owns zone next types.Ns ≡ false → owns zone next types.Dname ≡ true → deciding zone name ≡ by_dname zone next
+  redirection_decides below uncut owner =
+      by_redirection zone name next rest whole (uncut_next uncut)
+      (redirection_next ∙ ap (λ (b : Bool). cond b (Some next) None)
+      (redirects_below zone name next (omega (arith, as_long zone above so_far.inside, long)) below owner))
+
+  -- or it goes on
+  pub goes_on : exists_in zone next ≡ true → owns zone next types.Ns ≡ false → (length next < length name → owns zone next types.Dname ≡ false) → Undecided zone name next
+  goes_on exists uncut other = record {
+    inside = is_prefix_told zone.origin next (begins_along zone.origin above next (is_prefix_tells zone.origin above so_far.inside) (label ∷ [], refl));
+    exists = exists;
+    no_cut = uncut_next uncut;
+    no_redirection = redirection_next ∙ ap (λ (b : Bool). cond b (Some next) None) (redirects_none zone name next other);
+  }
+
+  -- where it doesn't exist the source of synthesis decides
+  pub source_decides : exists_in zone next ≡ false → deciding zone name ≡ synthesized zone (Some above)
+  source_decides absent =
+      let no_cut : zone_cut zone name ≡ None =
+      shortest_above (cuts zone) above (label ∷ rest)
+      (λ below has. and_right (nat_lt (length zone.origin) (length (above ++ below))) (owns zone (above ++ below) types.Ns)
+      (none_owns zone above label rest so_far.inside absent types.Ns below has))
+      ∙ so_far.no_cut in
+      let no_redirection : dname_owner zone name ≡ None =
+      shortest_above (redirects zone name) above (label ∷ rest)
+      (λ below has. and_right (nat_le (length zone.origin) (length (above ++ below)) && nat_lt (length (above ++ below)) (length name)) (owns zone (above ++ below) types.Dname)
+      (none_owns zone above label rest so_far.inside absent types.Dname below has))
+      ∙ so_far.no_redirection in
+      ap (λ (c : Option Labels). decided zone name c (dname_owner zone name)) no_cut
+      ∙ ap (λ (owner : Option Labels). decided zone name None owner) no_redirection
+      ∙ ap (λ (b : Bool). cond b (ByRecords name) (synthesized zone (closest_encloser zone name))) (missing (exists_in zone name) refl)
+      ∙ ap (synthesized zone) (encloses zone above label rest so_far.inside absent so_far.exists)
+    where
+      missing : (b : Bool) → exists_in zone name ≡ b → b ≡ false
+      missing false e = refl
+      missing true e =
+          let inner = is_prefix_told zone.origin next (begins_along zone.origin above next (is_prefix_tells zone.origin above so_far.inside) (label ∷ [], refl)) in
+          absurd (true≢false (sym (prefix_exists zone next rest inner (ap (exists_in zone) whole ∙ e)) ∙ absent))
+
+-- at its end the name's own records decide
+pub records_decide : (zone : Zone) (name : Labels) → Undecided zone name name → deciding zone name ≡ ByRecords name
+records_decide zone name so_far =
+    ap (λ (c : Option Labels). decided zone name c (dname_owner zone name)) so_far.no_cut
+    ∙ ap (λ (owner : Option Labels). decided zone name None owner) so_far.no_redirection
+    ∙ ap (λ (b : Bool). cond b (ByRecords name) (synthesized zone (closest_encloser zone name))) so_far.exists
+
+-- the same at a front of the name with so many labels
+module _ (zone : Zone) (name : Labels) (k : ℕ) (below : k < length name) (so_far : Undecided zone name (take k name))
+    (next : Labels) (is : next ≡ take (k + 1) name) where
+  abbrev label : List ℕ
+  label = get_or name k []
+
+  abbrev rest : Labels
+  rest = drop (k + 1) name
+
+  in_two : take k name ++ label ∷ rest ≡ name
+  in_two = at_label name k below
+
+  step : next ≡ take k name ++ label ∷ []
+  step = is ∙ one_label_more name k below
+
+  here : Undecided zone (take k name ++ label ∷ rest) (take k name)
+  here = subst (λ (x : Labels). Undecided zone x (take k name)) (sym in_two) so_far
+
+  shorter : length next < length name → length (take k name ++ label ∷ []) < length (take k name ++ label ∷ rest)
+  shorter less = omega (arith, less, ap (λ (x : Labels). length x) step, ap (λ (x : Labels). length x) in_two)
+
+  longer_name : length (take k name ++ label ∷ []) < length (take k name ++ label ∷ rest) → length next < length name
+  longer_name less = omega (arith, less, ap (λ (x : Labels). length x) step, ap (λ (x : Labels). length x) in_two)
+
+  pub cut_at : owns zone next types.Ns ≡ true → deciding zone name ≡ ByCut next
+  cut_at owner =
+      ap (deciding zone) (sym in_two)
+      ∙ cut_decides zone (take k name) label rest here (ap (λ (x : Labels). owns zone x types.Ns) (sym step) ∙ owner)
+      ∙ ap (λ (x : Labels). ByCut x) (sym step)
+
+  pub redirection_at : length next < length name → owns zone next types.Ns ≡ false → owns zone next types.Dname ≡ true → deciding zone name ≡ by_dname zone next
+  redirection_at less uncut owner =
+      ap (deciding zone) (sym in_two)
+      ∙ redirection_decides zone (take k name) label rest here (shorter less)
+      (ap (λ (x : Labels). owns zone x types.Ns) (sym step) ∙ uncut) (ap (λ (x : Labels). owns zone x types.Dname) (sym step) ∙ owner)
+      ∙ ap (by_dname zone) (sym step)
+
+  pub goes_on_at : exists_in zone next ≡ true → owns zone next types.Ns ≡ false → (length next < length name → owns zone next types.Dname ≡ false) → Undecided zone name next
+  goes_on_at exists uncut other =
+      subst (λ (x : Labels). Undecided zone name x) (sym step)
+      (subst (λ (x : Labels). Undecided zone x (take k name ++ label ∷ [])) in_two
+      (goes_on zone (take k name) label rest here (ap (exists_in zone) (sym step) ∙ exists) (ap (λ (x : Labels). owns zone x types.Ns) (sym step) ∙ uncut)
+      (λ less. ap (λ (x : Labels). owns zone x types.Dname) (sym step) ∙ other (longer_name less))))
+
+  pub source_at : exists_in zone next ≡ false → deciding zone name ≡ synthesized zone (Some (take k name))
+  source_at absent =
+      ap (deciding zone) (sym in_two) ∙ source_decides zone (take k name) label rest here (ap (exists_in zone) (sym step) ∙ absent)
