@@ -2,10 +2,11 @@
 //!
 //! The layer above may rest on this: `find` answers what the definition `found` says of the zone.
 //!
-//! Costs: of the name's prefixes each is looked for once, from the origin down to the first that decides or doesn't
-//! exist. No record is looked at but those that are answered.
+//! Costs: of the name's prefixes each is looked for once among the zone's names, from the origin down to the first that
+//! decides or doesn't exist. No data are looked at but those that are answered.
 #![tactic(auto)]
 
+mod answers;
 mod lookup;
 
 pub use lookup::find;

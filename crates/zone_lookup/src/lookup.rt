@@ -4,16 +4,22 @@ ghost use Rattle.std.specs.Prelude.{◌≡◌, true, IfOk};
 ghost use Rattle.dns_data.specs.Name.{is_prefix};
 ghost use Rattle.net_model.specs.Lookup.{found};
 
+use crate::answers::{at_name, redirected, referral};
 use dns_data::{Name, NoMemory, RrType};
 use net_model::Found;
 use std::alloc::Global;
-use zone_tree::Tree;
+use zone_tree::{deciding, Decider, Tree};
 
-/// What the zone of the tree answers to the name and the type (RFC 1034 section 4.3.2, RFC 4592 section 3.3, RFC 6672
-/// section 3.2).
-pub fn find(_alloc: Global, tree: &Tree<'_>, name: &Name, t: RrType) -> Result<Found, NoMemory>
+/// What the zone of the tree answers to a name at or below its origin and a type (RFC 1034 section 4.3.2, RFC 4592
+/// section 3.3, RFC 6672 section 3.2).
+pub fn find(alloc: Global, tree: &Tree<'_>, name: &Name, t: RrType) -> Result<Found, NoMemory>
     requires { is_prefix tree.now.zone.origin name.now ≡ true }
     ensures { IfOk result (λ answer. answer ≡ found tree.now.zone name.now t) }
 {
-    Err(NoMemory)
+    match deciding(tree, name) {
+        Decider::Cut(cut) => referral(alloc, tree, cut),
+        Decider::Redirection(owner) => redirected(alloc, tree, owner, name),
+        Decider::Records(owner) => at_name(alloc, tree, owner, t),
+        Decider::Nothing => Ok(Found::NxDomain),
+    }
 }
