@@ -18,7 +18,12 @@ pub fn fits(name: &Name, owner: &Name, target: &Name) -> bool
 
 /// The name with the target's labels in the owner's place. It is `TooLong` where that name would have more than 255
 /// octets.
-pub fn substitute(alloc: Global, name: &Name, owner: &Name, target: &Name) -> Result<Name, JoinFault>
+pub fn substitute(
+    alloc: Global,
+    name: &Name,
+    owner: &Name,
+    target: &Name,
+) -> Result<Name, JoinFault>
     ensures ok { IfOk result (λ made. made ≡ swap name.now owner.now target.now) }
     ensures too_long { IsErrOf result JoinFault.TooLong ↔ (255 < wire_octets (swap name.now owner.now target.now)) }
 {
@@ -27,7 +32,12 @@ pub fn substitute(alloc: Global, name: &Name, owner: &Name, target: &Name) -> Re
 
 /// The same of a name with an open tail, which keeps its tail. It is `TooLong` where the name that it makes would have
 /// more than 255 octets with the tail. The owner may be the known name itself, which lies above a name with a tail.
-pub fn substitute_sym(alloc: Global, name: &SymName, owner: &Name, target: &Name) -> Result<SymName, JoinFault>
+pub fn substitute_sym(
+    alloc: Global,
+    name: &SymName,
+    owner: &Name,
+    target: &Name,
+) -> Result<SymName, JoinFault>
     requires { is_prefix owner.now name.now.known ≡ true }
     ensures ok { IfOk result (λ made. made ≡ swap_sym name.now owner.now target.now) }
     ensures too_long { IsErrOf result JoinFault.TooLong ↔ (255 < wire_octets (whole (swap_sym name.now owner.now target.now))) }

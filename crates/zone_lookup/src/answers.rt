@@ -27,7 +27,12 @@ pub(crate) fn referral(alloc: Global, tree: &Tree<'_>, cut: NodeId) -> Result<Fo
 }
 
 /// What the owner of a DNAME record answers for a name below it (RFC 6672 section 2.2).
-pub(crate) fn redirected(alloc: Global, tree: &Tree<'_>, owner: NodeId, name: &Name) -> Result<Found, NoMemory>
+pub(crate) fn redirected(
+    alloc: Global,
+    tree: &Tree<'_>,
+    owner: NodeId,
+    name: &Name,
+) -> Result<Found, NoMemory>
     requires { IsNode tree.now owner }
     ensures { IfOk result (λ answer. answer ≡ redirected name.now (name_of tree.now owner) (first_name (targets_at tree.now.zone (name_of tree.now owner) rr_type.Dname))) }
 {
@@ -49,7 +54,12 @@ pub(crate) fn redirected(alloc: Global, tree: &Tree<'_>, owner: NodeId, name: &N
 }
 
 /// What the records of an existing name answer (RFC 1034 sections 3.6.2 and 4.3.2, step 3a).
-pub(crate) fn at_name(alloc: Global, tree: &Tree<'_>, owner: NodeId, t: RrType) -> Result<Found, NoMemory>
+pub(crate) fn at_name(
+    alloc: Global,
+    tree: &Tree<'_>,
+    owner: NodeId,
+    t: RrType,
+) -> Result<Found, NoMemory>
     requires { IsNode tree.now owner }
     ensures { IfOk result (λ answer. answer ≡ at_name tree.now.zone (name_of tree.now owner) t) }
 {

@@ -8,7 +8,7 @@ use crate::answers::{at_name, redirected, referral};
 use dns_data::{Name, NoMemory, RrType};
 use net_model::Found;
 use std::alloc::Global;
-use zone_tree::{deciding, Decider, Tree};
+use zone_tree::{Decider, Tree, deciding};
 
 /// What the zone of the tree answers to a name at or below its origin and a type (RFC 1034 section 4.3.2, RFC 4592
 /// section 3.3, RFC 6672 section 3.2).

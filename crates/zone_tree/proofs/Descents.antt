@@ -1,57 +1,33 @@
 -- The way down the labels of a name: what exists on it, and what decides.
-use Rattle.std.proofs.Common.{◌≡◌, ℕ, zero, suc, ◌+◌, ◌<◌, ◌≤◌, Bool, true, false, cond, ◌&&◌, ◌||◌, List, [], ◌∷◌, ◌++◌, map, length, get_or, take, drop, ◌-◌, Contains, Option, Some, None, nat_lt, nat_le, sym, refl, ap, ◌∙◌, subst, inl, inr, true≢false, arith, append_assoc, length-append}
-use Rattle.std.specs.List.{list_any}
+use Rattle.std.proofs.Common.{◌≡◌, ℕ, zero, suc, ◌+◌, ◌<◌, ◌≤◌, Bool, true, false, cond, ◌&&◌, List, [], ◌∷◌, ◌++◌, length, get_or, take, drop, ◌-◌, Contains, Option, Some, None, nat_lt, nat_le, sym, refl, ap, ◌∙◌, subst, true≢false, arith, append_assoc, length-append}
 use Rattle.std.proofs.lemmas.List.{take_more, drop_more, take-append-drop, take-append-le, take_all}
 use Rattle.std.proofs.lemmas.Bool.Decides.{nat_tests}
-use Rattle.std.proofs.lemmas.Bool.{ltb-true, and_parts, and_from, and_left, and_right, or_cases, or_left, or_right}
+use Rattle.std.proofs.lemmas.Bool.{ltb-true, and_parts, and_from, and_left, and_right, or_left}
 use Rattle.dns_data.specs.Name.{Labels, name_eq, is_prefix}
 use Rattle.dns_data.specs.Rdata.{has_type}
-use Rattle.dns_data.specs.declared.rdata.Rr.{Rr}
 use Rattle.dns_data.specs.declared.rr_type.RrType.{RrType}
 use Rattle.dns_data.specs.declared.rr_type.RrType.TheVariants as types
 use Rattle.net_model.specs.declared.config.Zone.{Zone}
-use Rattle.net_model.specs.Lookup.{zone_cut, dname_owner, closest_encloser, source_of_synthesis, synthesized, decided, deciding, by_dname, Deciding, ByCut, ByRecords, ByNothing}
-use Rattle.net_model.specs.Prefix.{prefixes, shortest, longest}
+use Rattle.net_model.specs.Lookup.{zone_cut, dname_owner, closest_encloser, synthesized, decided, deciding, by_dname, ByCut, ByRecords}
+use Rattle.net_model.specs.Prefix.{prefixes, shortest}
 use Rattle.net_model.specs.Zone.{exists_in, owns, is_of}
 use Rattle.dns_data.proofs.Membership.{from_map}
-use Rattle.dns_data.proofs.NameFronts.{Begins, is_prefix_tells, is_prefix_told, begins_itself}
+use Rattle.dns_data.proofs.NameFronts.{is_prefix_tells, is_prefix_told, begins_itself}
 use Rattle.dns_data.proofs.Names.{name_eq_decides}
-use Rattle.dns_data.proofs.Searches.{from_any, any_has}
+use Rattle.dns_data.proofs.Searches.{from_any}
 use Rattle.net_model.proofs.Prefixes.{longer, shortest_above, longest_above}
-use Rattle.zone_tree.proofs.Existing.{begins_along, begin_each_other}
+use Rattle.net_model.proofs.Descent.{owner_below_exists, prefix_exists}
+use Rattle.zone_tree.proofs.Existing.{begins_along}
 use Rattle.zone_tree.proofs.Prefixes.{longest_itself, shortest_alone, shortest_next, found_beyond, found_above}
 
 module _ (zone : Zone) where
-  -- some owner is at or below the name
-  abbrev owned_at_or_below : Labels → Bool
-  owned_at_or_below name = list_any (λ rr. is_prefix name rr.owner) zone.rrs
-
-  -- a name at or below the origin exists where one below it does
-  pub prefix_exists : (above below : Labels) → is_prefix zone.origin above ≡ true → exists_in zone (above ++ below) ≡ true → exists_in zone above ≡ true
-  prefix_exists above below inside exists =
-      elim (or_cases (name_eq (above ++ below) zone.origin) (is_prefix zone.origin (above ++ below) && owned_at_or_below (above ++ below)) exists) [
-        | inl origin ↦ (
-            let is : above ++ below ≡ zone.origin = (name_eq_decides (above ++ below) zone.origin).0 origin in
-            let same : above ≡ zone.origin = begin_each_other above zone.origin (below, is) (is_prefix_tells zone.origin above inside) in
-            or_left (name_eq above zone.origin) (is_prefix zone.origin above && owned_at_or_below above) ((name_eq_decides above zone.origin).1 same))
-        | inr beneath ↦ (
-            let parts = and_parts (is_prefix zone.origin (above ++ below)) (owned_at_or_below (above ++ below)) beneath in
-            let found = from_any (λ (rr : Rr). is_prefix (above ++ below) rr.owner) zone.rrs parts.1 in
-            let begins = begins_along above (above ++ below) found.0.owner (below, refl) (is_prefix_tells (above ++ below) found.0.owner found.2) in
-            or_right (name_eq above zone.origin) (is_prefix zone.origin above && owned_at_or_below above)
-            (and_from (is_prefix zone.origin above) (owned_at_or_below above) inside
-            (any_has (λ (rr : Rr). is_prefix above rr.owner) zone.rrs found.0 found.1 (is_prefix_told above found.0.owner begins))))
-      ]
-
   -- a name at or below the origin that owns a record exists
   pub owner_exists : (name : Labels) (rtype : RrType) → is_prefix zone.origin name ≡ true → owns zone name rtype ≡ true → exists_in zone name ≡ true
   owner_exists name rtype inside owner =
       let found = from_any (is_of name rtype) zone.rrs owner in
       let is : found.0.owner ≡ name =
       (name_eq_decides found.0.owner name).0 (and_parts (name_eq found.0.owner name) (has_type rtype found.0.rdata) found.2).0 in
-      or_right (name_eq name zone.origin) (is_prefix zone.origin name && owned_at_or_below name)
-      (and_from (is_prefix zone.origin name) (owned_at_or_below name) inside
-      (any_has (λ (rr : Rr). is_prefix name rr.owner) zone.rrs found.0 found.1 (subst (λ (x : Labels). is_prefix name x ≡ true) (sym is) (begins_itself name))))
+      owner_below_exists zone name found.0 inside found.1 (subst (λ (x : Labels). is_prefix name x ≡ true) (sym is) (begins_itself name))
 
   module _ (above : Labels) (label : List ℕ) (rest : Labels) (inside : is_prefix zone.origin above ≡ true)
       (absent : exists_in zone (above ++ label ∷ []) ≡ false) where
@@ -76,7 +52,7 @@ module _ (zone : Zone) where
       where
         by : (beneath : Labels) (b : Bool) → exists_in zone ((above ++ label ∷ []) ++ beneath) ≡ b → is_prefix zone.origin (above ++ label ∷ []) ≡ true → b ≡ false
         by beneath false e inner = refl
-        by beneath true e inner = absurd (true≢false (sym (prefix_exists (above ++ label ∷ []) beneath inner e) ∙ absent))
+        by beneath true e inner = absurd (true≢false (sym (prefix_exists zone (above ++ label ∷ []) beneath inner e) ∙ absent))
 
     -- and none owns a record
     pub none_owns : (rtype : RrType) (below : Labels) → Contains (longer (label ∷ rest)) below → owns zone (above ++ below) rtype ≡ false
@@ -247,7 +223,7 @@ module _ (zone : Zone) (name : Labels) (inside : is_prefix zone.origin name ≡ 
   pub apex_undecided : (length zone.origin < length name → owns zone zone.origin types.Dname ≡ false) → Undecided zone name zone.origin
   apex_undecided other = record {
     inside = begins_itself zone.origin;
-    exists = or_left (name_eq zone.origin zone.origin) (is_prefix zone.origin zone.origin && owned_at_or_below zone zone.origin)
+    exists = or_left (name_eq zone.origin zone.origin) (is_prefix zone.origin zone.origin && _)
         ((name_eq_decides zone.origin zone.origin).1 refl);
     no_cut = uncut_apex;
     no_redirection = apex_alone ∙ ap (λ (b : Bool). cond b (Some zone.origin) None) (redirects_none zone name zone.origin other);

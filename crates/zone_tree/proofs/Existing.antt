@@ -1,5 +1,5 @@
 -- The names of a tree are those that exist in its zone.
-use Rattle.std.proofs.Common.{◌≡◌, Bool, true, false, ◌&&◌, ◌⊎◌, List, [], ◌∷◌, ◌++◌, map, Contains, filter, IsPermutation, IsSorted, sym, refl, ap, ◌∙◌, subst, inl, inr, append_assoc, arith}
+use Rattle.std.proofs.Common.{◌≡◌, true, ◌&&◌, List, ◌∷◌, ◌++◌, map, Contains, filter, IsPermutation, IsSorted, sym, refl, ap, ◌∙◌, subst, inl, inr, append_assoc, arith}
 use Rattle.std.specs.List.{list_any}
 use Rattle.std.proofs.lemmas.Bool.{and_parts, and_from, or_cases, or_left, or_right}
 use Rattle.std.proofs.lemmas.List.Sorted.{IsPermutation-sym, Contains-permutation}
@@ -10,7 +10,7 @@ use Rattle.net_model.specs.Zone.{exists_in}
 use Rattle.zone_tree.specs.Names.{tree_after, AreExisting}
 use Rattle.dns_data.proofs.Membership.{has_first, has_later, first_or_later, filter_has, from_filter, map_has, from_map}
 use Rattle.dns_data.proofs.NameFronts.{Begins, is_prefix_tells, is_prefix_told, two_fronts}
-use Rattle.dns_data.proofs.NameOrder.{UpTo, Before, Rising, prefix_up_to, before_up_to, names_total, pairs_from_rising}
+use Rattle.dns_data.proofs.NameOrder.{UpTo, Before, prefix_up_to, before_up_to, names_total, pairs_from_rising}
 use Rattle.dns_data.proofs.Names.{name_eq_decides}
 use Rattle.dns_data.proofs.OrderedLists.{never_before_itself}
 use Rattle.dns_data.proofs.Searches.{from_any, any_has}
@@ -86,10 +86,10 @@ module _ (zone : Zone) (owners : List Labels) (same : IsPermutation (filter (is_
             let down = is_prefix_tells zone.origin name parts.0 in
             let all : Begins zone.origin found.0.owner = begins_along zone.origin name found.0.owner down begins in
             elim (tree_after_has zone.origin owners found.0.owner name
-              (Contains-permutation (filter (is_prefix zone.origin) (map (λ (rr : Rr). rr.owner) zone.rrs)) owners found.0.owner same
-              (filter_has (is_prefix zone.origin) (map (λ (rr : Rr). rr.owner) zone.rrs) found.0.owner
-              (map_has (λ (rr : Rr). rr.owner) zone.rrs found.0 found.1) (is_prefix_told zone.origin found.0.owner all)))
-              begins) [
+            (Contains-permutation (filter (is_prefix zone.origin) (map (λ (rr : Rr). rr.owner) zone.rrs)) owners found.0.owner same
+            (filter_has (is_prefix zone.origin) (map (λ (rr : Rr). rr.owner) zone.rrs) found.0.owner
+            (map_has (λ (rr : Rr). rr.owner) zone.rrs found.0 found.1) (is_prefix_told zone.origin found.0.owner all)))
+            begins) [
               | inl up ↦ at_origin (begin_each_other zone.origin name down up)
               | inr later ↦ has_later zone.origin (tree_after zone.origin owners) name later
             ])

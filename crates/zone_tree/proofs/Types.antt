@@ -1,5 +1,5 @@
 -- The twelve types, each told by its number; and the sets of the types that have data.
-use Rattle.std.proofs.Common.{◌≡◌, ℕ, Bool, true, false, cond, ◌||◌, List, [], ◌∷◌, ◌++◌, Option, Some, None, sym, refl, ap, ◌∙◌, append_assoc}
+use Rattle.std.proofs.Common.{◌≡◌, ℕ, Bool, true, false, cond, ◌||◌, List, [], ◌∷◌, ◌++◌, Option, Some, sym, refl, ap, ◌∙◌, append_assoc}
 use Rattle.std.specs.List.{find, list_any}
 use Rattle.std.specs.Prelude.{◌==◌}
 use Rattle.dns_data.specs.RrType.{types, type_eq, number_of}

@@ -1,11 +1,11 @@
 -- What a name owns. The contracts of inner calls alone cite it.
-use Rattle.std.specs.Prelude.{◌≡◌, ℕ, ◌<◌, List, [], ◌∷◌, map, length, slice_index_or, Option, if◌then◌else◌}
+use Rattle.std.specs.Prelude.{◌≡◌, ℕ, ◌<◌, List, [], ◌∷◌, map, length, slice_index_or, if◌then◌else◌}
 use Rattle.std.specs.List.{filter, filter_map, list_any}
 use Rattle.std.specs.Option.{option_map}
 use Rattle.dns_data.specs.Name.{Labels, name_eq, name_cmp}
 use Rattle.dns_data.specs.Rdata.{has_type}
 use Rattle.dns_data.specs.RrType.{type_eq}
-use Rattle.dns_data.specs.TypeSet as set
+use Rattle.dns_data.specs.TypeSet.{has_bit}
 use Rattle.dns_data.specs.declared.rdata.Rdata.{Rdata}
 use Rattle.dns_data.specs.declared.rdata.Rr.{Rr}
 use Rattle.dns_data.specs.declared.rr_type.RrType.{RrType}
@@ -33,7 +33,7 @@ data_in (set ∷ sets) rtype = if type_eq set.rtype rtype then set.data else dat
 
 -- the records tell of all data of a name
 pub record Tells (all : List Rdata) (records : Records) : Type 0 where
-  pub types : (rtype : RrType) → set.has_type records.types rtype ≡ list_any (has_type rtype) all
+  pub types : (rtype : RrType) → has_bit records.types rtype ≡ list_any (has_type rtype) all
   pub alias : option_map (λ target. target.now) records.alias ≡ first_name (targets_of all rr_type.Cname)
   pub redirection : option_map (λ target. target.now) records.redirection ≡ first_name (targets_of all rr_type.Dname)
   pub servers : map (λ server. server.now) records.servers.items ≡ in_order name_cmp (targets_of all rr_type.Ns)

@@ -18,7 +18,7 @@ mod places;
 mod records;
 mod tree;
 
-pub use decider::{deciding, Decider};
+pub use decider::{Decider, deciding};
 pub use enclosers::{encloser, source};
 pub use node::NodeId;
 pub use tree::Tree;

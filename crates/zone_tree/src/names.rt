@@ -55,7 +55,12 @@ fn names_above(alloc: Global, origin: &Name, owners: &[&Name]) -> Result<Vec<Nam
 }
 
 /// Puts the prefixes of the name at the end that don't begin the name before it.
-fn push_new(alloc: Global, names: &mut Vec<Name>, before: &Name, name: &Name) -> Result<(), NoMemory>
+fn push_new(
+    alloc: Global,
+    names: &mut Vec<Name>,
+    before: &Name,
+    name: &Name,
+) -> Result<(), NoMemory>
     ensures { OnOk result (names.new.items ≡ names.old.items ++ new_prefixes before.now name.now) }
 {
     let shared = name.labels().common_len(&before.labels()) as usize;

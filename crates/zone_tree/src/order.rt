@@ -11,12 +11,15 @@ ghost use Rattle.net_model.specs.Zone.{data_cmp};
 ghost use Rattle.zone_tree.specs.Records.{targets_of};
 
 use crate::records::{is_of_type, target_of};
-use dns_data::{rdata_text, List, Name, NoMemory, Octets, Rdata, RrType};
+use dns_data::{List, Name, NoMemory, Octets, Rdata, RrType, rdata_text};
 use std::alloc::Global;
 use std::collections::{BTreeMap, BTreeSet};
 
 /// The names of the name servers in the order of names.
-pub(crate) fn servers_in_order<'a>(alloc: Global, all: &[&'a Rdata]) -> Result<Vec<&'a Name>, NoMemory>
+pub(crate) fn servers_in_order<'a>(
+    alloc: Global,
+    all: &[&'a Rdata],
+) -> Result<Vec<&'a Name>, NoMemory>
     ensures { IfOk result (λ servers. map (λ server. server.now) servers.items ≡ in_order name_cmp (targets_of (map (λ rdata. rdata.now) all.now) types.Ns)) }
 {
     let servers = server_set(alloc, all)?;
@@ -42,7 +45,11 @@ fn server_set<'a>(alloc: Global, all: &[&'a Rdata]) -> Result<BTreeSet<&'a Name>
 }
 
 /// The data of a type in the order of their texts.
-pub(crate) fn set_in_order(alloc: Global, all: &[&Rdata], rtype: RrType) -> Result<List<Rdata>, NoMemory>
+pub(crate) fn set_in_order(
+    alloc: Global,
+    all: &[&Rdata],
+    rtype: RrType,
+) -> Result<List<Rdata>, NoMemory>
     ensures { IfOk result (λ set. set ≡ in_order data_cmp (filter (has_type rtype) (map (λ rdata. rdata.now) all.now))) }
 {
     let set = text_map(alloc, all, rtype)?;
@@ -51,7 +58,10 @@ pub(crate) fn set_in_order(alloc: Global, all: &[&Rdata], rtype: RrType) -> Resu
 }
 
 /// The data of a map in the order of their texts.
-fn in_text_order<'a>(alloc: Global, set: BTreeMap<Octets, &'a Rdata>) -> Result<Vec<&'a Rdata>, NoMemory>
+fn in_text_order<'a>(
+    alloc: Global,
+    set: BTreeMap<Octets, &'a Rdata>,
+) -> Result<Vec<&'a Rdata>, NoMemory>
     ensures { IfOk result (λ ordered. ordered.items ≡ map (λ pair. pair.1) set.entry.entries) }
 {
     Ok(set.into_values().collect(alloc)?)
@@ -69,7 +79,11 @@ fn copies(alloc: Global, items: &[&Rdata]) -> Result<List<Rdata>, NoMemory>
 }
 
 /// The data of a type by their texts. The last data are looked at first, and stay where others have their text.
-fn text_map<'a>(alloc: Global, all: &[&'a Rdata], rtype: RrType) -> Result<BTreeMap<Octets, &'a Rdata>, NoMemory>
+fn text_map<'a>(
+    alloc: Global,
+    all: &[&'a Rdata],
+    rtype: RrType,
+) -> Result<BTreeMap<Octets, &'a Rdata>, NoMemory>
     ensures { IfOk result (λ set. map (λ entry. entry.1.now) set.entries ≡ in_order data_cmp (filter (has_type rtype) (map (λ rdata. rdata.now) all.now))) }
 {
     let mut set = BTreeMap::new(alloc);
@@ -85,7 +99,11 @@ fn text_map<'a>(alloc: Global, all: &[&'a Rdata], rtype: RrType) -> Result<BTree
 }
 
 /// Puts data in their place, unless others have their text.
-fn put_by_text<'a>(alloc: Global, set: &mut BTreeMap<Octets, &'a Rdata>, rdata: &'a Rdata) -> Result<(), NoMemory>
+fn put_by_text<'a>(
+    alloc: Global,
+    set: &mut BTreeMap<Octets, &'a Rdata>,
+    rdata: &'a Rdata,
+) -> Result<(), NoMemory>
     requires { AllByRecursion (λ entry. entry.0 ≡ data_text entry.1.now) set.old.entries }
     ensures keyed { OnOk result (AllByRecursion (λ entry. entry.0 ≡ data_text entry.1.now) set.new.entries) }
     ensures put { OnOk result (map (λ entry. entry.1.now) set.new.entries ≡ put_in_order data_cmp rdata.now (map (λ entry. entry.1.now) set.old.entries)) }

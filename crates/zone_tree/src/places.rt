@@ -72,7 +72,11 @@ fn compare_below(labels: &Labels<'_>, above: &Labels<'_>, label: &[u8]) -> Order
 }
 
 /// The data of each of the names, which stand in order, in file order.
-pub(crate) fn data_by_name<'a>(alloc: Global, names: &[Name], rrs: &'a [Rr]) -> Result<Vec<Vec<&'a Rdata>>, NoMemory>
+pub(crate) fn data_by_name<'a>(
+    alloc: Global,
+    names: &[Name],
+    rrs: &'a [Rr],
+) -> Result<Vec<Vec<&'a Rdata>>, NoMemory>
     requires { Ordered names.now }
     ensures many { IfOk result (λ lists. length lists.items ≡ length names.now) }
     ensures each { IfOk result (λ lists. (k : ℕ) (d : _) → k < length names.now → map (λ rdata. rdata.now) (slice_index_or lists.items k d).items ≡ data_of rrs.now (slice_index_or names.now k [])) }

@@ -4,7 +4,7 @@ ghost use Rattle.std.specs.Prelude.{◌≡◌, ℕ, ◌<◌, map, length, slice_
 ghost use Rattle.std.specs.List.{filter, list_any};
 ghost use Rattle.std.specs.Option.{option_map};
 ghost use Rattle.dns_data.specs.Rdata.{has_type};
-ghost use Rattle.dns_data.specs.TypeSet as set;
+ghost use Rattle.dns_data.specs.TypeSet.{has_bit};
 ghost use Rattle.dns_data.specs.declared.rr_type.RrType.{RrType};
 ghost use Rattle.net_model.specs.Lookup.{first_name};
 ghost use Rattle.net_model.specs.Zone.{target_of, data_cmp};
@@ -48,7 +48,10 @@ pub(crate) fn records_of<'a>(alloc: Global, all: &[&'a Rdata]) -> Result<Records
 }
 
 /// What tells of each list of data.
-pub(crate) fn all_records<'a>(alloc: Global, lists: &[Vec<&'a Rdata>]) -> Result<Vec<Records<'a>>, NoMemory>
+pub(crate) fn all_records<'a>(
+    alloc: Global,
+    lists: &[Vec<&'a Rdata>],
+) -> Result<Vec<Records<'a>>, NoMemory>
     ensures many { IfOk result (λ all. length all.items ≡ length lists.now) }
     ensures each { IfOk result (λ all. (k : ℕ) (l : _) (d : _) → k < length lists.now → Tells (map (λ rdata. rdata.now) (slice_index_or lists.now k l).items) (slice_index_or all.items k d)) }
 {
@@ -61,7 +64,7 @@ pub(crate) fn all_records<'a>(alloc: Global, lists: &[Vec<&'a Rdata>]) -> Result
 
 /// The types of data.
 fn types_of(all: &[&Rdata]) -> TypeSet
-    ensures { (rtype : RrType) → set.has_type result rtype ≡ list_any (has_type rtype) (map (λ rdata. rdata.now) all.now) }
+    ensures { (rtype : RrType) → has_bit result rtype ≡ list_any (has_type rtype) (map (λ rdata. rdata.now) all.now) }
 {
     let mut types = TypeSet::empty();
     for rdata in all {

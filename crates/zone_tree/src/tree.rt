@@ -4,7 +4,7 @@ ghost use Rattle.std.specs.Prelude.{◌≡◌, ◌↔◌, ◌<◌, ◌++◌, ◌
 ghost use Rattle.std.specs.Option.{option_map};
 ghost use Rattle.std.specs.declared.cmp.Ordering.TheVariants.{Less};
 ghost use Rattle.dns_data.specs.Name.{Labels, name_cmp};
-ghost use Rattle.dns_data.specs.TypeSet.{has_type};
+ghost use Rattle.dns_data.specs.TypeSet.{has_bit};
 ghost use Rattle.dns_data.specs.declared.rr_type.RrType.{RrType};
 ghost use Rattle.dns_data.specs.declared.rr_type.RrType.TheVariants as rr_type;
 ghost use Rattle.net_model.specs.Lookup.{first_name};
@@ -16,7 +16,7 @@ ghost use Rattle.zone_tree.specs.Tree.{IsNode, name_of};
 use crate::names::existing_names;
 use crate::node::NodeId;
 use crate::places::{data_by_name, place_among, place_below};
-use crate::records::{all_records, data_in, Records};
+use crate::records::{Records, all_records, data_in};
 use dns_data::{Label, Labels, Name, NoMemory, Rdata, RrType, TypeSet};
 use net_model::Zone;
 use std::alloc::Global;
@@ -128,7 +128,7 @@ impl<'a> Tree<'a> {
     /// The types of which a node's name owns records.
     pub fn types(&self, node: NodeId) -> TypeSet
         requires { IsNode self.now node }
-        ensures { (rtype : RrType) → has_type result rtype ≡ owns self.now.zone (name_of self.now node) rtype }
+        ensures { (rtype : RrType) → has_bit result rtype ≡ owns self.now.zone (name_of self.now node) rtype }
     {
         self.records(node).types
     }

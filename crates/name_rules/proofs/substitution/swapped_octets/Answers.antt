@@ -1,4 +1,4 @@
-use Rattle.std.proofs.Common.{◌≡◌, ◌+◌, ◌≤◌, ◌++◌, List, length, drop, sym, ap, ◌∙◌, arith}
+use Rattle.std.proofs.Common.{◌≡◌, ◌+◌, ◌++◌, length, drop, sym, ap, ◌∙◌, arith}
 use Rattle.std.proofs.lemmas.List.{drop-append-le, drop_all}
 use Rattle.dns_data.specs.Name.{Labels, wire_octets, swap}
 use Rattle.dns_data.proofs.NameFronts.{is_prefix_tells, octets_below, tail_octets, octets_of_prefix}

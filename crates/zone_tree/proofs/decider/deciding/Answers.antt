@@ -1,13 +1,13 @@
-use Rattle.std.proofs.Common.{◌≡◌, ℕ, ◌+◌, ◌-◌, ◌<◌, ◌≤◌, true, false, [], Some, length, take, sym, refl, ap, ◌∙◌, subst, arith}
-use Rattle.std.proofs.lemmas.List.{take_all, length-take-le}
+use Rattle.std.proofs.Common.{◌≡◌, ℕ, ◌+◌, ◌-◌, ◌<◌, true, false, [], Some, length, take, sym, refl, ap, ◌∙◌, subst, arith}
+use Rattle.std.proofs.lemmas.List.{length-take-le}
 use Rattle.std.proofs.lemmas.List.Elements.{Contains-get_or}
 use Rattle.dns_data.specs.Name.{Labels}
 use Rattle.dns_data.specs.declared.rr_type.RrType.TheVariants as types
-use Rattle.net_model.specs.Lookup.{deciding, synthesized, by_dname, ByRecords}
+use Rattle.net_model.specs.Lookup.{synthesized, by_dname}
 use Rattle.net_model.specs.Zone.{exists_in, owns}
 use Rattle.net_model.specs.declared.config.Zone.{Zone}
 use Rattle.zone_tree.specs.Tree.{name_of}
-use Rattle.zone_tree.proofs.Descents.{Undecided, origin_front, apex_redirects, apex_undecided, cut_at, redirection_at, goes_on_at, source_at, records_decide}
+use Rattle.zone_tree.proofs.Descents.{Undecided, origin_front, apex_redirects, apex_undecided, cut_at, redirection_at, goes_on_at, source_at}
 use Rattle.zone_tree.proofs.decider.deciding.Goals as goal
 use Rattle.zone_tree.proofs.decider.deciding.Goals.{else-above-labels-via-then-above-labels+else-has, else-above-labels-via-else-above-labels, else-count-labels-via-then-count-labels+else-has-3, else-count-labels-via-else-count-labels}
 

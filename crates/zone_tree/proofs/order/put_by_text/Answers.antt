@@ -1,10 +1,9 @@
-use Rattle.std.proofs.Common.{◌≡◌, Bool, true, false, not, Option, Some, None, Bor, List, ℕ, sym, refl, ap, ◌∙◌}
+use Rattle.std.proofs.Common.{◌≡◌, true, false, Option, Some, None, sym, refl}
 use Rattle.std.specs.Option.{is_some}
 use Rattle.std.specs.BTreeMap.{is_at}
 use Rattle.std.specs.Cmp.Lexicographic.{slice_cmp}
 use Rattle.std.specs.Map.{lookup}
 use Rattle.std.specs.Ordering.{nat_cmp}
-use Rattle.dns_data.specs.declared.rdata.Rdata.{Rdata}
 use Rattle.zone_tree.proofs.ByText.{put_absent, put_present, keyed_put}
 use Rattle.zone_tree.proofs.order.put_by_text.Goals as goal
 

@@ -1,5 +1,5 @@
-use Rattle.std.proofs.Common.{◌≡◌, ℕ, ◌+◌, ◌-◌, ◌<◌, true, List, ◌∷◌, map, drop, length, get_or, Option, Some, Bor, sym, refl, ap, ◌∙◌, arith}
-use Rattle.std.specs.List.{cons_option, filter, filter_map}
+use Rattle.std.proofs.Common.{◌≡◌, ℕ, ◌+◌, ◌-◌, ◌<◌, true, List, ◌∷◌, map, drop, length, Option, Some, Bor, sym, ap, ◌∙◌, arith}
+use Rattle.std.specs.List.{cons_option}
 use Rattle.std.proofs.lemmas.List.{drop_more}
 use Rattle.dns_data.specs.Name.{Labels, name_cmp}
 use Rattle.dns_data.specs.Rdata.{has_type}

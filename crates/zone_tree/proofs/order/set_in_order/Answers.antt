@@ -1,4 +1,4 @@
-use Rattle.std.proofs.Common.{List, Bor, map, ap, ◌∙◌}
+use Rattle.std.proofs.Common.{Bor, map, ap, ◌∙◌}
 use Rattle.std.proofs.lemmas.Result.{IfOk-weaker}
 use Rattle.std.proofs.lemmas.Simd.{map-map}
 use Rattle.dns_data.specs.declared.rdata.Rdata.{Rdata}

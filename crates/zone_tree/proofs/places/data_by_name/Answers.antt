@@ -1,4 +1,4 @@
-use Rattle.std.proofs.Common.{◌≡◌, ◌≢◌, ℕ, ◌+◌, ◌<◌, true, false, List, [], ◌∷◌, ◌++◌, Bor, Vec, Global, map, length, get_or, set, take, sym, refl, ap, ◌∙◌, inl, inr, get_or-set_same, get_or-set_other, length-set, arith}
+use Rattle.std.proofs.Common.{◌≡◌, ◌≢◌, ℕ, ◌+◌, ◌<◌, List, [], ◌∷◌, ◌++◌, Bor, Vec, Global, map, length, get_or, set, take, sym, refl, ap, ◌∙◌, inl, inr, get_or-set_same, get_or-set_other, length-set, arith}
 use Rattle.std.proofs.lemmas.Bool.{cases_eq}
 use Rattle.std.proofs.lemmas.List.{map-append}
 use Rattle.dns_data.specs.Name.{Labels, name_eq}
@@ -39,7 +39,7 @@ loop-rr-preserved c =
                       ∙ ap (λ (v : Vec (Bor Rdata) Global). map (λ (rdata : Bor Rdata). rdata.now) v.items ++ rr.rdata ∷ []) w.index_mut.ensures.value
                       ∙ ap (λ (xs : List Rdata). xs ++ rr.rdata ∷ []) (c.loop-rr.invariant.each place old there.0)
                       ∙ sym (more_of_name rrs i rr c.loop-rr-test.true c.rr-item.is (get_or names place [])
-                        ((name_eq_decides rr.owner (get_or names place [])).1 (sym owner)))
+                      ((name_eq_decides rr.owner (get_or names place [])).1 (sym owner)))
                       ∙ ap (λ (n : ℕ). data_of (take (i + 1) rrs) (get_or names n [])) (sym here))
                   | inr other ↦ (
                       let ne : k ≢ place = other in
@@ -48,8 +48,8 @@ loop-rr-preserved c =
                       ap (λ (v : Vec (Bor Rdata) Global). map (λ (rdata : Bor Rdata). rdata.now) v.items) got
                       ∙ c.loop-rr.invariant.each k d below
                       ∙ sym (more_of_others rrs i rr c.loop-rr-test.true c.rr-item.is (get_or names k [])
-                        (ap (λ (x : Labels). name_eq x (get_or names k [])) (sym owner)
-                        ∙ apart names place k c.requires there.0 below (λ e. other (sym e)))))
+                      (ap (λ (x : Labels). name_eq x (get_or names k [])) (sym owner)
+                      ∙ apart names place k c.requires there.0 below (λ e. other (sym e)))))
                 ];
           })
       | in_default w ↦ (
@@ -60,7 +60,7 @@ loop-rr-preserved c =
                 ap (λ xs. map (λ (rdata : Bor Rdata). rdata.now) (get_or xs k d).items) same
                 ∙ c.loop-rr.invariant.each k d below
                 ∙ sym (more_of_others rrs i rr c.loop-rr-test.true c.rr-item.is (get_or names k [])
-                  (ap (λ (x : Labels). name_eq x (get_or names k [])) (sym c.labels.ensures.same)
-                  ∙ never_there names c.labels.result k w.in_default.ensures.none below));
+                (ap (λ (x : Labels). name_eq x (get_or names k [])) (sym c.labels.ensures.same)
+                ∙ never_there names c.labels.result k w.in_default.ensures.none below));
           })
     ]

@@ -1,4 +1,4 @@
-use Rattle.std.proofs.Common.{◌≡◌, ◌+◌, List, [], ◌∷◌, ◌++◌, Bor, Vec, Global, map, length, get_or, sym, ap, ◌∙◌, subst, length-append, arith}
+use Rattle.std.proofs.Common.{List, Bor, Vec, Global, map, subst, arith}
 use Rattle.dns_data.specs.declared.rdata.Rdata.{Rdata}
 use Rattle.zone_tree.specs.declared.records.Records.{Records}
 use Rattle.zone_tree.specs.Records.{Tells}

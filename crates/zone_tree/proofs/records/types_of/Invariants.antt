@@ -1,7 +1,7 @@
 use Rattle.std.proofs.Common.{◌≡◌, ◌||◌, map, drop}
 use Rattle.std.specs.List.{list_any}
 use Rattle.dns_data.specs.Rdata.{has_type}
-use Rattle.dns_data.specs.TypeSet as set
+use Rattle.dns_data.specs.TypeSet.{has_bit}
 use Rattle.dns_data.specs.declared.rr_type.RrType.{RrType}
 use Rattle.zone_tree.proofs.records.types_of.Given as goal
 
@@ -9,5 +9,5 @@ use Rattle.zone_tree.proofs.records.types_of.Given as goal
 abbrev pub invariant-loop-rdata : goal.invariant-loop-rdata
 invariant-loop-rdata l =
     (rtype : RrType)
-    → (set.has_type l.types rtype || list_any (has_type rtype) (map (λ rdata. rdata.now) (drop l.rdata-index l.all)))
+    → (has_bit l.types rtype || list_any (has_type rtype) (map (λ rdata. rdata.now) (drop l.rdata-index l.all)))
     ≡ list_any (has_type rtype) (map (λ rdata. rdata.now) l.all)
