@@ -1,0 +1,5 @@
+pub use Rattle.net_model.specs.Walk
+pub mod Json
+pub mod Walks
+pub mod Ask
+pub mod Members
