@@ -1,8 +1,10 @@
 -- No value of a text has a number with a fraction.
-use Rattle.std.proofs.Common.{◌≡◌, false, List, [], ◌∷◌, ◌++◌, map, Option, Some, None, refl}
+use Rattle.std.proofs.Common.{ℕ, ◌≡◌, false, List, [], ◌∷◌, ◌++◌, map, Option, Some, None, refl}
 use Rattle.dns_data.specs.Name.{Labels}
 use Rattle.dns_data.specs.declared.rdata.Rdata.{Rdata}
 use Rattle.dns_data.specs.declared.rr_type.RrType.{RrType}
+use Rattle.net_model.specs.declared.fault.Fault.{Fault}
+use Rattle.net_model.specs.declared.fault.Fault.TheVariants as faults
 use Rattle.net_model.specs.declared.walk.Hop.{Hop}
 use Rattle.net_model.specs.declared.walk.Hop.TheVariants.{Refer, Rewrite}
 use Rattle.net_model.specs.declared.walk.Leaf.{Leaf}
@@ -13,6 +15,10 @@ use Rattle.serde_json.specs.Written.{has_float, items_have_float, members_have_f
 use Rattle.report_json.specs.Json.{items_of, members_of, data_value}
 use Rattle.report_json.specs.Walks.{zone_member, hop_value, hop_values, leaf_value, end_values, walk_value}
 use Rattle.report_json.specs.Ask.{ask_value}
+use Rattle.report_json.specs.Entries.{entry_of}
+use Rattle.report_json.specs.Faults.{fault_value}
+use Rattle.report_json.specs.Report.{report_value}
+use Rattle.report_json.specs.declared.report.EntryParts.{EntryParts}
 
 texts_plain : (rdata : List Rdata) → items_have_float (items_of (map data_value rdata)) ≡ false
 texts_plain [] = refl
@@ -55,3 +61,24 @@ walks_plain (walk ∷ walks) = rw (steps_plain walk.leaf walk.states walk.states
 -- nor has the answer of `ask`
 pub ask_plain : (name : Labels) (rtype : RrType) (walks : List Walk) → has_float (ask_value name rtype walks) ≡ false
 ask_plain name rtype walks = rw (walks_plain walks) refl
+
+fault_plain : (fault : Fault) → has_float (fault_value fault) ≡ false
+fault_plain (faults.Lame cut) = refl
+fault_plain (faults.Differs cut) = refl
+fault_plain (faults.NoGlue cut) = refl
+fault_plain (faults.GlueDiffers cut) = refl
+fault_plain (faults.Cyclic cut) = refl
+fault_plain (faults.Limit place) = refl
+fault_plain (faults.Blackhole place) = refl
+fault_plain (faults.Answers class rtype) = refl
+fault_plain (faults.Overlong place) = refl
+fault_plain (faults.NoAddress cut) = refl
+
+entries_plain : (entries : List EntryParts) → items_have_float (items_of (map entry_of entries)) ≡ false
+entries_plain [] = refl
+entries_plain (entry ∷ entries) = rw (fault_plain entry.fault.now, walks_plain entry.walks.now) (entries_plain entries)
+
+-- nor has a report
+pub report_plain : (classes names rewrites : ℕ) (entries : List EntryParts)
+    → has_float (report_value classes names rewrites (map entry_of entries)) ≡ false
+report_plain classes names rewrites entries = rw (entries_plain entries) refl

@@ -1,3 +1,4 @@
 pub mod Sending
 pub mod Floats
 pub mod Walks
+mod Worked

@@ -1,5 +1,6 @@
 -- Values that are sent one after another are the items of an array, and members those of an object.
-use Rattle.std.proofs.Common.{◌≡◌, ℕ, suc, ◌+◌, List, [], ◌∷◌, ◌++◌, length, map, Option, Some, refl, sym, ap, subst, ◌∙◌, arith}
+use Rattle.std.proofs.Common.{◌≡◌, ℕ, suc, ◌+◌, List, [], ◌∷◌, ◌++◌, length, map, Option, Some, refl, sym, ap, subst, ◌∙◌, arith, ◌<◌, drop, get_or}
+use Rattle.std.proofs.Math.Seq.{drop-cons}
 use Rattle.dns_data.specs.Name.{Labels}
 use Rattle.serde.specs.Event.{Log, Logs, WritesEach, seq_begins, seq_ends, map_begins}
 use Rattle.serde_json.specs.Data.{Data}
@@ -53,3 +54,10 @@ pub same_object : (members same : List (List ℕ × Data)) (zone same_zone : Opt
 same_object members same zone same_zone old new by_members by_zone sent =
     subst (λ last. SendsValue (object_of (same ++ zone_member last)) old new) by_zone
     (subst (λ first. SendsValue (object_of (first ++ zone_member zone)) old new) by_members sent)
+
+-- an item, and what is left behind it
+pub left_at : {A : Type 0} (items : List A) (i : ℕ) (item : A) → i < length items → item ≡ get_or items i item
+    → drop i items ≡ item ∷ drop (i + 1) items
+left_at items i item below is =
+    let next : suc i ≡ i + 1 = omega arith in
+    drop-cons items i item below ∙ (ap (λ one. one ∷ drop (suc i) items) (sym is) ∙ ap (λ n. item ∷ drop n items) next)

@@ -2,4 +2,7 @@ pub use Rattle.net_model.specs.Walk
 pub mod Json
 pub mod Walks
 pub mod Ask
+pub mod Faults
+pub mod Report
+pub mod Entries
 pub mod Members

@@ -8,10 +8,13 @@
 #![tactic(auto)]
 
 mod ask;
+mod fault;
 mod object;
+mod report;
 mod walk;
 
 pub use ask::ask_text;
+pub use report::{EntryParts, report_text};
 
 #[cfg(test)]
 mod tests;

@@ -144,7 +144,7 @@ fn send_data<S: Serializer>(alloc: Global, rdata: &Rdata, out: &mut S) -> Result
     ensures { OnOk result (SendsValue (data_value rdata.now) (S.written out.old) (S.written out.new)) }
 {
     match text_of(alloc, rdata) {
-        Ok(text) => out.str(text.as_str()),
+        Ok(printed) => out.str(printed.as_str()),
         Err(NoMemory) => Err(out.custom("no memory")),
     }
 }

@@ -1,8 +1,8 @@
-//! The call that takes memory, once with ample.
+//! Each call that takes memory, once with ample.
 
-use crate::ask_text;
+use crate::{EntryParts, ask_text, report_text};
 use dns_data::{List, Name, Rdata, RrType};
-use net_model::{Leaf, State, Walk};
+use net_model::{Class, Fault, Leaf, State, Walk};
 use std::test::Fail;
 
 // A walk that ends in an answer at once.
@@ -29,6 +29,27 @@ fn one_walk(rt: HostRuntime) -> Result<(), Fail> {
     let text = ask_text(alloc, &Name::root(), RrType::A, [walk].as_slice())?;
     let expected =
         "{\"query\":\".\",\"type\":\"A\",\"walks\":[[{\"did\":\"answer\",\"name\":\".\",\"rdata\":[\"192.0.2.1\"],\"server\":\".\",\"zone\":\".\"}]]}\n";
+    assert_eq!(rt; text.items(), expected.as_bytes());
+    Ok(())
+}
+
+// A report with an entry.
+#[test]
+fn one_entry(rt: HostRuntime) -> Result<(), Fail> {
+    let alloc = rt.alloc();
+    let fault = Fault::Answers(Class::Exact(Name::root()), RrType::Mx);
+    let query = Name::root();
+    let walks = List::new(alloc);
+    let entry = EntryParts {
+        fault: &fault,
+        query: &query,
+        rtype: RrType::Mx,
+        repeats: false,
+        walks: walks.items(),
+    };
+    let text = report_text(alloc, 2, 1, 12, [entry].as_slice())?;
+    let expected =
+        "{\"classes\":2,\"faults\":[{\"kind\":\"answers-differ\",\"place\":{\"class\":\"exact\",\"name\":\".\",\"type\":\"MX\"},\"query\":\".\",\"repeats\":false,\"type\":\"MX\",\"walks\":[]}],\"names\":1,\"rewrites\":12}\n";
     assert_eq!(rt; text.items(), expected.as_bytes());
     Ok(())
 }
