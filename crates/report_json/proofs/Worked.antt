@@ -1,10 +1,9 @@
 -- Texts that were worked out by hand.
-use Rattle.std.specs.Prelude.{◌≡◌, refl, ℕ, Bool, true, false, List, [], ◌∷◌, ◌++◌, codes, None, Some}
+use Rattle.std.specs.Prelude.{◌≡◌, refl, true, false, List, [], ◌∷◌, codes, None, Some}
 use Rattle.std.specs.Fmt.{digits}
 use Rattle.serde_json.proofs.OnLiterals.{serde_json_on_literals}
 use Rattle.dns_data.specs.Name.{Labels}
-use Rattle.dns_data.specs.declared.rdata.Rdata.{Rdata}
-use Rattle.dns_data.specs.declared.rdata.Rdata.TheVariants.{Txt, A}
+use Rattle.dns_data.specs.declared.rdata.Rdata.TheVariants.{Txt}
 use Rattle.dns_data.specs.declared.rr_type.RrType.TheVariants as types
 use Rattle.net_model.specs.declared.class.Class.TheVariants.{Below}
 use Rattle.net_model.specs.declared.fault.Fault.TheVariants as faults

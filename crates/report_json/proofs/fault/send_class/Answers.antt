@@ -1,4 +1,4 @@
-use Rattle.std.proofs.Common.{◌≡◌, ◌∷◌, [], map, codes, refl, None, Some}
+use Rattle.std.proofs.Common.{◌≡◌, ◌∷◌, [], map, codes, refl, None}
 use Rattle.std.proofs.lemmas.Result.{on_ok_weaker}
 use Rattle.dns_data.specs.RrType.{word_of}
 use Rattle.serde_json.specs.Data.{string}

@@ -1,8 +1,5 @@
-use Rattle.std.proofs.Common.{◌≡◌, ◌∷◌, [], map, codes, refl, None, Some}
+use Rattle.std.proofs.Common.{◌≡◌, ◌∷◌, [], map, codes, refl, Some}
 use Rattle.std.proofs.lemmas.Result.{on_ok_weaker}
-use Rattle.dns_data.specs.RrType.{word_of}
-use Rattle.serde_json.specs.Data.{string}
-use Rattle.report_json.specs.Faults.{class_word, class_name}
 use Rattle.report_json.specs.Json.{name_value}
 use Rattle.report_json.specs.Members.{member_of}
 use Rattle.report_json.proofs.Sending.{same_object}
