@@ -8,7 +8,7 @@ use Rattle.master_lex.specs.declared.octet.OctetKind.{OctetKind}
 use Rattle.master_lex.specs.declared.octet.OctetKind.TheVariants.{Plain, Blank, LineFeed, Semicolon, Open, Close, Quote, Backslash}
 use Rattle.master_lex.specs.declared.scanner.TheConstants.{MOST}
 use Rattle.master_lex.specs.Octets.{kind}
-use Rattle.master_lex.specs.Pieces.{Piece, Skipped, LineEnd, Opening, Closing, Written, before, pieces, comment, in_quotes, escaped}
+use Rattle.master_lex.specs.Pieces.{Piece, Skipped, LineEnd, Opening, Closing, Written, before, pieces, comment, in_quotes, after_backslash}
 use Rattle.master_lex.specs.Contents.{EntrySoFar, fails, contents_from}
 
 -- ---- the pieces of a text by what its first octet means
@@ -20,7 +20,7 @@ by_kind Semicolon octet text = Skipped octet ∷ comment text
 by_kind Open octet text = Opening ∷ pieces text
 by_kind Close octet text = Closing ∷ pieces text
 by_kind Quote octet text = before true [] (in_quotes text)
-by_kind Backslash octet text = escaped false text
+by_kind Backslash octet text = after_backslash false text
 by_kind Plain octet text = before false (octet ∷ []) (pieces text)
 
 same_by : (octet : ℕ) (text : List ℕ) (blank feed semicolon open' close quote backslash : Bool)
@@ -30,7 +30,7 @@ same_by : (octet : ℕ) (text : List ℕ) (blank feed semicolon open' close quot
     else (if open' then Opening ∷ pieces text
     else (if close then Closing ∷ pieces text
     else (if quote then before true [] (in_quotes text)
-    else (if backslash then escaped false text
+    else (if backslash then after_backslash false text
     else before false (octet ∷ []) (pieces text))))))))
     ≡ by_kind (if blank then Blank
     else if feed then LineFeed

@@ -9,4 +9,5 @@ pub mod Settled
 pub mod StandsLemmas
 pub mod Values
 pub mod Spelled
+pub mod SpelledFronts
 mod Worked

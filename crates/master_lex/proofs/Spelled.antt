@@ -4,10 +4,10 @@ use Rattle.std.specs.Prelude.{◌||◌, ◌==◌, nat_eq, if◌then◌else◌}
 use Rattle.std.specs.List.{flat_map, list_any}
 use Rattle.dns_data.specs.Octet.{is_digit}
 use Rattle.master_lex.specs.declared.fault.LexKind.TheVariants.{OpenQuote}
-use Rattle.master_lex.specs.Pieces.{Piece, Skipped, LineEnd, Opening, Closing, Written, Broken, before, bad_escape, is_code, pieces, comment, in_quotes, escaped, second_digit, third_digit, spelled, is_broken}
+use Rattle.master_lex.specs.Pieces.{Piece, Skipped, LineEnd, Opening, Closing, Written, Broken, before, bad_escape, is_code, pieces, comment, in_quotes, after_backslash, after_digit, after_two_digits, written_octets, is_broken}
 
 abbrev all : List Piece → List ℕ
-all xs = flat_map spelled xs
+all xs = flat_map written_octets xs
 
 -- no piece is a fault
 abbrev Sound : List Piece → Type 0
@@ -51,10 +51,10 @@ escape_spells : (quoted b : Bool) (w text : List ℕ) → Spelling quoted (rest_
 escape_spells quoted true w text h sound = before_spells quoted w text (rest_of quoted text) (h (before_sound quoted w (rest_of quoted text) sound))
 escape_spells quoted false w text h sound = absurd cc
 
-backslash_spells : (quoted : Bool) (octet : ℕ) (text : List ℕ) → Spelling quoted (second_digit quoted octet text) (92 ∷ octet ∷ text) → Spelling quoted (rest_of quoted text) text
-    → Spelling quoted (escaped quoted (octet ∷ text)) (92 ∷ octet ∷ text)
+backslash_spells : (quoted : Bool) (octet : ℕ) (text : List ℕ) → Spelling quoted (after_digit quoted octet text) (92 ∷ octet ∷ text) → Spelling quoted (rest_of quoted text) text
+    → Spelling quoted (after_backslash quoted (octet ∷ text)) (92 ∷ octet ∷ text)
 backslash_spells quoted octet text digits rest = by (is_digit octet) (nat_eq octet 10) where
-  by : (digit feed : Bool) → Spelling quoted (if digit then second_digit quoted octet text else (if feed then bad_escape quoted else before quoted (92 ∷ octet ∷ []) (rest_of quoted text))) (92 ∷ octet ∷ text)
+  by : (digit feed : Bool) → Spelling quoted (if digit then after_digit quoted octet text else (if feed then bad_escape quoted else before quoted (92 ∷ octet ∷ []) (rest_of quoted text))) (92 ∷ octet ∷ text)
   by true feed = digits
   by false true = no_spelling quoted (92 ∷ octet ∷ text)
   by false false = escape_spells quoted true (92 ∷ octet ∷ []) text rest
@@ -65,10 +65,10 @@ comment_spells octet text lines more = by (nat_eq octet 10) refl where
   by true is sound = rw (eqb-true octet 10 is) (ap (λ (t : List ℕ). 10 ∷ t) (lines sound))
   by false is sound = ap (λ (t : List ℕ). octet ∷ t) (more sound)
 
-quotes_spell : (octet : ℕ) (text : List ℕ) → Spelling false (pieces text) text → Spelling true (in_quotes text) text → Spelling true (escaped true text) (92 ∷ text) → Spelling true (in_quotes (octet ∷ text)) (octet ∷ text)
+quotes_spell : (octet : ℕ) (text : List ℕ) → Spelling false (pieces text) text → Spelling true (in_quotes text) text → Spelling true (after_backslash true text) (92 ∷ text) → Spelling true (in_quotes (octet ∷ text)) (octet ∷ text)
 quotes_spell octet text lines more escape = by (nat_eq octet 34) (nat_eq octet 10) (nat_eq octet 92) refl refl where
   by : (quote feed backslash : Bool) → nat_eq octet 34 ≡ quote → nat_eq octet 92 ≡ backslash
-      → Spelling true (if quote then Written true [] ∷ pieces text else (if feed then Broken OpenQuote ∷ [] else (if backslash then escaped true text else before true (octet ∷ []) (in_quotes text)))) (octet ∷ text)
+      → Spelling true (if quote then Written true [] ∷ pieces text else (if feed then Broken OpenQuote ∷ [] else (if backslash then after_backslash true text else before true (octet ∷ []) (in_quotes text)))) (octet ∷ text)
   by true feed backslash is at sound = ([], (pieces text, (refl, rw (eqb-true octet 34 is) (ap (λ (t : List ℕ). 34 ∷ t) (lines sound)))))
   by false true backslash is at sound = absurd cc
   by false false true is at sound = rw (eqb-true octet 92 at) (escape sound)
@@ -80,7 +80,7 @@ opened_spells text h sound =
     let s = h (before_sound true [] (in_quotes text) sound) in
     ap (λ xs. all (before true [] xs)) s.1.1.0 ∙ ap (λ (t : List ℕ). 34 ∷ t) (append_assoc s.0 (34 ∷ []) (all s.1.0) ∙ s.1.1.1)
 
-pieces_spell : (octet : ℕ) (text : List ℕ) → Spelling false (pieces text) text → Spelling false (comment text) text → Spelling true (in_quotes text) text → Spelling false (escaped false text) (92 ∷ text)
+pieces_spell : (octet : ℕ) (text : List ℕ) → Spelling false (pieces text) text → Spelling false (comment text) text → Spelling true (in_quotes text) text → Spelling false (after_backslash false text) (92 ∷ text)
     → Spelling false (pieces (octet ∷ text)) (octet ∷ text)
 pieces_spell octet text more comments quotes escape =
     by (octet == 32 || octet == 9 || octet == 13) (nat_eq octet 10) (nat_eq octet 59) (nat_eq octet 40) (nat_eq octet 41) (nat_eq octet 34) (nat_eq octet 92) refl refl refl refl refl where
@@ -91,7 +91,7 @@ pieces_spell octet text more comments quotes escape =
           else (if open' then Opening ∷ pieces text
           else (if close then Closing ∷ pieces text
           else (if quote then before true [] (in_quotes text)
-          else (if backslash then escaped false text
+          else (if backslash then after_backslash false text
           else before false (octet ∷ []) (pieces text)))))))) (octet ∷ text)
       by true _ _ _ _ _ _ f o c q b sound = ap (λ (t : List ℕ). octet ∷ t) (more sound)
       by false true _ _ _ _ _ f o c q b sound = rw (eqb-true octet 10 f) (ap (λ (t : List ℕ). 10 ∷ t) (more sound))
@@ -115,15 +115,15 @@ mutual
   quotes_spelled [] = λ sound. absurd cc
   quotes_spelled (octet ∷ text) = quotes_spell octet text (pieces_spelled text) (quotes_spelled text) (escaped_spelled true text)
 
-  escaped_spelled : (quoted : Bool) (text : List ℕ) → Spelling quoted (escaped quoted text) (92 ∷ text)
+  escaped_spelled : (quoted : Bool) (text : List ℕ) → Spelling quoted (after_backslash quoted text) (92 ∷ text)
   escaped_spelled quoted [] = no_spelling quoted (92 ∷ [])
   escaped_spelled quoted (octet ∷ text) = backslash_spells quoted octet text (second_spelled quoted octet text) (by_quotes quoted text (quotes_spelled text) (pieces_spelled text))
 
-  second_spelled : (quoted : Bool) (first : ℕ) (text : List ℕ) → Spelling quoted (second_digit quoted first text) (92 ∷ first ∷ text)
+  second_spelled : (quoted : Bool) (first : ℕ) (text : List ℕ) → Spelling quoted (after_digit quoted first text) (92 ∷ first ∷ text)
   second_spelled quoted first [] = no_spelling quoted (92 ∷ first ∷ [])
   second_spelled quoted first (second ∷ text) = third_spelled quoted first second text
 
-  third_spelled : (quoted : Bool) (first second : ℕ) (text : List ℕ) → Spelling quoted (third_digit quoted first second text) (92 ∷ first ∷ second ∷ text)
+  third_spelled : (quoted : Bool) (first second : ℕ) (text : List ℕ) → Spelling quoted (after_two_digits quoted first second text) (92 ∷ first ∷ second ∷ text)
   third_spelled quoted first second [] = no_spelling quoted (92 ∷ first ∷ second ∷ [])
   third_spelled quoted first second (third ∷ text) =
       escape_spells quoted (is_code first second third) (92 ∷ first ∷ second ∷ third ∷ []) text (by_quotes quoted text (quotes_spelled text) (pieces_spelled text))

@@ -15,13 +15,13 @@ use Rattle.master_lex.specs.declared.scanner.Mode.TheVariants.{Start, Between, C
 use Rattle.master_lex.specs.declared.scanner.Escape.TheVariants.{Outside, Begun, One, Two}
 use Rattle.master_lex.specs.Lists.{is_empty}
 use Rattle.master_lex.specs.Octets.{kind, is_space}
-use Rattle.master_lex.specs.Pieces.{is_code, Piece, Skipped, LineEnd, Written, Broken, before, bad_escape, pieces, comment, in_quotes, escaped, second_digit, third_digit}
+use Rattle.master_lex.specs.Pieces.{is_code, Piece, Skipped, LineEnd, Written, Broken, before, bad_escape, pieces, comment, in_quotes, after_backslash, after_digit, after_two_digits}
 use Rattle.master_lex.specs.Contents.{EntrySoFar, begins_blank, entry_start, entry_at, fails, behind, contents_from}
 use Rattle.master_lex.specs.States.{State, with_mode, failed, pushed, kept, escape_begun, token_ended, entry_of, entry_ended, between_by, in_word_by, in_quotes_by, behind_backslash, behind_digit, behind_digits, in_comment_by, passed_by, passed, Fits, IsTidy, entry_so_far, rest_of_token, ahead_by, ahead}
 use Rattle.master_lex.proofs.Ahead.{by_kind, pieces_by_kind, before_before, too_long}
 
 -- what an escape spells goes on with its token
-pub escape_of : (quoted : Bool) (text : List ℕ) → (more : List ℕ) × ((rest : List Piece) × (escaped quoted text ≡ before quoted (92 ∷ more) rest))
+pub escape_of : (quoted : Bool) (text : List ℕ) → (more : List ℕ) × ((rest : List Piece) × (after_backslash quoted text ≡ before quoted (92 ∷ more) rest))
 escape_of quoted text = by quoted text where
   bad_of : (q : Bool) → (more : List ℕ) × ((rest : List Piece) × (bad_escape q ≡ before q (92 ∷ more) rest))
   bad_of false = ([], (Broken BadEscape ∷ [], refl))
@@ -32,19 +32,19 @@ escape_of quoted text = by quoted text where
   if_of q true x y h k = h
   if_of q false x y h k = k
 
-  third : (q : Bool) (a b : ℕ) (text : List ℕ) → (more : List ℕ) × ((rest : List Piece) × (third_digit q a b text ≡ before q (92 ∷ more) rest))
+  third : (q : Bool) (a b : ℕ) (text : List ℕ) → (more : List ℕ) × ((rest : List Piece) × (after_two_digits q a b text ≡ before q (92 ∷ more) rest))
   third q a b [] = bad_of q
   third q a b (c ∷ text) = if_of q (is_code a b c) _ _ (a ∷ b ∷ c ∷ [], (_, refl)) (bad_of q)
 
-  second : (q : Bool) (a : ℕ) (text : List ℕ) → (more : List ℕ) × ((rest : List Piece) × (second_digit q a text ≡ before q (92 ∷ more) rest))
+  second : (q : Bool) (a : ℕ) (text : List ℕ) → (more : List ℕ) × ((rest : List Piece) × (after_digit q a text ≡ before q (92 ∷ more) rest))
   second q a [] = bad_of q
   second q a (b ∷ text) = third q a b text
 
-  by : (q : Bool) (text : List ℕ) → (more : List ℕ) × ((rest : List Piece) × (escaped q text ≡ before q (92 ∷ more) rest))
+  by : (q : Bool) (text : List ℕ) → (more : List ℕ) × ((rest : List Piece) × (after_backslash q text ≡ before q (92 ∷ more) rest))
   by q [] = bad_of q
   by q (c ∷ text) = if_of q (is_digit c) _ _ (second q c text) (if_of q (c == 10) _ _ (bad_of q) (c ∷ [], (_, refl)))
 
-escape_alone : (quoted : Bool) (text : List ℕ) → before quoted [] (escaped quoted text) ≡ escaped quoted text
+escape_alone : (quoted : Bool) (text : List ℕ) → before quoted [] (after_backslash quoted text) ≡ after_backslash quoted text
 escape_alone quoted text =
     let e = escape_of quoted text in
     ap (before quoted []) e.1.1 ∙ before_before quoted [] (92 ∷ e.0) e.1.0 ∙ sym e.1.1
@@ -62,9 +62,9 @@ module _ (s : State) (quoted : Bool) where
     by false h = ap (behind s.ready) (too_long (entry_so_far s) quoted (s.raw ++ w) (rest_of_token quoted Outside text) (let l : MOST - length s.raw < length w = grind (arith, nat_tests) in omega (arith, l, length-append s.raw w)))
 
   -- a backslash
-  escape_ahead : (text : List ℕ) → behind s.ready (contents_from (entry_so_far s) (before quoted s.raw (escaped quoted text))) ≡ ahead (escape_begun s quoted) text
+  escape_ahead : (text : List ℕ) → behind s.ready (contents_from (entry_so_far s) (before quoted s.raw (after_backslash quoted text))) ≡ ahead (escape_begun s quoted) text
   escape_ahead text = by (nat_lt (length s.raw) MOST) refl where
-    long : MOST ≤ length s.raw → contents_from (entry_so_far s) (before quoted s.raw (escaped quoted text)) ≡ fails s.position.line TokenTooLong
+    long : MOST ≤ length s.raw → contents_from (entry_so_far s) (before quoted s.raw (after_backslash quoted text)) ≡ fails s.position.line TokenTooLong
     long l =
         let e = escape_of quoted text in
         ap (λ x. contents_from (entry_so_far s) (before quoted s.raw x)) e.1.1
@@ -72,7 +72,7 @@ module _ (s : State) (quoted : Bool) where
         ∙ too_long (entry_so_far s) quoted (s.raw ++ 92 ∷ e.0) e.1.0 (omega (arith, l, length-append s.raw (92 ∷ e.0)))
 
     by : (short : Bool) → nat_lt (length s.raw) MOST ≡ short
-        → behind s.ready (contents_from (entry_so_far s) (before quoted s.raw (escaped quoted text)))
+        → behind s.ready (contents_from (entry_so_far s) (before quoted s.raw (after_backslash quoted text)))
         ≡ ahead (if short then with_mode s (InToken quoted Begun) else failed s TokenTooLong) text
     by true h = refl
     by false h = ap (behind s.ready) (long (ltb-false _ _ h))
@@ -113,7 +113,7 @@ between_ahead Close s octet text h = by (nat_eq s.position.depth 0) where
 between_ahead Quote s octet text h = ap (λ (w : List ℕ). behind s.ready (contents_from (entry_so_far s) (before true w (in_quotes text)))) (sym h)
 between_ahead Backslash s octet text h =
     ap (λ x. behind s.ready (contents_from (entry_so_far s) x)) (sym (escape_alone false text))
-    ∙ ap (λ (w : List ℕ). behind s.ready (contents_from (entry_so_far s) (before false w (escaped false text)))) (sym h)
+    ∙ ap (λ (w : List ℕ). behind s.ready (contents_from (entry_so_far s) (before false w (after_backslash false text)))) (sym h)
     ∙ escape_ahead s false text
 
 -- ---- the start of an entry
@@ -241,7 +241,7 @@ module _ (s : State) (octet : ℕ) (text : List ℕ) where
     Goal c x = behind s.ready (contents_from (entry_so_far s) (before true s.raw x)) ≡ ahead (in_quotes_by (kind c) s c) text
 
     by : (quote feed backslash : Bool) → nat_eq octet 34 ≡ quote → nat_eq octet 10 ≡ feed → nat_eq octet 92 ≡ backslash
-        → Goal octet (if quote then Written true [] ∷ pieces text else (if feed then Broken OpenQuote ∷ [] else (if backslash then escaped true text else before true (octet ∷ []) (in_quotes text))))
+        → Goal octet (if quote then Written true [] ∷ pieces text else (if feed then Broken OpenQuote ∷ [] else (if backslash then after_backslash true text else before true (octet ∷ []) (in_quotes text))))
     by true f b e g i =
         let is : octet ≡ 34 = eqb-true octet 34 e in
         ap (λ (w : List ℕ). behind s.ready (contents_from (entry_so_far s) (Written true w ∷ pieces text))) (append-nil s.raw)
@@ -262,14 +262,14 @@ module _ (s : State) (octet : ℕ) (text : List ℕ) where
 code_is : (a b c d e : ℕ) → is_code a b c ≡ true → is_digit d ≡ true → is_digit e ≡ true → three_digit_value a d e ≤ three_digit_value a b c → is_code a d e ≡ true
 code_is a b c d e h dd de l = grind (arith, nat_tests)
 
-third_bad : (quoted : Bool) (a b : ℕ) (text : List ℕ) → is_code a b 48 ≡ false → third_digit quoted a b text ≡ bad_escape quoted
+third_bad : (quoted : Bool) (a b : ℕ) (text : List ℕ) → is_code a b 48 ≡ false → after_two_digits quoted a b text ≡ bad_escape quoted
 third_bad quoted a b [] h = refl
 third_bad quoted a b (c ∷ text) h = by (is_code a b c) refl where
   by : (x : Bool) → is_code a b c ≡ x → (if x then before quoted (92 ∷ a ∷ b ∷ c ∷ []) (if quoted then in_quotes text else pieces text) else bad_escape quoted) ≡ bad_escape quoted
   by false e = refl
   by true e = absurd (grind (arith, nat_tests))
 
-second_bad : (quoted : Bool) (a : ℕ) (text : List ℕ) → is_code a 48 48 ≡ false → second_digit quoted a text ≡ bad_escape quoted
+second_bad : (quoted : Bool) (a : ℕ) (text : List ℕ) → is_code a 48 48 ≡ false → after_digit quoted a text ≡ bad_escape quoted
 second_bad quoted a [] h = refl
 second_bad quoted a (b ∷ []) h = refl
 second_bad quoted a (b ∷ c ∷ text) h = by (is_code a b c) refl where
@@ -284,10 +284,10 @@ module _ (s : State) (quoted : Bool) (octet : ℕ) (text : List ℕ) (room : len
   more : (w : List ℕ) → behind s.ready (contents_from (entry_so_far s) (before quoted s.raw (before quoted w (rest_of_token quoted Outside text)))) ≡ ahead (kept s w quoted) text
   more w = ap (λ x. behind s.ready (contents_from (entry_so_far s) x)) (before_before quoted s.raw w (rest_of_token quoted Outside text)) ∙ kept_ahead s quoted w text
 
-  backslash_ahead : behind s.ready (contents_from (entry_so_far s) (before quoted s.raw (escaped quoted (octet ∷ text)))) ≡ ahead (behind_backslash s octet quoted) text
+  backslash_ahead : behind s.ready (contents_from (entry_so_far s) (before quoted s.raw (after_backslash quoted (octet ∷ text)))) ≡ ahead (behind_backslash s octet quoted) text
   backslash_ahead = by (is_digit octet) (nat_eq octet 10) (is_code octet 48 48) refl where
     by : (digit feed code : Bool) → is_code octet 48 48 ≡ code
-        → behind s.ready (contents_from (entry_so_far s) (before quoted s.raw (if digit then second_digit quoted octet text else (if feed then bad_escape quoted
+        → behind s.ready (contents_from (entry_so_far s) (before quoted s.raw (if digit then after_digit quoted octet text else (if feed then bad_escape quoted
         else before quoted (92 ∷ octet ∷ []) (rest_of_token quoted Outside text)))))
         ≡ ahead (if digit then (if code then with_mode s (InToken quoted (One octet)) else failed s BadEscape) else (if feed then failed s BadEscape else kept s (92 ∷ octet ∷ []) quoted)) text
     by true feed true e = refl
@@ -295,14 +295,14 @@ module _ (s : State) (quoted : Bool) (octet : ℕ) (text : List ℕ) (room : len
     by false true code e = bad
     by false false code e = more (92 ∷ octet ∷ [])
 
-  digit_ahead : (first : ℕ) → behind s.ready (contents_from (entry_so_far s) (before quoted s.raw (second_digit quoted first (octet ∷ text)))) ≡ ahead (behind_digit first s octet quoted) text
+  digit_ahead : (first : ℕ) → behind s.ready (contents_from (entry_so_far s) (before quoted s.raw (after_digit quoted first (octet ∷ text)))) ≡ ahead (behind_digit first s octet quoted) text
   digit_ahead first = by (is_code first octet 48) refl where
-    by : (code : Bool) → is_code first octet 48 ≡ code → behind s.ready (contents_from (entry_so_far s) (before quoted s.raw (third_digit quoted first octet text)))
+    by : (code : Bool) → is_code first octet 48 ≡ code → behind s.ready (contents_from (entry_so_far s) (before quoted s.raw (after_two_digits quoted first octet text)))
         ≡ ahead (if code then with_mode s (InToken quoted (Two first octet)) else failed s BadEscape) text
     by true e = refl
     by false e = ap (λ x. behind s.ready (contents_from (entry_so_far s) (before quoted s.raw x))) (third_bad quoted first octet text e) ∙ bad
 
-  digits_ahead : (first second : ℕ) → behind s.ready (contents_from (entry_so_far s) (before quoted s.raw (third_digit quoted first second (octet ∷ text)))) ≡ ahead (behind_digits first second s octet quoted) text
+  digits_ahead : (first second : ℕ) → behind s.ready (contents_from (entry_so_far s) (before quoted s.raw (after_two_digits quoted first second (octet ∷ text)))) ≡ ahead (behind_digits first second s octet quoted) text
   digits_ahead first second = by (is_code first second octet) where
     by : (code : Bool) → behind s.ready (contents_from (entry_so_far s) (before quoted s.raw (if code then before quoted (92 ∷ first ∷ second ∷ octet ∷ []) (rest_of_token quoted Outside text) else bad_escape quoted)))
         ≡ ahead (if code then kept s (92 ∷ first ∷ second ∷ octet ∷ []) quoted else failed s BadEscape) text

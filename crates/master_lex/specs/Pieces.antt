@@ -41,7 +41,7 @@ abbrev mutual
       else (if octet == 40 then Opening ∷ pieces text
       else (if octet == 41 then Closing ∷ pieces text
       else (if octet == 34 then before true [] (in_quotes text)
-      else (if octet == 92 then escaped false text
+      else (if octet == 92 then after_backslash false text
       else before false (octet ∷ []) (pieces text)))))))
 
   -- in a comment, up to the line's end
@@ -55,41 +55,53 @@ abbrev mutual
   in_quotes (octet ∷ text) =
       if octet == 34 then Written true [] ∷ pieces text
       else (if octet == 10 then Broken OpenQuote ∷ []
-      else (if octet == 92 then escaped true text
+      else (if octet == 92 then after_backslash true text
       else before true (octet ∷ []) (in_quotes text)))
 
   -- behind a backslash: three digits of a value up to 255, or any octet but a digit and the line feed
-  pub escaped : Bool → List ℕ → List Piece
-  escaped quoted [] = bad_escape quoted
-  escaped quoted (octet ∷ text) =
-      if is_digit octet then second_digit quoted octet text
+  pub after_backslash : Bool → List ℕ → List Piece
+  after_backslash quoted [] = bad_escape quoted
+  after_backslash quoted (octet ∷ text) =
+      if is_digit octet then after_digit quoted octet text
       else (if octet == 10 then bad_escape quoted
       else before quoted (92 ∷ octet ∷ []) (if quoted then in_quotes text else pieces text))
 
   -- behind a backslash and a digit
-  pub second_digit : Bool → ℕ → List ℕ → List Piece
-  second_digit quoted first [] = bad_escape quoted
-  second_digit quoted first (second ∷ text) = third_digit quoted first second text
+  pub after_digit : Bool → ℕ → List ℕ → List Piece
+  after_digit quoted first [] = bad_escape quoted
+  after_digit quoted first (second ∷ text) = after_two_digits quoted first second text
 
   -- behind a backslash and two octets, the first of which is a digit
-  pub third_digit : Bool → ℕ → ℕ → List ℕ → List Piece
-  third_digit quoted first second [] = bad_escape quoted
-  third_digit quoted first second (third ∷ text) =
+  pub after_two_digits : Bool → ℕ → ℕ → List ℕ → List Piece
+  after_two_digits quoted first second [] = bad_escape quoted
+  after_two_digits quoted first second (third ∷ text) =
       if is_code first second third
       then before quoted (92 ∷ first ∷ second ∷ third ∷ []) (if quoted then in_quotes text else pieces text)
       else bad_escape quoted
 
 -- the octets of a piece; a fault has none
-abbrev pub spelled : Piece → List ℕ
-spelled (Skipped octet) = octet ∷ []
-spelled LineEnd = 10 ∷ []
-spelled Opening = 40 ∷ []
-spelled Closing = 41 ∷ []
-spelled (Written false octets) = octets
-spelled (Written true octets) = 34 ∷ (octets ++ 34 ∷ [])
-spelled (Broken kind) = []
+abbrev pub written_octets : Piece → List ℕ
+written_octets (Skipped octet) = octet ∷ []
+written_octets LineEnd = 10 ∷ []
+written_octets Opening = 40 ∷ []
+written_octets Closing = 41 ∷ []
+written_octets (Written false octets) = octets
+written_octets (Written true octets) = 34 ∷ (octets ++ 34 ∷ [])
+written_octets (Broken kind) = []
 
 -- a fault
 abbrev pub is_broken : Piece → Bool
 is_broken (Broken kind) = true
 is_broken _ = false
+
+-- a fault comes first
+abbrev pub begins_broken : List Piece → Bool
+begins_broken (Broken kind ∷ rest) = true
+begins_broken _ = false
+
+-- the octets of pieces up to a fault, which leaves the token before it without its closing quote
+abbrev pub written_front : List Piece → List ℕ
+written_front [] = []
+written_front (Written true octets ∷ rest) =
+    34 ∷ (octets ++ (if begins_broken rest then [] else 34 ∷ written_front rest))
+written_front (piece ∷ rest) = written_octets piece ++ written_front rest

@@ -18,7 +18,7 @@ use Rattle.master_lex.specs.declared.scanner.Scanner.{Scanner}
 use Rattle.master_lex.specs.declared.scanner.TheConstants.{MOST}
 use Rattle.master_lex.specs.Lists.{is_empty}
 use Rattle.master_lex.specs.Octets.{kind, is_space}
-use Rattle.master_lex.specs.Pieces.{is_code, Piece, pieces, comment, in_quotes, escaped, second_digit, third_digit, before}
+use Rattle.master_lex.specs.Pieces.{is_code, Piece, pieces, comment, in_quotes, after_backslash, after_digit, after_two_digits, before}
 use Rattle.master_lex.specs.Contents.{EntrySoFar, Contents, begins_blank, behind, contents_from}
 
 -- the whole entries that weren't taken, and the entry under way: its whole tokens, the octets of the
@@ -214,9 +214,9 @@ entry_so_far s = record {
 -- the pieces of a text that begins in a token, whose escape may have begun
 abbrev pub rest_of_token : Bool → Escape → List ℕ → List Piece
 rest_of_token quoted Outside text = if quoted then in_quotes text else pieces text
-rest_of_token quoted Begun text = escaped quoted text
-rest_of_token quoted (One first) text = second_digit quoted first text
-rest_of_token quoted (Two first second) text = third_digit quoted first second text
+rest_of_token quoted Begun text = after_backslash quoted text
+rest_of_token quoted (One first) text = after_digit quoted first text
+rest_of_token quoted (Two first second) text = after_two_digits quoted first second text
 
 -- what a text holds that goes on from here
 abbrev pub ahead_by : Mode → State → List ℕ → Contents

@@ -11,7 +11,8 @@ use Rattle.dns_data.specs.DataText.{separated, data_text}
 use Rattle.dns_data.specs.declared.rdata.Rdata.TheVariants.{A}
 use Rattle.dns_data.specs.Number.{is_digits, number_up_to}
 use Rattle.dns_data.specs.Options.{◌>>=◌}
-use Rattle.rdata_forms.specs.Addresses.{IsIpv4Text, is_octet, has_leading_zero, part_of, ipv4_of_parts, ipv4_of, split_on}
+use Rattle.rdata_forms.specs.AddressTexts.{IsIpv4Text, is_octet}
+use Rattle.rdata_forms.specs.Addresses.{has_leading_zero, part_of, ipv4_of_parts, ipv4_of, split_on}
 use Rattle.dns_data.proofs.Separators.{Lacks, lacks-append, separated-split, split-separated}
 
 -- digits as std reads them

@@ -3,11 +3,11 @@ use Rattle.std.proofs.Common.{◌≡◌, ℕ, ◌+◌, ◌-◌, ◌<◌, ◌≤�
 use Rattle.std.proofs.lemmas.Bool.{cond-true, eq-eqb, le-leb}
 use Rattle.std.proofs.lemmas.List.{length-replicate, drop-replicate}
 use Rattle.dns_data.specs.Options.{◌>>=◌}
-use Rattle.rdata_forms.specs.Addresses.{split_on, group_of, octets_of_pieces, octets_of, if_whole, if_short, ipv4_of_parts}
+use Rattle.rdata_forms.specs.Addresses.{split_on, group_of, octets_of_pieces, octets_of, if_whole, with_zero_groups, ipv4_of_parts}
 use Rattle.rdata_forms.proofs.Pieces.{split-some}
 
 -- the parts of an address with zeros between them are sixteen octets
-pub short_is_whole : (front back : List ℕ) → length front + length back ≤ 14 → if_whole (front ++ drop (length front + length back) (replicate 16 0) ++ back) ≡ if_short front back
+pub short_is_whole : (front back : List ℕ) → length front + length back ≤ 14 → if_whole (front ++ drop (length front + length back) (replicate 16 0) ++ back) ≡ with_zero_groups front back
 short_is_whole front back room =
     let n = length front + length back in
     let all : length (front ++ (replicate (16 - n) 0 ++ back)) ≡ 16 =
@@ -23,7 +23,7 @@ five_parts a b c d [] some = absurd (omega arith)
 five_parts a b c d (e ∷ rest) some = refl
 
 -- the same of octets that were put together in two steps
-pub zeros_between : (front with_zeros all back : List ℕ) → length front + length back ≤ 14 → with_zeros ≡ front ++ drop (length front + length back) (replicate 16 0) → all ≡ with_zeros ++ back → if_whole all ≡ if_short front back
+pub zeros_between : (front with_zeros all back : List ℕ) → length front + length back ≤ 14 → with_zeros ≡ front ++ drop (length front + length back) (replicate 16 0) → all ≡ with_zeros ++ back → if_whole all ≡ with_zero_groups front back
 zeros_between front with_zeros all back room middle end =
     ap if_whole (end ∙ ap (λ (l : List ℕ). l ++ back) middle) ∙ short_is_whole front back room
 

@@ -8,7 +8,8 @@ use Rattle.std.proofs.lemmas.List.{append-nil, length-map, length-append}
 use Rattle.dns_data.specs.DataText.{separated, data_text}
 use Rattle.dns_data.specs.declared.rdata.Rdata.TheVariants.{A}
 use Rattle.dns_data.specs.Options.{◌>>=◌}
-use Rattle.rdata_forms.specs.Addresses.{Piece, Group, Dotted, IsPiece, ArePieces, IsWholeText, IsShortText, IsIpv6Text, IsIpv4Text, is_octet, is_hex, is_group, group_octets, group_of, last_of, piece_text, piece_octets, pieces_text, pieces_octets, octets_of_pieces, octets_of, side_of, Sides, sides_of, if_whole, if_short, ipv4_of, ipv6_of_sides, ipv6_of, split_on}
+use Rattle.rdata_forms.specs.AddressTexts.{AddressPiece, Group, Dotted, IsPiece, ArePieces, IsWholeText, IsShortText, IsIpv6Text, IsIpv4Text, is_octet, piece_text, piece_octets, pieces_text, pieces_octets}
+use Rattle.rdata_forms.specs.Addresses.{is_hex, is_group, group_octets, group_of, last_of, octets_of_pieces, octets_of, side_of, Sides, sides_of, if_whole, with_zero_groups, ipv4_of, ipv6_of_sides, ipv6_of, split_on}
 use Rattle.dns_data.proofs.Separators.{Lacks, AllLack, rest_of, separated-split, split-separated}
 use Rattle.rdata_forms.proofs.DottedTexts.{tested-lack, dotted-lacks, ipv4-sound, ipv4-complete}
 use Rattle.rdata_forms.proofs.DoubleColon.{AreWords, separated-before, sides-sound}
@@ -36,14 +37,14 @@ dotted-no_group (x ∷ address) n =
     no-group (decimal x) (decimal (slice_index (x ∷ address) 1) ++ rest_of 46 (decimal (slice_index (x ∷ address) 2) ∷ decimal (slice_index (x ∷ address) 3) ∷ []))
 
 -- the octets of the last piece are worked out of its text
-last-complete : (ends : Bool) (piece : Piece) → IsPiece ends piece → last_of ends (piece_text piece) ≡ Some (piece_octets piece)
+last-complete : (ends : Bool) (piece : AddressPiece) → IsPiece ends piece → last_of ends (piece_text piece) ≡ Some (piece_octets piece)
 last-complete ends (Group digits) h = cond-true (is_group digits) _ _ h
 last-complete true (Dotted address) h =
     cond-false (is_group (data_text (A address))) _ _ (dotted-no_group address h.1) ∙ ipv4-complete (data_text (A address)) address (own address h.1 h.2)
 last-complete false (Dotted address) h = absurd (false≢true h.0)
 
 -- the octets of pieces are worked out of their texts
-pieces-complete : (ends : Bool) (pieces : List Piece) → ArePieces ends pieces → octets_of_pieces ends (map piece_text pieces) ≡ Some (pieces_octets pieces)
+pieces-complete : (ends : Bool) (pieces : List AddressPiece) → ArePieces ends pieces → octets_of_pieces ends (map piece_text pieces) ≡ Some (pieces_octets pieces)
 pieces-complete ends [] h = refl
 pieces-complete ends (piece ∷ []) h =
     last-complete ends piece h ∙ ap (λ (l : List ℕ). Some l) (sym (append-nil (piece_octets piece)))
@@ -58,7 +59,7 @@ some-behind [] rest c = omega arith
 some-behind (x ∷ a) rest c = omega arith
 
 -- a piece has an octet, and no colon
-piece-word : (ends : Bool) (piece : Piece) → IsPiece ends piece → (0 < length (piece_text piece)) × Lacks 58 (piece_text piece)
+piece-word : (ends : Bool) (piece : AddressPiece) → IsPiece ends piece → (0 < length (piece_text piece)) × Lacks 58 (piece_text piece)
 piece-word ends (Group digits) h =
     let parts = and_parts (leb 1 (length digits) && leb (length digits) 4) _ h in
     let some = leb-true 1 (length digits) ((and_parts (leb 1 (length digits)) _ parts.0).0) in
@@ -70,7 +71,7 @@ piece-word ends (Dotted address) h = (dotted-some address h.1, dotted-lacks 58 a
       some-behind (decimal x) (decimal (slice_index (x ∷ address) 1) ++ rest_of 46 (decimal (slice_index (x ∷ address) 2) ∷ decimal (slice_index (x ∷ address) 3) ∷ [])) 46
 
 -- pieces are words
-pieces-words : (ends : Bool) (pieces : List Piece) → ArePieces ends pieces → AreWords (map piece_text pieces)
+pieces-words : (ends : Bool) (pieces : List AddressPiece) → ArePieces ends pieces → AreWords (map piece_text pieces)
 pieces-words ends [] h = tt
 pieces-words ends (piece ∷ []) h = let word = piece-word ends piece h in (word.0, word.1, tt)
 pieces-words ends (piece ∷ next ∷ pieces) h = let word = piece-word false piece h.0 in (word.0, word.1, pieces-words ends (next ∷ pieces) h.1)
@@ -80,12 +81,12 @@ words-lack [] h = tt
 words-lack (word ∷ words) h = (h.1, words-lack words h.2)
 
 -- the octets of pieces are worked out of their text
-text-complete : (ends : Bool) (piece : Piece) (pieces : List Piece) → ArePieces ends (piece ∷ pieces) → octets_of ends (pieces_text (piece ∷ pieces)) ≡ Some (pieces_octets (piece ∷ pieces))
+text-complete : (ends : Bool) (piece : AddressPiece) (pieces : List AddressPiece) → ArePieces ends (piece ∷ pieces) → octets_of ends (pieces_text (piece ∷ pieces)) ≡ Some (pieces_octets (piece ∷ pieces))
 text-complete ends piece pieces h =
     ap (octets_of_pieces ends) (split-separated 58 (piece_text piece) (map piece_text pieces) (words-lack (map piece_text (piece ∷ pieces)) (pieces-words ends (piece ∷ pieces) h)))
     ∙ pieces-complete ends (piece ∷ pieces) h
 
-side-complete : (ends : Bool) (pieces : List Piece) → ArePieces ends pieces → side_of ends (pieces_text pieces) ≡ Some (pieces_octets pieces)
+side-complete : (ends : Bool) (pieces : List AddressPiece) → ArePieces ends pieces → side_of ends (pieces_text pieces) ≡ Some (pieces_octets pieces)
 side-complete ends [] h = refl
 side-complete ends (piece ∷ pieces) h =
     let words = pieces-words ends (piece ∷ pieces) h in
@@ -95,13 +96,13 @@ side-complete ends (piece ∷ pieces) h =
 
 -- What is worked out of texts comes from pieces.
 record FromPieces (ends : Bool) (texts : List (List ℕ)) (octets : List ℕ) : Type 0 where
-  pieces : List Piece
+  pieces : List AddressPiece
   well_formed : ArePieces ends pieces
   written : map piece_text pieces ≡ texts
   all : pieces_octets pieces ≡ octets
 
 -- a piece before others
-more-pieces : (ends : Bool) (piece : Piece) (pieces : List Piece) → IsPiece false piece → 0 < length pieces → ArePieces ends pieces → ArePieces ends (piece ∷ pieces)
+more-pieces : (ends : Bool) (piece : AddressPiece) (pieces : List AddressPiece) → IsPiece false piece → 0 < length pieces → ArePieces ends pieces → ArePieces ends (piece ∷ pieces)
 more-pieces ends piece [] h some others = absurd (omega arith)
 more-pieces ends piece (next ∷ pieces) h some others = (h, others)
 
@@ -152,7 +153,7 @@ pieces-sound ends (text ∷ next ∷ texts) octets h =
 
 -- What is worked out of a text comes from pieces.
 record FromText (ends : Bool) (text octets : List ℕ) : Type 0 where
-  pieces : List Piece
+  pieces : List AddressPiece
   well_formed : ArePieces ends pieces
   written : text ≡ pieces_text pieces
   all : pieces_octets pieces ≡ octets
@@ -187,7 +188,7 @@ whole-sound text address (Some octets) e h =
     }
 
 -- the octets on both sides of a `::`
-short-sound : (text address : List ℕ) (sides : Sides) (f b : Option (List ℕ)) → text ≡ sides.front ++ (58 ∷ 58 ∷ sides.back) → side_of false sides.front ≡ f → side_of true sides.back ≡ b → (f >>= λ front. b >>= λ back. if_short front back) ≡ Some address → IsShortText text address
+short-sound : (text address : List ℕ) (sides : Sides) (f b : Option (List ℕ)) → text ≡ sides.front ++ (58 ∷ 58 ∷ sides.back) → side_of false sides.front ≡ f → side_of true sides.back ≡ b → (f >>= λ front. b >>= λ back. with_zero_groups front back) ≡ Some address → IsShortText text address
 short-sound text address sides None b split ef eb h = absurd cc
 short-sound text address sides (Some front) None split ef eb h = absurd cc
 short-sound text address sides (Some front) (Some back) split ef eb h =
@@ -215,14 +216,14 @@ ipv6-sound text address h = by_sides (sides_of text) refl h where
   by_sides (Some sides) e k = inr (short-sound text address sides (side_of false sides.front) (side_of true sides.back) (sides-sound text sides e) refl refl k)
 
 -- pieces hold no `::`, and stand before one
-pieces-before : (ends : Bool) (pieces : List Piece) (text : List ℕ) → ArePieces ends pieces → sides_of (pieces_text pieces ++ text) ≡ option_map (after_octets (pieces_text pieces)) (sides_of text)
+pieces-before : (ends : Bool) (pieces : List AddressPiece) (text : List ℕ) → ArePieces ends pieces → sides_of (pieces_text pieces ++ text) ≡ option_map (after_octets (pieces_text pieces)) (sides_of text)
 pieces-before ends [] text h = sym (after_none (sides_of text))
 pieces-before ends (piece ∷ pieces) text h = separated-before (piece_text piece) (map piece_text pieces) text (pieces-words ends (piece ∷ pieces) h)
 
 -- the address that a text stands for is worked out
 pub ipv6-complete : (text address : List ℕ) → IsIpv6Text text address → ipv6_of text ≡ Some address
 ipv6-complete text address (inl h) = whole h.pieces h.well_formed h.written h.sixteen h.stands_for where
-  whole : (pieces : List Piece) → ArePieces true pieces → text ≡ pieces_text pieces → length (pieces_octets pieces) ≡ 16 → address ≡ pieces_octets pieces → ipv6_of text ≡ Some address
+  whole : (pieces : List AddressPiece) → ArePieces true pieces → text ≡ pieces_text pieces → length (pieces_octets pieces) ≡ 16 → address ≡ pieces_octets pieces → ipv6_of text ≡ Some address
   whole [] ok written sixteen same = absurd (omega arith)
   whole (piece ∷ pieces) ok written sixteen same =
       let own_text = pieces_text (piece ∷ pieces) in
@@ -240,7 +241,7 @@ ipv6-complete text address (inr h) =
     ap sides_of h.written ∙ pieces-before false h.front (58 ∷ 58 ∷ pieces_text h.back) h.front_well_formed
     ∙ ap (λ (l : List ℕ). Some (record { front = l; back = pieces_text h.back })) (append-nil (pieces_text h.front)) in
     ap (ipv6_of_sides text) found
-    ∙ ap (λ (o : Option (List ℕ)). o >>= λ f. side_of true (pieces_text h.back) >>= λ b. if_short f b) (side-complete false h.front h.front_well_formed)
-    ∙ ap (λ (o : Option (List ℕ)). o >>= λ b. if_short front b) (side-complete true h.back h.back_well_formed)
+    ∙ ap (λ (o : Option (List ℕ)). o >>= λ f. side_of true (pieces_text h.back) >>= λ b. with_zero_groups f b) (side-complete false h.front h.front_well_formed)
+    ∙ ap (λ (o : Option (List ℕ)). o >>= λ b. with_zero_groups front b) (side-complete true h.back h.back_well_formed)
     ∙ cond-true (leb (length front + length back) 14) _ _ (le-leb _ 14 h.room)
     ∙ ap (λ (l : List ℕ). Some l) (sym h.stands_for)

@@ -9,7 +9,8 @@ use Rattle.std.proofs.lemmas.List.Folds.{list_all-append}
 use Rattle.std.proofs.lemmas.List.Sums.{sum_by-cons}
 use Rattle.dns_data.specs.Octet.{is_digit, is_upper, folded, digits_after}
 use Rattle.dns_data.specs.Number.{is_digits}
-use Rattle.rdata_forms.specs.Times.{TimeGroup, is_time_group, time_group_text, time_group_seconds, IsSecondsText, IsGroupsText, IsTimeText, unit_of, with_digit, time_group_of, seconds_after, if_ttl, time_of}
+use Rattle.rdata_forms.specs.TimeTexts.{TimeGroup, is_time_group, time_group_text, time_group_seconds, IsSecondsText, IsGroupsText, IsTimeText}
+use Rattle.rdata_forms.specs.Times.{unit_of, with_digit, time_group_of, seconds_after, if_ttl, time_of}
 
 -- no digit is a letter
 digit-no_unit : (c : ℕ) → is_digit c ≡ true → unit_of c ≡ None

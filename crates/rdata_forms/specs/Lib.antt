@@ -3,3 +3,5 @@ pub mod Times
 pub mod Addresses
 pub mod Texts
 pub mod Forms
+pub mod AddressTexts
+pub mod TimeTexts

@@ -1,14 +1,10 @@
--- The texts of times: what each stands for, in seconds, and how that is worked out. Groups with letters are an
--- extension that name servers share; the limit is that of RFC 2181 section 8.
-use Rattle.std.specs.Prelude.{◌≡◌, ◌⊎◌, ℕ, ◌+◌, ◌-◌, ◌*◌, ◌≤◌, ◌<◌, Bool, true, false, ◌&&◌, nat_le, List, [], ◌∷◌, ◌++◌, length, Option, Some, None, option_map, option_and_then, Result, if◌then◌else◌, ◌==◌}
-use Rattle.std.specs.List.{list_all, flat_map, sum_by}
-use Rattle.std.specs.Option.{is_some, ok_or, unwrap_or}
+-- The texts of times: how the seconds that one stands for are worked out. Groups with letters are an extension that name
+-- servers share; the limit is that of RFC 2181 section 8. What texts stand for stands in TimeTexts, and a law ties the two.
+use Rattle.std.specs.Prelude.{ℕ, ◌+◌, ◌*◌, Bool, true, false, nat_le, List, [], ◌∷◌, Option, Some, None, option_map, option_and_then, Result, if◌then◌else◌, ◌==◌}
+use Rattle.std.specs.Option.{ok_or, unwrap_or}
 use Rattle.dns_data.specs.Octet.{is_digit, folded, digits_after}
-use Rattle.dns_data.specs.Number.{is_digits}
 use Rattle.rdata_forms.specs.declared.fault.RdataFault.{RdataFault}
 use Rattle.rdata_forms.specs.declared.fault.RdataFault.TheVariants.{BadNumber}
-
--- What texts stand for.
 
 -- how many seconds a letter stands for: w, d, h, m or s in either case
 abbrev pub unit_of : ℕ → Option ℕ
@@ -19,44 +15,6 @@ unit_of letter =
     else if folded letter == 109 then Some 60
     else if folded letter == 115 then Some 1
     else None
-
--- a group of a time: digits, and the letter behind them
-pub record TimeGroup : Type 0 where
-  pub digits : List ℕ
-  pub letter : ℕ
-
--- at least one digit, digits alone, and a letter that stands for seconds
-abbrev pub is_time_group : TimeGroup → Bool
-is_time_group group = is_digits group.digits && is_some (unit_of group.letter)
-
--- a group as it is written
-abbrev pub time_group_text : TimeGroup → List ℕ
-time_group_text group = group.digits ++ group.letter ∷ []
-
--- the seconds of a group: those of its letter as often as its digits say
-abbrev pub time_group_seconds : TimeGroup → ℕ
-time_group_seconds group = digits_after 0 group.digits * unwrap_or (unit_of group.letter) 0
-
--- digits alone are seconds
-pub record IsSecondsText (text : List ℕ) (seconds : ℕ) : Type 0 where
-  pub digits : is_digits text ≡ true
-  pub stands_for : seconds ≡ digits_after 0 text
-
--- one or more groups, whose seconds are added
-pub record IsGroupsText (text : List ℕ) (seconds : ℕ) : Type 0 where
-  pub groups : List TimeGroup
-  pub some : 0 < length groups
-  pub well_formed : list_all is_time_group groups ≡ true
-  pub written : text ≡ flat_map time_group_text groups
-  pub stands_for : seconds ≡ sum_by time_group_seconds groups
-
--- A text stands for a time: digits alone, or one or more groups of digits with a letter behind each. It has at
--- most 2,147,483,647 seconds (RFC 2181 section 8).
-pub record IsTimeText (text : List ℕ) (seconds : ℕ) : Type 0 where
-  pub written : IsSecondsText text seconds ⊎ IsGroupsText text seconds
-  pub within : seconds ≤ 2147483647
-
--- How it is worked out.
 
 -- the value with one digit more
 abbrev pub with_digit : Option ℕ → ℕ → ℕ

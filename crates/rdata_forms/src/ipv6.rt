@@ -1,7 +1,7 @@
 //! IPv6 addresses.
 
 ghost use Rattle.std.specs.Prelude.{◌≡◌, ◌+◌, ◌<◌, ◌++◌, Some, None, option_map, IsTrue, IfSome, IfNone, OnSome, SomeIff, MatchOption, length};
-ghost use Rattle.rdata_forms.specs.Addresses.{is_hex, hex_digit, hex_after, is_group, group_of, last_of, octets_of, side_of, sides_of, if_whole, if_short, ipv6_of};
+ghost use Rattle.rdata_forms.specs.Addresses.{is_hex, hex_digit, hex_after, is_group, group_of, last_of, octets_of, side_of, sides_of, if_whole, with_zero_groups, ipv6_of};
 
 use crate::ipv4::read_ipv4;
 use crate::piece::first_piece;
@@ -44,7 +44,7 @@ fn sides(text: &[u8]) -> Option<(&[u8], &[u8])>
 
 /// The address with zeros between its two parts, or `None` where they leave no room for a group of them.
 fn with_zeros(mut front: Octets, back: &Octets) -> Option<[u8; 16]>
-    ensures { result ≡ if_short front.items back.now.items }
+    ensures { result ≡ with_zero_groups front.items back.now.items }
 {
     let written = front.len() + back.len();
     if written > 14 {

@@ -1,8 +1,10 @@
 //! What the definitions say of the texts of addresses and times.
 
 ghost use Rattle.std.specs.Prelude.{◌≡◌, ◌↔◌, ℕ, List, Some};
-ghost use Rattle.rdata_forms.specs.Addresses.{IsIpv4Text, IsIpv6Text, ipv4_of, ipv6_of};
-ghost use Rattle.rdata_forms.specs.Times.{IsTimeText, time_of};
+ghost use Rattle.rdata_forms.specs.AddressTexts.{IsIpv4Text, IsIpv6Text};
+ghost use Rattle.rdata_forms.specs.Addresses.{ipv4_of, ipv6_of};
+ghost use Rattle.rdata_forms.specs.TimeTexts.{IsTimeText};
+ghost use Rattle.rdata_forms.specs.Times.{time_of};
 
 /// An address is worked out of a text exactly where the text stands for it, and a text stands for at most one
 /// address, of IPv4 (RFC 1035 section 3.4.1) and of IPv6 (RFC 4291 section 2.2).

@@ -2,7 +2,7 @@
 use Rattle.std.specs.Prelude.{refl, [], ◌∷◌, codes}
 use Rattle.std.specs.Fmt.{digits}
 use Rattle.std.proofs.Common.{arith, inl, inr}
-use Rattle.rdata_forms.specs.Addresses.{IsIpv4Text, IsIpv6Text, Group, Dotted}
+use Rattle.rdata_forms.specs.AddressTexts.{IsIpv4Text, IsIpv6Text, Group, Dotted}
 
 -- the text of an IPv4 address (RFC 1035 section 5.3)
 isi_edu : IsIpv4Text (codes "26.3.0.103") (26 ∷ 3 ∷ 0 ∷ 103 ∷ [])

@@ -1,7 +1,7 @@
 -- Texts of times, by the relation that says what a text stands for.
 use Rattle.std.specs.Prelude.{refl, codes}
 use Rattle.std.proofs.Common.{[], ◌∷◌, arith, inl, inr}
-use Rattle.rdata_forms.specs.Times.{IsTimeText}
+use Rattle.rdata_forms.specs.TimeTexts.{IsTimeText}
 
 -- digits alone, with zeros in front: the most seconds that a TTL may have (RFC 2181 section 8)
 the_most : IsTimeText (codes "002147483647") 2147483647
