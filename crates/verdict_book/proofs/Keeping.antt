@@ -9,6 +9,7 @@ use Rattle.std.specs.declared.cmp.Ordering.TheVariants.{Less, Equal, Greater}
 use Rattle.std.proofs.lemmas.Option.{slice_get_within, slice_get-get_or, slice_get_cases, get_or_from_slice_get}
 use Rattle.std.proofs.lemmas.List.{length-map, map-append, length-set}
 use Rattle.std.proofs.lemmas.List.Sums.{count_by-le-length}
+use Rattle.std.proofs.Math.Bool.{or-true}
 use Rattle.std.proofs.lemmas.Bool.{cases_eq, ne_eqb, eq-eqb, and_parts, and_from, ltb-true, lt-ltb, leb-true, le-leb}
 use Rattle.pool_core.specs.declared.entry.Entry.{Entry}
 use Rattle.pool_core.specs.declared.entry.Entry.TheVariants.{Claim, File, Stop}
@@ -18,7 +19,7 @@ use Rattle.pool_core.specs.History.{issued_in, is_claimed_in, is_filed_in, first
 use Rattle.pool_core.proofs.Lists.{slice_get-set_same, slice_get-set_other, count_by_push, count_by-append, count_by-cons, or-false}
 use Rattle.pool_core.proofs.Histories.{issued_push, claimed_push, filed_push, all_follow_push, first_stop_push}
 use Rattle.verdict_book.specs.Items.{Reached, ParentsApart, AreReached, ReachesExactly, ReachesMore, item_step, items_from, items_of, item_of, CountsRight, AllCountRight}
-use Rattle.verdict_book.specs.Books.{EachOnce, Pages, kept_in, claims_in, unfiled_in, is_claim, is_filing, is_stop}
+use Rattle.verdict_book.specs.Books.{EachOnce, CountsTickets, Pages, kept_in, claims_in, unfiled_in, is_claim, is_filing, is_stop}
 use Rattle.verdict_book.specs.Keeping.{StateIs, IsKept, kept_state, kept_row, new_row, rows_filed, is_taken, is_filed}
 use Rattle.verdict_book.specs.declared.row.State.{State}
 use Rattle.verdict_book.specs.declared.row.State.TheVariants.{Issued, Claimed, Filed}
@@ -29,7 +30,7 @@ use Rattle.verdict_book.specs.declared.claim.Kept.TheVariants.{Unknown, Issued a
 use Rattle.verdict_book.specs.Lists.{JudgesState, JudgesRow}
 use Rattle.verdict_book.specs.Refusals.{claim_refusal, stopped_or, not_issued, is_claimed, keeps_claim}
 use Rattle.verdict_book.proofs.Once.{claims_counted, filings_counted}
-use Rattle.verdict_book.proofs.Places.{get_cases, get_map, map_set_same, some_same, count_set, count_map_none, all_counted, some_in}
+use Rattle.verdict_book.proofs.Places.{get_cases, get_map, map_set_same, some_same, count_set, count_map_none, all_counted, counted_all, some_in}
 use Rattle.verdict_book.proofs.Items.{Known, step, walk, begins, are_reached}
 
 -- these pages
@@ -39,10 +40,6 @@ pages_of limit h = record { limit = limit; history = h }
 -- the row of a ticket in a later state
 abbrev pub row_in : {I V : Type 0} → I → State V → Row I V
 row_in item state = record { item = item; state = state }
-
-or_true : (b : Bool) → (b || true) ≡ true
-or_true true = refl
-or_true false = refl
 
 -- the item of a claimed or filed ticket's row stays in its state's flags
 claimed_is : {I V : Type 0} (verdict_of : I → V) (item : I) (state : State V) (c f : Bool) → StateIs verdict_of item state c f → is_taken state ≡ c
@@ -96,6 +93,38 @@ no_stop (Stop cause ∷ h) none = absurd cc
 not_yet : (flag : Bool) (t n : ℕ) → (flag ≡ true → t < n) → n ≤ t → flag ≡ false
 not_yet true t n low past = absurd (let l = low refl in omega (arith, l, past))
 not_yet false t n low past = refl
+
+-- a filed ticket is counted among the claimed ones
+filed_in_taken : {V : Type 0} (state : State V) → cond (is_filed state) 1 0 ≤ cond (is_taken state) 1 0
+filed_in_taken Issued = omega arith
+filed_in_taken Claimed = omega arith
+filed_in_taken (Filed v) = omega arith
+
+taken_then_filed : {V : Type 0} (state : State V) → cond (is_taken state) 1 0 ≤ cond (is_filed state) 1 0 → is_taken state ≡ true → is_filed state ≡ true
+taken_then_filed Issued le is = absurd cc
+taken_then_filed Claimed le is = absurd (omega (arith, le))
+taken_then_filed (Filed v) le is = refl
+
+module _ {I V : Type 0} where
+  abbrev taken_row : Row I V → Bool
+  taken_row r = is_taken r.state
+
+  abbrev filed_row : Row I V → Bool
+  filed_row r = is_filed r.state
+
+  filed_at_most_taken : (rows : List (Row I V)) → count_by filed_row rows ≤ count_by taken_row rows
+  filed_at_most_taken [] = omega arith
+  filed_at_most_taken (r ∷ rows) = omega (arith, count_by-cons filed_row r rows, count_by-cons taken_row r rows, filed_in_taken r.state, filed_at_most_taken rows)
+
+  -- where as many rows are filed as are claimed, each claimed one is filed
+  taken_are_filed : (rows : List (Row I V)) → count_by taken_row rows ≡ count_by filed_row rows → (k : ℕ) (r : Row I V) → slice_get rows k ≡ Some r → is_taken r.state ≡ true → is_filed r.state ≡ true
+  taken_are_filed [] e k r at is = absurd cc
+  taken_are_filed (x ∷ rows) e zero r at is =
+      let same : x.state ≡ r.state = ap (λ (y : Row I V). y.state) (some_same x r at) in
+      let le : cond (is_taken x.state) 1 0 ≤ cond (is_filed x.state) 1 0 = omega (arith, e, count_by-cons filed_row x rows, count_by-cons taken_row x rows, filed_at_most_taken rows) in
+      taken_then_filed r.state (subst (λ s. cond (is_taken s) 1 0 ≤ cond (is_filed s) 1 0) same le) is
+  taken_are_filed (x ∷ rows) e (suc k) r at is =
+      taken_are_filed rows (omega (arith, e, count_by-cons filed_row x rows, count_by-cons taken_row x rows, filed_in_taken x.state, filed_at_most_taken rows)) k r at is
 
 module _ {I V : Type 0} (first : I) (children : I → List I) (verdict_of : I → V) where
   items_push : (items : List I) (h : List Entry) (e : Entry) → items_from first children items (h ++ e ∷ []) ≡ item_step first children (items_from first children items h) e
@@ -190,7 +219,7 @@ module _ {I V : Type 0} (first : I) (children : I → List I) (verdict_of : I �
               (λ (is : k ≡ t).
               let s_is : r' ≡ s = some_same r' s (sym (slice_get-set_same rows t r' here) ∙ ap (slice_get (set rows t r')) (sym is) ∙ got) in
               subst (λ (x : Row I V). StateIs verdict_of x.item x.state (is_claimed_in (h ++ e ∷ []) k) (is_filed_in (h ++ e ∷ []) k)) s_is
-              (claimed_push h e k ∙ rw (is, eq-eqb t t refl) (or_true (is_claimed_in h t)), filed_push h e k ∙ rw (is, flags.1) refl))
+              (claimed_push h e k ∙ rw (is, eq-eqb t t refl) (or-true (is_claimed_in h t)), filed_push h e k ∙ rw (is, flags.1) refl))
               (λ ne.
               let old = kept.states k s (sym (slice_get-set_other rows t k r' ne) ∙ got) in
               let c : is_claimed_in (h ++ e ∷ []) k ≡ is_claimed_in h k = claimed_push h e k ∙ rw (ne_eqb t k (λ q. ne (sym q))) (or-false (is_claimed_in h k)) in
@@ -340,19 +369,20 @@ module _ {I V : Type 0} (first : I) (children : I → List I) (verdict_of : I �
         let at = slice_get-get_or rows k d low in
         judged_state verdict_of (get_or rows k d).item (get_or rows k d).state _ _ (kept.states k (get_or rows k d) at) (all_rows_filed none k (get_or rows k d) at)
 
+    -- a ticket that was issued has a row
+    there_is : (t : ℕ) → t < length rows → (r : Row I V) × (slice_get rows t ≡ Some r)
+    there_is t low =
+        ⊎_elim
+        (λ here. (here.0, here.2))
+        (λ past. absurd (omega (arith, low, past.0)))
+        (slice_get_cases rows t).1
+
     -- where nothing is unfiled, the items are the reached ones, each once
     pub items_reached : unfiled_in h ≡ 0 → AreReached first children (items_of first children h)
     items_reached none =
         are_reached first children apart limit h kept.right.legal kept.right.counts (λ t low.
-        let here = slice_get-get_or_row t (omega (arith, low, rows_are)) in
+        let here = there_is t (omega (arith, low, rows_are)) in
         sym (filed_is_so verdict_of here.0.item here.0.state _ _ (kept.states t here.0 here.1)) ∙ all_rows_filed none t here.0 here.1)
-      where
-        slice_get-get_or_row : (t : ℕ) → t < length rows → (r : Row I V) × (slice_get rows t ≡ Some r)
-        slice_get-get_or_row t low =
-            ⊎_elim
-            (λ here. (here.0, here.2))
-            (λ past. absurd (omega (arith, low, past.0)))
-            (slice_get_cases rows t).1
 
     -- where nothing is unfiled, exactly as many items are reached as tickets were issued
     pub exactly_issued : (n : ℕ) → n ≡ length rows → unfiled_in h ≡ 0 → ReachesExactly first children n
@@ -418,3 +448,22 @@ module _ {I V : Type 0} (first : I) (children : I → List I) (verdict_of : I �
         (claims_counted [] h parts.0 (λ u. refl) t ∙ rw both.0 refl, filings_counted [] h parts.0 (λ u. refl) t ∙ rw both.1 refl))
         (λ past. absurd (omega (arith, low, past.0, rows_are)))
         at.1
+
+    -- how many claims and filings there are, by the rows
+    pub counts_tickets : CountsTickets h
+    counts_tickets =
+        let few = count_by-le-length (λ (r : Row I V). is_taken r.state) rows in
+        record {
+          filings = omega (arith, filed_at_most_taken rows, kept.claimed_rows, kept.filed_rows);
+          claims = omega (arith, few, kept.claimed_rows, rows_are);
+          none_in_hand = λ same t claimed.
+              let low : t < issued_in h = known.claimed t claimed in
+              let here = there_is t (omega (arith, low, rows_are)) in
+              let is = claimed_is verdict_of here.0.item here.0.state _ _ (kept.states t here.0 here.1) in
+              sym (filed_is_so verdict_of here.0.item here.0.state _ _ (kept.states t here.0 here.1))
+              ∙ taken_are_filed rows (omega (arith, same, kept.claimed_rows, kept.filed_rows)) t here.0 here.1 (is ∙ claimed);
+          all_filed = λ all.
+              let each = counted_all (λ (r : Row I V). is_filed r.state) rows (λ t r at.
+              filed_is_so verdict_of r.item r.state _ _ (kept.states t r at) ∙ all t (let low = slice_get_within rows t r at in omega (arith, low, rows_are))) in
+              omega (arith, each, kept.filed_rows, rows_are);
+        }

@@ -79,6 +79,14 @@ module _ {X : Type 0} where
       later zero got is rest = ap p (sym (some_same y x got)) ∙ is
       later (suc n) got is rest = rest n x got
 
+  -- where each item is counted, they are as many as the places
+  pub counted_all : (p : X → Bool) (xs : List X) → ((k : ℕ) (x : X) → slice_get xs k ≡ Some x → p x ≡ true) → count_by p xs ≡ length xs
+  counted_all p [] all = refl
+  counted_all p (x ∷ xs) all =
+      let rest = counted_all p xs (λ k y at. all (suc k) y at) in
+      let one : count_by p (x ∷ xs) ≡ 1 + count_by p xs = count_by-cons p x xs ∙ rw (all 0 x refl) refl in
+      omega (arith, one, rest)
+
 module _ {X Y : Type 0} (f : X → Y) where
   -- an item of a list of values is the value of an item
   pub get_map : (xs : List X) (k : ℕ) (x : X) → slice_get xs k ≡ Some x → slice_get (map f xs) k ≡ Some (f x)

@@ -47,6 +47,19 @@ EachOnce history =
     (ticket : ℕ) → ticket < issued_in history
     → (count_by (claims ticket) history ≡ 1) × (count_by (files ticket) history ≡ 1)
 
+-- each claimed ticket was filed
+abbrev pub NoneInHand : List Entry → Type 0
+NoneInHand history = (ticket : ℕ) → is_claimed_in history ticket ≡ true → is_filed_in history ticket ≡ true
+
+-- how many claims and filings a book's history has: no more filings than claims, and no more claims than tickets were
+-- issued; where they are as many, each claimed ticket was filed; and where each issued ticket was filed, nothing is unfiled
+pub record CountsTickets (history : List Entry) : Type 0 where
+  pub filings : filings_in history ≤ claims_in history
+  pub claims : claims_in history ≤ issued_in history
+  pub none_in_hand : claims_in history ≡ filings_in history → NoneInHand history
+  pub all_filed : ((ticket : ℕ) → ticket < issued_in history → is_filed_in history ticket ≡ true)
+      → unfiled_in history ≡ 0
+
 -- what is kept of a ticket
 abbrev pub kept_in : List Entry → ℕ → Kept
 kept_in history ticket =

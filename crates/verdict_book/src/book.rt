@@ -1,13 +1,14 @@
 //! The book.
 
-ghost use Rattle.std.specs.Prelude.{◌≡◌, ◌∷◌, [], ◌++◌, ◌+◌, ◌≤◌, length, nat_le, true, IfOk, IfErr, OnOk, OnErr, Some, None};
+ghost use Rattle.std.specs.Prelude.{◌≡◌, ◌∷◌, [], ◌++◌, ◌+◌, ◌≤◌, length, nat_le, true, IfOk, IfErr, OnOk, OnErr, Some, None, Err};
 ghost use Rattle.pool_core.specs.declared.event.StopCause.TheVariants.{Full};
 ghost use Rattle.pool_core.specs.declared.entry.Entry.TheVariants.{Claim as ClaimOf, File as FileOf};
 ghost use Rattle.pool_core.specs.History.{issued_in, first_stop};
 ghost use Rattle.pool_core.specs.Refusals.{RefusesOr};
 ghost use Rattle.verdict_book.specs.Items.{Reached, AreReached, ReachesExactly, ReachesMore, item_of, items_of};
-ghost use Rattle.verdict_book.specs.Books.{claims_in, unfiled_in, kept_in, IsBookOf, EachOnce, history_stopped};
+ghost use Rattle.verdict_book.specs.Books.{claims_in, filings_in, unfiled_in, kept_in, IsBookOf, EachOnce, CountsTickets, history_stopped};
 ghost use Rattle.verdict_book.specs.Lists.{IsWholeTree};
+ghost use Rattle.verdict_book.specs.declared.claim.ClaimFault.TheVariants.{Stopped};
 ghost use Rattle.verdict_book.specs.Refusals.{claim_refusal, file_refusal, keeps_claim, handed_back, is_full};
 
 use crate::claim::{Claim, ClaimFault, Kept, is_claimed};
@@ -78,6 +79,7 @@ impl<W: Work> Book<W> {
         ensures few { OnOk result (claims_in self.new.history ≤ self.new.limit) }
         ensures limit { self.new.limit ≡ self.old.limit }
         ensures err { OnErr result (self.new ≡ self.old) }
+        ensures full { result ≡ Err (Stopped Full) → ReachesMore W.first_item W.children_of self.old.limit }
     {
         match self.claim_refusal(ticket) {
             Some(fault) => Err(fault),
@@ -87,9 +89,10 @@ impl<W: Work> Book<W> {
 
     /// Why no claim of the ticket is given, where memory is not the cause.
     fn claim_refusal(&self, ticket: u32) -> Option<ClaimFault>
-        ensures { result ≡ claim_refusal self.now.history ticket }
+        ensures said { result ≡ claim_refusal self.now.history ticket }
+        ensures full { result ≡ Some (Stopped Full) → ReachesMore W.first_item W.children_of self.now.limit }
     {
-        if let Some(cause) = self.stopped {
+        if let Some(cause) = self.stopped() {
             return Some(ClaimFault::Stopped(cause));
         }
         match self.kept(ticket) {
@@ -251,11 +254,30 @@ impl<W: Work> Book<W> {
     pub fn issued(&self) -> u32
         ensures count { result ≡ issued_in self.now.history }
         ensures book { IsBookOf W.first_item W.children_of self.now }
+        ensures counts { CountsTickets self.now.history }
+        ensures few { result ≤ self.now.limit }
         ensures reached { unfiled_in self.now.history ≡ 0 → ReachesExactly W.first_item W.children_of result }
     {
         // The limit is read, so that it is known here that the tickets up to it have numbers of this type.
         let _limit = self.limit;
         self.rows.len() as u32
+    }
+
+    /// How many claims were given. It goes over the history.
+    pub fn claims(&self) -> usize
+        ensures { result ≡ claims_in self.now.history }
+    {
+        self.history
+            .iter()
+            .filter(|entry| matches!(entry, Entry::Claim { .. }))
+            .count()
+    }
+
+    /// How many tickets were filed. It takes no memory.
+    pub fn filings(&self) -> u32
+        ensures { result ≡ filings_in self.now.history }
+    {
+        self.filed
     }
 
     /// The reached items of the work with their verdicts, each once, sorted by item.
