@@ -1,0 +1,8 @@
+use Rattle.steal_pool.proofs.Moves.{takes, finds}
+use Rattle.steal_pool.proofs.row.OwnRow.pop.Goals as goal
+
+pub pop_as-requires-clause-fifo : goal.pop_as-requires-clause-fifo
+pop_as-requires-clause-fifo c = λ _. takes _ _
+
+pub pop_as-requires-clause-empty : goal.pop_as-requires-clause-empty
+pop_as-requires-clause-empty c = finds _ _
