@@ -134,6 +134,7 @@ impl<W: Work, A: Capped, B: Ledger, C: Ledger> LockedBook<W, A, B, C> {
         ensures few { given.old.amount < 2 ^ 32 }
     {
         self.given.audit(given);
+        // The limit and the issued tickets are read, so that it is known here that the claims are within them.
         let _limit = self.book.limit();
         let _issued = self.book.issued();
     }

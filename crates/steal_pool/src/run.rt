@@ -170,6 +170,7 @@ fn count_of<W: Work>(book: &Book<W>, judged: u64, foreign: u64) -> PoolCount
     ensures foreign { result.foreign ≡ foreign }
     ensures few { (result.filed ≤ result.given) × (result.given ≤ book.now.limit) }
 {
+    // The issued tickets are read, so that it is known here how claims and filings stand to them.
     let _issued = book.issued();
     PoolCount {
         given: book.claims() as u64,
