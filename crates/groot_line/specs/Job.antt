@@ -3,7 +3,7 @@ use Rattle.std.specs.Prelude.{ℕ, List, [], ◌∷◌, unwrap_or, ok_or, Result
 use Rattle.dns_data.specs.Answers.{◌>>=◌}
 use Rattle.groot_line.specs.Arguments.{arguments_of}
 use Rattle.groot_line.specs.Command.{command_of}
-use Rattle.groot_line.specs.Operands.{meta_of, only_meta, name_of, type_of, drill_number}
+use Rattle.groot_line.specs.Operands.{asked_meta, only_meta, asked_name, asked_type, drill_number}
 use Rattle.groot_line.specs.declared.arguments.Arguments.{Arguments}
 use Rattle.groot_line.specs.declared.command.Command.{Command}
 use Rattle.groot_line.specs.declared.command.Command.TheVariants as commands
@@ -25,9 +25,9 @@ default_rewrites = 12
 -- the query that operands ask
 abbrev pub asked : List (List ℕ) → Result Job LineFault
 asked (meta_word ∷ name_word ∷ type_word ∷ []) = do
-  meta ← meta_of meta_word
-  name ← name_of name_word
-  rtype ← type_of type_word
+  meta ← asked_meta meta_word
+  name ← asked_name name_word
+  rtype ← asked_type type_word
   Ok (Ask meta name rtype)
 asked operands = Err Usage
 

@@ -10,21 +10,21 @@ use Rattle.groot_line.specs.declared.fault.LineFault.{LineFault}
 use Rattle.groot_line.specs.declared.fault.LineFault.TheVariants.{Usage}
 
 -- the metadata file that a word names; the word isn't empty
-abbrev pub meta_of : List ℕ → Result (List ℕ) LineFault
-meta_of word = if length word == 0 then Err Usage else Ok word
+abbrev pub asked_meta : List ℕ → Result (List ℕ) LineFault
+asked_meta word = if length word == 0 then Err Usage else Ok word
 
 -- the metadata file, if its word is the only operand
 abbrev pub only_meta : List (List ℕ) → Result (List ℕ) LineFault
-only_meta (word ∷ []) = meta_of word
+only_meta (word ∷ []) = asked_meta word
 only_meta operands = Err Usage
 
 -- the query name that a word stands for under the root
-abbrev pub name_of : List ℕ → Result Labels LineFault
-name_of word = with_fault (λ fault. Usage) (name_of_text word [])
+abbrev pub asked_name : List ℕ → Result Labels LineFault
+asked_name word = with_fault (λ fault. Usage) (name_of_text word [])
 
 -- the type with this word, in any case
-abbrev pub type_of : List ℕ → Result RrType LineFault
-type_of word = ok_or (type_of_word word) Usage
+abbrev pub asked_type : List ℕ → Result RrType LineFault
+asked_type word = ok_or (type_of_word word) Usage
 
 -- how many files a drill makes, if the word for it is the only operand
 abbrev pub drill_number : List (List ℕ) → Result ℕ LineFault

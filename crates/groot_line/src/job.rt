@@ -7,7 +7,7 @@ ghost use Rattle.groot_line.specs.Job.{job_of, job_by, asked};
 use crate::arguments::{Arguments, read_arguments};
 use crate::command::Command;
 use crate::fault::LineFault;
-use crate::operands::{drill_number, meta_of, name_of, only_meta, type_of};
+use crate::operands::{drill_number, asked_meta, asked_name, only_meta, asked_type};
 use dns_data::{Name, RrType, Text};
 use std::alloc::Global;
 
@@ -95,8 +95,8 @@ fn asked(alloc: Global, operands: &[Text]) -> Result<Job, LineFault>
     let [meta, name, rtype] = operands else {
         return Err(LineFault::Usage);
     };
-    let meta = meta_of(alloc, meta)?;
-    let name = name_of(alloc, name)?;
-    let rtype = type_of(rtype)?;
+    let meta = asked_meta(alloc, meta)?;
+    let name = asked_name(alloc, name)?;
+    let rtype = asked_type(rtype)?;
     Ok(Job::Ask { meta, name, rtype })
 }

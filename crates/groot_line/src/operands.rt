@@ -1,7 +1,7 @@
 //! The words behind a command that are neither options nor their values.
 
 ghost use Rattle.dns_data.specs.Answers.{AnswersOr};
-ghost use Rattle.groot_line.specs.Operands.{meta_of, name_of, type_of, only_meta, drill_number};
+ghost use Rattle.groot_line.specs.Operands.{asked_meta, asked_name, asked_type, only_meta, drill_number};
 
 use crate::arguments::number_to;
 use crate::fault::LineFault;
@@ -16,14 +16,14 @@ pub(crate) fn only_meta(alloc: Global, operands: &[Text]) -> Result<Text, LineFa
     ensures { AnswersOr LineFault.NoMemory result (only_meta operands.now) }
 {
     match operands {
-        [meta] => meta_of(alloc, meta),
+        [meta] => asked_meta(alloc, meta),
         _ => Err(LineFault::Usage),
     }
 }
 
 /// The metadata file that a word names. It has an octet.
-pub(crate) fn meta_of(alloc: Global, word: &Text) -> Result<Text, LineFault>
-    ensures { AnswersOr LineFault.NoMemory result (meta_of word.now) }
+pub(crate) fn asked_meta(alloc: Global, word: &Text) -> Result<Text, LineFault>
+    ensures { AnswersOr LineFault.NoMemory result (asked_meta word.now) }
 {
     if word.as_str().is_empty() {
         return Err(LineFault::Usage);
@@ -32,8 +32,8 @@ pub(crate) fn meta_of(alloc: Global, word: &Text) -> Result<Text, LineFault>
 }
 
 /// The query name that a word stands for under the root.
-pub(crate) fn name_of(alloc: Global, word: &Text) -> Result<Name, LineFault>
-    ensures { AnswersOr LineFault.NoMemory result (name_of word.now) }
+pub(crate) fn asked_name(alloc: Global, word: &Text) -> Result<Name, LineFault>
+    ensures { AnswersOr LineFault.NoMemory result (asked_name word.now) }
 {
     match Name::from_text(alloc, word.as_str().as_bytes(), &Name::root()) {
         Ok(name) => Ok(name),
@@ -43,8 +43,8 @@ pub(crate) fn name_of(alloc: Global, word: &Text) -> Result<Name, LineFault>
 }
 
 /// The type with this word, in any case.
-pub(crate) fn type_of(word: &Text) -> Result<RrType, LineFault>
-    ensures { AnswersOr LineFault.NoMemory result (type_of word.now) }
+pub(crate) fn asked_type(word: &Text) -> Result<RrType, LineFault>
+    ensures { AnswersOr LineFault.NoMemory result (asked_type word.now) }
 {
     match RrType::from_word(word.as_str().as_bytes()) {
         Some(rtype) => Ok(rtype),

@@ -5,34 +5,34 @@ use Rattle.dns_data.specs.Name.{Labels}
 use Rattle.serde.specs.Event.{Log, Logs, WritesEach, seq_begins, seq_ends, map_begins}
 use Rattle.serde_json.specs.Data.{Data}
 use Rattle.serde_json.specs.Events.{items_len, members_len, SendsValue, SendsItems, SendsMembers}
-use Rattle.report_json.specs.Json.{items_of, array_of, members_of, object_of}
+use Rattle.report_json.specs.Json.{json_items, array_of, json_members, object_of}
 use Rattle.report_json.specs.Walks.{zone_member}
 
 -- as many items as values
-pub items_len_of : (values : List Data) → items_len (items_of values) ≡ length values
+pub items_len_of : (values : List Data) → items_len (json_items values) ≡ length values
 items_len_of [] = refl
 items_len_of (value ∷ values) = ap suc (items_len_of values)
 
 -- as many members
-pub members_len_of : (members : List (List ℕ × Data)) → members_len (members_of members) ≡ length members
+pub members_len_of : (members : List (List ℕ × Data)) → members_len (json_members members) ≡ length members
 members_len_of [] = refl
 members_len_of (one ∷ more) = ap suc (members_len_of more)
 
 -- values between the marks of a sequence are an array
 pub array_sent : (values : List Data) (count : ℕ) (old first new : Log) → count ≡ length values
-    → Logs old first (seq_begins (Some count)) → SendsItems (items_of values) first new → SendsValue (array_of values) old new
+    → Logs old first (seq_begins (Some count)) → SendsItems (json_items values) first new → SendsValue (array_of values) old new
 array_sent values count old first new same begun sent =
     (first, subst (λ n. Logs old first (seq_begins (Some n))) (same ∙ sym (items_len_of values)) begun, sent)
 
 -- members between the marks of a map are an object
 pub object_sent : (members : List (List ℕ × Data)) (count : ℕ) (old first new : Log) → count ≡ length members
-    → Logs old first (map_begins (Some count)) → SendsMembers (members_of members) first new → SendsValue (object_of members) old new
+    → Logs old first (map_begins (Some count)) → SendsMembers (json_members members) first new → SendsValue (object_of members) old new
 object_sent members count old first new same begun sent =
     (first, subst (λ n. Logs old first (map_begins (Some n))) (same ∙ sym (members_len_of members)) begun, sent)
 
 -- values that were sent each, and the end of the sequence
 pub items_sent : (values : List Data) (old mid new : Log) → WritesEach SendsValue values old mid → Logs mid new seq_ends
-    → SendsItems (items_of values) old new
+    → SendsItems (json_items values) old new
 items_sent [] old mid new sent ended = subst (λ log. Logs log new seq_ends) sent ended
 items_sent (value ∷ values) old mid new sent ended = (sent.0, sent.1, items_sent values sent.0 mid new sent.2 ended)
 

@@ -1,11 +1,13 @@
 -- Texts that were worked out by hand.
-use Rattle.std.specs.Prelude.{◌≡◌, refl, true, false, List, [], ◌∷◌, codes, None, Some}
+use Rattle.std.specs.Prelude.{ℕ, Bool, ◌≡◌, refl, true, false, List, [], ◌∷◌, codes, None, Some}
 use Rattle.std.specs.Fmt.{digits}
 use Rattle.serde_json.proofs.OnLiterals.{serde_json_on_literals}
 use Rattle.dns_data.specs.Name.{Labels}
 use Rattle.dns_data.specs.declared.rdata.Rdata.TheVariants.{Txt}
+use Rattle.dns_data.specs.declared.rr_type.RrType.{RrType}
 use Rattle.dns_data.specs.declared.rr_type.RrType.TheVariants as types
 use Rattle.net_model.specs.declared.class.Class.TheVariants.{Below}
+use Rattle.net_model.specs.declared.fault.Fault.{Fault}
 use Rattle.net_model.specs.declared.fault.Fault.TheVariants as faults
 use Rattle.net_model.specs.declared.place.Cut.{Cut}
 use Rattle.net_model.specs.declared.place.Place.{Place}
@@ -16,7 +18,9 @@ use Rattle.net_model.specs.declared.walk.Leaf.TheVariants as leaves
 use Rattle.net_model.specs.declared.walk.State.{State}
 use Rattle.net_model.specs.declared.walk.Walk.{Walk}
 use Rattle.report_json.specs.Ask.{ask_text}
-use Rattle.report_json.specs.Report.{entry_value, report_text}
+use Rattle.graph_form.specs.declared.report.Report.{Report}
+use Rattle.graph_form.specs.declared.report.ReportEntry.{ReportEntry}
+use Rattle.report_json.specs.Report.{report_text}
 
 abbrev t : Labels
 t = codes "t" ∷ []
@@ -44,6 +48,14 @@ place = record { server = ns; zone = t; owner = a }
 -- a name server of the cut a.t.
 abbrev cut : Cut
 cut = record { server = ns; zone = t; cut = a; ns = b }
+
+-- an entry with the query a.t., and a report
+abbrev entry : Fault → RrType → Bool → List Walk → ReportEntry
+entry fault rtype repeats walks =
+    record { seen = record { fault = fault; rtype = rtype }; query = a; repeats = repeats; walks = walks }
+
+abbrev report : ℕ → ℕ → ℕ → List ReportEntry → Report
+report classes names rewrites entries = record { classes = classes; names = names; rewrites = rewrites; entries = entries }
 
 -- no data, in a walk of one step
 no_data : ask_text b types.Txt (from (at b ∷ []) [] leaves.NoData ∷ [])
@@ -75,17 +87,17 @@ unfolding serde_json_on_literals
 no_walk = refl
 
 -- a report without an entry, and one on an alias of a name that doesn't exist
-clean : report_text 6 3 12 [] ≡ codes "{\"classes\":6,\"faults\":[],\"names\":3,\"rewrites\":12}\n"
+clean : report_text (report 6 3 12 []) ≡ codes "{\"classes\":6,\"faults\":[],\"names\":3,\"rewrites\":12}\n"
 unfolding serde_json_on_literals digits
 clean = refl
 
-blackhole : report_text 6 3 12 (entry_value (faults.Blackhole place) a types.A false (from (at a ∷ at b ∷ []) (Rewrite place false b ∷ []) leaves.NxDomain ∷ []) ∷ [])
+blackhole : report_text (report 6 3 12 (entry (faults.Blackhole place) types.A false (from (at a ∷ at b ∷ []) (Rewrite place false b ∷ []) leaves.NxDomain ∷ []) ∷ []))
     ≡ codes "{\"classes\":6,\"faults\":[{\"kind\":\"blackhole\",\"place\":{\"owner\":\"a.t.\",\"server\":\"ns.t.\",\"zone\":\"t.\"},\"query\":\"a.t.\",\"repeats\":false,\"type\":\"A\",\"walks\":[[{\"did\":\"cname\",\"name\":\"a.t.\",\"owner\":\"a.t.\",\"server\":\"ns.t.\",\"to\":\"b.t.\",\"zone\":\"t.\"},{\"did\":\"nxdomain\",\"name\":\"b.t.\",\"server\":\"ns.t.\",\"zone\":\"t.\"}]]}],\"names\":3,\"rewrites\":12}\n"
 unfolding serde_json_on_literals digits
 blackhole = refl
 
 -- two entries: the place of a delegation, and a class with a type
-places : report_text 2 1 1 (entry_value (faults.NoAddress cut) a types.A true [] ∷ entry_value (faults.Answers (Below t) types.Mx) a types.Mx false [] ∷ [])
+places : report_text (report 2 1 1 (entry (faults.NoAddress cut) types.A true [] ∷ entry (faults.Answers (Below t) types.Mx) types.Mx false [] ∷ []))
     ≡ codes "{\"classes\":2,\"faults\":[{\"kind\":\"no-address\",\"place\":{\"cut\":\"a.t.\",\"ns\":\"b.t.\",\"server\":\"ns.t.\",\"zone\":\"t.\"},\"query\":\"a.t.\",\"repeats\":true,\"type\":\"A\",\"walks\":[]},{\"kind\":\"answers-differ\",\"place\":{\"class\":\"below\",\"name\":\"t.\",\"type\":\"MX\"},\"query\":\"a.t.\",\"repeats\":false,\"type\":\"MX\",\"walks\":[]}],\"names\":1,\"rewrites\":1}\n"
 unfolding serde_json_on_literals digits
 places = refl

@@ -9,6 +9,7 @@ use Rattle.net_model.specs.declared.fault.Fault.TheVariants.{Lame, Differs, NoGl
 use Rattle.net_model.specs.declared.place.Cut.{Cut}
 use Rattle.net_model.specs.declared.place.Place.{Place}
 use Rattle.serde_json.specs.Data.{Data, string}
+use Rattle.graph_form.specs.Report.{class_name}
 use Rattle.report_json.specs.Json.{object_of, name_value}
 
 -- the word of a kind of fault
@@ -39,19 +40,15 @@ place_value place = object_of (
     ∷ (codes "server", name_value place.server)
     ∷ (codes "zone", name_value place.zone) ∷ [])
 
--- the word of a class, and its name
-abbrev pub class_word : Class → List ℕ
-class_word (Exact name) = codes "exact"
-class_word (Below name) = codes "below"
-
-abbrev pub class_name : Class → List (List ℕ)
-class_name (Exact name) = name
-class_name (Below name) = name
+-- what a class is of: one name alone, or the names below one
+abbrev pub class_kind : Class → List ℕ
+class_kind (Exact name) = codes "exact"
+class_kind (Below name) = codes "below"
 
 -- a class and a type
 abbrev pub class_value : Class → RrType → Data
 class_value class rtype = object_of (
-    (codes "class", string (class_word class))
+    (codes "class", string (class_kind class))
     ∷ (codes "name", name_value (class_name class))
     ∷ (codes "type", string (word_of rtype)) ∷ [])
 

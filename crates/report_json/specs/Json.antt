@@ -8,20 +8,20 @@ use Rattle.dns_data.specs.declared.rdata.Rdata.{Rdata}
 use Rattle.serde_json.specs.Data.{Data, string, array, object, Items, no_items, item, Members, no_members, member}
 
 -- the values of a list, in order
-abbrev pub items_of : List Data → Items
-items_of [] = no_items
-items_of (value ∷ values) = item value (items_of values)
+abbrev pub json_items : List Data → Items
+json_items [] = no_items
+json_items (value ∷ values) = item value (json_items values)
 
 abbrev pub array_of : List Data → Data
-array_of values = array (items_of values)
+array_of values = array (json_items values)
 
 -- members, each a name and a value, in order
-abbrev pub members_of : List (List ℕ × Data) → Members
-members_of [] = no_members
-members_of (one ∷ more) = member one.0 one.1 (members_of more)
+abbrev pub json_members : List (List ℕ × Data) → Members
+json_members [] = no_members
+json_members (one ∷ more) = member one.0 one.1 (json_members more)
 
 abbrev pub object_of : List (List ℕ × Data) → Data
-object_of members = object (members_of members)
+object_of members = object (json_members members)
 
 -- a name, by its text
 abbrev pub name_value : Labels → Data

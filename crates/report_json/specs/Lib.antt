@@ -4,5 +4,4 @@ pub mod Walks
 pub mod Ask
 pub mod Faults
 pub mod Report
-pub mod Entries
 pub mod Members

@@ -1,10 +1,8 @@
 -- The text of a report.
-use Rattle.std.specs.Prelude.{ℕ, Bool, List, [], ◌∷◌, ◌++◌, map, codes}
-use Rattle.dns_data.specs.Name.{Labels}
+use Rattle.std.specs.Prelude.{ℕ, List, [], ◌∷◌, ◌++◌, map, codes}
 use Rattle.dns_data.specs.RrType.{word_of}
-use Rattle.dns_data.specs.declared.rr_type.RrType.{RrType}
-use Rattle.net_model.specs.declared.fault.Fault.{Fault}
-use Rattle.net_model.specs.declared.walk.Walk.{Walk}
+use Rattle.graph_form.specs.declared.report.Report.{Report}
+use Rattle.graph_form.specs.declared.report.ReportEntry.{ReportEntry}
 use Rattle.serde_json.specs.Data.{Data, boolean, number, string, unsigned}
 use Rattle.serde_json.specs.Written.{compact_text}
 use Rattle.report_json.specs.Faults.{kind_word, fault_value}
@@ -12,27 +10,27 @@ use Rattle.report_json.specs.Json.{array_of, object_of, name_value}
 use Rattle.report_json.specs.Walks.{walk_value}
 
 -- how a query shows a fault: whether its first walk comes to a server twice with one name, its type, and its walks
-abbrev pub showing_members : RrType → Bool → List Walk → List (List ℕ × Data)
-showing_members rtype repeats walks =
-    (codes "repeats", boolean repeats)
-    ∷ (codes "type", string (word_of rtype))
-    ∷ (codes "walks", array_of (map walk_value walks)) ∷ []
+abbrev pub showing_members : ReportEntry → List (List ℕ × Data)
+showing_members entry =
+    (codes "repeats", boolean entry.repeats)
+    ∷ (codes "type", string (word_of entry.seen.rtype))
+    ∷ (codes "walks", array_of (map walk_value entry.walks)) ∷ []
 
 -- an entry: a fault, and the query that shows it first
-abbrev pub entry_value : Fault → Labels → RrType → Bool → List Walk → Data
-entry_value fault query rtype repeats walks = object_of (
-    (codes "kind", string (kind_word fault))
-    ∷ (codes "place", fault_value fault)
-    ∷ (codes "query", name_value query) ∷ showing_members rtype repeats walks)
+abbrev pub entry_value : ReportEntry → Data
+entry_value entry = object_of (
+    (codes "kind", string (kind_word entry.seen.fault))
+    ∷ (codes "place", fault_value entry.seen.fault)
+    ∷ (codes "query", name_value entry.query) ∷ showing_members entry)
 
 -- a report: how many classes and names there are, how many rewrites a query may use, and the entries
-abbrev pub report_value : ℕ → ℕ → ℕ → List Data → Data
-report_value classes names rewrites entries = object_of (
-    (codes "classes", number (unsigned classes))
-    ∷ (codes "faults", array_of entries)
-    ∷ (codes "names", number (unsigned names))
-    ∷ (codes "rewrites", number (unsigned rewrites)) ∷ [])
+abbrev pub report_value : Report → Data
+report_value report = object_of (
+    (codes "classes", number (unsigned report.classes))
+    ∷ (codes "faults", array_of (map entry_value report.entries))
+    ∷ (codes "names", number (unsigned report.names))
+    ∷ (codes "rewrites", number (unsigned report.rewrites)) ∷ [])
 
 -- its text without white space, and a line feed
-abbrev pub report_text : ℕ → ℕ → ℕ → List Data → List ℕ
-report_text classes names rewrites entries = compact_text (report_value classes names rewrites entries) ++ codes "\n"
+abbrev pub report_text : Report → List ℕ
+report_text report = compact_text (report_value report) ++ codes "\n"

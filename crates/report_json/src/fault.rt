@@ -2,7 +2,8 @@
 
 ghost use Rattle.std.specs.Prelude.{◌≡◌, OnOk};
 ghost use Rattle.serde_json.specs.Events.{SendsValue};
-ghost use Rattle.report_json.specs.Faults.{kind_word, cut_value, place_value, class_word, class_name, class_value, fault_value};
+ghost use Rattle.graph_form.specs.Report.{class_name};
+ghost use Rattle.report_json.specs.Faults.{kind_word, cut_value, place_value, class_kind, class_value, fault_value};
 
 use crate::object::{name, send_object, word};
 use dns_data::{Name, RrType};
@@ -80,16 +81,16 @@ fn send_class<S: Serializer>(
     ensures { OnOk result (SendsValue (class_value class.now rtype) (S.written out.old) (S.written out.new)) }
 {
     let members = [
-        word("class", class_word(class)),
+        word("class", class_kind(class)),
         name("name", class_name(class)),
         word("type", rtype.word()),
     ];
     send_object(alloc, members.as_slice(), None, out)
 }
 
-/// The word of a class.
-fn class_word(class: &Class) -> &'static str
-    ensures { result.now ≡ class_word class.now }
+/// What a class is of.
+fn class_kind(class: &Class) -> &'static str
+    ensures { result.now ≡ class_kind class.now }
 {
     match class {
         Class::Exact(_) => "exact",

@@ -14,7 +14,7 @@ mod report;
 mod walk;
 
 pub use ask::ask_text;
-pub use report::{EntryParts, report_text};
+pub use report::report_text;
 
 #[cfg(test)]
 mod tests;

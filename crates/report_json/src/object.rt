@@ -6,7 +6,7 @@ ghost use Rattle.std.specs.String.{string_bytes};
 ghost use Rattle.dns_data.specs.DataText.{data_text};
 ghost use Rattle.serde_json.specs.Data.{string};
 ghost use Rattle.serde_json.specs.Events.{SendsValue, SendsMembers};
-ghost use Rattle.report_json.specs.Json.{members_of, object_of, name_value, data_value, texts_value};
+ghost use Rattle.report_json.specs.Json.{json_members, object_of, name_value, data_value, texts_value};
 ghost use Rattle.report_json.specs.Members.{part_value, member_of};
 ghost use Rattle.report_json.specs.Walks.{zone_member};
 
@@ -90,7 +90,7 @@ fn zone_count(zone: Option<&Name>) -> usize
 
 /// Writes the zone, where there is one, as the last member of an object.
 fn send_last<S: Serializer>(alloc: Global, zone: Option<&Name>, out: &mut S) -> Result<(), S::Error>
-    ensures { OnOk result (SendsMembers (members_of (zone_member (option_map (λ zone. zone.now) zone.entry)))
+    ensures { OnOk result (SendsMembers (json_members (zone_member (option_map (λ zone. zone.now) zone.entry)))
         (S.written out.old) (S.written out.new)) }
 {
     match zone {

@@ -2,68 +2,40 @@
 
 ghost use Rattle.std.specs.Prelude.{◌≡◌, map, IfOk, OnOk};
 ghost use Rattle.serde_json.specs.Events.{SendsValue, SendsMembers};
-ghost use Rattle.report_json.specs.Entries.{entry_of};
-ghost use Rattle.report_json.specs.Json.{array_of, members_of};
-ghost use Rattle.report_json.specs.Report.{showing_members, report_value, report_text};
+ghost use Rattle.report_json.specs.Json.{array_of, json_members};
+ghost use Rattle.report_json.specs.Report.{showing_members, entry_value, report_value, report_text};
 
 use crate::fault::{kind_word, send_fault};
 use crate::object::send_name;
 use crate::walk::send_walks;
-use dns_data::{Name, NoMemory, Octets, RrType};
-use net_model::{Fault, Walk};
+use dns_data::{NoMemory, Octets};
+use graph_form::{Report, ReportEntry};
 use serde::{Described, Serialize, Serializer};
 use std::alloc::Global;
 
-/// What an entry of a report tells: a fault, the query and the type that show it first, whether the first walk comes to
-/// a server twice with one name, and the walks.
-#[derive(Clone, Copy)]
-pub struct EntryParts<'a> {
-    pub fault: &'a Fault,
-    pub query: &'a Name,
-    pub rtype: RrType,
-    pub repeats: bool,
-    pub walks: &'a [Walk],
-}
-
-/// A report.
+/// A report, and where memory for the texts of its names comes from.
 #[derive(Drop)]
-struct Report<'a> {
+struct Written<'a> {
     alloc: Global,
-    classes: u32,
-    names: u32,
-    rewrites: u32,
-    entries: &'a [EntryParts<'a>],
+    report: &'a Report,
 }
 
-impl Described for Report<'_> {
-    ghost writes = { λ report. SendsValue (report_value report.classes report.names report.rewrites (map entry_of report.entries.now)) };
+impl Described for Written<'_> {
+    ghost writes = { λ written. SendsValue (report_value written.report.now) };
 }
 
-impl Serialize for Report<'_> {
+impl Serialize for Written<'_> {
     fn serialize<S: Serializer>(&self, out: &mut S) -> Result<(), S::Error> {
-        send_report(self, out)
+        send_report(self.alloc, self.report, out)
     }
 }
 
-/// The text of a report with entries in the order in which they are given: a line of JSON. It says how many classes
-/// and names there are, and how many rewrites a query may use.
-pub fn report_text(
-    alloc: Global,
-    classes: u32,
-    names: u32,
-    rewrites: u32,
-    entries: &[EntryParts<'_>],
-) -> Result<Octets, NoMemory>
-    ensures { IfOk result (λ text. text ≡ report_text classes names rewrites (map entry_of entries.now)) }
+/// The text of a report, its entries in the order in which they stand: a line of JSON.
+pub fn report_text(alloc: Global, report: &Report) -> Result<Octets, NoMemory>
+    ensures { IfOk result (λ text. text ≡ report_text report.now) }
 {
-    let report = Report {
-        alloc,
-        classes,
-        names,
-        rewrites,
-        entries,
-    };
-    let Ok(mut text) = serde_json::to_vec(alloc, &report) else {
+    let written = Written { alloc, report };
+    let Ok(mut text) = serde_json::to_vec(alloc, &written) else {
         return Err(NoMemory);
     };
     text.push(b'\n')?;
@@ -71,15 +43,14 @@ pub fn report_text(
 }
 
 /// Writes a report.
-fn send_report<S: Serializer>(report: &Report<'_>, out: &mut S) -> Result<(), S::Error>
-    ensures { OnOk result (SendsValue (report_value report.now.classes report.now.names report.now.rewrites (map entry_of report.now.entries.now))
-        (S.written out.old) (S.written out.new)) }
+fn send_report<S: Serializer>(alloc: Global, report: &Report, out: &mut S) -> Result<(), S::Error>
+    ensures { OnOk result (SendsValue (report_value report.now) (S.written out.old) (S.written out.new)) }
 {
     out.begin_map(Some(4))?;
     out.key("classes")?;
     out.u64(u64::from(report.classes))?;
     out.key("faults")?;
-    send_entries(report.alloc, report.entries, out)?;
+    send_entries(alloc, report.entries.items(), out)?;
     out.key("names")?;
     out.u64(u64::from(report.names))?;
     out.key("rewrites")?;
@@ -90,10 +61,10 @@ fn send_report<S: Serializer>(report: &Report<'_>, out: &mut S) -> Result<(), S:
 /// Writes the list of entries.
 fn send_entries<S: Serializer>(
     alloc: Global,
-    entries: &[EntryParts<'_>],
+    entries: &[ReportEntry],
     out: &mut S,
 ) -> Result<(), S::Error>
-    ensures { OnOk result (SendsValue (array_of (map entry_of entries.now)) (S.written out.old) (S.written out.new)) }
+    ensures { OnOk result (SendsValue (array_of (map entry_value entries.now)) (S.written out.old) (S.written out.new)) }
 {
     out.begin_seq(Some(entries.len()))?;
     for entry in entries {
@@ -105,35 +76,34 @@ fn send_entries<S: Serializer>(
 /// Writes an entry.
 fn send_entry<S: Serializer>(
     alloc: Global,
-    entry: &EntryParts<'_>,
+    entry: &ReportEntry,
     out: &mut S,
 ) -> Result<(), S::Error>
-    ensures { OnOk result (SendsValue (entry_of entry.now) (S.written out.old) (S.written out.new)) }
+    ensures { OnOk result (SendsValue (entry_value entry.now) (S.written out.old) (S.written out.new)) }
 {
     out.begin_map(Some(6))?;
     out.key("kind")?;
-    out.str(kind_word(entry.fault))?;
+    out.str(kind_word(&entry.seen.fault))?;
     out.key("place")?;
-    send_fault(alloc, entry.fault, out)?;
+    send_fault(alloc, &entry.seen.fault, out)?;
     out.key("query")?;
-    send_name(alloc, entry.query, out)?;
+    send_name(alloc, &entry.query, out)?;
     send_showing(alloc, entry, out)
 }
 
 /// Writes the last members of an entry, on how the query shows the fault.
 fn send_showing<S: Serializer>(
     alloc: Global,
-    entry: &EntryParts<'_>,
+    entry: &ReportEntry,
     out: &mut S,
 ) -> Result<(), S::Error>
-    ensures { OnOk result (SendsMembers (members_of (showing_members entry.now.rtype entry.now.repeats entry.now.walks.now))
-        (S.written out.old) (S.written out.new)) }
+    ensures { OnOk result (SendsMembers (json_members (showing_members entry.now)) (S.written out.old) (S.written out.new)) }
 {
     out.key("repeats")?;
     out.bool(entry.repeats)?;
     out.key("type")?;
-    out.str(entry.rtype.word())?;
+    out.str(entry.seen.rtype.word())?;
     out.key("walks")?;
-    send_walks(alloc, entry.walks, out)?;
+    send_walks(alloc, entry.walks.items(), out)?;
     out.end_map()
 }

@@ -1,7 +1,8 @@
 //! Each call that takes memory, once with ample.
 
-use crate::{EntryParts, ask_text, report_text};
+use crate::{ask_text, report_text};
 use dns_data::{List, Name, Rdata, RrType};
+use graph_form::{Report, ReportEntry, Seen};
 use net_model::{Class, Fault, Leaf, State, Walk};
 use std::test::Fail;
 
@@ -37,17 +38,23 @@ fn one_walk(rt: HostRuntime) -> Result<(), Fail> {
 #[test]
 fn one_entry(rt: HostRuntime) -> Result<(), Fail> {
     let alloc = rt.alloc();
-    let fault = Fault::Answers(Class::Exact(Name::root()), RrType::Mx);
-    let query = Name::root();
-    let walks = List::new(alloc);
-    let entry = EntryParts {
-        fault: &fault,
-        query: &query,
-        rtype: RrType::Mx,
+    let mut entries = List::new(alloc);
+    entries.push(ReportEntry {
+        seen: Seen {
+            fault: Fault::Answers(Class::Exact(Name::root()), RrType::Mx),
+            rtype: RrType::Mx,
+        },
+        query: Name::root(),
         repeats: false,
-        walks: walks.items(),
+        walks: List::new(alloc),
+    })?;
+    let report = Report {
+        classes: 2,
+        names: 1,
+        rewrites: 12,
+        entries,
     };
-    let text = report_text(alloc, 2, 1, 12, [entry].as_slice())?;
+    let text = report_text(alloc, &report)?;
     let expected =
         "{\"classes\":2,\"faults\":[{\"kind\":\"answers-differ\",\"place\":{\"class\":\"exact\",\"name\":\".\",\"type\":\"MX\"},\"query\":\".\",\"repeats\":false,\"type\":\"MX\",\"walks\":[]}],\"names\":1,\"rewrites\":12}\n";
     assert_eq!(rt; text.items(), expected.as_bytes());

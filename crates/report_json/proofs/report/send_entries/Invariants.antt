@@ -1,12 +1,12 @@
 use Rattle.std.proofs.Common.{drop, map}
 use Rattle.serde.specs.Event.{Log}
 use Rattle.serde_json.specs.Events.{SendsItems}
-use Rattle.report_json.specs.Json.{items_of}
-use Rattle.report_json.specs.Entries.{entry_of}
+use Rattle.report_json.specs.Json.{json_items}
+use Rattle.report_json.specs.Report.{entry_value}
 use Rattle.report_json.proofs.report.send_entries.Given as goal
 
 -- whatever ends it well from here ends it well from the start
 abbrev pub invariant-loop-entry : goal.invariant-loop-entry
 invariant-loop-entry g l =
-    (end : Log) → SendsItems (items_of (map entry_of (drop l.entry-index l.entries))) (g.S.Serializer.written l.out) end
-    → SendsItems (items_of (map entry_of l.entries)) (g.S.Serializer.written l.initial.out) end
+    (end : Log) → SendsItems (json_items (map entry_value (drop l.entry-index l.entries))) (g.S.Serializer.written l.out) end
+    → SendsItems (json_items (map entry_value l.entries)) (g.S.Serializer.written l.initial.out) end

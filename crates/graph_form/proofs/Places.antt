@@ -1,0 +1,46 @@
+-- Items of lists by their places, and what a search finds.
+use Rattle.std.proofs.Common.{◌≡◌, ℕ, zero, suc, ◌+◌, ◌<◌, length, drop, get_or, drop-cons, length-append, ap, sym, ◌∙◌, arith, Bool, true, false, cond, List, [], ◌∷◌, refl, subst, Some, None, inl, inr}
+use Rattle.std.specs.Prelude.{◌⊎◌, Contains, slice_get}
+use Rattle.std.specs.List.{AllZip, find, flat_map}
+use Rattle.dns_data.proofs.Membership.{has_first, has_later}
+
+-- two lists have an item at a place, or neither has; and those that both have are a pair
+pub record PairAt {A B : Type 0} (R : A → B → Type 0) (xs : List A) (ys : List B) (k : ℕ) : Type 0 where
+  pub one : A
+  pub other : B
+  pub at_one : slice_get xs k ≡ Some one
+  pub at_other : slice_get ys k ≡ Some other
+  pub paired : R one other
+  pub has : Contains xs one
+
+pub pair_at : {A B : Type 0} (R : A → B → Type 0) (xs : List A) (ys : List B) → AllZip R xs ys → (k : ℕ)
+    → ((slice_get xs k ≡ None) × (slice_get ys k ≡ None)) ⊎ PairAt R xs ys k
+pair_at R [] [] all k = inl (refl, refl)
+pair_at R [] (y ∷ ys) all k = absurd all
+pair_at R (x ∷ xs) [] all k = absurd all
+pair_at R (x ∷ xs) (y ∷ ys) all zero =
+    inr (record { one = x; other = y; at_one = refl; at_other = refl; paired = all.0; has = has_first x xs })
+pair_at R (x ∷ xs) (y ∷ ys) all (suc k) = by (pair_at R xs ys all.1 k) where
+  by : ((slice_get xs k ≡ None) × (slice_get ys k ≡ None)) ⊎ PairAt R xs ys k
+      → ((slice_get xs k ≡ None) × (slice_get ys k ≡ None)) ⊎ PairAt R (x ∷ xs) (y ∷ ys) (suc k)
+  by (inl none) = inl none
+  by (inr found) = inr (record { one = found.one; other = found.other; at_one = found.at_one; at_other = found.at_other; paired = found.paired; has = has_later x xs found.one found.has })
+
+-- what a search finds is an item of the list, and passes its test
+pub found_there : {A : Type 0} (test : A → Bool) (xs : List A) (y : A) → find test xs ≡ Some y → Contains xs y × (test y ≡ true)
+found_there test [] y e = cc
+found_there test (x ∷ xs) y e = by (test x) refl e (found_there test xs y) where
+  by : (b : Bool) → test x ≡ b → cond b (Some x) (find test xs) ≡ Some y
+      → (find test xs ≡ Some y → Contains xs y × (test y ≡ true)) → Contains (x ∷ xs) y × (test y ≡ true)
+  by true passes e later =
+      let same : x ≡ y = cc in
+      subst (λ z. Contains (x ∷ xs) z × (test z ≡ true)) same (has_first x xs, passes)
+  by false passes e later = let there = later e in (has_later x xs y there.0, there.1)
+
+-- as many items in a row from a place on as of the item there and from the next place on
+pub count_next : {A B : Type 0} (f : A → List B) (xs : List A) (i : ℕ) (x : A) → i < length xs → x ≡ get_or xs i x
+    → length (flat_map f (drop i xs)) ≡ length (f x) + length (flat_map f (drop (i + 1) xs))
+count_next f xs i x below is =
+    let next : suc i ≡ i + 1 = omega arith in
+    ap (λ left. length (flat_map f left)) (drop-cons xs i x below ∙ (ap (λ one. one ∷ drop (suc i) xs) (sym is) ∙ ap (λ n. x ∷ drop n xs) next))
+    ∙ length-append (f x) (flat_map f (drop (i + 1) xs))

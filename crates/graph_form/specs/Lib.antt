@@ -1,0 +1,4 @@
+pub use Rattle.net_model.specs.Walk
+pub mod Graph
+pub mod GraphOf
+pub mod Report
