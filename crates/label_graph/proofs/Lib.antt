@@ -1,0 +1,10 @@
+pub mod GraphSets
+pub mod InOrder
+pub mod KeptLinks
+pub mod NamePlaces
+pub mod LiveNames
+pub mod Passing
+pub mod Readings
+pub mod RowItems
+pub mod Saturating
+pub mod TargetLinks

@@ -1,0 +1,135 @@
+-- Places of names in order.
+use Rattle.std.proofs.Common.{◌≡◌, ℕ, ◌+◌, false, ◌<◌, ◌⊎◌, List, [], ◌∷◌, ◌++◌, ◌-◌, length, take, drop, get_or, Contains, IsSorted, is_lt, Less, Equal, Greater, Result, Ok, Err, sym, refl, ap, ◌∙◌, subst, inl, inr, arith}
+use Rattle.std.specs.Prelude.{◌↔◌, MatchResult, slice_set}
+use Rattle.std.specs.List.Sorted.{IsSearchInRange, IsBinarySearchResult}
+use Rattle.std.specs.Ordering.{ordering_reverse}
+use Rattle.std.proofs.lemmas.Bool.{cases_lt}
+use Rattle.std.proofs.lemmas.Cmp.{tied_itself}
+use Rattle.std.proofs.lemmas.List.{take_at, length-append, take-append-drop, length-drop, get_or_default}
+use Rattle.std.proofs.lemmas.List.Sorted.{searchable_from_sorted}
+use Rattle.dns_data.specs.Name.{Labels, name_cmp, wire_octets}
+use Rattle.dns_data.proofs.NameFronts.{labels_fewer}
+use Rattle.dns_data.proofs.NameOrder.{names_total}
+use Rattle.dns_data.proofs.Names.{same_names}
+use Rattle.dns_data.proofs.OrderedLists.{never_before_itself}
+use Rattle.label_graph.specs.LiveSet.{AreInOrder, name_at}
+use Rattle.label_graph.specs.NameTree.{IsNextBelow}
+use Rattle.label_graph.specs.Rows.{RowHas}
+use Rattle.label_graph.proofs.RowItems.{put_there, put_keeps, from_put}
+
+-- a name has one place
+pub one_place : (names : List Labels) → AreInOrder names → (i j : ℕ) → i < length names → j < length names
+    → name_at names i ≡ name_at names j → i ≡ j
+one_place names order i j first second same =
+    elim (cases_lt i j) [
+      | inl before ↦
+          absurd (never_before_itself name_cmp names_total (name_at names j)
+          (subst (λ (n : Labels). name_cmp n (name_at names j) ≡ Less) same (order i j [] before second)))
+      | inr behind ↦ elim (cases_lt j i) [
+        | inl after ↦
+            absurd (never_before_itself name_cmp names_total (name_at names i)
+            (subst (λ (n : Labels). name_cmp n (name_at names i) ≡ Less) (sym same) (order j i [] after first)))
+        | inr not_after ↦ omega arith
+      ]
+    ]
+
+later_not_before : (a b : Labels) → name_cmp a b ≡ Less → is_lt (name_cmp b a) ≡ false
+later_not_before a b less = ap is_lt (names_total.antisymm b a ∙ ap ordering_reverse less)
+
+sorted : (names : List Labels) → AreInOrder names → IsSorted name_cmp names
+sorted names order k d low high = later_not_before (get_or names k d) (get_or names (k + 1) d) (order k (k + 1) d (omega arith) high)
+
+-- what a binary search finds
+pub searched : (names : List Labels) (name : Labels) (r : Result ℕ ℕ) → AreInOrder names → IsSearchInRange r (length names)
+    → IsBinarySearchResult (λ other. name_cmp other name) names r
+    → MatchResult r (λ place. (place < length names) × (name_at names place ≡ name)) (λ _. Contains names name → ⊥)
+searched names name (Ok place) order below holds = (below, same_names (name_at names place) name (holds []))
+searched names name (Err place) order within holds =
+    let parts = holds (searchable_from_sorted names_total (λ (x : Labels). x) names name (sorted names order)) in
+    λ (k, below, is). elim (cases_lt k place) [
+      | inl lower ↦
+          never_before_itself name_cmp names_total name
+          (subst (λ (n : Labels). name_cmp n name ≡ Less) is (parts.0 k name (omega arith) lower))
+      | inr higher ↦ (
+          let greater : name_cmp name name ≡ Greater = subst (λ (n : Labels). name_cmp n name ≡ Greater) is (parts.1 k name higher below) in
+          let tied : name_cmp name name ≡ Equal = tied_itself names_total name in
+          cc)
+    ]
+
+-- labels below names: one label less on both sides
+pub same_above : (a b : Labels) (x y : List ℕ) → a ++ x ∷ [] ≡ b ++ y ∷ [] → a ≡ b
+same_above a b x y e =
+    let sizes : length a ≡ length b = omega (arith, ap length e, length-append a (x ∷ []), length-append b (y ∷ [])) in
+    sym (take_at a (x ∷ []) (length a) refl) ∙ ap (take (length a)) e ∙ take_at b (y ∷ []) (length a) (sym sizes)
+
+-- the root is no name with a label below it
+pub root_below_none : (above : Labels) (label : List ℕ) → above ++ label ∷ [] ≡ [] → ⊥
+root_below_none above label e = omega (arith, ap length e, length-append above (label ∷ []))
+
+-- a name of one octet is the root
+pub octets_of_root : (name : Labels) → wire_octets name ≡ 1 → name ≡ []
+octets_of_root [] e = refl
+octets_of_root (label ∷ name) e = absurd (omega (arith, labels_fewer (label ∷ name)))
+
+-- a name with labels is that of all but the last, and the last
+pub last_label : (name : Labels) → (name ≡ [] → ⊥) → (label : List ℕ) × (name ≡ take (length name - 1) name ++ label ∷ [])
+last_label name some = (
+  get_or (drop (length name - 1) name) 0 [],
+  sym (take-append-drop {A = List ℕ} (length name - 1) name)
+      ∙ ap (λ (rest : Labels). take (length name - 1) name ++ rest)
+      (alone (drop (length name - 1) name) (omega (arith, length-drop (length name - 1) name, not_empty name some))),
+)
+  where
+    alone : (labels : Labels) → length labels ≡ 1 → labels ≡ get_or labels 0 [] ∷ []
+    alone [] e = absurd (omega arith)
+    alone (x ∷ []) e = refl
+    alone (x ∷ y ∷ rest) e = absurd (omega arith)
+
+    not_empty : (labels : Labels) → (labels ≡ [] → ⊥) → 0 < length labels
+    not_empty [] none = absurd (none refl)
+    not_empty (x ∷ rest) none = omega arith
+
+module _ (names : List Labels) (rows : List (List ℕ)) (order : AreInOrder names) (place : ℕ) (within : place < length names) where
+  -- the name's place put into its parent's row
+  pub row_put : (above : Labels) (label : List ℕ) (parent : ℕ) → name_at names place ≡ above ++ label ∷ []
+      → parent < length names → name_at names parent ≡ above → parent < length rows → (p q : ℕ)
+      → RowHas (slice_set rows parent (get_or rows parent [] ++ place ∷ [])) p q
+      ↔ (RowHas rows p q ⊎ ((q ≡ place) × IsNextBelow names p q))
+  row_put above label parent is inside at room p q = (there, back) where
+    there : RowHas (slice_set rows parent (get_or rows parent [] ++ place ∷ [])) p q → RowHas rows p q ⊎ ((q ≡ place) × IsNextBelow names p q)
+    there has =
+        elim (from_put rows parent place room p q has) [
+          | inl old ↦ inl old
+          | inr (here, new) ↦ inr (
+            new,
+            record {
+              within = subst (λ (k : ℕ). k < length names) (sym here) inside;
+              inside = subst (λ (k : ℕ). k < length names) (sym new) within;
+              label = label;
+              is = ap (name_at names) new ∙ is ∙ ap (λ (n : Labels). n ++ label ∷ []) (sym at ∙ ap (name_at names) (sym here));
+            },
+          )
+        ]
+
+    back : RowHas rows p q ⊎ ((q ≡ place) × IsNextBelow names p q) → RowHas (slice_set rows parent (get_or rows parent [] ++ place ∷ [])) p q
+    back (inl old) = put_keeps rows parent place room p q old
+    back (inr (new, next)) =
+        let same : name_at names p ≡ name_at names parent =
+        same_above (name_at names p) above next.label label (sym next.is ∙ ap (name_at names) new ∙ is) ∙ sym at in
+        let here : p ≡ parent = one_place names order p parent next.within inside same in
+        subst (λ (k : ℕ). RowHas (slice_set rows parent (get_or rows parent [] ++ place ∷ [])) k q) (sym here)
+        (subst (RowHas (slice_set rows parent (get_or rows parent [] ++ place ∷ [])) parent) (sym new) (put_there rows parent place room))
+
+  -- the root is in no row
+  pub root_put : name_at names place ≡ [] → (p q : ℕ) → RowHas rows p q ↔ (RowHas rows p q ⊎ ((q ≡ place) × IsNextBelow names p q))
+  root_put is p q = (
+    λ has. inl has,
+    λ either. elim either [
+      | inl has ↦ has
+      | inr (new, next) ↦ absurd (root_below_none (name_at names p) next.label (sym next.is ∙ ap (name_at names) new ∙ is))
+    ],
+  )
+
+-- what is read at a place is the name there
+pub read_at : (items names : List Labels) (k : ℕ) (x : Labels) → items ≡ names → x ≡ get_or items k x → k < length names → get_or names k [] ≡ x
+read_at items names k x same is below = get_or_default names k [] x below ∙ ap (λ (l : List Labels). get_or l k x) (sym same) ∙ sym is

@@ -1,0 +1,110 @@
+-- What holds of some item of a list's front, and of a front with one item more.
+use Rattle.std.proofs.Common.{◌≡◌, ◌∙◌, ℕ, ◌+◌, ◌<◌, ◌≤◌, ◌⊎◌, List, [], ◌∷◌, ◌++◌, length, take, get_or, Contains, inl, inr, sym, subst}
+use Rattle.std.proofs.lemmas.List.{take_more, take_all}
+use Rattle.std.proofs.lemmas.List.Elements.{Contains-append_left, Contains-append_right, Contains-append_cases}
+use Rattle.std.specs.Prelude.{◌↔◌}
+use Rattle.label_graph.specs.Graphs.{SomeItem}
+use Rattle.dns_data.proofs.Membership.{none_in_nil, has_first, first_or_later}
+
+module _ {X : Type 0} (P : X → Type 0) (xs : List X) (k : ℕ) (x : X) (below : k < length xs) (is : x ≡ get_or xs k x) where
+  -- of the items passed or the next
+  pub some_more : SomeItem P (take k xs) ⊎ P x → SomeItem P (take (k + 1) xs)
+  some_more (inl (y, has, p)) = (
+    y,
+    subst (λ (l : List X). Contains l y) (sym (take_more xs k x below)) (Contains-append_left (take k xs) (get_or xs k x ∷ []) y has),
+    p,
+  )
+  some_more (inr p) = (
+    x,
+    subst (λ (l : List X). Contains l x) (sym (take_more xs k x below))
+        (Contains-append_right (take k xs) (get_or xs k x ∷ []) x
+        (subst (Contains (get_or xs k x ∷ [])) (sym is) (has_first (get_or xs k x) []))),
+    p,
+  )
+
+  pub from_more : SomeItem P (take (k + 1) xs) → SomeItem P (take k xs) ⊎ P x
+  from_more (y, has, p) =
+      elim (Contains-append_cases (take k xs) (get_or xs k x ∷ []) y (subst (λ (l : List X). Contains l y) (take_more xs k x below) has)) [
+        | inl old ↦ inl (y, old, p)
+        | inr new ↦ elim (first_or_later (get_or xs k x) [] y new) [
+          | inl same ↦ inr (subst P (sym same ∙ sym is) p)
+          | inr none ↦ absurd (none_in_nil y none)
+        ]
+      ]
+
+-- none of no items
+pub some_none : {X : Type 0} (P : X → Type 0) → SomeItem P [] → ⊥
+some_none P (x, has, p) = none_in_nil x has
+
+-- of all items in the end
+pub some_all : {X : Type 0} (P : X → Type 0) (xs : List X) (k : ℕ) → length xs ≤ k → SomeItem P (take k xs) → SomeItem P xs
+some_all {X} P xs k over some = subst (SomeItem P) (take_all k xs over) some
+
+pub all_some : {X : Type 0} (P : X → Type 0) (xs : List X) (k : ℕ) → length xs ≤ k → SomeItem P xs → SomeItem P (take k xs)
+all_some {X} P xs k over some = subst (SomeItem P) (sym (take_all k xs over)) some
+
+-- ---- what a list has, told item by item
+
+-- in a loop over a list: what was there before, or comes from an item passed
+pub more_iff : {X : Type 0} (P : X → Type 0) (xs : List X) (k : ℕ) (x : X) → k < length xs → x ≡ get_or xs k x → (base before after : Type 0)
+    → (before ↔ (base ⊎ SomeItem P (take k xs))) → (after ↔ (before ⊎ P x)) → after ↔ (base ⊎ SomeItem P (take (k + 1) xs))
+more_iff P xs k x below is base before after was now = (
+  λ has. elim (now.0 has) [
+    | inl old ↦ elim (was.0 old) [ inl b ↦ inl b | inr some ↦ inr (some_more P xs k x below is (inl some)) ]
+    | inr new ↦ inr (some_more P xs k x below is (inr new))
+  ],
+  λ either. elim either [
+    | inl b ↦ now.1 (inl (was.1 (inl b)))
+    | inr some ↦ elim (from_more P xs k x below is some) [
+      | inl old ↦ now.1 (inl (was.1 (inr old)))
+      | inr new ↦ now.1 (inr new)
+    ]
+  ],
+)
+
+-- the same where nothing was there
+pub more_some : {X : Type 0} (P : X → Type 0) (xs : List X) (k : ℕ) (x : X) → k < length xs → x ≡ get_or xs k x → (before after : Type 0)
+    → (before ↔ SomeItem P (take k xs)) → (after ↔ (before ⊎ P x)) → after ↔ SomeItem P (take (k + 1) xs)
+more_some P xs k x below is before after was now = (
+  λ has. some_more P xs k x below is (elim (now.0 has) [ inl old ↦ inl (was.0 old) | inr new ↦ inr new ]),
+  λ some. elim (from_more P xs k x below is some) [
+    | inl old ↦ now.1 (inl (was.1 old))
+    | inr new ↦ now.1 (inr new)
+  ],
+)
+
+-- what comes from all items
+pub all_iff : {X : Type 0} (P : X → Type 0) (xs : List X) (k : ℕ) → length xs ≤ k → (there : Type 0)
+    → (there ↔ SomeItem P (take k xs)) → there ↔ SomeItem P xs
+all_iff P xs k over there was = (λ has. some_all P xs k over (was.0 has), λ some. was.1 (all_some P xs k over some))
+
+-- an empty list has nothing
+pub none_iff : {X Y : Type 0} (P : Y → Type 0) (x : X) → Contains [] x ↔ SomeItem P []
+none_iff P x = (λ has. absurd (none_in_nil x has), λ some. absurd (some_none P some))
+
+pub start_iff : {Y : Type 0} (P : Y → Type 0) (there : Type 0) → there ↔ (there ⊎ SomeItem P [])
+start_iff P there = (λ has. inl has, λ either. elim either [ inl has ↦ has | inr some ↦ absurd (some_none P some) ])
+
+-- a list with another behind it
+pub append_iff : {X : Type 0} (xs ys : List X) (x : X) → Contains (xs ++ ys) x ↔ (Contains xs x ⊎ Contains ys x)
+append_iff xs ys x = (
+  Contains-append_cases xs ys x,
+  λ either. elim either [ inl one ↦ Contains-append_left xs ys x one | inr two ↦ Contains-append_right xs ys x two ],
+)
+
+-- an item put at the end, which is the only one that is so
+pub push_iff : {X : Type 0} (xs : List X) (x : X) (P : X → Type 0) → P x → ((y : X) → P y → x ≡ y) → (y : X) → Contains (xs ++ x ∷ []) y ↔ (Contains xs y ⊎ P y)
+push_iff xs x P p only y = (
+  λ has. elim (Contains-append_cases xs (x ∷ []) y has) [
+    | inl old ↦ inl old
+    | inr new ↦ elim (first_or_later x [] y new) [ inl same ↦ inr (subst P same p) | inr none ↦ absurd (none_in_nil y none) ]
+  ],
+  λ either. elim either [
+    | inl old ↦ Contains-append_left xs (x ∷ []) y old
+    | inr new ↦ Contains-append_right xs (x ∷ []) y (subst (Contains (x ∷ [])) (only y new) (has_first x []))
+  ],
+)
+
+-- no item put where none is so
+pub keep_iff : {X : Type 0} (xs : List X) (P : X → Type 0) → ((y : X) → P y → ⊥) → (y : X) → Contains xs y ↔ (Contains xs y ⊎ P y)
+keep_iff xs P none y = (λ has. inl has, λ either. elim either [ inl has ↦ has | inr new ↦ absurd (none y new) ])

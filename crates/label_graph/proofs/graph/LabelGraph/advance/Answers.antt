@@ -1,0 +1,36 @@
+use Rattle.std.proofs.Common.{ℕ, ◌<◌, [], ◌∷◌, ◌++◌, List, All, length, Contains, sym, ap, subst}
+use Rattle.std.specs.Prelude.{◌↔◌}
+use Rattle.dns_data.specs.Name.{Labels}
+use Rattle.dns_data.proofs.Membership.{all_from_contains}
+use Rattle.net_model.specs.Reading.{Ground}
+use Rattle.label_graph.specs.Graphs.{SomeItem, IsStep, IsFrom}
+use Rattle.label_graph.specs.LiveSet.{IsLiveSet}
+use Rattle.label_graph.specs.declared.graph.LabelGraph.TheInside.{Inside}
+use Rattle.label_graph.proofs.GraphSets.{step_set}
+use Rattle.label_graph.proofs.graph.LabelGraph.advance.Goals as goal
+
+-- places that are steps have places
+steps_within : (names : List Labels) (label : List ℕ) (live places : List ℕ) → ((other : ℕ) → Contains places other ↔ SomeItem (IsStep names label other) live)
+    → All (λ place. place < length names) places
+steps_within names label live places steps =
+    all_from_contains (λ (place : ℕ). place < length names) places (λ place has. let (above, among, is) = (steps place).0 has in is.0)
+
+pub close-requires-clause-within : goal.close-requires-clause-within
+close-requires-clause-within c =
+    let names = ap (λ (i : Inside). i.table.names) c.self-inside.view_is in
+    subst (All (λ (place : ℕ). place < length c.self.inside.table.names)) (sym c.as_slice.ensures.value)
+    (subst (λ (n : List Labels). All (λ (place : ℕ). place < length n) c.in_ok-places.places.items) names
+    (steps_within _ c.args.label.now c.places.result.now c.in_ok-places.places.items c.in_ok-places.ensures))
+
+pub returns : goal.returns
+returns c name of =
+    let places : List ℕ = c.in_ok-places.places.items in
+    let steps : (other : ℕ) → Contains places other ↔ SomeItem (IsStep c.self.inside.table.names c.args.label.now other) c.args.live.now =
+    λ other. subst (λ (l : List ℕ). Contains places other ↔ SomeItem (IsStep c.self.inside.table.names c.args.label.now other) l) c.places.ensures
+    (subst (λ (i : Inside). Contains places other ↔ SomeItem (IsStep i.table.names c.args.label.now other) c.places.result.now) c.self-inside.view_is (c.in_ok-places.ensures other)) in
+    let are : (other : ℕ) → Contains c.in_ok-next.next other ↔ SomeItem (IsFrom c.self.inside.table c.self.inside.reads other) places =
+    λ other. subst (λ (l : List ℕ). Contains c.in_ok-next.next other ↔ SomeItem (IsFrom c.self.inside.table c.self.inside.reads other) l) c.as_slice.ensures.value
+    (subst (λ (i : Inside). Contains c.in_ok-next.next other ↔ SomeItem (IsFrom c.self.inside.table i.reads other) c.as_slice.result.now) c.self-inside.view_is (c.in_ok-next.ensures other)) in
+    subst (λ (g : Ground). IsLiveSet g (name ++ c.args.label.now ∷ []) c.in_ok-next.next) c.self.view_is
+    (step_set c.self.inside.table c.self.inside.reads c.self.invariant name c.args.label.now c.args.live.now places c.in_ok-next.next
+    (subst (λ (g : Ground). IsLiveSet g name c.args.live.now) (sym c.self.view_is) of) steps are)

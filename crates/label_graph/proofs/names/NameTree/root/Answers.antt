@@ -1,0 +1,5 @@
+use Rattle.std.proofs.Common.{Contains, sym, subst}
+use Rattle.label_graph.proofs.names.NameTree.root.Goals as goal
+
+pub unreachable-requires : goal.unreachable-requires
+unreachable-requires c = c.in-None.ensures (subst (Contains c.args.self.now) (sym c.root.ensures) c.items.ensures.closed.root)

@@ -1,0 +1,52 @@
+use Rattle.std.proofs.Common.{◌≡◌, ◌∙◌, ℕ, Bool, true, false, List, [], ◌∷◌, ◌++◌, length, append_assoc, Bor, Option, Some, None, Ok, Err, sym, ap, refl}
+use Rattle.std.specs.Prelude.{MatchOption, ◌==◌, nat_lt, map, if◌then◌else◌}
+use Rattle.std.specs.List.{list_all}
+use Rattle.std.proofs.lemmas.Bool.{and_parts, not-true}
+use Rattle.dns_data.specs.Label.{IsLabel, is_label_octet, label_of}
+use Rattle.dns_data.specs.Name.{Labels}
+use Rattle.dns_data.specs.Octet.{folded, is_upper}
+use Rattle.dns_data.specs.declared.fault.NameFault.TheVariants.{EmptyLabel, LabelTooLong}
+use Rattle.label_graph.proofs.parts.last_label.Goals as goal
+
+-- octets of a label are folded
+folded_label : (octets : List ℕ) → list_all is_label_octet octets ≡ true → map folded octets ≡ octets
+folded_label [] each = refl
+folded_label (octet ∷ octets) each =
+    let parts = and_parts (is_label_octet octet) (list_all is_label_octet octets) each in
+    let plain : is_upper octet ≡ false = not-true (is_upper octet) (and_parts _ _ parts.0).1 in
+    let first : folded octet ≡ octet = rw plain refl in
+    let rest : map folded octets ≡ octets = folded_label octets parts.1 in
+    cc
+
+-- the label of a label's octets is it
+told : (octets label : List ℕ) → IsLabel octets → label_of octets ≡ Ok label → label ≡ octets
+told octets label is e = by (length octets == 0) (nat_lt 63 (length octets)) e where
+  by : (empty long : Bool)
+      → (if empty then Err EmptyLabel else (if long then Err LabelTooLong else Ok (map folded octets))) ≡ Ok label → label ≡ octets
+  by true long e = cc
+  by false true e = cc
+  by false false e = let same : map folded octets ≡ label = cc in sym same ∙ folded_label octets is.octets
+
+-- one label passed more
+passed : (name rest after : Labels) (last : Option (Bor (List ℕ))) (label : List ℕ) → rest ≡ label ∷ after
+    → MatchOption last (name ≡ rest) (λ l. IsLabel l.now × ((above : Labels) × (name ≡ above ++ l.now ∷ rest)))
+    → (above : Labels) × (name ≡ above ++ label ∷ after)
+passed name rest after None label e is = ([], is ∙ e)
+passed name rest after (Some l) label e (one, (above, is)) =
+    (above ++ l.now ∷ [], is ∙ ap (λ (r : Labels). above ++ l.now ∷ r) e ∙ sym (append_assoc above (l.now ∷ []) (label ∷ after)))
+
+-- nothing is left behind the last label
+ended : (name rest : Labels) (label octets : List ℕ) → (above : Labels) × (name ≡ above ++ octets ∷ rest) → rest ≡ [] → label ≡ octets
+    → (above : Labels) × (name ≡ above ++ label ∷ [])
+ended name rest label octets (above, is) none same =
+    (above, is ∙ ap (λ (r : Labels). above ++ octets ∷ r) none ∙ ap (λ (l : List ℕ). above ++ l ∷ []) (sym same))
+
+pub loop-label-preserved : goal.loop-label-preserved
+loop-label-preserved c =
+    (c.in-Some.ensures.label, passed _ _ _ c.loop-label.last c.in-Some.label.now c.in-Some.ensures.first c.loop-label.invariant)
+
+pub returns-in-Ok : goal.returns-in-Ok
+returns-in-Ok c =
+    let last = rw c.in-Some-last.is at c.loop-label.invariant in
+    let label : c.in-Ok.label ≡ c.in-Some-last.octets.now = told c.in-Some-last.octets.now c.in-Ok.label last.0 c.in-Ok.ensures in
+    ended c.args.name.now c.loop-label.rest c.in-Ok.label c.in-Some-last.octets.now last.1 c.in_default.ensures.first label

@@ -1,0 +1,13 @@
+pub use Rattle.dns_data.specs.Label
+pub use Rattle.dns_data.specs.Name
+pub use Rattle.net_model.specs.Reading
+pub mod Graphs
+pub mod LinkRows
+pub mod LastLabel
+pub mod LiveSet
+pub mod NameTree
+pub mod Pairs
+pub mod Rows
+pub mod Saturation
+pub mod Sorting
+pub mod Targets

@@ -1,0 +1,98 @@
+//! The graph.
+
+ghost use Rattle.std.specs.Prelude.{◌≡◌, ◌↔◌, ℕ, List, [], ◌∷◌, ◌++◌, IfOk, IsTrue, Contains, AllPairs};
+ghost use Rattle.std.specs.declared.cmp.Ordering.TheVariants.{Less};
+ghost use Rattle.dns_data.specs.Label.{label_cmp};
+ghost use Rattle.dns_data.specs.Name.{Labels};
+ghost use Rattle.net_model.specs.Reading.{IsNamed};
+ghost use Rattle.label_graph.specs.LiveSet.{AreInOrder, IsClosed, IsLiveSet};
+ghost use Rattle.label_graph.specs.Pairs.{ground_with, AreSame};
+
+use crate::live::{LiveSet, close, has_step, labels_below, step};
+use crate::pair::Pair;
+use crate::rows::Rows;
+use crate::saturation::reads_of;
+use crate::sorting::in_order;
+use crate::targets::TargetTable;
+use dns_data::{Label, List, Name, NoMemory};
+use std::alloc::Global;
+use std::marker::Model;
+
+/// The graph. Contracts see it as its base names, in order, and its redirections.
+#[derive(Drop)]
+pub struct LabelGraph {
+    table: TargetTable,
+    reads: Rows,
+}
+
+impl Model for LabelGraph {
+    ghost use Rattle.net_model.specs.Reading.{Ground};
+    ghost use Rattle.label_graph.specs.Graphs.{IsGraph};
+    ghost use Rattle.label_graph.specs.Targets.{ground_in};
+
+    ghost Value = { Ground };
+
+    ghost view = { λ graph. ground_in graph.table };
+
+    ghost invariant = { λ graph. IsGraph graph.table graph.reads };
+}
+
+impl LabelGraph {
+    /// The graph of the names and of the pairs of DNAME records.
+    pub fn build(alloc: Global, names: &[Name], dnames: &[Pair]) -> Result<LabelGraph, NoMemory>
+        requires { IsClosed (ground_with names.now dnames.now) }
+        ensures same { IfOk result (λ graph. AreSame graph (ground_with names.now dnames.now)) }
+        ensures order { IfOk result (λ graph. AreInOrder graph.names) }
+    {
+        let table = TargetTable::build(alloc, names, dnames)?;
+        let reads = reads_of(alloc, &table)?;
+        Ok(LabelGraph { table, reads })
+    }
+
+    /// The live set of the root.
+    pub fn start(&self, alloc: Global) -> Result<LiveSet, NoMemory>
+        ensures { IfOk result (IsLiveSet self.now []) }
+    {
+        let root = self.table.base.root();
+        let live = close(alloc, &self.table, &self.reads, &[root])?;
+        Ok(live)
+    }
+
+    /// The live set of a name with a label more below, from that of the name.
+    pub fn advance(&self, alloc: Global, live: &LiveSet, label: &Label) -> Result<LiveSet, NoMemory>
+        requires { (name : Labels) × IsLiveSet self.now name live.now }
+        ensures { IfOk result (λ next. (name : Labels) → IsLiveSet self.now name live.now → IsLiveSet self.now (name ++ label.now ∷ []) next) }
+    {
+        let places = step(alloc, &self.table.base, live.places(), label)?;
+        let next = close(alloc, &self.table, &self.reads, places.as_slice())?;
+        Ok(next)
+    }
+
+    /// Whether the label makes a named name below a name with this live set.
+    pub fn has_next(&self, alloc: Global, live: &LiveSet, label: &Label) -> Result<bool, NoMemory>
+        requires { (name : Labels) × IsLiveSet self.now name live.now }
+        ensures { IfOk result (λ has. (name : Labels) → IsLiveSet self.now name live.now → IsTrue has ↔ IsNamed self.now (name ++ label.now ∷ [])) }
+    {
+        let has = has_step(alloc, &self.table.base, live.places(), label)?;
+        Ok(has)
+    }
+
+    /// The labels that make a named name below a name with this live set, in order, each once.
+    pub fn next_labels(&self, alloc: Global, live: &LiveSet) -> Result<List<Label>, NoMemory>
+        requires { (name : Labels) × IsLiveSet self.now name live.now }
+        ensures labels { IfOk result (λ labels. (name : Labels) → IsLiveSet self.now name live.now
+            → (label : List ℕ) → Contains labels label ↔ IsNamed self.now (name ++ label ∷ [])) }
+        ensures order { IfOk result (λ labels. AllPairs (λ a b. label_cmp a b ≡ Less) labels) }
+    {
+        let labels = labels_below(alloc, &self.table.base, live.places())?;
+        let labels = in_order(labels)?;
+        Ok(List::from_vec(labels))
+    }
+
+    /// The graph's names have the root, the prefixes of each and the owners of all redirections.
+    pub(crate) fn is_closed(&self)
+        ensures { IsClosed self.now }
+    {
+        let _ = &self.table;
+    }
+}

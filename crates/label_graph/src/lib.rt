@@ -1,0 +1,26 @@
+//! The label graph of base names and DNAME redirections (RFC 6672 section 2.2): the live set of a name, which has the
+//! base names to which the name reads on, found label by label. A name is named where its live set isn't empty.
+//!
+//! The layer above may rest on this: `start` and `advance` give the live set of a name in a graph, and
+//! `next_labels` and `has_next` the labels that make a named name below a name with that live set.
+//!
+//! Costs: building sorts the names and the fronts of targets, and looks once at each pair of a front and a base name
+//! to which it reads on. A live set is a sorted list of places, with one place where no DNAME record plays a part;
+//! a label more costs a binary search for each place. The labels below a live set are listed without a search.
+#![tactic(auto)]
+
+mod graph;
+pub mod laws;
+mod links;
+mod live;
+mod names;
+mod pair;
+mod parts;
+mod rows;
+mod saturation;
+mod sorting;
+mod targets;
+
+pub use graph::LabelGraph;
+pub use live::LiveSet;
+pub use pair::Pair;

@@ -1,0 +1,52 @@
+//! Fronts of names, and their last labels.
+
+ghost use Rattle.std.specs.Prelude.{◌≡◌, ◌↔◌, ◌⊎◌, take, Contains, IfOk, OnOk};
+ghost use Rattle.dns_data.specs.Name.{Labels};
+ghost use Rattle.label_graph.specs.LastLabel.{IsLastLabel};
+ghost use Rattle.label_graph.specs.Targets.{IsFrontFrom};
+
+use dns_data::{Label, Name, NoMemory};
+use std::alloc::Global;
+
+/// The name with the first so many labels of this one, or all where there are fewer.
+pub(crate) fn front_of(alloc: Global, name: &Name, count: usize) -> Result<Name, NoMemory>
+    ensures { IfOk result (λ front. front ≡ take count name.now) }
+{
+    match Name::root().join_labels(alloc, &name.front(count)) {
+        Ok(front) => Ok(front),
+        Err(_) => Err(NoMemory),
+    }
+}
+
+/// The last label of a name, or `None` for the root.
+pub(crate) fn last_label(alloc: Global, name: &Name) -> Result<Option<Label>, NoMemory>
+    ensures { IfOk result (IsLastLabel name.now) }
+{
+    let mut rest = name.labels();
+    let mut last = None;
+    while let Some(label) = rest.next() {
+        last = Some(label);
+    }
+    match last {
+        Some(octets) => match Label::from_octets(alloc, octets) {
+            Ok(label) => Ok(Some(label)),
+            Err(_) => Err(NoMemory),
+        },
+        None => Ok(None),
+    }
+}
+
+/// Puts all fronts of the name that have at least so many labels at the end.
+pub(crate) fn put_fronts(
+    alloc: Global,
+    names: &mut Vec<Name>,
+    name: &Name,
+    from: usize,
+) -> Result<(), NoMemory>
+    ensures { OnOk result ((front : Labels) → Contains names.new.items front ↔ (Contains names.old.items front ⊎ IsFrontFrom from name.now front)) }
+{
+    for count in from..name.len() as usize + 1 {
+        names.push(front_of(alloc, name, count)?)?;
+    }
+    Ok(())
+}
