@@ -1,12 +1,12 @@
 #!/usr/bin/env python3
 """Measures the workers of steal_pool and soaks them: pool.py [RUNS]
 
-It copies the crates that steal_pool stands on into a scratch folder, beside two programs whose texts stand in pool/.
-speed is proved and built; it prints the processor time and the octets of an item whose judging costs nothing, with one
+It copies the crates that steal_pool stands on into a scratch folder, beside two programs whose texts stand in pool/, and
+proves and builds these. speed gives the processor time and the octets of an item whose judging costs nothing, with one
 worker, and how much faster two and four workers are than one where judging takes some ten microseconds: by the clock, and
 by the processor time of all threads over that of the busiest one, which other work on the machine doesn't change. soak
-is run unproved: RUNS runs (1,000 if none are given) with 1 to 64 workers over trees of drawn shapes, each of which must give
-each item once, in order. It is ended after a second a run and a minute.
+makes RUNS runs (1,000 if none are given) with 1 to 64 workers over trees of drawn shapes, each of which must give the list
+that one thread gives. It is ended after a second a run and a minute.
 """
 import os
 import shutil
@@ -19,13 +19,14 @@ HERE = os.path.dirname(os.path.abspath(__file__))
 TOP = os.path.join(HERE, "..")
 CRATES = ("dns_data", "io_edges", "pool_core", "verdict_book", "steal_pool")
 DEPENDS = "dns_data io_edges verdict_book steal_pool"
+PROGRAMS = ("speed", "soak")
 FREE_ITEMS, COSTLY_ITEMS = 1_000_000, 200_000
 RUNS = 5
-NO_CHILDREN = """use Rattle.std.specs.Prelude.{ℕ, List, []}
-use Rattle.verdict_book.specs.Items.{ParentsApart}
+SHAPE = """use Rattle.soak.proofs.one_run.Given as goal
 
-pub no_children : ParentsApart 0 (λ (item : ℕ). [])
-no_children = record { one = λ parent other place place' item a b at at'. absurd cc; none_of_first = λ parent place a at. absurd cc }
+-- the name stands for the given shape
+abbrev pub ghosts-run_shape : goal.ghosts-run_shape
+ghosts-run_shape g a = record { fan = a.fan; size = a.size; seed = a.seed }
 """
 
 
@@ -48,28 +49,29 @@ def make_scratch(scratch):
         shutil.copytree(os.path.join(TOP, "crates", crate), os.path.join(scratch, "crates", crate), ignore=shutil.ignore_patterns("out"))
     shutil.copy(os.path.join(TOP, "HANDLES"), scratch)
     lines = [line for line in text(TOP, "crates.txt").splitlines() if line.split(":")[0] in CRATES]
-    write(os.path.join(scratch, "crates.txt"), "\n".join([*lines, f"speed: {DEPENDS}", f"pool_soak: {DEPENDS}", ""]))
-    speed, soak = (os.path.join(scratch, "crates", name) for name in ("speed", "pool_soak"))
-    write(os.path.join(speed, "src", "main.rt"), text(HERE, "pool", "speed.txt"))
-    proofs = os.path.join(TOP, "crates", "steal_pool", "proofs", "tests", "list_from")
-    for name in os.listdir(proofs):
-        proof = text(proofs, name).replace("Rattle.steal_pool.proofs.tests.list_from", "Rattle.speed.proofs.list_from")
-        write(os.path.join(speed, "proofs", "list_from", name), proof)
-    write(os.path.join(soak, "src", "main.rt"), text(HERE, "pool", "soak.txt"))
-    write(os.path.join(soak, "specs", "Lib.antt"), "pub mod Nothing\n")
-    write(os.path.join(soak, "specs", "Nothing.antt"), NO_CHILDREN)
-    for program in (speed, soak):
+    write(os.path.join(scratch, "crates.txt"), "\n".join([*lines, *(f"{name}: {DEPENDS}" for name in PROGRAMS), ""]))
+    list_from = os.path.join(TOP, "crates", "steal_pool", "proofs", "tests", "list_from")
+    for name in PROGRAMS:
+        program = os.path.join(scratch, "crates", name)
+        write(os.path.join(program, "src", "main.rt"), text(HERE, "pool", f"{name}.txt"))
+        for file in os.listdir(list_from):
+            proof = text(list_from, file).replace("Rattle.steal_pool.proofs.tests.list_from", f"Rattle.{name}.proofs.list_from")
+            write(os.path.join(program, "proofs", "list_from", file), proof)
         write(os.path.join(program, "stdin"), "")
         write(os.path.join(program, "stdout"), "")
-    return speed, soak
+    soak = os.path.join(scratch, "crates", "soak")
+    write(os.path.join(soak, "specs", "Lib.antt"), "pub mod Shapes\n")
+    write(os.path.join(soak, "specs", "Shapes.antt"), text(HERE, "pool", "shapes.txt"))
+    write(os.path.join(soak, "proofs", "one_run", "Invariants.antt"), SHAPE)
 
 
-def build(speed):
-    """Proves and builds the program, and gives its path. Run without words it does nothing."""
-    ended = subprocess.run(["rt", "run"], cwd=speed, capture_output=True, text=True)
+def build(scratch, name):
+    """Proves and builds a program, and gives its path. Run without words it does nothing."""
+    folder = os.path.join(scratch, "crates", name)
+    ended = subprocess.run(["rt", "run"], cwd=folder, capture_output=True, text=True)
     if ended.returncode:
         raise SystemExit(ended.stdout[-2000:] + ended.stderr[-2000:])
-    return os.path.join(speed, "out", "speed")
+    return os.path.join(folder, "out", name)
 
 
 def threads_of(process):
@@ -126,24 +128,24 @@ def measure(program):
         )
 
 
-def soak_for(soak, runs):
+def soak(program, runs):
     """So many runs, within a time."""
     start = time.monotonic()
     try:
-        ended = subprocess.run(["rt", "try", "--", str(runs)], cwd=soak, capture_output=True, text=True, timeout=60 + runs)
+        ended = subprocess.run([program, str(runs)], timeout=60 + runs)
     except subprocess.TimeoutExpired:
         raise SystemExit(f"soak: {runs} runs did not end within {60 + runs} seconds")
-    if ended.returncode or "ended status=0" not in ended.stdout + ended.stderr:
-        raise SystemExit("soak: " + ended.stdout[-2000:] + ended.stderr[-2000:])
-    print(f"soak: {runs} runs with 1 to 64 workers gave each item once, in {time.monotonic() - start:.0f} seconds with the building")
+    if ended.returncode:
+        raise SystemExit(f"soak: a run gave another list (status {ended.returncode})")
+    print(f"soak: {runs} runs with 1 to 64 workers gave the lists of one thread, in {time.monotonic() - start:.1f} seconds")
 
 
 def main():
     runs = int(sys.argv[1]) if len(sys.argv) > 1 else 1000
     with tempfile.TemporaryDirectory() as scratch:
-        speed, soak = make_scratch(scratch)
-        measure(build(speed))
-        soak_for(soak, runs)
+        make_scratch(scratch)
+        measure(build(scratch, "speed"))
+        soak(build(scratch, "soak"), runs)
 
 
 if __name__ == "__main__":
