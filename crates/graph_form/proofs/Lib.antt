@@ -1,3 +1,4 @@
 pub mod Places
 pub mod Paths
 pub mod Pairs
+pub mod Taking

@@ -1,0 +1,67 @@
+-- A fault is shown by what walks take and by what the zones hold.
+use Rattle.std.proofs.Common.{◌≡◌, List, [], ◌∷◌}
+use Rattle.std.specs.Prelude.{◌↔◌}
+use Rattle.net_model.specs.declared.fault.Fault.{Fault}
+use Rattle.net_model.specs.declared.fault.Fault.TheVariants as faults
+use Rattle.net_model.specs.declared.walk.Walk.{Walk}
+use Rattle.net_model.specs.Shown.{FaultSetting, WalksShow}
+use Rattle.graph_form.specs.Trails.{WalksTake, ZonesShow}
+
+-- what walks show, they take
+pub taken : (setting : FaultSetting) (walks : List Walk) (fault : Fault) → WalksShow setting walks fault → WalksTake walks fault
+taken setting (walk ∷ []) (faults.Lame cut) shows = shows
+taken setting (walk ∷ []) (faults.Differs cut) shows = shows.refers
+taken setting (walk ∷ []) (faults.NoGlue cut) shows = shows.refers
+taken setting (walk ∷ []) (faults.GlueDiffers cut) shows = shows.refers
+taken setting (walk ∷ []) (faults.Cyclic cut) shows = shows.refers
+taken setting (walk ∷ []) (faults.Limit place) shows = shows
+taken setting (walk ∷ []) (faults.Blackhole place) shows = shows
+taken setting (one ∷ other ∷ []) (faults.Answers class rtype) shows = shows
+taken setting (walk ∷ []) (faults.Overlong place) shows = shows
+taken setting (walk ∷ []) (faults.NoAddress cut) shows = record { behind = shows.behind; ends = shows.ends }
+taken setting walks fault shows = absurd shows
+
+-- and the zones show it
+pub zones : (setting : FaultSetting) (walks : List Walk) (fault : Fault) → WalksShow setting walks fault → ZonesShow setting fault
+zones setting (walk ∷ []) (faults.Lame cut) shows = tt
+zones setting (walk ∷ []) (faults.Differs cut) shows = record { sides = shows.sides; differ = shows.differ }
+zones setting (walk ∷ []) (faults.NoGlue cut) shows = record { inside = shows.inside; no_glue = shows.no_glue }
+zones setting (walk ∷ []) (faults.GlueDiffers cut) shows =
+    record { inside = shows.inside; sides = shows.sides; above = shows.above; below = shows.below; differ = shows.differ }
+zones setting (walk ∷ []) (faults.Cyclic cut) shows =
+    record {
+      configured = shows.configured;
+      no_top = shows.no_top;
+      no_glue = shows.no_glue;
+      learnt_at_most = shows.learnt_at_most;
+      not_at_least = shows.not_at_least;
+    }
+zones setting (walk ∷ []) (faults.Limit place) shows = tt
+zones setting (walk ∷ []) (faults.Blackhole place) shows = tt
+zones setting (one ∷ other ∷ []) (faults.Answers class rtype) shows = tt
+zones setting (walk ∷ []) (faults.Overlong place) shows = tt
+zones setting (walk ∷ []) (faults.NoAddress cut) shows = shows.not_at_most
+zones setting walks fault shows = absurd shows
+
+-- the other way round
+pub shown : (setting : FaultSetting) (walks : List Walk) (fault : Fault) → WalksTake walks fault → ZonesShow setting fault → WalksShow setting walks fault
+shown setting (walk ∷ []) (faults.Lame cut) take hold = take
+shown setting (walk ∷ []) (faults.Differs cut) take hold = record { refers = take; sides = hold.sides; differ = hold.differ }
+shown setting (walk ∷ []) (faults.NoGlue cut) take hold = record { refers = take; inside = hold.inside; no_glue = hold.no_glue }
+shown setting (walk ∷ []) (faults.GlueDiffers cut) take hold =
+    record { refers = take; inside = hold.inside; sides = hold.sides; above = hold.above; below = hold.below; differ = hold.differ }
+shown setting (walk ∷ []) (faults.Cyclic cut) take hold =
+    record {
+      refers = take;
+      configured = hold.configured;
+      no_top = hold.no_top;
+      no_glue = hold.no_glue;
+      learnt_at_most = hold.learnt_at_most;
+      not_at_least = hold.not_at_least;
+    }
+shown setting (walk ∷ []) (faults.Limit place) take hold = take
+shown setting (walk ∷ []) (faults.Blackhole place) take hold = take
+shown setting (one ∷ other ∷ []) (faults.Answers class rtype) take hold = take
+shown setting (walk ∷ []) (faults.Overlong place) take hold = take
+shown setting (walk ∷ []) (faults.NoAddress cut) take hold = record { behind = take.behind; ends = take.ends; not_at_most = hold }
+shown setting walks fault take hold = absurd take
