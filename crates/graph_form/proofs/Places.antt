@@ -1,8 +1,10 @@
 -- Items of lists by their places, and what a search finds.
-use Rattle.std.proofs.Common.{◌≡◌, ℕ, zero, suc, ◌+◌, ◌<◌, length, drop, get_or, drop-cons, length-append, ap, sym, ◌∙◌, arith, Bool, true, false, cond, List, [], ◌∷◌, refl, subst, Some, None, inl, inr}
-use Rattle.std.specs.Prelude.{◌⊎◌, Contains, slice_get}
+use Rattle.std.proofs.Common.{◌≡◌, ℕ, zero, suc, ◌+◌, ◌<◌, length, drop, get_or, drop-cons, length-append, ap, sym, ◌∙◌, arith, Bool, true, false, cond, List, [], ◌∷◌, ◌++◌, refl, subst, Some, None, inl, inr}
+use Rattle.std.specs.Prelude.{◌⊎◌, AllPairs, Contains, slice_get}
+use Rattle.std.proofs.lemmas.List.Elements.{Contains-append_cases}
+use Rattle.std.proofs.lemmas.List.Kept.{AllPairs-cons}
 use Rattle.std.specs.List.{AllZip, find, flat_map}
-use Rattle.dns_data.proofs.Membership.{has_first, has_later}
+use Rattle.dns_data.proofs.Membership.{none_in_nil, has_first, has_later, first_or_later, all_from_contains, from_flat_map, pairs_first, pairs_rest}
 
 -- two lists have an item at a place, or neither has; and those that both have are a pair
 pub record PairAt {A B : Type 0} (R : A → B → Type 0) (xs : List A) (ys : List B) (k : ℕ) : Type 0 where
@@ -44,3 +46,41 @@ count_next f xs i x below is =
     let next : suc i ≡ i + 1 = omega arith in
     ap (λ left. length (flat_map f left)) (drop-cons xs i x below ∙ (ap (λ one. one ∷ drop (suc i) xs) (sym is) ∙ ap (λ n. x ∷ drop n xs) next))
     ∙ length-append (f x) (flat_map f (drop (i + 1) xs))
+
+-- an item at a place is one of the list
+pub item_there : {A : Type 0} (xs : List A) (k : ℕ) (x : A) → slice_get xs k ≡ Some x → Contains xs x
+item_there [] k x e = cc
+item_there (y ∷ xs) zero x e =
+    let same : y ≡ x = cc in
+    subst (Contains (y ∷ xs)) same (has_first y xs)
+item_there (y ∷ xs) (suc k) x e = has_later y xs x (item_there xs k x e)
+
+-- and an item of the list stands at a place
+pub place_of_item : {A : Type 0} (xs : List A) (x : A) → Contains xs x → (k : ℕ) × (slice_get xs k ≡ Some x)
+place_of_item [] x has = absurd (none_in_nil x has)
+place_of_item (y ∷ xs) x has = by (first_or_later y xs x has) (place_of_item xs x) where
+  by : (y ≡ x) ⊎ Contains xs x → (Contains xs x → (k : ℕ) × (slice_get xs k ≡ Some x)) → (k : ℕ) × (slice_get (y ∷ xs) k ≡ Some x)
+  by (inl same) later = (0, ap Some same)
+  by (inr behind) later = let there = later behind in (suc there.0, there.1)
+
+-- the items of two lists one after the other
+pub pairs_joined : {B : Type 0} (R : B → B → Type 0) (xs ys : List B) → AllPairs R xs → AllPairs R ys
+    → ((x y : B) → Contains xs x → Contains ys y → R x y) → AllPairs R (xs ++ ys)
+pairs_joined R [] ys one other across = other
+pairs_joined R (x ∷ xs) ys one other across =
+    AllPairs-cons R x (xs ++ ys)
+    (all_from_contains (R x) (xs ++ ys) (λ y has. elim (Contains-append_cases xs ys y has) [
+      | inl here ↦ pairs_first R x xs one y here
+      | inr there ↦ across x y (has_first x xs) there
+    ]))
+    (pairs_joined R xs ys (pairs_rest R x xs one) other (λ a b here there. across a b (has_later x xs a here) there))
+
+-- the items of lists in a row are pairs of a kind, where those of each list are, and those of two lists
+pub pairs_in_row : {A B : Type 0} (R : B → B → Type 0) (f : A → List B) (xs : List A) → ((x : A) → Contains xs x → AllPairs R (f x))
+    → AllPairs (λ a b. (y z : B) → Contains (f a) y → Contains (f b) z → R y z) xs → AllPairs R (flat_map f xs)
+pairs_in_row {B = B} R f [] each across = λ i j d lt within. absurd (omega arith)
+pairs_in_row {B = B} R f (x ∷ xs) each across =
+    pairs_joined R (f x) (flat_map f xs) (each x (has_first x xs))
+    (pairs_in_row R f xs (λ one has. each one (has_later x xs one has)) (pairs_rest (λ a b. (y z : B) → Contains (f a) y → Contains (f b) z → R y z) x xs across))
+    (λ y z here there. let from = from_flat_map f xs z there in
+    pairs_first (λ a b. (y z : B) → Contains (f a) y → Contains (f b) z → R y z) x xs across from.0 from.1 y z here from.2)

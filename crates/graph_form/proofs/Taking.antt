@@ -1,6 +1,5 @@
 -- A fault is shown by what walks take and by what the zones hold.
-use Rattle.std.proofs.Common.{◌≡◌, List, [], ◌∷◌}
-use Rattle.std.specs.Prelude.{◌↔◌}
+use Rattle.std.proofs.Common.{List, [], ◌∷◌}
 use Rattle.net_model.specs.declared.fault.Fault.{Fault}
 use Rattle.net_model.specs.declared.fault.Fault.TheVariants as faults
 use Rattle.net_model.specs.declared.walk.Walk.{Walk}

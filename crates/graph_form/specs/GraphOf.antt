@@ -1,15 +1,17 @@
 -- A graph of the walks of a query. All is said node by node: its branches tell the steps of its state, and lead to nodes
 -- that go on with the same types.
-use Rattle.std.specs.Prelude.{◌≡◌, ℕ, true, false, Some, Contains, AllPairs, slice_get, is_some}
+use Rattle.std.specs.Prelude.{◌≡◌, ◌≢◌, ℕ, true, false, Some, Contains, AllPairs, slice_get, is_some}
 use Rattle.std.specs.List.{AllZip}
 use Rattle.dns_data.specs.Name.{Labels}
 use Rattle.dns_data.specs.TypeSet.{has_bit}
 use Rattle.dns_data.specs.declared.rr_type.RrType.{RrType}
 use Rattle.net_model.specs.Step.{Setting, start, next}
 use Rattle.net_model.specs.Step as step
+use Rattle.net_model.specs.Tree.{IsReached}
+use Rattle.net_model.specs.declared.config.Config.{Config}
 use Rattle.net_model.specs.declared.walk.Hop.{Hop}
 use Rattle.net_model.specs.declared.walk.State.{State}
-use Rattle.graph_form.specs.Graph.{PlainGraph, arm_of}
+use Rattle.graph_form.specs.Graph.{PlainGraph, arm_of, pairs_of}
 use Rattle.graph_form.specs.declared.node.Arm.{Arm}
 use Rattle.graph_form.specs.declared.node.Branch.{Branch}
 use Rattle.graph_form.specs.declared.node.Branch.TheVariants.{Go, End}
@@ -47,3 +49,9 @@ pub record IsGraphOf (setting : Setting) (query : Labels) (graph : PlainGraph) :
   -- the arms of a node are apart in their types
   pub apart : (at : ℕ) (node : Node) → slice_get graph.nodes at ≡ Some node
       → AllPairs (λ a b. (rtype : RrType) → has_bit a.types rtype ≡ true → has_bit b.types rtype ≡ false) node.arms
+
+-- the graph has the pairs of state and type that the query reaches: no two nodes have equal states, and each pair of a node
+-- is reached
+pub record IsExact (config : Config) (rewrites : ℕ) (query : Labels) (graph : PlainGraph) : Type 0 where
+  pub one_node : AllPairs (λ a b. a.state ≢ b.state) graph.nodes
+  pub reached : (pair : State × RrType) → Contains (pairs_of graph) pair → IsReached config rewrites query pair

@@ -1,5 +1,5 @@
 -- The first walk, or the first pair of walks, that shows a fault.
-use Rattle.std.specs.Prelude.{◌≡◌, ◌≢◌, ℕ, Bool, true, false, List, [], ◌∷◌, map, Some}
+use Rattle.std.specs.Prelude.{◌≡◌, ◌≢◌, ℕ, true, false, List, [], ◌∷◌, map, Some}
 use Rattle.std.specs.declared.cmp.Ordering.TheVariants.{Less}
 use Rattle.dns_data.specs.Name.{is_prefix}
 use Rattle.dns_data.specs.declared.rr_type.RrType.{RrType}

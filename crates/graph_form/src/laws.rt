@@ -3,11 +3,14 @@
 ghost use Rattle.std.specs.Prelude.{◌≡◌, ◌↔◌, ℕ, List};
 ghost use Rattle.dns_data.specs.Name.{Labels};
 ghost use Rattle.dns_data.specs.declared.rr_type.RrType.{RrType};
-ghost use Rattle.graph_form.specs.Graph.{PlainGraph, path_along};
-ghost use Rattle.graph_form.specs.GraphOf.{IsGraphOf};
+ghost use Rattle.graph_form.specs.Graph.{PlainGraph, pairs_of, path_along};
+ghost use Rattle.graph_form.specs.GraphOf.{IsExact, IsGraphOf};
 ghost use Rattle.graph_form.specs.Trails.{WalksTake, ZonesShow};
 ghost use Rattle.net_model.specs.Shown.{WalksShow, with_sets, with_lists};
-ghost use Rattle.net_model.specs.Step.{Setting};
+ghost use Rattle.net_model.specs.Nearest.{server_names};
+ghost use Rattle.net_model.specs.Step.{Setting, following};
+ghost use Rattle.net_model.specs.Tree.{AreReached};
+ghost use Rattle.net_model.specs.declared.config.Config.{Config};
 ghost use Rattle.net_model.specs.declared.fault.Fault.{Fault};
 ghost use Rattle.net_model.specs.declared.walk.Walk.{Walk};
 ghost use Rattle.net_model.specs.Walk.{walk_along};
@@ -25,4 +28,12 @@ pub fn walks_and_zones_show()
         → WalksShow (with_sets setting) walks fault ↔ (WalksTake walks fault × ZonesShow (with_sets setting) fault) }
     ensures lists { (setting : Setting) (least greatest : List Labels) (walks : List Walk) (fault : Fault)
         → WalksShow (with_lists setting least greatest) walks fault ↔ (WalksTake walks fault × ZonesShow (with_lists setting least greatest) fault) }
+{}
+
+/// Where all configured servers are followed, and each pair of a graph is reached, the pairs of a graph of a query are those
+/// that the query reaches, each once.
+pub fn pairs_are_reached()
+    ensures { (config : Config) (rewrites : ℕ) (query : Labels) (graph : PlainGraph)
+        → IsGraphOf (following config rewrites (server_names config)) query graph → IsExact config rewrites query graph
+        → AreReached config rewrites query (pairs_of graph) }
 {}

@@ -12,6 +12,6 @@ mod node;
 mod report;
 
 pub use graph::Graph;
-pub use laws::{paths_are_walks, walks_and_zones_show};
+pub use laws::{pairs_are_reached, paths_are_walks, walks_and_zones_show};
 pub use node::{Arm, Branch, Node};
 pub use report::{Report, ReportEntry, Seen};
