@@ -1,16 +1,18 @@
 -- What the standards print, and what is read of it.
 use Rattle.std.specs.Prelude.{◌≡◌, refl, ℕ, List, [], ◌∷◌, ◌++◌, map, replicate, codes, Some, None, Err}
+use Rattle.std.specs.Str.{is_utf8, chars}
 use Rattle.dns_data.specs.declared.rdata.Rdata.TheVariants.{A, Ns, Soa, Mx}
 use Rattle.dns_data.specs.declared.rdata.Rr.{Rr}
 use Rattle.dns_data.specs.declared.rr_type.RrType.TheVariants as types
 use Rattle.rdata_forms.specs.declared.fault.RdataFault.TheVariants.{GenericKnown}
-use Rattle.master_read.specs.Entries.{record_of, owner_of, front_in, one_more, type_said, data_behind, made_of, directive_of}
+use Rattle.master_read.specs.Directives.{directive_of, include_directive}
+use Rattle.master_read.specs.Entries.{record_of, owner_of, front_in, one_more, type_said, data_behind, made_of}
 use Rattle.master_read.specs.Words.{type_word, type_numbered, class_word, is_among}
-use Rattle.master_read.specs.ZoneText.{with_entry, with_entries, zone_of_entries, zone_text}
-use Rattle.master_read.specs.declared.fault.TextCause.TheVariants.{NotIn as OtherClass, NotSupported, Rdata as BadData}
+use Rattle.master_read.specs.ZoneText.{Asks, effect_of, included, with_entry, with_entries, with_rest, zone_text}
+use Rattle.master_read.specs.declared.fault.TextCause.TheVariants.{NotIn as OtherClass, Rdata as BadData}
 use Rattle.master_read.specs.declared.words.ClassWord.TheVariants.{In, NotIn}
 use Rattle.master_read.specs.declared.words.TypeWord.TheVariants.{Known, Dropped, Other}
-use Rattle.master_read.proofs.Worked.Words.{context_with, entry, faulty, lines, name, reads, rr, tokens}
+use Rattle.master_read.proofs.Worked.Words.{alone, context_with, entry, faulty, lines, name, reads, rr, tokens}
 
 -- RFC 3597 section 5: types and classes by their numbers
 type_731 : type_word (codes "TYPE731") ≡ Some Other
@@ -35,13 +37,13 @@ class_1 = refl
 
 -- records of its examples: one of another class, and an address in the generic form
 of_class_32 :
-    record_of (context_with [] (Some 7) None None) (entry 1 (tokens "a.example. CLASS32 TYPE731 \\# 6 abcd ef 01 23 45"))
+    record_of 0 (context_with [] (Some 7) None None) (entry 1 (tokens "a.example. CLASS32 TYPE731 \\# 6 abcd ef 01 23 45"))
     ≡ Err OtherClass
 unfolding record_of owner_of front_in one_more class_word is_among
 of_class_32 = refl
 
 a_generic_address :
-    record_of (context_with [] (Some 7) None None) (entry 1 (tokens "e.example. IN A \\# 4 0A000001"))
+    record_of 0 (context_with [] (Some 7) None None) (entry 1 (tokens "e.example. IN A \\# 4 0A000001"))
     ≡ Err (BadData GenericKnown)
 unfolding record_of owner_of front_in one_more data_behind type_said type_word class_word is_among
 a_generic_address = refl
@@ -98,11 +100,13 @@ isi_edu_records =
     ∷ rr (name "vaxa.isi.edu") 60 (A (128 ∷ 9 ∷ 0 ∷ 33 ∷ [])) 20
     ∷ []
 
-isi_edu_reads : zone_text (name "isi.edu") 11 isi_edu ≡ reads isi_edu_records 11
-unfolding zone_text zone_of_entries with_entries with_entry record_of owner_of front_in one_more type_said data_behind made_of type_word class_word is_among directive_of
+isi_edu_reads : alone (name "isi.edu") 11 isi_edu ≡ reads isi_edu_records 11
+unfolding zone_text with_rest with_entries with_entry effect_of record_of owner_of front_in one_more type_said data_behind made_of type_word class_word is_among directive_of
 isi_edu_reads = refl
 
--- its last line includes another file
-isi_edu_includes : zone_text (name "isi.edu") 11 (isi_edu ++ codes "$INCLUDE <SUBSYS>ISI-MAILBOXES.TXT") ≡ faulty 22 NotSupported
-unfolding zone_text zone_of_entries with_entries with_entry record_of owner_of front_in one_more type_said data_behind made_of type_word class_word is_among directive_of
+-- its last line includes another file, which is asked for
+isi_edu_includes :
+    zone_text (name "isi.edu") 11 1 ((isi_edu ++ codes "$INCLUDE <SUBSYS>ISI-MAILBOXES.TXT") ∷ [])
+    ≡ Err (Asks (codes "<SUBSYS>ISI-MAILBOXES.TXT"))
+unfolding zone_text with_rest with_entries with_entry effect_of record_of owner_of front_in one_more type_said data_behind made_of type_word class_word is_among directive_of include_directive included is_utf8 chars lib.Utf8.encode
 isi_edu_includes = refl

@@ -1,4 +1,4 @@
--- What one entry of a master file makes in its context: the steps in order, each with its faults
+-- What a record entry of a master file makes in its context: the steps in order, each with its faults
 -- (RFC 1035 section 5.1).
 use Rattle.std.specs.Prelude.{ℕ, Bool, true, false, not, ◌&&◌, ◌||◌, nat_eq, List, [], ◌∷◌, map, drop, codes, is_none, ok_or, if◌then◌else◌, Option, Some, None, Result, Ok, Err}
 use Rattle.std.specs.List.{starts_with}
@@ -25,43 +25,7 @@ use Rattle.master_read.specs.declared.words.ClassWord.TheVariants.{In, NotIn}
 use Rattle.master_read.specs.declared.words.TypeWord.{TypeWord}
 use Rattle.master_read.specs.declared.words.TypeWord.TheVariants.{Known, Dropped, Other}
 
--- Directives.
-
--- the first token isn't quoted and begins with `$`
-abbrev pub begins_with_dollar : List Token → Bool
-begins_with_dollar [] = false
-begins_with_dollar (token ∷ tokens) = not token.quoted && starts_with nat_eq token.raw (codes "$")
-
--- the entry is a directive: it stands at the front of its line and begins with `$`
-abbrev pub is_directive : Entry → Bool
-is_directive entry = not entry.blank_start && begins_with_dollar entry.tokens
-
--- `$ORIGIN` and one name, relative to the origin so far
-unfoldable pub origin_directive : Context → List Token → Result Context TextCause
-origin_directive context [] = Err BadDirective
-origin_directive context (name ∷ []) = do
-  origin ← with_fault (λ _. BadDirective) (name_of_text name.raw context.origin)
-  Ok (record context { origin = origin })
-origin_directive context (name ∷ next ∷ tokens) = Err BadDirective
-
--- `$TTL` and one time (RFC 2308 section 4)
-unfoldable pub ttl_directive : Context → List Token → Result Context TextCause
-ttl_directive context [] = Err BadDirective
-ttl_directive context (time ∷ []) = do
-  ttl ← ok_or (time_of time.raw) BadDirective
-  Ok (record context { default_ttl = Some ttl })
-ttl_directive context (time ∷ next ∷ tokens) = Err BadDirective
-
--- what a directive makes of the context, by its word
-unfoldable pub directive_of : Context → List Token → Result Context TextCause
-directive_of context [] = Err BadDirective
-directive_of context (word ∷ arguments) =
-    if is_word (codes "$ORIGIN") word.raw then origin_directive context arguments
-    else (if is_word (codes "$TTL") word.raw then ttl_directive context arguments
-    else (if is_word (codes "$INCLUDE") word.raw || is_word (codes "$GENERATE") word.raw then Err NotSupported
-    else Err BadDirective))
-
--- Records. The first step: the owner.
+-- The first step: the owner.
 
 -- the owner that the first token gives; an entry has a token
 abbrev pub written_owner : Context → List Token → Result Labels TextCause
@@ -168,20 +132,20 @@ pub record Made : Type 0 where
   pub context : Context
   pub rr : Option Rr
 
--- the record with these data; a dropped one needs no TTL
-unfoldable pub made_of : Context → Labels → Option ℕ → ℕ → Option Rdata → Result Made TextCause
-made_of context owner stated line None = Ok (record { context = context; rr = None })
-made_of context owner stated line (Some rdata) = do
+-- the record with these data, which stands in this file and line; a dropped one needs no TTL
+unfoldable pub made_of : Context → Labels → Option ℕ → ℕ → ℕ → Option Rdata → Result Made TextCause
+made_of context owner stated file line None = Ok (record { context = context; rr = None })
+made_of context owner stated file line (Some rdata) = do
   ttl ← ok_or (ttl_of context stated rdata) NoTtl
   Ok (record {
     context = behind_data context (own_ttl rdata);
-    rr = Some (record { owner = owner; ttl = ttl; rdata = rdata; file = 0; line = line });
+    rr = Some (record { owner = owner; ttl = ttl; rdata = rdata; file = file; line = line });
   })
 
--- what a record entry makes
-unfoldable pub record_of : Context → Entry → Result Made TextCause
-record_of context entry = do
+-- what a record entry makes that stands in the file of this number
+unfoldable pub record_of : ℕ → Context → Entry → Result Made TextCause
+record_of file context entry = do
   owner ← owner_of context entry
   front ← front_in (behind_owner entry)
   rdata ← data_behind front.tokens context.origin
-  made_of (behind_record context owner front.ttl) owner front.ttl entry.line rdata
+  made_of (behind_record context owner front.ttl) owner front.ttl file entry.line rdata

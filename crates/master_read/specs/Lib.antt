@@ -5,6 +5,8 @@ pub use Rattle.master_lex.specs.Lexer
 pub mod Words
 pub mod Context
 pub mod Fault
+pub mod Directives
 pub mod Entries
 pub mod ZoneText
 pub mod Reader
+pub mod Steps

@@ -1,6 +1,10 @@
 //! What the entries before leave for an entry.
 
-use dns_data::Name;
+ghost use Rattle.std.specs.Prelude.{◌≡◌, IfOk};
+ghost use Rattle.master_read.specs.Context.{no_context, under};
+
+use dns_data::{Name, NoMemory};
+use std::alloc::Global;
 
 /// The context in which an entry is read (RFC 1035 section 5.1, RFC 2308 section 4).
 #[derive(Debug, Drop)]
@@ -13,4 +17,34 @@ pub struct Context {
     pub stated_ttl: Option<u32>,
     /// The owner of the last record.
     pub owner: Option<Name>,
+}
+
+impl Context {
+    /// The context before everything, under an origin: nothing is stated.
+    pub fn new(origin: Name) -> Context
+        ensures { result ≡ under origin no_context }
+    {
+        Context {
+            origin,
+            default_ttl: None,
+            stated_ttl: None,
+            owner: None,
+        }
+    }
+
+    /// The same under an origin.
+    pub fn under(&self, alloc: Global, origin: Name) -> Result<Context, NoMemory>
+        ensures { IfOk result (λ inner. inner ≡ under origin self.now) }
+    {
+        let owner = match &self.owner {
+            Some(owner) => Some(owner.copy(alloc)?),
+            None => None,
+        };
+        Ok(Context {
+            origin,
+            default_ttl: self.default_ttl,
+            stated_ttl: self.stated_ttl,
+            owner,
+        })
+    }
 }

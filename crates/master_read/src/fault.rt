@@ -1,11 +1,13 @@
-//! Why a text gives no records.
+//! Why texts give no records.
 
 ghost use Rattle.std.specs.Prelude.{◌≡◌};
 ghost use Rattle.master_read.specs.declared.fault.EntryFault.TheVariants as entry_fault;
+ghost use Rattle.master_read.specs.declared.fault.TextCause.TheVariants as cause;
 ghost use Rattle.master_read.specs.declared.fault.TextFault.TheVariants as text_fault;
+ghost use Rattle.master_read.specs.Steps.{fault_at};
 
 use dns_data::{NameFault, NoMemory};
-use master_lex::LexKind;
+use master_lex::{LexFault, LexKind};
 use rdata_forms::RdataFault;
 use thiserror::Error;
 
@@ -18,7 +20,7 @@ pub enum TextCause {
     /// A directive is none that is read, or its argument isn't one that it takes.
     #[error("the directive doesn't read")]
     BadDirective,
-    /// The directive is `$INCLUDE` or `$GENERATE`.
+    /// The directive is `$GENERATE`.
     #[error("the directive isn't supported")]
     NotSupported,
     /// The owner is no name.
@@ -45,18 +47,24 @@ pub enum TextCause {
     /// Neither the record nor what stands before it says a TTL.
     #[error("no TTL stands here or before")]
     NoTtl,
-    /// The text has more records than there is room for.
+    /// There are more records than there is room for.
     #[error("too many records")]
     TooMany,
+    /// The file is included eight levels deep, and no deeper one is read.
+    #[error("too many levels of included files")]
+    IncludeDepth,
+    /// More files are included than may be.
+    #[error("too many included files")]
+    TooManyIncludes,
 }
 
-/// Why a text gives no records.
+/// Why texts give no records.
 #[derive(Clone, Copy, Debug, PartialEq, Eq, Error)]
 pub enum TextFault {
     /// An entry doesn't read.
     #[error("file {file}, line {line}: {cause}")]
     At {
-        /// The number of the file, 0 for the first.
+        /// How many files were opened before the one in which it stands.
         file: u32,
         /// The line of the entry, or of the fault in its spelling, counted from 1.
         line: u32,
@@ -75,6 +83,31 @@ pub enum EntryFault {
     Cause(TextCause),
     /// Memory ran out.
     NoMemory,
+}
+
+impl EntryFault {
+    /// The fault, in the file of this number and this line.
+    pub fn at(self, file: u32, line: u32) -> TextFault
+        ensures { result ≡ fault_at file line self }
+    {
+        match self {
+            EntryFault::Cause(cause) => TextFault::At { file, line, cause },
+            EntryFault::NoMemory => TextFault::NoMemory,
+        }
+    }
+}
+
+impl TextFault {
+    /// A fault of a spelling, in the file of this number.
+    pub fn of_spelling(file: u32, fault: LexFault) -> TextFault
+        ensures { result ≡ text_fault.At file fault.line (cause.Lex fault.kind) }
+    {
+        TextFault::At {
+            file,
+            line: fault.line,
+            cause: TextCause::Lex(fault.kind),
+        }
+    }
 }
 
 impl From<NoMemory> for TextFault {

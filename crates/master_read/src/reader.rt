@@ -1,29 +1,43 @@
 //! The reader.
 
-ghost use Rattle.std.specs.Prelude.{◌≡◌, ◌≢◌, ◌+◌, ◌-◌, ◌^◌, ◌<◌, ℕ, List, [], ◌++◌, length, Err, IfErr, IsErr, OnOk, OnErr};
-ghost use Rattle.dns_data.specs.Answers.{AnswersOr};
+ghost use Rattle.std.specs.Prelude.{◌≡◌, ◌≢◌, ◌+◌, ◌-◌, ◌^◌, ◌<◌, ◌≤◌, ℕ, List, [], ◌∷◌, ◌++◌, length, true, false, Some, Err, IfOk, IfErr, IsErr, OnOk, OnErr, MatchBool};
+ghost use Rattle.dns_data.specs.Answers.{AnswersOr, with_fault};
 ghost use Rattle.dns_data.specs.Name.{Labels};
+ghost use Rattle.master_lex.specs.Lexer.{StandsFor as LexerStandsFor};
+ghost use Rattle.master_read.specs.Directives.{is_include};
 ghost use Rattle.master_read.specs.Fault.{TellsOfText};
-ghost use Rattle.master_read.specs.Reader.{StandsFor, HasFailed};
-ghost use Rattle.master_read.specs.ZoneText.{zone_text};
+ghost use Rattle.master_read.specs.Reader.{StandsFor, GoesOn, HasEnded, HasFailed, HasReadAll, IsOpenBehind, IsReading, IsSettled, asked_by, is_over, texts_give};
+ghost use Rattle.master_read.specs.Steps.{ComesTo, IsFaultOf, IsOpened, IsPausing, MayOpen, entry_makes, fault_at};
+ghost use Rattle.master_read.specs.ZoneText.{Asks, Faulty, zone_text};
 
+use crate::asked::Asked;
 use crate::context::Context;
-use crate::fault::TextFault;
-use crate::progress::Progress;
-use crate::records::Records;
+use crate::directive::{Include, read_include};
+use crate::fault::{EntryFault, TextCause, TextFault};
+use crate::file::{File, read_ready, take_all};
+use crate::records::{Limits, Records};
 use crate::zone_text::ZoneText;
-use dns_data::{List, Name, NoMemory};
-use master_lex::Lexer;
+use dns_data::{Name, NoMemory, Text};
+use master_lex::{Entry, Lexer};
 use std::alloc::Global;
+use std::collections::VecDeque;
 use std::marker::Model;
+use std::mem;
 
-/// The records of a master file, from octets that come in pieces. The result is the same however the
-/// octets are cut.
+/// How many levels of included files may lie below a zone's file.
+const MOST_LEVELS: u32 = 8;
+
+/// The records of a zone's files, from octets that come in pieces. The result is the same however the octets are cut.
 #[derive(Debug, Drop)]
 pub struct ZoneReader {
-    progress: Progress,
+    lexer: Lexer,
+    file: File,
+    around: Vec<File>,
+    records: Records,
+    limits: Limits,
     fed: u32,
     fault: Option<TextFault>,
+    ended: bool,
 }
 
 impl Model for ZoneReader {
@@ -31,44 +45,46 @@ impl Model for ZoneReader {
 
     ghost Value = { Held };
 
-    ghost view = { λ a. record { progress = a.progress; fed = a.fed; fault = a.fault } };
+    ghost view = { λ a. record { lexer = a.lexer; file = a.file; around = a.around.items; records = a.records; limits = a.limits; fed = a.fed; fault = a.fault; ended = a.ended } };
 
-    ghost invariant = { λ a. IsSound (record { progress = a.progress; fed = a.fed; fault = a.fault }) };
+    ghost invariant = { λ a. IsSound (record { lexer = a.lexer; file = a.file; around = a.around.items; records = a.records; limits = a.limits; fed = a.fed; fault = a.fault; ended = a.ended }) };
 }
 
 impl ZoneReader {
-    /// The reader that was fed nothing. Names without a final dot stand below the origin, and the text may have
-    /// `room` record entries. It takes no memory.
-    pub fn new(alloc: Global, origin: Name, room: u32) -> ZoneReader
-        ensures { StandsFor result origin room [] }
+    /// The reader that was fed nothing of a zone's file. The file's names without a final dot stand below the origin,
+    /// the files may have `room` record entries, and `includes` files may be included. It takes no memory.
+    pub fn new(alloc: Global, origin: Name, room: u32, includes: u32) -> ZoneReader
+        ensures stands { StandsFor result origin room includes [] [] }
+        ensures fed { result.fed ≡ 0 }
+        ensures open { result.ended ≡ false }
     {
         ZoneReader {
-            progress: Progress {
-                lexer: Lexer::new(alloc),
-                records: Records {
-                    context: Context {
-                        origin,
-                        default_ttl: None,
-                        stated_ttl: None,
-                        owner: None,
-                    },
-                    rrs: List::new(alloc),
-                    seen: 0,
-                },
-                room,
+            lexer: Lexer::new(alloc),
+            file: File {
+                number: 0,
+                levels: MOST_LEVELS,
+                before: Context::new(Name::root()),
+                entries: VecDeque::new(alloc),
+                fault: None,
             },
+            around: Vec::new(alloc),
+            records: Records::new(alloc, origin),
+            limits: Limits { room, includes },
             fed: 0,
             fault: None,
+            ended: false,
         }
     }
 
-    /// Takes the next piece of the text. After an error, which comes again at each call, the reader gives no
-    /// records. After a fault of the text the rest is passed over.
+    /// Takes the next piece of the file that is open. After an error, which comes again at each call, the reader gives
+    /// no records. After a fault of the text the rest is passed over.
     pub fn feed(&mut self, alloc: Global, piece: &[u8]) -> Result<(), NoMemory>
+        requires open { self.old.ended ≡ false }
         requires short { self.old.fed + length piece.now < 2 ^ 32 - 1 }
-        ensures stands { (origin : Labels) (room : ℕ) (text : List ℕ) → StandsFor self.old origin room text
-            → OnOk result (StandsFor self.new origin room (text ++ piece.now)) }
+        ensures stands { (origin : Labels) (room includes : ℕ) (ended : List (List ℕ)) (text : List ℕ) → StandsFor self.old origin room includes ended text
+            → OnOk result (StandsFor self.new origin room includes ended (text ++ piece.now)) }
         ensures fed { self.new.fed ≡ self.old.fed + length piece.now }
+        ensures open { self.new.ended ≡ false }
         ensures failed { OnErr result (HasFailed self.new) }
         ensures stays_failed { HasFailed self.old → IsErr result }
     {
@@ -76,35 +92,243 @@ impl ZoneReader {
         if let Some(fault) = self.fault {
             return unless_failed(fault);
         }
-        match self.progress.feed(alloc, piece) {
-            Ok(()) => Ok(()),
+        if let Err(fault) = self.read_piece(alloc, piece) {
+            self.fault = Some(fault);
+            return unless_failed(fault);
+        }
+        Ok(())
+    }
+
+    /// Says that the file that is open has ended, and answers what comes behind it: a file that is included there, of
+    /// which nothing was fed, or `Done`, where the records or their first fault are known. An error comes again at
+    /// each call.
+    pub fn end_file(&mut self, alloc: Global) -> Result<Asked, NoMemory>
+        requires { self.old.ended ≡ false }
+        ensures asked { (origin : Labels) (room includes : ℕ) (ended : List (List ℕ)) (text : List ℕ) → StandsFor self.old origin room includes ended text
+            → IfOk result (λ asked. asked ≡ asked_by (zone_text origin room includes (ended ++ text ∷ []))) }
+        ensures stands { (origin : Labels) (room includes : ℕ) (ended : List (List ℕ)) (text : List ℕ) → StandsFor self.old origin room includes ended text
+            → IfOk result (λ asked. GoesOn asked self.new origin room includes (ended ++ text ∷ [])) }
+        ensures open { IfOk result (λ asked. IsOpenBehind asked self.new) }
+        ensures err { OnErr result (self.new.ended ≡ false) }
+        ensures failed { OnErr result (HasFailed self.new) }
+        ensures stays_failed { HasFailed self.old → IsErr result }
+    {
+        if let Some(fault) = self.fault {
+            unless_failed(fault)?;
+            return Ok(self.end());
+        }
+        match self.read_on(alloc) {
+            Ok(Some(file)) => Ok(Asked::Include { file }),
+            Ok(None) => Ok(self.end()),
             Err(fault) => {
                 self.fault = Some(fault);
-                unless_failed(fault)
+                unless_failed(fault)?;
+                Ok(self.end())
             }
         }
     }
 
-    /// The records of the text, or its first fault. It is `NoMemory` where `feed` has answered so.
-    pub fn finish(self, alloc: Global) -> Result<ZoneText, TextFault>
-        ensures answers { (origin : Labels) (room : ℕ) (text : List ℕ) → StandsFor self origin room text
-            → AnswersOr TextFault.NoMemory result (zone_text origin room text) }
+    /// The records of the files, or their first fault. It is `NoMemory` where a call has answered so.
+    pub fn finish(self) -> Result<ZoneText, TextFault>
+        requires { is_over self ≡ true }
+        ensures answers { (origin : Labels) (room includes : ℕ) (texts : List (List ℕ)) → HasEnded self origin room includes texts
+            → AnswersOr (Faulty TextFault.NoMemory) (with_fault Faulty result) (zone_text origin room includes texts) }
         ensures failed { HasFailed self → result ≡ Err TextFault.NoMemory }
         ensures tells { IfErr result TellsOfText }
     {
         let ZoneReader {
-            progress,
+            lexer: _,
+            file: _,
+            around: _,
+            records,
+            limits: _,
             fed: _,
             fault,
+            ended: _,
         } = self;
         match fault {
             Some(fault) => Err(fault),
-            None => progress.finish(alloc),
+            None => Ok(records.into_text()),
         }
     }
 }
 
-/// Whether more of the text may be taken after this fault: `NoMemory` comes again, and any other is kept for the end.
+impl ZoneReader {
+    /// Reads the next piece of the file that is open, up to an `$INCLUDE`.
+    fn read_piece(&mut self, alloc: Global, piece: &[u8]) -> Result<(), TextFault>
+        requires short { self.old.lexer.fed + length piece.now < 2 ^ 32 - 1 }
+        requires within { self.old.lexer.fed + length piece.now ≤ self.old.fed }
+        ensures read { (origin : Labels) (ended : List (List ℕ)) (text : List ℕ) → IsReading self.old origin ended text
+            → OnOk result (IsReading self.new origin ended (text ++ piece.now)) }
+        ensures fault { (origin : Labels) (ended : List (List ℕ)) (text : List ℕ) → IsReading self.old origin ended text
+            → IfErr result (λ fault. fault ≢ TextFault.NoMemory → IsSettled fault self.old.limits origin ended (text ++ piece.now)) }
+        ensures tells { IfErr result TellsOfText }
+        ensures same { self.new ≡ record self.old { lexer = self.new.lexer; file = self.new.file; records = self.new.records } }
+    {
+        self.lexer.feed(alloc, piece)?;
+        take_all(alloc, &mut self.lexer, &mut self.file.entries)?;
+        read_ready(
+            alloc,
+            &mut self.records,
+            self.limits.room,
+            self.file.number,
+            &mut self.file.entries,
+        )?;
+        Ok(())
+    }
+
+    /// Reads on where the file that is open has ended, and answers the file that is included there, or `None` where
+    /// all is read.
+    fn read_on(&mut self, alloc: Global) -> Result<Option<Text>, TextFault>
+        ensures asked { (origin : Labels) (ended : List (List ℕ)) (text : List ℕ) → IsReading self.old origin ended text
+            → IfOk result (λ file. ComesTo file self.new origin (ended ++ text ∷ [])) }
+        ensures fault { (origin : Labels) (ended : List (List ℕ)) (text : List ℕ) → IsReading self.old origin ended text
+            → IfErr result (λ fault. fault ≢ TextFault.NoMemory → texts_give self.old.limits origin (ended ++ text ∷ []) ≡ Err (Faulty fault)) }
+        ensures tells { IfErr result TellsOfText }
+        ensures fed { OnOk result (self.new.fed ≡ 0) }
+        ensures limits { self.new.limits ≡ self.old.limits }
+        ensures fault_stays { self.new.fault ≡ self.old.fault }
+        ensures ended { self.new.ended ≡ self.old.ended }
+    {
+        self.end_lexer(alloc)?;
+        self.read_files(alloc)
+    }
+
+    /// Takes all that the lexer of the file that is open has to give, and its fault.
+    fn end_lexer(&mut self, alloc: Global) -> Result<(), NoMemory>
+        ensures pauses { (origin : Labels) (ended : List (List ℕ)) (text : List ℕ) → IsReading self.old origin ended text
+            → OnOk result (IsPausing self.new origin (ended ++ text ∷ []) self.new.file.entries.items) }
+        ensures fed { self.new.fed ≡ 0 }
+        ensures lexer { LexerStandsFor self.new.lexer [] [] }
+        ensures same { self.new ≡ record self.old { lexer = self.new.lexer; file = self.new.file; fed = 0 } }
+    {
+        let mut lexer = mem::replace(&mut self.lexer, Lexer::new(alloc));
+        lexer.finish();
+        self.fed = 0;
+        self.file.fault = take_all(alloc, &mut lexer, &mut self.file.entries)?;
+        Ok(())
+    }
+
+    /// Reads what is left of the files, from the inmost one on, up to an `$INCLUDE`, and answers the file that is
+    /// included there, or `None` where all is read.
+    fn read_files(&mut self, alloc: Global) -> Result<Option<Text>, TextFault>
+        requires { LexerStandsFor self.old.lexer [] [] }
+        ensures asked { (origin : Labels) (texts : List (List ℕ)) → IsPausing self.old origin texts self.old.file.entries.items
+            → IfOk result (λ file. ComesTo file self.new origin texts) }
+        ensures fault { (origin : Labels) (texts : List (List ℕ)) → IsPausing self.old origin texts self.old.file.entries.items
+            → IfErr result (λ fault. fault ≢ TextFault.NoMemory → texts_give self.old.limits origin texts ≡ Err (Faulty fault)) }
+        ensures tells { IfErr result TellsOfText }
+        ensures same { self.new ≡ record self.old { file = self.new.file; around = self.new.around; records = self.new.records } }
+    {
+        loop {
+            read_ready(
+                alloc,
+                &mut self.records,
+                self.limits.room,
+                self.file.number,
+                &mut self.file.entries,
+            )?;
+            if let Some(entry) = self.file.entries.pop_front() {
+                return Ok(Some(self.include(alloc, &entry)?));
+            }
+            if !self.leave()? {
+                return Ok(None);
+            }
+        }
+    }
+
+    /// Leaves the inmost file, of which no entry is left, and answers whether there is one around it.
+    fn leave(&mut self) -> Result<bool, TextFault>
+        requires { self.old.file.entries.items ≡ [] }
+        ensures more { (origin : Labels) (texts : List (List ℕ)) → IsPausing self.old origin texts []
+            → IfOk result (λ more. MatchBool more (IsPausing self.new origin texts self.new.file.entries.items) (HasReadAll self.new origin texts)) }
+        ensures fault { (origin : Labels) (texts : List (List ℕ)) → IsPausing self.old origin texts []
+            → IfErr result (λ fault. texts_give self.old.limits origin texts ≡ Err (Faulty fault)) }
+        ensures fewer { IfOk result (λ more. more ≡ true → length self.new.around < length self.old.around) }
+        ensures tells { IfErr result TellsOfText }
+        ensures same { self.new ≡ record self.old { file = self.new.file; around = self.new.around; records = self.new.records } }
+    {
+        if let Some(fault) = self.file.fault {
+            return Err(TextFault::of_spelling(self.file.number, fault));
+        }
+        let Some(file) = self.around.pop() else {
+            return Ok(false);
+        };
+        let ended = mem::replace(&mut self.file, file);
+        self.records.leave(ended.before);
+        Ok(true)
+    }
+
+    /// Opens the file that an `$INCLUDE` of the inmost file names, and answers its name. A fault has the entry's line.
+    fn include(&mut self, alloc: Global, entry: &Entry) -> Result<Text, TextFault>
+        requires include { is_include entry.now ≡ true }
+        requires lexer { LexerStandsFor self.old.lexer [] [] }
+        ensures asked { (origin : Labels) (texts : List (List ℕ)) → IsPausing self.old origin texts (entry.now ∷ self.old.file.entries.items)
+            → IfOk result (λ file. (texts_give self.old.limits origin texts ≡ Err (Asks file)) × IsReading self.new origin texts []) }
+        ensures fault { (origin : Labels) (texts : List (List ℕ)) → IsPausing self.old origin texts (entry.now ∷ self.old.file.entries.items)
+            → IfErr result (λ fault. fault ≢ TextFault.NoMemory → texts_give self.old.limits origin texts ≡ Err (Faulty fault)) }
+        ensures tells { IfErr result TellsOfText }
+        ensures same { self.new ≡ record self.old { file = self.new.file; around = self.new.around; records = self.new.records } }
+    {
+        match self.read_ask(alloc, entry) {
+            Ok(include) => Ok(self.open(alloc, include)?),
+            Err(fault) => Err(fault.at(self.file.number, entry.line)),
+        }
+    }
+
+    /// What an `$INCLUDE` of the inmost file asks for, where a file more may be included below it.
+    fn read_ask(&self, alloc: Global, entry: &Entry) -> Result<Include, EntryFault>
+        requires { is_include entry.now ≡ true }
+        ensures ok { IfOk result (λ include. MayOpen self.now entry.now include.file include.origin) }
+        ensures fault { IfErr result (λ fault. (texts : List (List ℕ)) → IsFaultOf (fault_at self.now.file.number entry.now.line fault) (entry_makes self.now entry.now texts)) }
+    {
+        let include = read_include(alloc, &self.records.context, entry.tokens.items())?;
+        if self.file.levels == 0 {
+            return Err(EntryFault::Cause(TextCause::IncludeDepth));
+        }
+        if self.limits.includes <= self.records.included {
+            return Err(EntryFault::Cause(TextCause::TooManyIncludes));
+        }
+        Ok(include)
+    }
+
+    /// Opens a file, of which nothing was read, and answers its name.
+    fn open(&mut self, alloc: Global, include: Include) -> Result<Text, NoMemory>
+        requires levels { 0 < self.old.file.levels }
+        requires room { self.old.records.included < self.old.limits.includes }
+        ensures name { IfOk result (λ file. file ≡ include.file) }
+        ensures opens { OnOk result (IsOpened include.origin self.old self.new) }
+        ensures same { self.new ≡ record self.old { file = self.new.file; around = self.new.around; records = self.new.records } }
+    {
+        let before = self.records.enter(alloc, include.origin)?;
+        let inner = File {
+            number: self.records.included,
+            levels: self.file.levels - 1,
+            before,
+            entries: VecDeque::new(alloc),
+            fault: None,
+        };
+        if self
+            .around
+            .push(mem::replace(&mut self.file, inner))
+            .is_err()
+        {
+            return Err(NoMemory);
+        }
+        Ok(include.file)
+    }
+
+    /// Says that all has ended.
+    fn end(&mut self) -> Asked
+        ensures done { result ≡ Asked.Done }
+        ensures ended { self.new ≡ record self.old { ended = true } }
+    {
+        self.ended = true;
+        Asked::Done
+    }
+}
+
+/// Whether more may be read after this fault: `NoMemory` comes again, and any other is kept for the end.
 fn unless_failed(fault: TextFault) -> Result<(), NoMemory>
     ensures ok { OnOk result (fault ≢ TextFault.NoMemory) }
     ensures err { OnErr result (fault ≡ TextFault.NoMemory) }

@@ -15,22 +15,23 @@ use master_lex::{Entry, Token};
 use rdata_forms::{RdataFault, read_other, read_rdata};
 use std::alloc::Global;
 
-/// The record of a record entry, or `None` where its type is dropped. What it leaves for the next entry goes
-/// into the context.
+/// The record of a record entry of the file of this number, or `None` where its type is dropped. What it leaves for
+/// the next entry goes into the context.
 #[tactic(auto, unfolding(crate::specs::Entries::record_of))]
 pub fn read_record(
     alloc: Global,
     context: &mut Context,
+    file: u32,
     entry: &Entry,
 ) -> Result<Option<Rr>, EntryFault>
-    ensures ok { IfOk result (λ rr. record_of context.old entry.now ≡ Ok (record { context = context.new; rr = rr })) }
-    ensures fault { IfErr result (λ fault. AnswersOr EntryFault.NoMemory (Err fault) (with_fault EntryFault.Cause (record_of context.old entry.now))) }
+    ensures ok { IfOk result (λ rr. record_of file context.old entry.now ≡ Ok (record { context = context.new; rr = rr })) }
+    ensures fault { IfErr result (λ fault. AnswersOr EntryFault.NoMemory (Err fault) (with_fault EntryFault.Cause (record_of file context.old entry.now))) }
 {
     let owner = read_owner(alloc, context, entry)?;
     let front = read_front(behind_owner(entry))?;
     let rdata = read_data(alloc, front.tokens, &context.origin)?;
     let owner = remember(alloc, context, entry, owner, front.ttl)?;
-    Ok(with_ttl(context, owner, front.ttl, entry.line, rdata)?)
+    Ok(with_ttl(context, owner, front.ttl, file, entry.line, rdata)?)
 }
 
 /// The owner of a record entry.
@@ -170,12 +171,13 @@ fn with_ttl(
     context: &mut Context,
     owner: Name,
     stated: Option<u32>,
+    file: u32,
     line: u32,
     rdata: Option<Rdata>,
 ) -> Result<Option<Rr>, TextCause>
     ensures { MatchResult result
-        (λ rr. made_of context.old owner stated line rdata ≡ Ok (record { context = context.new; rr = rr }))
-        (λ cause. made_of context.old owner stated line rdata ≡ Err cause) }
+        (λ rr. made_of context.old owner stated file line rdata ≡ Ok (record { context = context.new; rr = rr }))
+        (λ cause. made_of context.old owner stated file line rdata ≡ Err cause) }
 {
     let Some(rdata) = rdata else {
         return Ok(None);
@@ -192,7 +194,7 @@ fn with_ttl(
         owner,
         ttl,
         rdata,
-        file: 0,
+        file,
         line,
     }))
 }

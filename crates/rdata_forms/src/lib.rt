@@ -1,9 +1,9 @@
 //! The data of records, from their tokens (RFC 1035 sections 3.3, 3.4 and 5.1), and times.
 //!
 //! `read_rdata` reads the data of the twelve types, `read_other` keeps those of any other type as their tokens were
-//! written, and `read_ttl` reads a time. Octets are passed over once, those of a tag, an IPv4
-//! address or the generic form twice, those of an IPv6 address at most five times. Memory is taken for what the data
-//! keep alone, for a string in one buffer.
+//! written, `read_ttl` reads a time, and `resolve` resolves the escapes of a token. Octets are passed over once, those
+//! of a tag, an IPv4 address or the generic form twice, those of an IPv6 address at most five times. Memory is taken
+//! for what the data keep alone, for a string in one buffer.
 //!
 //! The layer above may rest on this: each call answers what the format says, and of several faults the first: the
 //! generic form of a known type, the number of tokens, then the fields from left to right. A call that takes memory
@@ -26,6 +26,7 @@ mod times;
 pub use fault::RdataFault;
 pub use laws::{one_address, one_time};
 pub use rdata::{read_other, read_rdata};
+pub use texts::resolve;
 pub use times::read_ttl;
 
 #[cfg(test)]

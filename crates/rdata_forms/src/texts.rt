@@ -1,12 +1,12 @@
 //! Strings and tags.
 
-ghost use Rattle.std.specs.Prelude.{◌≡◌, ◌<◌, ◌∷◌, [], length, IfSome, MatchOption};
+ghost use Rattle.std.specs.Prelude.{◌≡◌, ◌<◌, ◌∷◌, [], length, IfOk, IfSome, MatchOption};
 ghost use Rattle.std.specs.List.{list_all};
 ghost use Rattle.dns_data.specs.Answers.{AnswersOr};
 ghost use Rattle.rdata_forms.specs.Texts.{resolved, string_of, is_tag_octet, tag_of};
 
 use crate::fault::RdataFault;
-use dns_data::{Octets, escaped_octet};
+use dns_data::{NoMemory, Octets, escaped_octet};
 use std::alloc::Global;
 
 /// The string that the text of a token stands for, in one pass into one buffer, or `TextTooLong` where it has more
@@ -24,6 +24,19 @@ pub fn read_string(alloc: Global, text: &[u8], most: usize) -> Result<Octets, Rd
         rest = after;
     }
     Ok(octets)
+}
+
+/// The octets that the text of a token stands for, its escapes resolved (RFC 1035 section 5.1).
+pub fn resolve(alloc: Global, text: &[u8]) -> Result<Octets, NoMemory>
+    ensures { IfOk result (λ octets. octets ≡ resolved text.now) }
+{
+    let mut out = Octets::new();
+    let mut rest = text;
+    while let Some((octet, after)) = first_octet(rest) {
+        out.push(alloc, octet)?;
+        rest = after;
+    }
+    Ok(out)
 }
 
 /// The octet for which the front of the text stands, and what follows, or `None` where it stands for none.

@@ -1,13 +1,14 @@
 -- Directives drawn at random.
 use Rattle.std.specs.Prelude.{◌≡◌, refl, [], ◌∷◌, codes, Some, None, Ok, Err}
-use Rattle.master_read.specs.Entries.{directive_of, origin_directive, ttl_directive}
-use Rattle.master_read.specs.declared.fault.TextCause.TheVariants.{BadDirective, NotSupported}
-use Rattle.master_read.proofs.Worked.Words.{context_with, in_quotes, token}
+use Rattle.std.specs.Str.{is_utf8, chars}
+use Rattle.master_read.specs.Directives.{directive_of, origin_directive, ttl_directive, include_directive}
+use Rattle.master_read.specs.declared.fault.TextCause.TheVariants.{BadDirective}
+use Rattle.master_read.proofs.Worked.Words.{context_with, in_quotes, includes_file, sets, token}
 
 directive_0 :
     directive_of (context_with (codes "t" ∷ codes "a" ∷ []) (Some 7) (Some 8) (Some (codes "t" ∷ []))) (token "$INCLUDE" ∷ token "60" ∷ [])
-    ≡ Err NotSupported
-unfolding directive_of origin_directive ttl_directive
+    ≡ includes_file "60" (codes "t" ∷ codes "a" ∷ [])
+unfolding directive_of include_directive is_utf8 chars lib.Utf8.encode
 directive_0 = refl
 
 directive_1 :
@@ -28,12 +29,12 @@ directive_3 = refl
 
 directive_4 :
     directive_of (context_with (codes "t" ∷ []) (Some 7) None (Some (codes "t" ∷ []))) (token "$TTL" ∷ token "2147483647" ∷ [])
-    ≡ Ok (context_with (codes "t" ∷ []) (Some 2147483647) None (Some (codes "t" ∷ [])))
+    ≡ sets (context_with (codes "t" ∷ []) (Some 2147483647) None (Some (codes "t" ∷ [])))
 unfolding directive_of origin_directive ttl_directive
 directive_4 = refl
 
-directive_5 : directive_of (context_with (codes "t" ∷ []) None None (Some (codes "t" ∷ []))) (token "$INCLUDE" ∷ token "f" ∷ []) ≡ Err NotSupported
-unfolding directive_of origin_directive ttl_directive
+directive_5 : directive_of (context_with (codes "t" ∷ []) None None (Some (codes "t" ∷ []))) (token "$INCLUDE" ∷ token "f" ∷ []) ≡ includes_file "f" (codes "t" ∷ [])
+unfolding directive_of include_directive is_utf8 chars lib.Utf8.encode
 directive_5 = refl
 
 directive_6 : directive_of (context_with (codes "t" ∷ codes "a" ∷ []) None None None) (token "$TTL" ∷ in_quotes "" ∷ []) ≡ Err BadDirective
@@ -46,34 +47,34 @@ directive_7 = refl
 
 directive_8 :
     directive_of (context_with (codes "t" ∷ codes "a" ∷ []) (Some 7) None (Some (codes "t" ∷ []))) (token "$ORIGIN" ∷ token "t." ∷ [])
-    ≡ Ok (context_with (codes "t" ∷ []) (Some 7) None (Some (codes "t" ∷ [])))
+    ≡ sets (context_with (codes "t" ∷ []) (Some 7) None (Some (codes "t" ∷ [])))
 unfolding directive_of origin_directive ttl_directive
 directive_8 = refl
 
 directive_9 :
     directive_of (context_with [] None None (Some (codes "t" ∷ []))) (token "$origin" ∷ token "." ∷ [])
-    ≡ Ok (context_with [] None None (Some (codes "t" ∷ [])))
+    ≡ sets (context_with [] None None (Some (codes "t" ∷ [])))
 unfolding directive_of origin_directive ttl_directive
 directive_9 = refl
 
 directive_10 :
     directive_of (context_with [] (Some 7) (Some 8) None) (token "$TTL" ∷ token "2147483647" ∷ [])
-    ≡ Ok (context_with [] (Some 2147483647) (Some 8) None)
+    ≡ sets (context_with [] (Some 2147483647) (Some 8) None)
 unfolding directive_of origin_directive ttl_directive
 directive_10 = refl
 
 directive_11 :
     directive_of (context_with (codes "t" ∷ codes "a" ∷ []) None None (Some (codes "t" ∷ []))) (token "$origin" ∷ token "sub" ∷ [])
-    ≡ Ok (context_with (codes "t" ∷ codes "a" ∷ codes "sub" ∷ []) None None (Some (codes "t" ∷ [])))
+    ≡ sets (context_with (codes "t" ∷ codes "a" ∷ codes "sub" ∷ []) None None (Some (codes "t" ∷ [])))
 unfolding directive_of origin_directive ttl_directive
 directive_11 = refl
 
-directive_12 : directive_of (context_with [] (Some 7) None None) (token "$ORIGIN" ∷ token "." ∷ []) ≡ Ok (context_with [] (Some 7) None None)
+directive_12 : directive_of (context_with [] (Some 7) None None) (token "$ORIGIN" ∷ token "." ∷ []) ≡ sets (context_with [] (Some 7) None None)
 unfolding directive_of origin_directive ttl_directive
 directive_12 = refl
 
 directive_13 :
     directive_of (context_with (codes "t" ∷ codes "a" ∷ []) None None None) (token "$TTL" ∷ token "1h30m" ∷ [])
-    ≡ Ok (context_with (codes "t" ∷ codes "a" ∷ []) (Some 5400) None None)
+    ≡ sets (context_with (codes "t" ∷ codes "a" ∷ []) (Some 5400) None None)
 unfolding directive_of origin_directive ttl_directive
 directive_13 = refl

@@ -4,7 +4,7 @@ use Rattle.dns_data.specs.declared.fault.NameFault.TheVariants.{EmptyLabel, Labe
 use Rattle.master_read.specs.Entries.{owner_of, behind_owner}
 use Rattle.master_read.specs.declared.context.Context.{Context}
 use Rattle.master_read.specs.declared.fault.TextCause.TheVariants.{BadOwner, NoOwner}
-use Rattle.master_read.proofs.Worked.Words.{bare, context_with, entry, indented, in_quotes, name, tokens}
+use Rattle.master_read.proofs.Worked.Words.{bare, context_with, entry, in_quotes, indented, name, tokens}
 
 -- no record stands before
 abbrev first : Context

@@ -6,7 +6,7 @@ use Rattle.master_read.specs.Entries.{record_of, owner_of, front_in, one_more, t
 use Rattle.master_read.specs.Words.{type_word, type_numbered, class_word, is_among}
 use Rattle.master_read.specs.declared.context.Context.{Context}
 use Rattle.master_read.specs.declared.fault.TextCause.TheVariants.{BadOwner, NoOwner, NoType, UnknownType, NotIn, BadTtl, Rdata as BadData}
-use Rattle.master_read.proofs.Worked.Words.{context_with, entry, indented, in_quotes, name, token, tokens}
+use Rattle.master_read.proofs.Worked.Words.{context_with, entry, in_quotes, indented, name, token, tokens}
 
 -- nothing stands before
 abbrev first : Context
@@ -17,74 +17,74 @@ abbrev second : Context
 second = context_with [] (Some 7) None (Some (name "t"))
 
 -- the owner, before what stands behind it
-a_bad_owner : record_of first (entry 1 (tokens "a..b 1x CH ANY")) ≡ Err (BadOwner EmptyLabel)
+a_bad_owner : record_of 0 first (entry 1 (tokens "a..b 1x CH ANY")) ≡ Err (BadOwner EmptyLabel)
 unfolding record_of owner_of
 a_bad_owner = refl
 
-no_owner : record_of first (indented 1 (tokens "1x CH ANY")) ≡ Err NoOwner
+no_owner : record_of 0 first (indented 1 (tokens "1x CH ANY")) ≡ Err NoOwner
 unfolding record_of owner_of
 no_owner = refl
 
 -- the TTL and the class, before the type
-a_bad_ttl : record_of second (entry 1 (tokens "t. 1x")) ≡ Err BadTtl
+a_bad_ttl : record_of 0 second (entry 1 (tokens "t. 1x")) ≡ Err BadTtl
 unfolding record_of owner_of front_in one_more
 a_bad_ttl = refl
 
-another_class : record_of second (entry 1 (tokens "t. CH ANY")) ≡ Err NotIn
+another_class : record_of 0 second (entry 1 (tokens "t. CH ANY")) ≡ Err NotIn
 unfolding record_of owner_of front_in one_more class_word is_among
 another_class = refl
 
 -- no type
-an_owner_alone : record_of second (entry 1 (tokens "t.")) ≡ Err NoType
+an_owner_alone : record_of 0 second (entry 1 (tokens "t.")) ≡ Err NoType
 unfolding record_of owner_of front_in one_more data_behind
 an_owner_alone = refl
 
-nothing_behind_the_class : record_of second (indented 1 (tokens "60 IN")) ≡ Err NoType
+nothing_behind_the_class : record_of 0 second (indented 1 (tokens "60 IN")) ≡ Err NoType
 unfolding record_of owner_of front_in one_more data_behind class_word is_among
 nothing_behind_the_class = refl
 
 -- an unknown one: a word of a question, a second TTL, a second class, a word in quotes
-any : record_of second (entry 1 (tokens "t. ANY x")) ≡ Err UnknownType
+any : record_of 0 second (entry 1 (tokens "t. ANY x")) ≡ Err UnknownType
 unfolding record_of owner_of front_in one_more data_behind type_said type_word class_word is_among
 any = refl
 
-two_ttls : record_of second (entry 1 (tokens "t. 60 60 A 10.0.0.1")) ≡ Err UnknownType
+two_ttls : record_of 0 second (entry 1 (tokens "t. 60 60 A 10.0.0.1")) ≡ Err UnknownType
 unfolding record_of owner_of front_in one_more data_behind type_said type_word class_word is_among
 two_ttls = refl
 
-two_classes : record_of second (entry 1 (tokens "t. IN IN A 10.0.0.1")) ≡ Err UnknownType
+two_classes : record_of 0 second (entry 1 (tokens "t. IN IN A 10.0.0.1")) ≡ Err UnknownType
 unfolding record_of owner_of front_in one_more data_behind type_said type_word class_word is_among
 two_classes = refl
 
-a_quoted_type : record_of second (entry 1 (token "t." ∷ in_quotes "A" ∷ token "10.0.0.1" ∷ [])) ≡ Err UnknownType
+a_quoted_type : record_of 0 second (entry 1 (token "t." ∷ in_quotes "A" ∷ token "10.0.0.1" ∷ [])) ≡ Err UnknownType
 unfolding record_of owner_of front_in one_more data_behind type_said
 a_quoted_type = refl
 
-a_quoted_ttl : record_of second (entry 1 (token "t." ∷ in_quotes "60" ∷ tokens "A 10.0.0.1")) ≡ Err UnknownType
+a_quoted_ttl : record_of 0 second (entry 1 (token "t." ∷ in_quotes "60" ∷ tokens "A 10.0.0.1")) ≡ Err UnknownType
 unfolding record_of owner_of front_in one_more data_behind type_said
 a_quoted_ttl = refl
 
-an_escaped_type : record_of second (entry 1 (tokens "t. \\A 10.0.0.1")) ≡ Err UnknownType
+an_escaped_type : record_of 0 second (entry 1 (tokens "t. \\A 10.0.0.1")) ≡ Err UnknownType
 unfolding record_of owner_of front_in one_more data_behind type_said type_word class_word is_among
 an_escaped_type = refl
 
-a_directive_behind_white_space : record_of second (indented 1 (tokens "$TTL 60")) ≡ Err UnknownType
+a_directive_behind_white_space : record_of 0 second (indented 1 (tokens "$TTL 60")) ≡ Err UnknownType
 unfolding record_of owner_of front_in one_more data_behind type_said type_word class_word is_among
 a_directive_behind_white_space = refl
 
 -- data, before the TTL that is missing
-bad_data : record_of first (entry 1 (tokens "t. A 10.0.0.256")) ≡ Err (BadData BadAddress)
+bad_data : record_of 0 first (entry 1 (tokens "t. A 10.0.0.256")) ≡ Err (BadData BadAddress)
 unfolding record_of owner_of front_in one_more data_behind type_said type_word class_word is_among
 bad_data = refl
 
-no_data : record_of first (entry 1 (tokens "t. A")) ≡ Err (BadData FieldCount)
+no_data : record_of 0 first (entry 1 (tokens "t. A")) ≡ Err (BadData FieldCount)
 unfolding record_of owner_of front_in one_more data_behind type_said type_word class_word is_among
 no_data = refl
 
-a_bad_name : record_of first (entry 1 (tokens "t. NS a..b")) ≡ Err (BadData (BadName EmptyLabel))
+a_bad_name : record_of 0 first (entry 1 (tokens "t. NS a..b")) ≡ Err (BadData (BadName EmptyLabel))
 unfolding record_of owner_of front_in one_more data_behind type_said type_word class_word is_among
 a_bad_name = refl
 
-bad_digits : record_of first (entry 1 (tokens "t. TYPE731 \\# 1 a")) ≡ Err (BadData BadHex)
+bad_digits : record_of 0 first (entry 1 (tokens "t. TYPE731 \\# 1 a")) ≡ Err (BadData BadHex)
 unfolding record_of owner_of front_in one_more data_behind type_said type_word type_numbered class_word is_among
 bad_digits = refl

@@ -7,10 +7,13 @@ use Rattle.dns_data.specs.declared.rdata.Rdata.{Rdata}
 use Rattle.dns_data.specs.declared.rdata.Rr.{Rr}
 use Rattle.master_lex.specs.declared.entry.Entry.{Entry}
 use Rattle.master_lex.specs.declared.entry.Token.{Token}
+use Rattle.master_lex.specs.declared.fault.LexFault.{LexFault}
+use Rattle.master_read.specs.Context.{no_context, under}
+use Rattle.master_read.specs.Directives.{Directive, Sets, Includes}
 use Rattle.master_read.specs.Entries.{Front, Made}
+use Rattle.master_read.specs.ZoneText.{Unread, Faulty, most_levels, included, with_rest, no_records, as_zone_text, zone_text}
 use Rattle.master_read.specs.declared.context.Context.{Context}
 use Rattle.master_read.specs.declared.fault.TextCause.{TextCause}
-use Rattle.master_read.specs.declared.fault.TextFault.{TextFault}
 use Rattle.master_read.specs.declared.fault.TextFault.TheVariants.{At}
 use Rattle.master_read.specs.declared.zone_text.ZoneText.{ZoneText}
 
@@ -75,10 +78,28 @@ drops context = Ok (record { context = context; rr = None })
 abbrev pub lines : List (List ℕ) → List ℕ
 lines texts = flat_map (λ text. text ++ 10 ∷ []) texts
 
--- a text has these records, and so many record entries
-abbrev pub reads : List Rr → ℕ → Result ZoneText TextFault
-reads rrs seen = Ok (record { rrs = rrs; seen = seen })
+-- what a text gives alone, where no file may be included
+abbrev pub alone : Labels → ℕ → List ℕ → Result ZoneText Unread
+alone origin room text = zone_text origin room 0 (text ∷ [])
 
--- a text has this fault in this line
-abbrev pub faulty : ℕ → TextCause → Result ZoneText TextFault
-faulty line cause = Err (At 0 line cause)
+-- what the entries of a file give, and the fault of a spelling behind them
+abbrev pub entries_alone : Labels → ℕ → List Entry → Option LexFault → Result ZoneText Unread
+entries_alone origin room entries fault =
+    as_zone_text (with_rest (included (record { room = room; includes = 0 }) most_levels) room 0 no_context entries fault
+    (record { records = record no_records { context = under origin no_context }; texts = [] }))
+
+-- it has these records, and so many record entries
+abbrev pub reads : List Rr → ℕ → Result ZoneText Unread
+reads rrs seen = Ok (record { rrs = rrs; seen = seen; included = 0 })
+
+-- it has this fault in this line
+abbrev pub faulty : ℕ → TextCause → Result ZoneText Unread
+faulty line cause = Err (Faulty (At 0 line cause))
+
+-- the directive sets this context
+abbrev pub sets : Context → Result Directive TextCause
+sets context = Ok (Sets context)
+
+-- the directive includes a file under an origin
+abbrev pub includes_file : Text → Labels → Result Directive TextCause
+includes_file file origin = Ok (Includes (codes file) origin)

@@ -1,10 +1,11 @@
 -- The text was fed up to here.
-use Rattle.std.proofs.Common.{◌≡◌, ◌≤◌, ◌-◌, length}
-use Rattle.master_read.proofs.tests.shown.Given as goal
+use Rattle.std.proofs.Common.{◌≡◌, false, ◌≤◌, ◌-◌, length}
+use Rattle.master_read.proofs.tests.feed.Given as goal
 
 abbrev pub invariant-loop-fed : goal.invariant-loop-fed
 invariant-loop-fed l = record {
   fed : l.reader.fed ≡ l.fed;
+  unended : l.reader.ended ≡ false;
   within : l.fed ≤ length l.text;
 }
 
