@@ -13,7 +13,7 @@ use Rattle.master_lex.specs.declared.fault.LexFault.{LexFault}
 use Rattle.master_read.specs.Context.{under, back_at}
 use Rattle.master_read.specs.Directives.{Directive, Sets, Includes, is_directive, directive_of}
 use Rattle.master_read.specs.Entries.{Made, record_of}
-use Rattle.master_read.specs.ZoneText.{Unread, Faulty, Asks, Progress, Effect, Leaves, Opens, Include, no_records, in_context, at, said_by, with_made, effect_of, with_effect, with_entry, with_entries, ended, with_rest, with_file, with_next, one_included, included, most_levels, as_zone_text, zone_text_of, zone_text, record_entries, opened_record_entries}
+use Rattle.master_read.specs.ZoneText.{Unread, Faulty, Asks, Progress, Effect, Leaves, Opens, Include, no_records, in_context, at, said_by, with_made, effect_of, with_effect, with_entry, with_entries, ended, with_rest, with_file, with_next, one_included, included, most_levels, zone_text_of, zone_text, record_entries, opened_record_entries}
 use Rattle.master_read.specs.declared.context.Context.{Context}
 use Rattle.master_read.specs.declared.fault.TextCause.{TextCause}
 use Rattle.master_read.specs.declared.fault.TextCause.TheVariants.{TooMany, TooManyIncludes}

@@ -1,5 +1,5 @@
 -- Files that are read one within another.
-use Rattle.std.proofs.Common.{◌≡◌, ℕ, List, [], ◌∷◌, ◌++◌, refl, sym, ap, ◌∙◌}
+use Rattle.std.proofs.Common.{◌≡◌, ℕ, List, ◌∷◌, refl, ap, ◌∙◌}
 use Rattle.std.specs.Prelude.{Result, Ok, Err}
 use Rattle.dns_data.specs.Answers.{◌>>=◌}
 use Rattle.dns_data.specs.Name.{Labels}
@@ -7,7 +7,6 @@ use Rattle.master_lex.specs.Contents.{text_entries, text_fault}
 use Rattle.master_lex.specs.declared.entry.Entry.{Entry}
 use Rattle.master_read.specs.Context.{no_context, under}
 use Rattle.master_read.specs.ZoneText.{Unread, Progress, most_levels, included, no_records, with_rest, as_zone_text, zone_text}
-use Rattle.master_read.specs.declared.zone_text.ZoneText.{ZoneText}
 
 -- nothing comes behind a step
 behind_ok : {T E : Type 0} (said : Result T E) → said ≡ (said >>= Ok)

@@ -1,5 +1,5 @@
 -- The entries that are left of files, read one after another.
-use Rattle.std.proofs.Common.{◌≡◌, ◌⊎◌, ℕ, zero, suc, ◌+◌, ◌<◌, ◌≤◌, Bool, true, false, nat_le, cond, List, [], ◌∷◌, ◌++◌, refl, sym, ap, ◌∙◌, inl, inr, append_assoc, add-one, arith, Option, Some, None}
+use Rattle.std.proofs.Common.{◌≡◌, ℕ, zero, suc, ◌+◌, ◌<◌, ◌≤◌, Bool, true, false, nat_le, cond, List, [], ◌∷◌, ◌++◌, refl, sym, ap, ◌∙◌, inl, inr, append_assoc, add-one, arith, Option, Some, None}
 use Rattle.std.specs.Prelude.{◌≢◌, Result, Ok, Err}
 use Rattle.std.proofs.lemmas.Bool.Decides.{nat_tests}
 use Rattle.std.proofs.lemmas.List.{append-nil}
@@ -11,7 +11,7 @@ use Rattle.master_lex.specs.declared.fault.LexFault.{LexFault}
 use Rattle.master_lex.specs.Lexer.{Lexing, StandsFor}
 use Rattle.master_lex.proofs.Values.{taken_first}
 use Rattle.master_read.specs.Context.{under, back_at}
-use Rattle.master_read.specs.Reader.{Held, rest_of, rest_around, texts_give, IsSettled, IsReading}
+use Rattle.master_read.specs.Reader.{Held, rest_of, rest_around, texts_give, IsSettled}
 use Rattle.master_read.specs.Steps.{fault_at, IsFaultOf, IsOpened, IsPausing, MayOpen, entry_makes}
 use Rattle.master_read.specs.ZoneText.{Unread, Faulty, Asks, Progress, Effect, Leaves, Opens, Include, at, effect_of, with_effect, with_entry, with_entries, ended, with_rest, with_file, with_next, one_included, included, as_zone_text, zone_text_of}
 use Rattle.master_read.specs.declared.fault.EntryFault.{EntryFault}
@@ -23,7 +23,6 @@ use Rattle.master_read.specs.declared.fault.TextFault.TheVariants.{At, NoMemory}
 use Rattle.master_read.specs.declared.file.File.{File}
 use Rattle.master_read.specs.declared.records.Limits.{Limits}
 use Rattle.master_read.specs.declared.records.Records.{Records}
-use Rattle.master_read.specs.declared.zone_text.ZoneText.{ZoneText}
 
 -- the first entry was read
 pub first_read : (include : Include) (room file : ℕ) (entry : Entry) (entries : List Entry) (records more : Records) (texts : List (List ℕ))

@@ -12,7 +12,7 @@ use Rattle.master_read.specs.ZoneText.{Asks, effect_of, included, with_entry, wi
 use Rattle.master_read.specs.declared.fault.TextCause.TheVariants.{NotIn as OtherClass, Rdata as BadData}
 use Rattle.master_read.specs.declared.words.ClassWord.TheVariants.{In, NotIn}
 use Rattle.master_read.specs.declared.words.TypeWord.TheVariants.{Known, Dropped, Other}
-use Rattle.master_read.proofs.Worked.Words.{alone, context_with, entry, faulty, lines, name, reads, rr, tokens}
+use Rattle.master_read.proofs.Worked.Words.{alone, context_with, entry, lines, name, reads, rr, tokens}
 
 -- RFC 3597 section 5: types and classes by their numbers
 type_731 : type_word (codes "TYPE731") ≡ Some Other

@@ -1,6 +1,6 @@
 -- For which texts a reader stands, from call to call.
 use Rattle.std.proofs.Common.{◌≡◌, ℕ, true, false, List, [], ◌∷◌, ◌++◌, refl, sym, ap, ◌∙◌, ◌+◌, length, Some, None}
-use Rattle.std.specs.Prelude.{◌≢◌, Result, Ok, Err}
+use Rattle.std.specs.Prelude.{◌≢◌, Err}
 use Rattle.std.proofs.lemmas.List.{append-nil, length-append}
 use Rattle.dns_data.specs.Name.{Labels}
 use Rattle.master_read.specs.Reader.{Held, HasLimits, IsReading, IsSettled, StandsFor, GoesOn, asked_by, texts_give}
@@ -9,7 +9,6 @@ use Rattle.master_read.specs.ZoneText.{Faulty, zone_text}
 use Rattle.master_read.specs.declared.asked.Asked.TheVariants.{Include, Done}
 use Rattle.master_read.specs.declared.fault.TextFault.{TextFault}
 use Rattle.master_read.specs.declared.fault.TextFault.TheVariants.{NoMemory}
-use Rattle.master_read.specs.declared.records.Limits.{Limits}
 
 -- more was fed and read
 pub stands_on : (old new : Held) (piece : List ℕ) → old.fault ≡ None → new.fault ≡ None → new.limits ≡ old.limits → new.fed ≡ old.fed + length piece

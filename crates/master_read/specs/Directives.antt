@@ -1,5 +1,5 @@
 -- What a directive says in its context (RFC 1035 section 5.1).
-use Rattle.std.specs.Prelude.{ℕ, Bool, false, not, ◌&&◌, nat_eq, ◌==◌, List, [], ◌∷◌, length, codes, ok_or, if◌then◌else◌, Option, Some, None, Result, Ok, Err}
+use Rattle.std.specs.Prelude.{ℕ, Bool, false, not, ◌&&◌, nat_eq, ◌==◌, List, [], ◌∷◌, length, codes, ok_or, if◌then◌else◌, Some, Result, Ok, Err}
 use Rattle.std.specs.List.{starts_with}
 use Rattle.std.specs.Str.{is_utf8}
 use Rattle.dns_data.specs.Answers.{◌>>=◌, with_fault}

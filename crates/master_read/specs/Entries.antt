@@ -1,11 +1,10 @@
 -- What a record entry of a master file makes in its context: the steps in order, each with its faults
 -- (RFC 1035 section 5.1).
-use Rattle.std.specs.Prelude.{ℕ, Bool, true, false, not, ◌&&◌, ◌||◌, nat_eq, List, [], ◌∷◌, map, drop, codes, is_none, ok_or, if◌then◌else◌, Option, Some, None, Result, Ok, Err}
-use Rattle.std.specs.List.{starts_with}
+use Rattle.std.specs.Prelude.{ℕ, Bool, true, false, ◌&&◌, List, [], ◌∷◌, map, drop, is_none, ok_or, if◌then◌else◌, Option, Some, None, Result, Ok, Err}
 use Rattle.std.specs.Option.{option_or}
 use Rattle.dns_data.specs.Answers.{◌>>=◌, with_fault}
 use Rattle.dns_data.specs.Name.{Labels}
-use Rattle.dns_data.specs.Octet.{is_digit, is_word, raised}
+use Rattle.dns_data.specs.Octet.{is_digit, raised}
 use Rattle.dns_data.specs.Spelling.{name_of_text}
 use Rattle.dns_data.specs.declared.rdata.Rdata.{Rdata}
 use Rattle.dns_data.specs.declared.rdata.Rdata.TheVariants.{Soa}
@@ -19,7 +18,7 @@ use Rattle.master_read.specs.Context.{behind_record, inherited_ttl, behind_data}
 use Rattle.master_read.specs.Words.{type_word, class_word}
 use Rattle.master_read.specs.declared.context.Context.{Context}
 use Rattle.master_read.specs.declared.fault.TextCause.{TextCause}
-use Rattle.master_read.specs.declared.fault.TextCause.TheVariants.{BadDirective, NotSupported, BadOwner, NoOwner, NoType, UnknownType, NotIn as ClassNotIn, BadTtl, Rdata as BadData, NoTtl}
+use Rattle.master_read.specs.declared.fault.TextCause.TheVariants.{BadOwner, NoOwner, NoType, UnknownType, NotIn as ClassNotIn, BadTtl, Rdata as BadData, NoTtl}
 use Rattle.master_read.specs.declared.words.ClassWord.{ClassWord}
 use Rattle.master_read.specs.declared.words.ClassWord.TheVariants.{In, NotIn}
 use Rattle.master_read.specs.declared.words.TypeWord.{TypeWord}

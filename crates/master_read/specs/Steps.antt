@@ -2,7 +2,6 @@
 use Rattle.std.specs.Prelude.{◌≡◌, ◌⊎◌, ℕ, ◌+◌, ◌<◌, List, [], ◌∷◌, ◌++◌, Bool, true, Option, Some, None, Result, Ok, Err}
 use Rattle.dns_data.specs.Answers.{◌>>=◌}
 use Rattle.dns_data.specs.Name.{Labels}
-use Rattle.master_lex.specs.Contents.{text_entries, text_fault}
 use Rattle.master_lex.specs.declared.entry.Entry.{Entry}
 use Rattle.master_read.specs.Context.{under}
 use Rattle.master_read.specs.Directives.{is_include}

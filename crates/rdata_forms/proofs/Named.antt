@@ -1,5 +1,5 @@
 -- The format never speaks of want of memory.
-use Rattle.std.proofs.Common.{◌≡◌, ℕ, List, [], ◌∷◌, length, leb, ltb, map, ◌&&◌, not, Result, Ok, Err, inl, inr}
+use Rattle.std.proofs.Common.{◌≡◌, ℕ, List, [], ◌∷◌, length, leb, ltb, ◌&&◌, not, Result, Ok, Err, inl, inr}
 use Rattle.std.specs.List.{list_all}
 use Rattle.std.proofs.lemmas.Result.{IfErr-at_err}
 use Rattle.std.specs.Result.{IfErr}
@@ -7,7 +7,6 @@ use Rattle.dns_data.proofs.Answers.{if_err_then, if_err_told, if_err_or, if_err_
 use Rattle.dns_data.proofs.NameFaults.{IsTold, name_told}
 use Rattle.dns_data.specs.Answers.{AnswersOr, ◌>>=◌}
 use Rattle.dns_data.specs.Name.{Labels}
-use Rattle.dns_data.specs.Octet.{folded}
 use Rattle.dns_data.specs.Spelling.{name_of_text}
 use Rattle.dns_data.specs.declared.fault.NameFault.{NameFault}
 use Rattle.dns_data.specs.declared.fault.NameFault.TheVariants as name_fault
@@ -22,7 +21,7 @@ use Rattle.rdata_forms.specs.Numbers.{number_in}
 use Rattle.rdata_forms.specs.Texts.{resolved, is_tag_octet, string_of, tag_of}
 use Rattle.rdata_forms.specs.Times.{time_in, time_of}
 use Rattle.rdata_forms.specs.declared.fault.RdataFault.{RdataFault}
-use Rattle.rdata_forms.specs.declared.fault.RdataFault.TheVariants.{FieldCount, BadNumber, BadAddress, BadName, TextTooLong, BadHex, GenericKnown, NoMemory}
+use Rattle.rdata_forms.specs.declared.fault.RdataFault.TheVariants.{FieldCount, BadNumber, BadAddress, BadName, TextTooLong, NoMemory}
 
 -- the fault says something of the tokens: it is no want of memory, nor does one stand in it
 pub record IsSaid (fault : RdataFault) : Type 0 where

@@ -1,5 +1,5 @@
 -- Directives drawn at random.
-use Rattle.std.specs.Prelude.{◌≡◌, refl, [], ◌∷◌, codes, Some, None, Ok, Err}
+use Rattle.std.specs.Prelude.{◌≡◌, refl, [], ◌∷◌, codes, Some, None, Err}
 use Rattle.std.specs.Str.{is_utf8, chars}
 use Rattle.master_read.specs.Directives.{directive_of, origin_directive, ttl_directive, include_directive}
 use Rattle.master_read.specs.declared.fault.TextCause.TheVariants.{BadDirective}

@@ -1,5 +1,4 @@
 -- All was taken of the file that was open.
-use Rattle.std.proofs.Common.{◌≡◌}
 use Rattle.master_read.proofs.Reading.{pauses}
 use Rattle.master_read.proofs.reader.ZoneReader.end_lexer.Goals as goal
 

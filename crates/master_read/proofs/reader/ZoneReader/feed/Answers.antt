@@ -1,5 +1,5 @@
 -- The text went on, or its fault was met.
-use Rattle.std.proofs.Common.{◌≡◌, Some, refl, ap, ◌∙◌}
+use Rattle.std.proofs.Common.{Some, refl, ap, ◌∙◌}
 use Rattle.std.proofs.lemmas.Result.{on_ok_weaker}
 use Rattle.master_read.specs.Reader.{Held}
 use Rattle.master_read.proofs.Stands.{stands_on, meets}

@@ -1,6 +1,5 @@
 -- The entry asks for a file, or has a fault.
-use Rattle.std.proofs.Common.{◌≡◌, ◌<◌, ◌≤◌, ℕ, List, rules, arith}
-use Rattle.std.proofs.lemmas.Bool.Decides.{nat_tests}
+use Rattle.std.proofs.Common.{ℕ, List, rules}
 use Rattle.master_read.specs.Reader.{Held}
 use Rattle.master_read.specs.Steps.{IsFaultOf, fault_at, entry_makes}
 use Rattle.master_read.specs.ZoneText.{included}
