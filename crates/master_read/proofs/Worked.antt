@@ -9,3 +9,4 @@ mod RecordTtls
 mod RecordFaults
 mod Counting
 mod Files
+mod IncludedFiles
