@@ -1,10 +1,9 @@
 -- What a caller needs that reads or writes in a loop.
-use Rattle.std.proofs.Common.{◌≡◌, ℕ, ◌+◌, ◌≤◌, ◌++◌, List, Option, Some, None, IfSome, length, take, drop, inl, inr, arith, sym, ap, ◌∙◌, append_assoc, length-append, length-take, slice_range}
+use Rattle.std.proofs.Common.{◌≡◌, ℕ, ◌+◌, ◌≤◌, ◌++◌, List, Option, Some, None, length, take, drop, inl, inr, arith, sym, ap, ◌∙◌, append_assoc, slice_range}
 use Rattle.std.proofs.lemmas.Grind.{common_steps}
 use Rattle.std.proofs.Math.Seq.{take-add}
 use Rattle.std.specs.Io.KnownBytes.{Appends}
 use Rattle.io_edges.specs.Counts.{Rose, NoneFell}
-use Rattle.io_edges.specs.Files.{Held, IfHeld, IsFrontFrom}
 
 -- a count that rose between two moments rose between an earlier and a later one
 pub Rose-wider : (first before after last : ℕ) → first ≤ before → Rose before after → after ≤ last → Rose first last
@@ -14,24 +13,6 @@ Rose-wider first before after last earlier (inr full) later = inr (omega arith)
 -- where no count fell, and then none fell, none fell at all
 pub NoneFell-then : (first between last : List ℕ → ℕ) → NoneFell first between → NoneFell between last → NoneFell first last
 NoneFell-then first between last a b name = omega (arith, a name, b name)
-
--- what follows of the bytes of a name from two facts follows where the source tells its bytes and holds the name
-pub IfHeld-both : (held : Held) (name : List ℕ) {P Q R : List ℕ → Type 0} → ((bytes : List ℕ) → P bytes → Q bytes → R bytes) → IfHeld held name P → IfHeld held name Q → IfHeld held name R
-IfHeld-both None name both p q = p
-IfHeld-both (Some bytes_of) name {P} {Q} {R} both p q = at_name (bytes_of name) p q
-  where
-    at_name : (o : Option (List ℕ)) → IfSome o P → IfSome o Q → IfSome o R
-    at_name None p q = p
-    at_name (Some bytes) p q = both bytes p q
-
--- octets that are a front of the bytes are so with a piece that was read behind them
-pub IsFrontFrom-more : (bytes got piece : List ℕ) (count : ℕ) → count ≤ length piece → got ≡ take (length got) bytes → IsFrontFrom bytes (length got) count piece → got ++ take count piece ≡ take (length (got ++ take count piece)) bytes
-IsFrontFrom-more bytes got piece count fits front more =
-    let long : length (got ++ take count piece) ≡ length got + count = omega (arith, length-append got (take count piece), length-take count piece) in
-    ap (λ xs. xs ++ take count piece) front
-    ∙ ap (λ xs. take (length got) bytes ++ xs) more
-    ∙ sym (take-add (length got) count bytes)
-    ∙ ap (λ n. take n bytes) (sym long)
 
 rest_of : (text : List ℕ) (start : ℕ) → slice_range text start (length text) ≡ drop start text
 rest_of text start = grind (arith, common_steps)

@@ -9,7 +9,8 @@ use Rattle.std.specs.declared.cmp.Ordering.{Ordering}
 use Rattle.std.specs.declared.cmp.Ordering.TheVariants.{Less, Equal, Greater}
 use Rattle.std.proofs.lemmas.Bool.Decides.{nat_tests}
 use Rattle.io_edges.specs.Counts.{last_count, one_more, Rose, NoneFell}
-use Rattle.io_edges.specs.MemoryFiles.{Stored, FileMap, FilesInMemory, octets_at, held_by, failed_once_more, failures_of, with_file, after_failure}
+use Rattle.io_edges.specs.Files.{all_told}
+use Rattle.io_edges.specs.MemoryFiles.{Stored, FileMap, FilesInMemory, octets_at, told_by, failed_once_more, failures_of, with_file, next_fails, after_failure, after_call}
 
 -- what relates each file to itself, and the file of one name to another, relates the files at each name to those after the other was put there
 pub at_change : (P : Option Stored → Option Stored → Type 0) → ((o : Option Stored) → P o o) → (files : FileMap) (name : List ℕ) (file : Stored) → P (map.get files name) (Some file) → (other : List ℕ) → P (map.get files other) (map.get (map.insert files name file) other)
@@ -36,9 +37,17 @@ octets_at-failed files name None e other = refl
 octets_at-failed files name (Some file) e other =
     sym (at_change (λ old new. option_map (λ file. file.octets) old ≡ option_map (λ file. file.octets) new) (λ o. refl) files name _ (ap (option_map (λ file. file.octets)) e) other)
 
--- a failure changes no bytes
-pub held_by-after_failure : (m new : FilesInMemory) (name : List ℕ) → new ≡ after_failure m name → held_by new ≡ held_by m
-held_by-after_failure m new name e = ap held_by e ∙ λ i. Some (λ other. octets_at-failed m.files name (map.get m.files name) refl other i)
+-- a failure changes nothing that is told
+pub told_by-after_failure : (m new : FilesInMemory) (name : List ℕ) → new ≡ after_failure m name → told_by new ≡ told_by m
+told_by-after_failure m new name e =
+    ap told_by e ∙ λ i other. all_told (octets_at-failed m.files name (map.get m.files name) refl other i)
+
+-- a call changes nothing that is told
+pub told_by-after_call : (m new : FilesInMemory) (name : List ℕ) → new ≡ after_call m name → told_by new ≡ told_by m
+told_by-after_call m new name e =
+    let counted : FilesInMemory = record m { calls = one_more m.calls } in
+    ap told_by e
+    ∙ elim (next_fails m name) as (λ b. told_by (if b then after_failure counted name else counted) ≡ told_by m) [ true ↦ told_by-after_failure counted _ name refl | false ↦ refl ]
 
 one_more-le : (count : ℕ) → count ≤ one_more count
 one_more-le count = grind (arith, nat_tests)

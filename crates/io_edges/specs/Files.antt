@@ -1,18 +1,46 @@
 -- What a source of files tells, and what a reading gives.
-use Rattle.std.specs.Prelude.{◌≡◌, ℕ, List, take, drop, Option, IfSome, IfNone}
+use Rattle.std.specs.Prelude.{◌≡◌, ◌≢◌, ℕ, ◌⊎◌, List, [], take, drop, Option, Some, None}
 
--- the bytes of each name, `None` at one that isn't held; or `None` for a source that tells nothing
-abbrev pub Held : Type 0
-Held = Option (List ℕ → Option (List ℕ))
+-- what is told of a name: nothing yet, that it isn't held, or its octets
+pub data Told : Type 0 where
+  Untold : Told
+  NotHeld : Told
+  Holds : (octets : List ℕ) → Told
 
--- the bytes of this name have P, where the source tells them and holds the name
-abbrev pub IfHeld : Held → List ℕ → (List ℕ → Type 0) → Type 0
-IfHeld held name P = IfSome held (λ bytes_of. IfSome (bytes_of name) P)
+-- octets of the name are told, and have P
+abbrev pub IsToldAnd : Told → (List ℕ → Type 0) → Type 0
+IsToldAnd Untold P = ⊥
+IsToldAnd NotHeld P = ⊥
+IsToldAnd (Holds octets) P = P octets
 
--- P, where the source tells its bytes and doesn't hold the name
-abbrev pub IfAbsent : Held → List ℕ → Type 0 → Type 0
-IfAbsent held name P = IfSome held (λ bytes_of. IfNone (bytes_of name) P)
+-- what was told of a name is told still
+abbrev pub StaysTold : (List ℕ → Told) → (List ℕ → Told) → Type 0
+StaysTold before after = (name : List ℕ) → (before name ≡ Untold) ⊎ (after name ≡ before name)
 
--- the first `count` octets of the piece are those that stand in the bytes from `at`
+-- something is told of every name
+abbrev pub TellsAll : (List ℕ → Told) → Type 0
+TellsAll told = (name : List ℕ) → told name ≢ Untold
+
+-- of every other name the same is told
+abbrev pub SameElsewhere : List ℕ → (List ℕ → Told) → (List ℕ → Told) → Type 0
+SameElsewhere name before after = (other : List ℕ) → other ≢ name → after other ≡ before other
+
+-- the first `count` octets of the piece are those that stand in the octets from `at`
 abbrev pub IsFrontFrom : List ℕ → ℕ → ℕ → List ℕ → Type 0
-IsFrontFrom bytes at count piece = take count piece ≡ take count (drop at bytes)
+IsFrontFrom octets at count piece = take count piece ≡ take count (drop at octets)
+
+-- the first so many of the octets that are told; none while no octets are told
+abbrev pub first_told : Told → ℕ → List ℕ
+first_told Untold count = []
+first_told NotHeld count = []
+first_told (Holds octets) count = take count octets
+
+-- what a source tells that knows all of its names
+abbrev pub all_told : Option (List ℕ) → Told
+all_told None = NotHeld
+all_told (Some octets) = Holds octets
+
+-- what a source tells that knows the names that it has read
+abbrev pub read_told : Option (List ℕ) → Told
+read_told None = Untold
+read_told (Some octets) = Holds octets

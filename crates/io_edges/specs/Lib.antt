@@ -1,4 +1,5 @@
 pub mod Counts
+pub mod DiskFiles
 pub mod Files
 pub mod MemoryFiles
 pub mod MemorySink

@@ -6,7 +6,7 @@ use Rattle.std.specs.Cmp.Lexicographic.{slice_cmp}
 use Rattle.std.specs.Coded.{Coded, code_by, coded×, coded_ℕ, coded_list}
 use Rattle.std.specs.FinMap as map
 use Rattle.io_edges.specs.Counts.{one_more, is_listed}
-use Rattle.io_edges.specs.Files.{Held}
+use Rattle.io_edges.specs.Files.{Told, all_told}
 
 -- a file: its octets, and how many calls failed at it
 pub record Stored : Type 0 where
@@ -59,9 +59,9 @@ files_code =
     (λ m. ((m.files, m.absent), (m.fails, m.calls)))
     (λ p. record { files = p.0.0; absent = p.0.1; fails = p.1.0; calls = p.1.1 }) (λ _. refl)
 
--- the bytes of each name: files in memory tell them
-abbrev pub held_by : FilesInMemory → Held
-held_by m = Some (octets_at m.files)
+-- what files in memory tell: all names, from the start
+abbrev pub told_by : FilesInMemory → List ℕ → Told
+told_by m = λ name. all_told (octets_at m.files name)
 
 -- how many calls failed at a name: at its file, or at all absent names together
 abbrev pub failures_of : FilesInMemory → List ℕ → ℕ

@@ -1,83 +1,85 @@
 //! Files on a disk.
 
-ghost use Rattle.std.specs.Prelude.{◌≡◌, ◌≤◌, IfOk, length};
+ghost use Rattle.std.specs.Prelude.{◌≡◌, ◌<◌, ◌≤◌, ℕ, List, length, OnErr, IfOk};
+ghost use Rattle.std.specs.FinMap as map;
+ghost use Rattle.io_edges.specs.Counts.{NoneFell, Rose};
+ghost use Rattle.io_edges.specs.Files.{IsToldAnd, StaysTold, SameElsewhere, IsFrontFrom};
+ghost use Rattle.io_edges.specs.DiskFiles.{told_by_disk};
 
 use crate::counts::raise;
 use crate::failed::Failed;
 use crate::files::Files;
-use std::io::{Read, Seek, SeekFrom};
+use crate::fill::fill;
+use crate::shelf::Shelf;
+use dns_data::Octets;
 use std::marker::Model;
-use std::{fs, io, rt};
+use std::{fs, rt};
 
-/// A file that is open, and the name that it was opened by.
-#[derive(Drop)]
-struct Opened<F> {
-    name: String,
-    file: F,
-}
-
-/// The files of a disk, each under its path, which tell nothing of their content. Every error of
-/// the disk, and want of memory on the way, raises one count, which is that of all names. The file
-/// that was read last stays open, so that reading it in pieces opens it once. Contracts see it as
-/// that count.
+/// The files of a disk, each under its path. A file is read whole at the first reading of its name,
+/// whatever its size, and its octets are kept: from then on they are told, and every reading of the
+/// name gives them, whatever becomes of the file on the disk. Every error of the disk, and want of
+/// memory on the way, raises one count, which is that of all names.
 #[derive(Drop)]
 pub struct DiskFiles<'a, R: rt::Files + AllocGlobal> {
     rt: &'a R,
-    opened: Option<Opened<R::File>>,
+    shelf: Shelf,
     failures: u64,
 }
 
 impl<'a, R: rt::Files + AllocGlobal> Model for DiskFiles<'a, R> {
-    ghost use Rattle.std.specs.Prelude.{ℕ};
+    ghost use Rattle.io_edges.specs.DiskFiles.{FilesOnDisk, disk_code};
 
-    ghost Value = { ℕ };
+    ghost Value = { FilesOnDisk };
 
-    ghost view = { λ d. d.failures };
+    ghost coded = { disk_code };
+
+    ghost view = { λ d. record {
+      files = d.shelf;
+      failures = d.failures;
+    } };
 }
 
 impl<'a, R: rt::Files + AllocGlobal> DiskFiles<'a, R> {
-    /// The files of the disk that the runtime reaches, with no failure so far.
+    /// The files of the disk that the runtime reaches. None was read, and no call failed.
     pub fn new(rt: &'a R) -> DiskFiles<'a, R>
-        ensures { result ≡ 0 }
+        ensures { result ≡ record { files = map.empty; failures = 0 } }
     {
         DiskFiles {
             rt,
-            opened: None,
+            shelf: Shelf::new(rt.alloc()),
             failures: 0,
         }
     }
 
-    /// Reads the file of this name from the octet `at` on. The file stays open where this
-    /// succeeds.
-    fn read_at(&mut self, name: &str, at: u64, into: &mut [u8]) -> io::Result<usize>
-        ensures fits { IfOk result (λ count. count ≤ length into.new) }
-        ensures failures { self.new ≡ self.old }
+    /// Sees that the file of this name is kept.
+    fn keep(&mut self, name: &str) -> Result<(), Failed>
+        ensures stays { StaysTold (told_by_disk self.old) (told_by_disk self.new) }
+        ensures others { SameElsewhere name.now (told_by_disk self.old) (told_by_disk self.new) }
+        ensures failures { self.new.failures ≡ self.old.failures }
     {
-        let mut opened = match self.opened.take() {
-            Some(opened) if opened.name.as_str() == name => opened,
-            _ => Opened {
-                name: String::from_str(self.rt.alloc(), name)?,
-                file: fs::open(self.rt, name)?,
-            },
+        if self.shelf.get(name).is_some() {
+            return Ok(());
+        }
+        let Ok(octets) = fs::read(self.rt, name) else {
+            return Err(Failed);
         };
-        opened.file.seek(SeekFrom::Start(at))?;
-        let count = opened.file.read(into)?;
-        self.opened = Some(opened);
-        Ok(count)
+        match self.shelf.place(name, Octets::from_vec(octets), 0) {
+            Ok(()) => Ok(()),
+            Err(_) => Err(Failed),
+        }
     }
 }
 
 impl<R: rt::Files + AllocGlobal> Files for DiskFiles<'_, R> {
-    ghost use Rattle.std.specs.Prelude.{None};
+    ghost told = { told_by_disk };
 
-    ghost held = { λ _. None };
-
-    ghost faults = { λ failures _. failures };
+    ghost faults = { λ d _. d.failures };
 
     fn read(&mut self, name: &str, at: u64, into: &mut [u8]) -> Result<usize, Failed> {
-        match self.read_at(name, at, into) {
-            Ok(count) => Ok(count),
-            Err(_) => {
+        let kept = self.keep(name);
+        match self.shelf.get(name) {
+            Some(file) if kept.is_ok() => Ok(fill(file.octets.items(), at, into)),
+            _ => {
                 self.failures = raise(self.failures);
                 Err(Failed)
             }

@@ -2,13 +2,14 @@
 
 ghost use Rattle.std.specs.Prelude.{◌≡◌, ◌↔◌, ℕ, ◌-◌, ◌<◌, ◌≤◌, List, length, drop, min, IsTrue, IsErr, OnOk, OnErr, IfOk};
 ghost use Rattle.io_edges.specs.Counts.{NoneFell, Rose};
-ghost use Rattle.io_edges.specs.Files.{IfHeld, IfAbsent, IsFrontFrom};
-ghost use Rattle.io_edges.specs.MemoryFiles.{held_by, failures_of, next_fails, after_failure, after_call, no_files, with_file};
+ghost use Rattle.io_edges.specs.Files.{IsToldAnd, StaysTold, SameElsewhere, IsFrontFrom};
+ghost use Rattle.io_edges.specs.MemoryFiles.{told_by, failures_of, next_fails, after_failure, after_call, no_files, with_file};
 
 use crate::calls::Calls;
 use crate::counts::raise;
 use crate::failed::Failed;
 use crate::files::Files;
+use crate::fill::fill;
 use crate::shelf::Shelf;
 use dns_data::{List, NoMemory};
 use std::alloc::Global;
@@ -70,7 +71,7 @@ impl MemoryFiles {
     fn count_failure(&mut self, name: &str)
         ensures after { self.new ≡ after_failure self.old name.now }
         ensures cause { Rose (failures_of self.old name.now) (failures_of self.new name.now) }
-        ensures same_bytes { held_by self.new ≡ held_by self.old }
+        ensures same_told { told_by self.new ≡ told_by self.old }
         ensures never_fall { NoneFell (failures_of self.old) (failures_of self.new) }
     {
         if !self.shelf.count_failure(name) {
@@ -80,25 +81,26 @@ impl MemoryFiles {
 }
 
 impl Files for MemoryFiles {
-    ghost held = { held_by };
+    ghost told = { told_by };
 
     ghost faults = { failures_of };
 
     fn read(&mut self, name: &str, at: u64, into: &mut [u8]) -> Result<usize, Failed>
         ensures fits { IfOk result (λ count. count ≤ length into.new) }
         ensures front { IfOk result (λ count.
-            IfHeld (held_by self.old) name.now (λ bytes. IsFrontFrom bytes at count into.new)) }
+            IsToldAnd (told_by self.new name.now) (λ octets. IsFrontFrom octets at count into.new)) }
         ensures end { IfOk result (λ count. count ≡ 0 → 0 < length into.new →
-            IfHeld (held_by self.old) name.now (λ bytes. length bytes ≤ at)) }
-        ensures absent { IfAbsent (held_by self.old) name.now (IsErr result) }
+            IsToldAnd (told_by self.new name.now) (λ octets. length octets ≤ at)) }
         ensures cause { OnErr result (Rose (failures_of self.old name.now) (failures_of self.new name.now)) }
-        ensures same_bytes { held_by self.new ≡ held_by self.old }
+        ensures stays { StaysTold (told_by self.old) (told_by self.new) }
+        ensures others { SameElsewhere name.now (told_by self.old) (told_by self.new) }
         ensures never_fall { NoneFell (failures_of self.old) (failures_of self.new) }
 
-        // Exactly when it fails, how much it reads, and what it leaves.
+        // It tells no more than before, exactly when it fails, how much it reads, and what it leaves.
+        ensures same_told { told_by self.new ≡ told_by self.old }
         ensures fails { IsErr result ↔ IsTrue (next_fails self.old name.now) }
-        ensures whole { IfOk result (λ count. IfHeld (held_by self.old) name.now (λ bytes.
-            count ≡ min (length into.new) (length bytes - at))) }
+        ensures whole { IfOk result (λ count. IsToldAnd (told_by self.old name.now) (λ octets.
+            count ≡ min (length into.new) (length octets - at))) }
         ensures rest { IfOk result (λ count. drop count into.new ≡ drop count into.old) }
         ensures after { self.new ≡ after_call self.old name.now }
     {
@@ -111,18 +113,4 @@ impl Files for MemoryFiles {
             }
         }
     }
-}
-
-/// Fills a front of the piece with the octets that stand from `at`, as many as there are and fit,
-/// and answers how many these are.
-fn fill(octets: &[u8], at: u64, piece: &mut [u8]) -> usize
-    ensures count { result ≡ min (length piece.new) (length octets.now - at) }
-    ensures front { IsFrontFrom octets.now at result piece.new }
-    ensures rest { drop result piece.new ≡ drop result piece.old }
-{
-    let start = octets.len().min(at as usize);
-    let left = &octets[start..];
-    let count = left.len().min(piece.len());
-    piece[..count].copy_from_slice(&left[..count]);
-    count
 }

@@ -76,8 +76,16 @@ impl Shelf {
         ensures ok { OnOk result (self.new ≡ with_octets self.old name.now octets.now failures) }
         ensures err { OnErr result (self.new ≡ self.old) }
     {
-        let name = String::from_str(self.alloc, name)?;
         let octets = Octets::from_octets(self.alloc, octets)?;
+        self.place(name, octets, failures)
+    }
+
+    /// The same, of octets that it takes over.
+    pub fn place(&mut self, name: &str, octets: Octets, failures: u64) -> Result<(), NoMemory>
+        ensures ok { OnOk result (self.new ≡ with_octets self.old name.now octets failures) }
+        ensures err { OnErr result (self.new ≡ self.old) }
+    {
+        let name = String::from_str(self.alloc, name)?;
         self.files.insert(name, Kept { octets, failures })?;
         Ok(())
     }

@@ -40,30 +40,37 @@ fn memory_forms_find_memory(rt: HostRuntime) -> Result<(), Fail> {
     Ok(())
 }
 
-// A file of ten octets. The current folder is no file, and opens but doesn't read.
+// A file of ten octets, which gives what it held at its first reading; a file that isn't there is
+// read once it is. The current folder is no file.
 #[test]
 fn disk_files_read_a_real_file(rt: HostRuntime) -> Result<(), Fail> {
     let alloc = rt.alloc();
     let file = "io_edges_ten_octets.txt";
+    let later = "io_edges_written_later.txt";
     fs::write(&rt, file, "0123456789")?;
     let mut files = DiskFiles::new(&rt);
-    let cases: [(&str, u64, usize, Option<&str>); 9] = [
+    let cases: [(&str, u64, usize, Option<&str>); 7] = [
         (file, 0, 4, Some("0123")),
-        (file, 4, 4, Some("4567")),
         (file, 8, 4, Some("89")),
         (file, 10, 4, Some("")),
-        (file, 99, 4, Some("")),
-        ("io_edges_no_such_file.txt", 0, 4, None),
+        (file, u64::MAX, 4, Some("")),
+        (later, 0, 4, None),
         (file, 2, 4, Some("2345")),
         (".", 0, 4, None),
-        (file, u64::MAX, 4, None),
     ];
     for (name, at, room, want) in cases {
         let got = piece(alloc, &mut files, name, at, room)?;
         let got = got.as_ref().map(|text| text.as_str());
         assert_eq!(rt; got, want, "{name} at {at}");
     }
-    fs::remove_file(&rt, file)?;
+    fs::write(&rt, file, "changed")?;
+    fs::write(&rt, later, "now")?;
+    for (name, want) in [(file, "012"), (later, "now")] {
+        let got = piece(alloc, &mut files, name, 0, 3)?;
+        let got = got.as_ref().map(|text| text.as_str());
+        assert_eq!(rt; got, Some(want), "{name} once more");
+        fs::remove_file(&rt, name)?;
+    }
     Ok(())
 }
 

@@ -1,0 +1,50 @@
+-- What is told of a disk's files after one of them was kept.
+use Rattle.std.proofs.Common.{◌≡◌, ◌⊎◌, ℕ, false, cond, List, Some, None, Option, is_some, Result, Ok, Err, OnOk, OnErr, refl, subst, sym, ap, ◌∙◌, inl, inr}
+use Rattle.std.specs.Option.{option_map}
+use Rattle.std.specs.Ordering.{nat_cmp, is_eq}
+use Rattle.std.specs.Cmp.Lexicographic.{slice_cmp, nat_list_cmp_total}
+use Rattle.std.specs.FinMap as map
+use Rattle.std.specs.declared.cmp.Ordering.{Ordering}
+use Rattle.std.specs.declared.cmp.Ordering.TheVariants.{Less, Equal, Greater}
+use Rattle.std.proofs.lemmas.Map.Lookups.{exact_bytes}
+use Rattle.io_edges.specs.Files.{Told, Untold, StaysTold, SameElsewhere, read_told}
+use Rattle.io_edges.specs.MemoryFiles.{Stored, FileMap, octets_at, with_octets}
+use Rattle.io_edges.proofs.Memory.{at_change}
+
+-- what isn't some is none
+pub not_some : {A : Type 0} (o : Option A) → is_some o ≡ false → o ≡ None
+not_some None e = refl
+not_some (Some x) e = absurd cc
+
+-- what the files that were read tell
+abbrev pub tells : FileMap → List ℕ → Told
+tells files name = read_told (octets_at files name)
+
+-- a file that is put under a new name takes nothing back
+StaysTold-put : (files : FileMap) (name octets : List ℕ) (failures : ℕ) → map.get files name ≡ None → StaysTold (tells files) (tells (with_octets files name octets failures))
+StaysTold-put files name octets failures none other =
+    let told : Option Stored → Told = λ o. read_told (option_map (λ file. file.octets) o) in
+    at_change (λ old new. (told old ≡ Untold) ⊎ (told new ≡ told old)) (λ o. inr refl) files name _ (inl (ap told none)) other
+
+-- a file that is put under a name changes no other name
+SameElsewhere-put : (files : FileMap) (name octets : List ℕ) (failures : ℕ) → SameElsewhere name (tells files) (tells (with_octets files name octets failures))
+SameElsewhere-put files name octets failures other apart =
+    ap (λ o. read_told (option_map (λ file. file.octets) o)) (map.get-insert nat_list_cmp_total files name _ other ∙ by_order (slice_cmp nat_cmp other name) refl)
+  where
+    by_order : (order : Ordering) → slice_cmp nat_cmp other name ≡ order → cond (is_eq order) (Some (record { octets = octets; failures = failures })) (map.get files other) ≡ map.get files other
+    by_order Less e = refl
+    by_order Equal e = absurd (apart (exact_bytes other name e))
+    by_order Greater e = refl
+
+-- the same, whether it was put there or, for want of memory, not
+pub StaysTold-placed : {T E : Type 0} (r : Result T E) (old new : FileMap) (name octets : List ℕ) (failures : ℕ) → map.get old name ≡ None → OnOk r (new ≡ with_octets old name octets failures) → OnErr r (new ≡ old) → StaysTold (tells old) (tells new)
+StaysTold-placed (Ok _) old new name octets failures none put kept =
+    subst (λ after. StaysTold (tells old) (tells after)) (sym put) (StaysTold-put old name octets failures none)
+StaysTold-placed (Err _) old new name octets failures none put kept =
+    λ other. inr (ap (λ after. tells after other) kept)
+
+pub SameElsewhere-placed : {T E : Type 0} (r : Result T E) (old new : FileMap) (name octets : List ℕ) (failures : ℕ) → OnOk r (new ≡ with_octets old name octets failures) → OnErr r (new ≡ old) → SameElsewhere name (tells old) (tells new)
+SameElsewhere-placed (Ok _) old new name octets failures put kept =
+    subst (λ after. SameElsewhere name (tells old) (tells after)) (sym put) (SameElsewhere-put old name octets failures)
+SameElsewhere-placed (Err _) old new name octets failures put kept =
+    λ other apart. ap (λ after. tells after other) kept
