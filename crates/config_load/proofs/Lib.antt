@@ -1,0 +1,8 @@
+pub mod Answered
+pub mod Directories
+pub mod Follows
+pub mod OpenedFiles
+pub mod ReadRows
+pub mod ServerPlaces
+pub mod Steps
+mod Worked

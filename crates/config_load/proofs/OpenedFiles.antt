@@ -1,0 +1,165 @@
+-- The files of a zone, one after the other.
+use Rattle.std.proofs.Common.{◌≡◌, ℕ, zero, suc, ◌+◌, ◌≤◌, true, false, ◌||◌, List, [], ◌∷◌, ◌++◌, length, length-append, unwrap_or, Result, Ok, Err, IsErrAnd, refl, sym, ap, ◌∙◌, inl, inr, arith}
+use Rattle.dns_data.specs.Answers.{AnswersOr, with_fault}
+use Rattle.dns_data.specs.Name.{Labels}
+use Rattle.io_edges.specs.Files.{Told, StaysTold}
+use Rattle.master_read.proofs.Counts.{texts_ask}
+use Rattle.master_read.specs.Reader.{Held, StandsFor, HasEnded, asked_by, is_over, is_no_memory}
+use Rattle.master_read.specs.ZoneText.{Unread, Faulty, Asks, zone_text}
+use Rattle.master_read.specs.declared.asked.Asked.{Asked}
+use Rattle.master_read.specs.declared.asked.Asked.TheVariants.{Include, Done}
+use Rattle.master_read.specs.declared.fault.TextFault.{TextFault}
+use Rattle.master_read.specs.declared.fault.TextFault.TheVariants as text_faults
+use Rattle.master_read.specs.declared.zone_text.ZoneText.{ZoneText}
+use Rattle.meta_read.specs.declared.meta.MetaRow.{MetaRow}
+use Rattle.config_load.specs.Conf.{settled, files_behind, zone_files}
+use Rattle.config_load.specs.Faults.{of_text}
+use Rattle.config_load.specs.Fed.{HasFed, HasEndedFile, FailsToRead}
+use Rattle.config_load.specs.Follows.{ByTold, Follows, Answers}
+use Rattle.config_load.specs.Joined.{joined}
+use Rattle.config_load.specs.ReadFiles.{read_files}
+use Rattle.config_load.specs.Reading.{Reads, Refuses, Unknown, ◌>>=◌, octets_of}
+use Rattle.config_load.specs.declared.fault.LoadFault.{LoadFault}
+use Rattle.config_load.specs.declared.left.Left.{Left}
+use Rattle.config_load.specs.declared.zone_files.ZoneFiles.{ZoneFiles}
+use Rattle.config_load.proofs.Follows.{Follows-same, Follows-then, Follows-bind, Answers-then, Answers-passed}
+
+-- the reading that goes on with the file of this name, behind those with these names and texts
+abbrev pub next_file : List ℕ → Labels → Left → ℕ → List (List ℕ) → List (List ℕ) → List ℕ → ByTold ZoneFiles
+next_file meta origin left times names texts name told =
+    octets_of name told >>= λ text. files_behind meta origin left times (names ++ name ∷ []) (texts ++ text ∷ []) told
+
+-- it begins with the row's file
+pub zone_files-first : (meta : List ℕ) (row : MetaRow) (left : Left) (told : List ℕ → Told) → zone_files meta row left told ≡ next_file meta (unwrap_or row.origin []) left left.includes [] [] (joined meta row.file) told
+unfolding zone_files
+zone_files-first meta row left told = refl
+
+-- the texts ask for what is asked
+pub asks-asked : (said : Result ZoneText Unread) (file : List ℕ) → Include file ≡ asked_by said → said ≡ Err (Asks file)
+asks-asked (Ok text) file is = absurd cc
+asks-asked (Err (Faulty fault)) file is = absurd cc
+asks-asked (Err (Asks name)) file is = let same : file ≡ name = cc in ap (λ n. Err (Asks n)) (sym same)
+
+-- what asks for no file has ended
+pub is_done : (asked : Asked) → ((file : List ℕ) → asked ≡ Include file → ⊥) → asked ≡ Done
+is_done (Include file) never = absurd (never file refl)
+is_done Done never = refl
+
+-- texts that ask for a file go on with it
+pub files_behind-asks : (meta : List ℕ) (origin : Labels) (left : Left) (times : ℕ) (names texts : List (List ℕ)) (file : List ℕ) (told : List ℕ → Told) → zone_text origin left.records left.includes texts ≡ Err (Asks file) → files_behind meta origin left (suc times) names texts told ≡ next_file meta origin left times names texts (joined meta file) told
+unfolding files_behind
+files_behind-asks meta origin left times names texts file told asks =
+    ap (settled names (λ file. octets_of (joined meta file) told >>= λ text. files_behind meta origin left times (names ++ joined meta file ∷ []) (texts ++ text ∷ []) told)) asks
+
+files_behind-gives : (meta : List ℕ) (origin : Labels) (left : Left) (times : ℕ) (names texts : List (List ℕ)) (text : ZoneText) (told : List ℕ → Told) → zone_text origin left.records left.includes texts ≡ Ok text → files_behind meta origin left times names texts told ≡ Reads (record { names = names; text = text })
+unfolding files_behind
+files_behind-gives meta origin left zero names texts text told gives = ap (settled names (λ file. Unknown (joined meta file))) gives
+files_behind-gives meta origin left (suc times) names texts text told gives =
+    ap (settled names (λ file. octets_of (joined meta file) told >>= λ text. files_behind meta origin left times (names ++ joined meta file ∷ []) (texts ++ text ∷ []) told)) gives
+
+files_behind-faulty : (meta : List ℕ) (origin : Labels) (left : Left) (times : ℕ) (names texts : List (List ℕ)) (fault : TextFault) (told : List ℕ → Told) → zone_text origin left.records left.includes texts ≡ Err (Faulty fault) → files_behind meta origin left times names texts told ≡ Refuses (of_text names fault)
+unfolding files_behind
+files_behind-faulty meta origin left zero names texts fault told faulty = ap (settled names (λ file. Unknown (joined meta file))) faulty
+files_behind-faulty meta origin left (suc times) names texts fault told faulty =
+    ap (settled names (λ file. octets_of (joined meta file) told >>= λ text. files_behind meta origin left times (names ++ joined meta file ∷ []) (texts ++ text ∷ []) told)) faulty
+
+-- what texts give that have ended
+pub Answers-ended : (meta : List ℕ) (origin : Labels) (left : Left) (times : ℕ) (names texts : List (List ℕ)) (told : List ℕ → Told) (given : Result ZoneText TextFault) → AnswersOr (Faulty text_faults.NoMemory) (with_fault Faulty given) (zone_text origin left.records left.includes texts) → Answers told (files_behind meta origin left times names texts) (read_files names given)
+Answers-ended meta origin left times names texts told (Ok text) gives =
+    Follows-same told (files_behind meta origin left times names texts) (λ _. Reads (record { names = names; text = text })) (λ other. files_behind-gives meta origin left times names texts text other gives)
+Answers-ended meta origin left times names texts told (Err (text_faults.At file line cause)) (inl none) = absurd cc
+Answers-ended meta origin left times names texts told (Err (text_faults.At file line cause)) (inr faulty) =
+    Follows-same told (files_behind meta origin left times names texts) (λ _. Refuses (of_text names (text_faults.At file line cause))) (λ other. files_behind-faulty meta origin left times names texts (text_faults.At file line cause) other faulty)
+Answers-ended meta origin left times names texts told (Err text_faults.NoMemory) answered = tt
+
+-- a file that was read, behind those before
+pub Follows-read : (first : ByTold ZoneFiles) (old new : List ℕ → Told) (meta : List ℕ) (origin : Labels) (left : Left) (times : ℕ) (names texts : List (List ℕ)) (name octets : List ℕ) → StaysTold old new → Follows old first (next_file meta origin left times names texts name) → Follows new (octets_of name) (λ _. Reads octets) → Follows new first (files_behind meta origin left times (names ++ name ∷ []) (texts ++ octets ∷ []))
+Follows-read first old new meta origin left times names texts name octets stays so_far whole =
+    Follows-then old new first (next_file meta origin left times names texts name) _ stays so_far
+    (Follows-bind new (octets_of name) (λ _. Reads octets) (λ told text. files_behind meta origin left times (names ++ name ∷ []) (texts ++ text ∷ []) told) whole)
+
+-- The files that were opened of a row's zone: the file of this name is open, and the reader was fed nothing of it.
+pub record HasOpened (meta : List ℕ) (row : MetaRow) (left : Left) (told : List ℕ → Told) (names : List (List ℕ)) (name : List ℕ) (reader : Held) : Type 0 where
+  pub texts : List (List ℕ)
+  pub times : ℕ
+  pub few : times + length names ≡ left.includes
+  pub as_many : length texts ≡ length names
+  pub stands : StandsFor reader (unwrap_or row.origin []) left.records left.includes texts []
+  pub so_far : Follows told (zone_files meta row left) (next_file meta (unwrap_or row.origin []) left times names texts name)
+
+module _ (meta : List ℕ) (row : MetaRow) (left : Left) where
+  -- the row's file
+  pub HasOpened-first : (told : List ℕ → Told) (name : List ℕ) (reader : Held) → name ≡ joined meta row.file → StandsFor reader (unwrap_or row.origin []) left.records left.includes [] [] → HasOpened meta row left told [] name reader
+  HasOpened-first told name reader is stands = record {
+    texts = [];
+    times = left.includes;
+    few = omega arith;
+    as_many = refl;
+    stands = stands;
+    so_far = Follows-same told (zone_files meta row left) (next_file meta (unwrap_or row.origin []) left left.includes [] [] name)
+        (λ other. zone_files-first meta row left other ∙ ap (λ n. next_file meta (unwrap_or row.origin []) left left.includes [] [] n other) (sym is));
+  }
+
+  module _ (old new : List ℕ → Told) (names : List (List ℕ)) (name : List ℕ) (reader after : Held) where
+    -- what the texts ask for
+    asked : (file octets : List ℕ) (opened : HasOpened meta row left old names name reader) → HasEndedFile reader octets (Include file) after → zone_text (unwrap_or row.origin []) left.records left.includes (opened.texts ++ octets ∷ []) ≡ Err (Asks file)
+    asked file octets opened ended = asks-asked _ file (ended (unwrap_or row.origin []) left.records left.includes opened.texts opened.stands).0
+
+    -- the file that is included
+    pub HasOpened-more : (file next : List ℕ) → StaysTold old new → HasOpened meta row left old names name reader → HasFed new name reader (Include file) after → next ≡ joined meta file → HasOpened meta row left new (names ++ name ∷ []) next after
+    HasOpened-more file next stays opened fed is = by_times opened.times opened.few opened.so_far where
+      octets : List ℕ
+      octets = fed.octets
+
+      asks : zone_text (unwrap_or row.origin []) left.records left.includes (opened.texts ++ octets ∷ []) ≡ Err (Asks file)
+      asks = asked file octets opened fed.ended
+
+      texts_longer : length (opened.texts ++ octets ∷ []) ≡ length opened.texts + 1
+      texts_longer = length-append opened.texts (octets ∷ [])
+
+      names_longer : length (names ++ name ∷ []) ≡ length names + 1
+      names_longer = length-append names (name ∷ [])
+
+      within : length (opened.texts ++ octets ∷ []) ≤ left.includes
+      within = texts_ask (unwrap_or row.origin []) left.records left.includes (opened.texts ++ octets ∷ []) file asks
+
+      by_times : (times : ℕ) → times + length names ≡ left.includes → Follows old (zone_files meta row left) (next_file meta (unwrap_or row.origin []) left times names opened.texts name) → HasOpened meta row left new (names ++ name ∷ []) next after
+      by_times zero few so_far = absurd (omega (arith, few, opened.as_many, texts_longer, within))
+      by_times (suc times) few so_far = record {
+        texts = opened.texts ++ octets ∷ [];
+        times = times;
+        few = omega (arith, few, names_longer);
+        as_many = omega (arith, opened.as_many, texts_longer, names_longer);
+        stands = (fed.ended (unwrap_or row.origin []) left.records left.includes opened.texts opened.stands).1.2;
+        so_far = Follows-then new new (zone_files meta row left) (files_behind meta (unwrap_or row.origin []) left (suc times) (names ++ name ∷ []) (opened.texts ++ octets ∷ [])) (next_file meta (unwrap_or row.origin []) left times (names ++ name ∷ []) (opened.texts ++ octets ∷ []) next) (λ _. inr refl)
+            (Follows-read (zone_files meta row left) old new meta (unwrap_or row.origin []) left (suc times) names opened.texts name octets stays so_far fed.whole)
+            (Follows-same new _ (next_file meta (unwrap_or row.origin []) left times (names ++ name ∷ []) (opened.texts ++ octets ∷ []) next)
+            (λ other. files_behind-asks meta (unwrap_or row.origin []) left times (names ++ name ∷ []) (opened.texts ++ octets ∷ []) file other asks
+            ∙ ap (λ n. next_file meta (unwrap_or row.origin []) left times (names ++ name ∷ []) (opened.texts ++ octets ∷ []) n other) (sym is)));
+      }
+
+    -- which is open
+    pub HasOpened-open : (file : List ℕ) → HasOpened meta row left old names name reader → HasFed new name reader (Include file) after → (after.ended ≡ false) × (after.fed ≡ 0)
+    HasOpened-open file opened fed =
+        let goes_on = (fed.ended (unwrap_or row.origin []) left.records left.includes opened.texts opened.stands).1 in
+        (goes_on.0, goes_on.1)
+
+    -- the last file ended
+    pub HasOpened-over : HasOpened meta row left old names name reader → HasFed new name reader Done after → is_over after ≡ true
+    HasOpened-over opened fed =
+        ap (λ ended. ended || is_no_memory after.fault) (fed.ended (unwrap_or row.origin []) left.records left.includes opened.texts opened.stands).1.0
+
+    -- and what the reader answers is answered
+    pub Answers-finished : (given : Result ZoneText TextFault) → StaysTold old new → HasOpened meta row left old names name reader → HasFed new name reader Done after → ((origin : Labels) (room includes : ℕ) (texts : List (List ℕ)) → HasEnded after origin room includes texts → AnswersOr (Faulty text_faults.NoMemory) (with_fault Faulty given) (zone_text origin room includes texts)) → Answers new (zone_files meta row left) (read_files (names ++ name ∷ []) given)
+    Answers-finished given stays opened fed finished =
+        let has_ended = (fed.ended (unwrap_or row.origin []) left.records left.includes opened.texts opened.stands).1.1 in
+        Answers-then new new (zone_files meta row left) (files_behind meta (unwrap_or row.origin []) left opened.times (names ++ name ∷ []) (opened.texts ++ fed.octets ∷ [])) (read_files (names ++ name ∷ []) given) (λ _. inr refl)
+        (Follows-read (zone_files meta row left) old new meta (unwrap_or row.origin []) left opened.times names opened.texts name fed.octets stays opened.so_far fed.whole)
+        (Answers-ended meta (unwrap_or row.origin []) left opened.times (names ++ name ∷ []) (opened.texts ++ fed.octets ∷ []) new given
+        (finished (unwrap_or row.origin []) left.records left.includes (opened.texts ++ fed.octets ∷ []) has_ended))
+
+    -- a file that isn't read
+    pub Answers-unread : (fault : LoadFault) (result : Result ZoneFiles LoadFault) → StaysTold old new → HasOpened meta row left old names name reader → FailsToRead new name fault → IsErrAnd result (λ passed. passed ≡ fault) → Answers new (zone_files meta row left) result
+    Answers-unread fault result stays opened fails is =
+        Answers-then old new (zone_files meta row left) (next_file meta (unwrap_or row.origin []) left opened.times names opened.texts name) result stays opened.so_far
+        (Answers-passed new (octets_of name) (λ told text. files_behind meta (unwrap_or row.origin []) left opened.times (names ++ name ∷ []) (opened.texts ++ text ∷ []) told) fault result is fails)

@@ -1,0 +1,33 @@
+use Rattle.io_edges.proofs.Told.{TellsAll-same}
+use Rattle.config_load.specs.Conf.{conf}
+use Rattle.config_load.proofs.Answered.{Gives-answers, IsWhole-answers, FailedWhereItCame-answers, IsReadFault-misses, IsReadFault-unknown}
+use Rattle.config_load.proofs.loading.load.Goals as goal
+
+pub returns-clause-gives : goal.returns-clause-gives
+returns-clause-gives g c =
+    Gives-answers (g.F.Files.told c.read_config.new.files) (conf c.args.meta.now) c.read_config.result c.read_config.ensures.answers
+
+pub returns-clause-order : goal.returns-clause-order
+returns-clause-order g c =
+    FailedWhereItCame-answers (g.F.Files.told c.read_config.new.files) c.args.meta.now c.read_config.result c.read_config.ensures.answers
+
+pub returns-clause-whole : goal.returns-clause-whole
+returns-clause-whole g c none =
+    let told = g.F.Files.told c.read_config.new.files in
+    IsWhole-answers told c.args.meta.now (g.F.Files.faults c.args.files.now) (g.F.Files.faults c.read_config.new.files) (conf c.args.meta.now told) c.read_config.result
+    (Gives-answers told (conf c.args.meta.now) c.read_config.result c.read_config.ensures.answers) c.read_config.ensures.cause
+    (FailedWhereItCame-answers told c.args.meta.now c.read_config.result c.read_config.ensures.answers) none
+
+pub returns-clause-misses : goal.returns-clause-misses
+returns-clause-misses g c file is =
+    let told = g.F.Files.told c.read_config.new.files in
+    IsReadFault-misses (conf c.args.meta.now told) file c.read_config.result is (Gives-answers told (conf c.args.meta.now) c.read_config.result c.read_config.ensures.answers)
+
+pub returns-clause-unknown : goal.returns-clause-unknown
+returns-clause-unknown g c file is =
+    let told = g.F.Files.told c.read_config.new.files in
+    IsReadFault-unknown (conf c.args.meta.now told) file c.read_config.result is (Gives-answers told (conf c.args.meta.now) c.read_config.result c.read_config.ensures.answers)
+
+pub returns-clause-from_the_start : goal.returns-clause-from_the_start
+returns-clause-from_the_start g c all =
+    TellsAll-same (g.F.Files.told c.args.files.now) (g.F.Files.told c.read_config.new.files) all c.read_config.ensures.stays

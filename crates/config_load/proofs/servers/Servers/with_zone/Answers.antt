@@ -1,0 +1,34 @@
+use Rattle.std.proofs.Common.{◌≡◌, true, false, List, Ok, inr, subst, sym, ap, ◌∙◌}
+use Rattle.std.specs.BTreeSet as tree
+use Rattle.std.specs.Cmp.Lexicographic.{slice_cmp}
+use Rattle.dns_data.specs.Name.{Labels, name_cmp}
+use Rattle.net_model.specs.declared.config.Server.{Server}
+use Rattle.config_load.specs.Hosted.{AreTellers}
+use Rattle.config_load.specs.Servers.{has_zone, with_zone}
+use Rattle.config_load.proofs.ServerPlaces.{AreTellers-more, given-twice, given-more, known-added}
+use Rattle.config_load.proofs.servers.Servers.with_zone.Goals as goal
+
+pub returns-then-not-branch : goal.returns-then-not-branch
+returns-then-not-branch c =
+    let name = c.args.name in
+    let origin = c.args.zone.origin in
+    let had : tree.contains (slice_cmp name_cmp) c.self.inside.tellers c.in_ok-teller.field-0 ≡ true = known-added c.in_ok-insert.field-0 _ false c.if-not-branch.true c.in_ok-insert.ensures.added in
+    let has : has_zone name origin c.args.self ≡ true = ap (λ (servers : List Server). has_zone name origin servers) (sym c.self.view_is) ∙ (sym (c.self.invariant.1 name origin) ∙ (ap (λ (teller : List Labels). tree.contains (slice_cmp name_cmp) c.self.inside.tellers teller) (sym c.in_ok-teller.ensures) ∙ had)) in
+    inr (given-twice c.args.row name c.args.zone c.args.self has)
+
+pub invariant_of-result : goal.invariant_of-result
+invariant_of-result c =
+    let added = subst (λ (teller : List Labels). tree.Updates (slice_cmp name_cmp) c.self.inside.tellers c.insert.new.self teller true) c.in_ok-teller.ensures c.in_ok-insert.ensures.updates in (
+      c.in_ok-put_zone.ensures.places,
+      subst (λ (servers : List Server). AreTellers c.insert.new.self servers) (sym c.in_ok-put_zone.ensures.servers)
+          (AreTellers-more c.self.inside.tellers c.insert.new.self c.args.name c.args.zone c.self.inside.servers.items c.self.invariant.1 added),
+    )
+
+pub returns : goal.returns
+returns c =
+    let name = c.args.name in
+    let origin = c.args.zone.origin in
+    let had : tree.contains (slice_cmp name_cmp) c.self.inside.tellers c.in_ok-teller.field-0 ≡ false = known-added c.in_ok-insert.field-0 _ true c.if-not-branch.false c.in_ok-insert.ensures.added in
+    let has : has_zone name origin c.args.self ≡ false = ap (λ (servers : List Server). has_zone name origin servers) (sym c.self.view_is) ∙ (sym (c.self.invariant.1 name origin) ∙ (ap (λ (teller : List Labels). tree.contains (slice_cmp name_cmp) c.self.inside.tellers teller) (sym c.in_ok-teller.ensures) ∙ had)) in
+    given-more c.args.row name c.args.zone c.args.self has
+    ∙ ap (λ (servers : List Server). Ok servers) (ap (λ (servers : List Server). with_zone name c.args.zone servers) (sym c.self.view_is) ∙ sym c.in_ok-put_zone.ensures.servers)

@@ -1,0 +1,87 @@
+-- What a metadata file and the files that it names give, by what is told of them: the configuration, or the first
+-- refusal. A file is read to its end before what stands in it counts.
+use Rattle.std.specs.Prelude.{ℕ, zero, suc, ◌+◌, ◌-◌, List, [], ◌∷◌, ◌++◌, unwrap_or, Result, Ok, Err}
+use Rattle.dns_data.specs.Name.{Labels}
+use Rattle.io_edges.specs.Files.{Told}
+use Rattle.master_read.specs.ZoneText.{Unread, Faulty, Asks, zone_text}
+use Rattle.master_read.specs.declared.zone_text.ZoneText.{ZoneText}
+use Rattle.meta_read.specs.Metadata.{metadata_of}
+use Rattle.meta_read.specs.declared.meta.Meta.{Meta as Metadata}
+use Rattle.meta_read.specs.declared.meta.MetaRow.{MetaRow}
+use Rattle.net_model.specs.declared.config.Config.{Config}
+use Rattle.zone_rules.specs.ZoneOf.{zone_of}
+use Rattle.config_load.specs.Faults.{of_metadata, of_text, of_rule}
+use Rattle.config_load.specs.Joined.{joined}
+use Rattle.config_load.specs.Reading.{Reading, Reads, Refuses, Unknown, ◌>>=◌, unless_refused, octets_of}
+use Rattle.config_load.specs.Servers.{given}
+use Rattle.config_load.specs.declared.left.Left.{Left}
+use Rattle.config_load.specs.declared.rows.Rows.{Rows}
+use Rattle.config_load.specs.declared.zone.ReadZone.{ReadZone}
+use Rattle.config_load.specs.declared.zone_files.ZoneFiles.{ZoneFiles}
+
+-- how many records the zone files may have in all, and how many files may be included in all
+abbrev pub everything_left : Left
+everything_left = record { records = 1000000; includes = 1000 }
+
+-- what a zone leaves for the next ones
+abbrev pub left_behind : Left → ZoneText → Left
+left_behind left text = record { records = left.records - text.seen; includes = left.includes - text.included }
+
+-- Zone files. What the texts of files with these names give: their records, their first fault, or what follows with
+-- the file that they ask for.
+abbrev pub settled : List (List ℕ) → (List ℕ → Reading ZoneFiles) → Result ZoneText Unread → Reading ZoneFiles
+settled names next (Ok text) = Reads (record { names = names; text = text })
+settled names next (Err (Faulty fault)) = Refuses (of_text names fault)
+settled names next (Err (Asks file)) = next file
+
+-- The files of a zone, of which those with these names and texts were opened, in order; so many may be opened still.
+-- In the first equation no file is asked for, since texts ask for no more files than may be included
+-- (`asks_within_the_limit` of master_read).
+unfoldable pub files_behind : List ℕ → Labels → Left → ℕ → List (List ℕ) → List (List ℕ) → (List ℕ → Told) → Reading ZoneFiles
+files_behind meta origin left zero names texts told =
+    settled names (λ file. Unknown (joined meta file)) (zone_text origin left.records left.includes texts)
+files_behind meta origin left (suc times) names texts told =
+    settled names
+    (λ file. octets_of (joined meta file) told >>= λ text.
+    files_behind meta origin left times (names ++ joined meta file ∷ []) (texts ++ text ∷ []) told)
+    (zone_text origin left.records left.includes texts)
+
+-- the files of a row's zone: its file, and those that are included
+unfoldable pub zone_files : List ℕ → MetaRow → Left → (List ℕ → Told) → Reading ZoneFiles
+zone_files meta row left told = do
+  text ← octets_of (joined meta row.file) told
+  files_behind meta (unwrap_or row.origin []) left left.includes (joined meta row.file ∷ []) (text ∷ []) told
+
+-- the zone of a row's files, and what it leaves
+unfoldable pub zone_read : List ℕ → MetaRow → Left → (List ℕ → Told) → Reading ReadZone
+zone_read meta row left told = do
+  files ← zone_files meta row left told
+  zone ← unless_refused (of_rule files.names) (zone_of row.origin files.text.rrs)
+  Reads (record { zone = zone; left = left_behind left files.text })
+
+-- Rows. Before the first one nothing was read.
+abbrev pub no_rows : Rows
+no_rows = record { left = everything_left; servers = [] }
+
+-- one row more, which has this number: its zone is given to its server
+unfoldable pub with_row : List ℕ → ℕ → MetaRow → Rows → (List ℕ → Told) → Reading Rows
+with_row meta number row rows told = do
+  read ← zone_read meta row rows.left told
+  servers ← unless_refused (λ fault. fault) (given number row.server read.zone rows.servers)
+  Reads (record { left = read.left; servers = servers })
+
+-- more rows, which are counted from this number on
+unfoldable pub with_rows : List ℕ → ℕ → List MetaRow → Rows → (List ℕ → Told) → Reading Rows
+with_rows meta number [] rows told = Reads rows
+with_rows meta number (row ∷ more) rows told = with_row meta number row rows told >>= λ rows. with_rows meta (number + 1) more rows told
+
+-- The metadata.
+unfoldable pub metadata : List ℕ → (List ℕ → Told) → Reading Metadata
+metadata meta told = octets_of meta told >>= λ octets. unless_refused of_metadata (metadata_of octets)
+
+-- what the files give for a metadata file's name
+unfoldable pub conf : List ℕ → (List ℕ → Told) → Reading Config
+conf meta told = do
+  found ← metadata meta told
+  rows ← with_rows meta 1 found.rows no_rows told
+  Reads (record { tops = found.tops; servers = rows.servers })

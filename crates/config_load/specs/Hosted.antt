@@ -1,0 +1,31 @@
+-- How servers and their zones are found: for the contracts of inner calls alone.
+use Rattle.std.specs.Prelude.{◌≡◌, ℕ, zero, suc, List, [], ◌∷◌, ◌++◌, if◌then◌else◌, Option, Some, None}
+use Rattle.std.specs.BTreeMap as map
+use Rattle.std.specs.BTreeSet as tree
+use Rattle.std.specs.Cmp.Lexicographic.{slice_cmp}
+use Rattle.std.specs.Option.{option_map}
+use Rattle.dns_data.specs.Name.{Labels, name_eq, name_cmp}
+use Rattle.net_model.specs.declared.config.Server.{Server}
+use Rattle.net_model.specs.declared.config.Zone.{Zone}
+use Rattle.config_load.specs.Servers.{has_zone}
+
+-- the place of the first server of this name
+abbrev pub place_of : Labels → List Server → Option ℕ
+place_of name [] = None
+place_of name (server ∷ servers) =
+    if name_eq name server.name then Some 0 else option_map (λ place. suc place) (place_of name servers)
+
+-- one zone more at the server at this place
+abbrev pub with_zone_at : ℕ → Zone → List Server → List Server
+with_zone_at place zone [] = []
+with_zone_at zero zone (server ∷ servers) = record server { zones = server.zones ++ zone ∷ [] } ∷ servers
+with_zone_at (suc place) zone (server ∷ servers) = server ∷ with_zone_at place zone servers
+
+-- each server is found at its place by its name
+abbrev pub ArePlaces : map.BTreeMap Labels ℕ → List Server → Type 0
+ArePlaces places servers = (name : Labels) → map.get name_cmp places name ≡ place_of name servers
+
+-- it is known of each name and origin, which together tell a zone, whether a server of this name has such a zone
+abbrev pub AreTellers : tree.BTreeSet (List Labels) → List Server → Type 0
+AreTellers tellers servers =
+    (name origin : Labels) → tree.contains (slice_cmp name_cmp) tellers (name ∷ origin ∷ []) ≡ has_zone name origin servers

@@ -1,0 +1,40 @@
+-- What is read of files, by what is told of them.
+use Rattle.std.specs.Prelude.{ℕ, nat_le, List, length, Result, Ok, Err, if◌then◌else◌}
+use Rattle.io_edges.specs.Files.{Told, Untold, NotHeld, Holds}
+use Rattle.config_load.specs.declared.fault.LoadFault.{LoadFault}
+use Rattle.config_load.specs.declared.fault.LoadFault.TheVariants.{TooLong}
+
+-- what files give: what is read of them, the first refusal, or the first file that the reading comes to and that isn't
+-- held, or of which nothing is told
+pub data Reading (A : Type 0) : Type 0 where
+  Reads : (value : A) → Reading A
+  Refuses : (fault : LoadFault) → Reading A
+  Misses : (file : List ℕ) → Reading A
+  Unknown : (file : List ℕ) → Reading A
+
+-- a step of the reading, and the next
+infixl 10 ◌>>=◌
+abbrev pub ◌>>=◌ : {A B : Type 0} → Reading A → (A → Reading B) → Reading B
+(Reads value) >>= next = next value
+(Refuses fault) >>= next = Refuses fault
+(Misses file) >>= next = Misses file
+(Unknown file) >>= next = Unknown file
+
+-- what a definition says of what was read, its fault told as a refusal
+abbrev pub unless_refused : {T E : Type 0} → (E → LoadFault) → Result T E → Reading T
+unless_refused told (Ok value) = Reads value
+unless_refused told (Err fault) = Refuses (told fault)
+
+-- how many octets a file may have
+abbrev pub most_octets : ℕ
+most_octets = 16777216
+
+-- the octets that are told, unless they are too many
+abbrev pub octets_in : List ℕ → Told → Reading (List ℕ)
+octets_in name Untold = Unknown name
+octets_in name NotHeld = Misses name
+octets_in name (Holds octets) = if nat_le (length octets) most_octets then Reads octets else Refuses (TooLong name)
+
+-- the octets of the file of this name
+abbrev pub octets_of : List ℕ → (List ℕ → Told) → Reading (List ℕ)
+octets_of name told = octets_in name (told name)

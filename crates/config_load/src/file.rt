@@ -1,0 +1,158 @@
+//! Reading files to their ends.
+
+ghost use Rattle.std.specs.Prelude.{◌≡◌, ℕ, ◌+◌, ◌<◌, ◌≤◌, ◌++◌, length, take, vec_len, false, IfOk, IfErr, OnOk};
+ghost use Rattle.io_edges.specs.Counts.{NoneFell};
+ghost use Rattle.io_edges.specs.Files.{Holds, StaysTold, first_told};
+ghost use Rattle.config_load.specs.Faults.{FailedAt, IsReadOf};
+ghost use Rattle.config_load.specs.Fed.{HasFed, FailsToRead, IsFed};
+ghost use Rattle.config_load.specs.Follows.{Answers};
+ghost use Rattle.config_load.specs.Reading.{octets_of, most_octets};
+
+use crate::fault::LoadFault;
+use dns_data::List;
+use io_edges::Files;
+use master_read::{Asked, ZoneReader};
+use std::alloc::Global;
+
+/// How many octets a file may have.
+const MOST_OCTETS: usize = 16_777_216;
+
+/// How many octets a read asks for.
+const PIECE: usize = 4_096;
+
+/// The octets of the file of this name, read to its end.
+pub(crate) fn read_whole<F: Files>(
+    alloc: Global,
+    files: &mut F,
+    name: &str,
+) -> Result<List<u8>, LoadFault>
+    ensures answers { Answers (F.told files.new) (octets_of name.now) result }
+    ensures cause { FailedAt (F.faults files.old) (F.faults files.new) result }
+    ensures stays { StaysTold (F.told files.old) (F.told files.new) }
+    ensures never_fall { NoneFell (F.faults files.old) (F.faults files.new) }
+{
+    let mut octets = Vec::new(alloc);
+    let mut piece = [0; PIECE];
+    while octets.len() <= MOST_OCTETS {
+        let room = PIECE.min(MOST_OCTETS + 1 - octets.len());
+        if read_more(alloc, files, name, &mut octets, &mut piece[..room])? == 0 {
+            return Ok(List::from_vec(octets));
+        }
+    }
+    Err(LoadFault::too_long(alloc, name))
+}
+
+/// Reads the octets of a file that follow those that were read, at most as many as the piece has, and answers how
+/// many there were: none at the file's end.
+fn read_more<F: Files>(
+    alloc: Global,
+    files: &mut F,
+    name: &str,
+    octets: &mut Vec<u8>,
+    piece: &mut [u8],
+) -> Result<usize, LoadFault>
+    requires read { octets.old.items ≡ first_told (F.told files.old name.now) (vec_len octets.old) }
+    requires some { 0 < length piece.old }
+    ensures front { OnOk result (octets.new.items ≡ first_told (F.told files.new name.now) (vec_len octets.new)) }
+    ensures grown { IfOk result (λ count. vec_len octets.new ≡ vec_len octets.old + count) }
+    ensures fits { IfOk result (λ count. count ≤ length piece.old) }
+    ensures end { IfOk result (λ count. count ≡ 0 → F.told files.new name.now ≡ Holds octets.new.items) }
+    ensures fault { IfErr result (IsReadOf name.now) }
+    ensures cause { FailedAt (F.faults files.old) (F.faults files.new) result }
+    ensures stays { StaysTold (F.told files.old) (F.told files.new) }
+    ensures never_fall { NoneFell (F.faults files.old) (F.faults files.new) }
+{
+    let count = read_at(alloc, files, name, octets.len(), piece)?;
+    octets.extend_from_slice(&piece[..count])?;
+    Ok(count)
+}
+
+/// Reads the octets of a file from the octet `at` on, up to which it was read, and answers how many there were: none at
+/// the file's end.
+fn read_at<F: Files>(
+    alloc: Global,
+    files: &mut F,
+    name: &str,
+    at: usize,
+    piece: &mut [u8],
+) -> Result<usize, LoadFault>
+    requires read { length (first_told (F.told files.old name.now) at) ≡ at }
+    requires some { 0 < length piece.old }
+    ensures front { IfOk result (λ count. first_told (F.told files.new name.now) (at + count)
+        ≡ first_told (F.told files.old name.now) at ++ take count piece.new) }
+    ensures long { IfOk result (λ count. length (first_told (F.told files.new name.now) (at + count)) ≡ at + count) }
+    ensures fits { IfOk result (λ count. count ≤ length piece.old) }
+    ensures end { IfOk result (λ count. count ≡ 0
+        → F.told files.new name.now ≡ Holds (first_told (F.told files.new name.now) at)) }
+    ensures fault { IfErr result (IsReadOf name.now) }
+    ensures cause { FailedAt (F.faults files.old) (F.faults files.new) result }
+    ensures stays { StaysTold (F.told files.old) (F.told files.new) }
+    ensures never_fall { NoneFell (F.faults files.old) (F.faults files.new) }
+{
+    match files.read(name, at as u64, piece) {
+        Ok(count) => Ok(count),
+        Err(_) => Err(LoadFault::read(alloc, name)),
+    }
+}
+
+/// Reads the file of this name to its end, feeds its octets to the reader, whose open file it is, and says that it has
+/// ended. It answers what comes behind it.
+pub(crate) fn feed_whole<F: Files>(
+    alloc: Global,
+    files: &mut F,
+    name: &str,
+    reader: &mut ZoneReader,
+) -> Result<Asked, LoadFault>
+    requires open { reader.old.ended ≡ false }
+    requires none { reader.old.fed ≡ 0 }
+    ensures asked { IfOk result (λ asked. HasFed (F.told files.new) name.now reader.old asked reader.new) }
+    ensures fault { IfErr result (FailsToRead (F.told files.new) name.now) }
+    ensures cause { FailedAt (F.faults files.old) (F.faults files.new) result }
+    ensures stays { StaysTold (F.told files.old) (F.told files.new) }
+    ensures never_fall { NoneFell (F.faults files.old) (F.faults files.new) }
+{
+    let mut at = 0;
+    let mut piece = [0; PIECE];
+    while at <= MOST_OCTETS {
+        let room = PIECE.min(MOST_OCTETS + 1 - at);
+        let count = feed_more(alloc, files, name, at, reader, &mut piece[..room])?;
+        if count == 0 {
+            return Ok(reader.end_file(alloc)?);
+        }
+        at += count;
+    }
+    Err(LoadFault::too_long(alloc, name))
+}
+
+/// Reads the octets of a file from the octet `at` on, up to which they were fed, feeds them, and answers how many there
+/// were: none at the file's end.
+fn feed_more<F: Files>(
+    alloc: Global,
+    files: &mut F,
+    name: &str,
+    at: usize,
+    reader: &mut ZoneReader,
+    piece: &mut [u8],
+) -> Result<usize, LoadFault>
+    requires read { length (first_told (F.told files.old name.now) at) ≡ at }
+    requires some { 0 < length piece.old }
+    requires room { at + length piece.old ≤ most_octets + 1 }
+    requires open { reader.old.ended ≡ false }
+    requires fed { reader.old.fed ≡ at }
+    ensures stands { IfOk result (λ count. IsFed reader.old (first_told (F.told files.old name.now) at)
+        reader.new (first_told (F.told files.new name.now) (at + count))) }
+    ensures long { IfOk result (λ count. length (first_told (F.told files.new name.now) (at + count)) ≡ at + count) }
+    ensures fed { IfOk result (λ count. reader.new.fed ≡ at + count) }
+    ensures fits { IfOk result (λ count. count ≤ length piece.old) }
+    ensures end { IfOk result (λ count. count ≡ 0
+        → F.told files.new name.now ≡ Holds (first_told (F.told files.new name.now) at)) }
+    ensures open { OnOk result (reader.new.ended ≡ false) }
+    ensures fault { IfErr result (IsReadOf name.now) }
+    ensures cause { FailedAt (F.faults files.old) (F.faults files.new) result }
+    ensures stays { StaysTold (F.told files.old) (F.told files.new) }
+    ensures never_fall { NoneFell (F.faults files.old) (F.faults files.new) }
+{
+    let count = read_at(alloc, files, name, at, piece)?;
+    reader.feed(alloc, &piece[..count])?;
+    Ok(count)
+}

@@ -1,0 +1,136 @@
+//! Servers and their zones.
+
+ghost use Rattle.std.specs.Prelude.{◌≡◌, ◌<◌, [], ◌∷◌, ◌++◌, IfOk, OnOk, length, vec_len};
+ghost use Rattle.std.specs.BTreeMap.{Updates};
+ghost use Rattle.dns_data.specs.Answers.{AnswersOr};
+ghost use Rattle.dns_data.specs.Name.{name_cmp};
+ghost use Rattle.config_load.specs.Hosted.{ArePlaces, with_zone_at};
+ghost use Rattle.config_load.specs.Servers.{given, with_zone};
+
+use crate::fault::LoadFault;
+use dns_data::{List, Name, NoMemory};
+use net_model::{Server, Zone};
+use std::alloc::Global;
+use std::collections::{BTreeMap, BTreeSet};
+use std::marker::Model;
+
+/// Servers in the order in which they came, each with its zones, with the place of each by its name, and what tells each
+/// zone: the name of its server and its origin.
+#[derive(Drop)]
+pub(crate) struct Servers {
+    servers: Vec<Server>,
+    places: BTreeMap<Name, usize>,
+    tellers: BTreeSet<List<Name>>,
+}
+
+impl Model for Servers {
+    ghost use Rattle.std.specs.Prelude.{List};
+    ghost use Rattle.net_model.specs.declared.config.Server.{Server};
+    ghost use Rattle.config_load.specs.Hosted.{ArePlaces, AreTellers};
+
+    ghost Value = { List Server };
+
+    ghost view = { λ a. a.servers.items };
+
+    ghost invariant = { λ a. (ArePlaces a.places a.servers.items) × (AreTellers a.tellers a.servers.items) };
+}
+
+impl Servers {
+    /// No server.
+    pub fn new(alloc: Global) -> Servers
+        ensures { result ≡ [] }
+    {
+        Servers {
+            servers: Vec::new(alloc),
+            places: BTreeMap::new(alloc),
+            tellers: BTreeSet::new(alloc),
+        }
+    }
+
+    /// The servers, in order.
+    pub fn into_list(self) -> List<Server>
+        ensures { result ≡ self }
+    {
+        List::from_vec(self.servers)
+    }
+
+    /// The servers with a zone more, which the row of this number gives to the server of this name.
+    pub fn with_zone(
+        self,
+        alloc: Global,
+        row: u32,
+        name: Name,
+        zone: Zone,
+    ) -> Result<Servers, LoadFault>
+        ensures { AnswersOr LoadFault.NoMemory result (given row name zone self) }
+    {
+        let Servers {
+            mut servers,
+            mut places,
+            mut tellers,
+        } = self;
+        if !tellers.insert(teller(alloc, &name, &zone.origin)?)? {
+            return Err(LoadFault::ZoneTwice { row });
+        }
+        put_zone(alloc, &mut servers, &mut places, name, zone)?;
+        Ok(Servers {
+            servers,
+            places,
+            tellers,
+        })
+    }
+}
+
+/// Puts a zone behind the others of the server of this name, or at a server behind the others, and keeps its place.
+fn put_zone(
+    alloc: Global,
+    servers: &mut Vec<Server>,
+    places: &mut BTreeMap<Name, usize>,
+    name: Name,
+    zone: Zone,
+) -> Result<(), NoMemory>
+    requires { ArePlaces places.old servers.old.items }
+    ensures servers { OnOk result (servers.new.items ≡ with_zone name zone servers.old.items) }
+    ensures places { OnOk result (ArePlaces places.new servers.new.items) }
+{
+    match places.get(&name).copied() {
+        Some(place) => push_zone(servers, place, zone),
+        None => push_server(alloc, servers, places, name, zone),
+    }
+}
+
+/// Puts a zone behind the others of the server at this place.
+fn push_zone(servers: &mut Vec<Server>, place: usize, zone: Zone) -> Result<(), NoMemory>
+    requires { place < vec_len servers.old }
+    ensures { OnOk result (servers.new.items ≡ with_zone_at place zone servers.old.items) }
+{
+    servers[place].zones.push(zone)
+}
+
+/// What tells a zone: the name of its server and its origin.
+fn teller(alloc: Global, name: &Name, origin: &Name) -> Result<List<Name>, NoMemory>
+    ensures { IfOk result (λ teller. teller ≡ name.now ∷ origin.now ∷ []) }
+{
+    let mut teller = List::new(alloc);
+    teller.push(name.copy(alloc)?)?;
+    teller.push(origin.copy(alloc)?)?;
+    Ok(teller)
+}
+
+/// Puts a server with one zone behind the others, and keeps its place.
+fn push_server(
+    alloc: Global,
+    servers: &mut Vec<Server>,
+    places: &mut BTreeMap<Name, usize>,
+    name: Name,
+    zone: Zone,
+) -> Result<(), NoMemory>
+    ensures servers { OnOk result (servers.new.items ≡ servers.old.items ++ (record { name = name; zones = zone ∷ [] }) ∷ []) }
+    ensures places { OnOk result (Updates name_cmp places.old places.new name (Some (length servers.old.items))) }
+{
+    places.insert(name.copy(alloc)?, servers.len())?;
+    let mut zones = List::new(alloc);
+    zones.push(zone)?;
+    servers.push(Server { name, zones })?;
+    Ok(())
+}
