@@ -53,5 +53,33 @@ def write_zone(octets, into):
             written += into.write(line)
 
 
+def write_many(zones, records, folder):
+    """So many zone files of so many records each, and the rows of the metadata for them."""
+    rows = []
+    for number in range(zones):
+        with open(f"{folder}/{number}.zone", "w") as into:
+            into.write("$TTL 1h\n@ SOA ns1.hosting.example. hostmaster.hosting.example. 1 3h 15m 1w 1h\n@ NS ns1.hosting.example.\n")
+            for record in range(records - 2):
+                into.write(f"host{record} A 10.0.{number % 256}.{record % 256}\n")
+        rows.append({"FileName": f"{number}.zone", "NameServer": "ns1.hosting.example.", "Origin": f"customer{number}.example."})
+    return rows
+
+
+LETTERS = "abcdefghijklmnopqrstuvwxyz0123456789"
+
+
+def write_short(records, kind, into):
+    """So many short records: each of an owner of its own, all of one owner with different data, or all identical."""
+    into.write("$TTL 60\n$ORIGIN hosting.example.\n@ SOA ns1 h 1 2 3 4 5\n@ NS ns1\n")
+    for number in range(records - 2):
+        if kind == "owners":
+            label = LETTERS[number % 26] + "".join(LETTERS[number // 26 // 36**place % 36] for place in range(3))
+            into.write(f"{label} A 10.1.1.1\n")
+        elif kind == "data":
+            into.write("\tA " + ".".join(str(number // 32**place % 32) for place in range(4)) + "\n")
+        else:
+            into.write("\tA 10.1.1.1\n")
+
+
 if __name__ == "__main__":
     write_zone(int(sys.argv[1]), sys.stdout)

@@ -1,1 +1,2 @@
+pub mod StatedRewrites
 mod Worked

@@ -1,6 +1,6 @@
 -- The entry of a blackhole in the report of a configuration of the first shape: the query for its alias's owner is the
 -- representative of the owner's own class, no other class's shows it, and type A is the first type.
-use Rattle.std.proofs.Common.{◌≡◌, ℕ, ◌≤◌, false, List, [], ◌∷◌, map, All, Contains, Some, Less, Equal, sym, refl, ap, ◌∙◌, subst, append-nil, arith}
+use Rattle.std.proofs.Common.{◌≡◌, ℕ, ◌<◌, ◌≤◌, false, List, [], ◌∷◌, map, All, Contains, Some, Less, Equal, sym, refl, ap, ◌∙◌, subst, append-nil, arith}
 use Rattle.std.specs.List.{flat_map}
 use Rattle.std.specs.Prelude.{◌≢◌}
 use Rattle.std.proofs.lemmas.Bool.{and_right, or_from}
@@ -26,7 +26,6 @@ use Rattle.net_model.specs.Reading.{IsNamed, records, origins_and_owners, ground
 use Rattle.net_model.specs.Shown.{ShowsIn, with_sets}
 use Rattle.net_model.specs.Walk.{walk_along}
 use Rattle.groot_run.specs.Blackholes.{Alias, IsBlackhole, alias_place, blackhole_walk, blackhole_entry}
-use Rattle.groot_run.specs.Outcome.{default_rewrites}
 use Rattle.groot_run.specs.Report.{repeats, ClassShows, PathsShow, paths_cmp, IsEntry}
 use Rattle.groot_run.proofs.FirstAliases.{target_differs}
 use Rattle.groot_run.proofs.FirstBlackholes.{owns_blackhole, shown_is_alias, only_blackhole, blackhole_walk_shows, owner_shows}
@@ -54,7 +53,7 @@ a_first types.Srv = omega arith
 a_first types.Dname = omega arith
 a_first types.Caa = omega arith
 
-module _ (server : Labels) (zone : Zone) (first : IsFirstZone zone) (named : All (λ (rr : Rr). IsName rr.owner) zone.rrs) where
+module _ (server : Labels) (zone : Zone) (first : IsFirstZone zone) (named : All (λ (rr : Rr). IsName rr.owner) zone.rrs) (rewrites : ℕ) (some : 0 < rewrites) where
   -- the configuration of a server that holds the zone
   abbrev config : Config
   config = config_for server zone
@@ -77,14 +76,14 @@ module _ (server : Labels) (zone : Zone) (first : IsFirstZone zone) (named : All
 
   -- only the query for an alias's owner shows its blackhole
   owner_is_query : (alias : Alias) (query : Labels) (rtype : RrType)
-      → ShowsIn config default_rewrites query rtype (Blackhole (alias_place server zone.origin alias)) → query ≡ alias.owner
+      → ShowsIn config rewrites query rtype (Blackhole (alias_place server zone.origin alias)) → query ≡ alias.owner
   owner_is_query alias query rtype shown =
-      let other = shown_is_alias server zone first query rtype (alias_place server zone.origin alias) shown in
+      let other = shown_is_alias server zone first rewrites some query rtype (alias_place server zone.origin alias) shown in
       sym other.2 ∙ ap (λ (place : Place). place.owner) other.3
 
   -- so no class before the owner's own has a representative that does
   no_class_before : (alias : Alias) → IsBlackhole zone alias → (other : Class) (query : Labels) (rtype : RrType)
-      → ClassShows config default_rewrites other query rtype (Blackhole (alias_place server zone.origin alias)) → class_cmp other (Exact alias.owner) ≢ Less
+      → ClassShows config rewrites other query rtype (Blackhole (alias_place server zone.origin alias)) → class_cmp other (Exact alias.owner) ≢ Less
   no_class_before alias is (Exact alone) query rtype shows before =
       let same : alone ≡ alias.owner = sym shows.represents ∙ owner_is_query alias query rtype shows.shows in
       let tied : name_cmp alone alias.owner ≡ Equal = ap (λ (name : Labels). name_cmp name alias.owner) same ∙ tied_itself names_total alias.owner in
@@ -95,33 +94,33 @@ module _ (server : Labels) (zone : Zone) (first : IsFirstZone zone) (named : All
 
   -- the class of the owner alone shows it
   owner_class_shows : (alias : Alias) → IsBlackhole zone alias
-      → ClassShows config default_rewrites (Exact alias.owner) alias.owner types.A (Blackhole (alias_place server zone.origin alias))
+      → ClassShows config rewrites (Exact alias.owner) alias.owner types.A (Blackhole (alias_place server zone.origin alias))
   owner_class_shows alias is =
       record {
         is_class = (owner_named alias is, owner_is_name alias is);
         represents = refl;
-        shows = owner_shows server zone first alias types.A refl is;
+        shows = owner_shows server zone first rewrites some alias types.A refl is;
       }
 
   -- by its one walk
   only_walk : (alias : Alias) → IsBlackhole zone alias
-      → IsOnlyWalk (setting_for server zone (server_names config)) alias.owner types.A (0 ∷ 0 ∷ 0 ∷ []) (blackhole_walk server zone.origin alias)
-  only_walk alias is = only_blackhole server zone first (server_names config) alias types.A refl is
+      → IsOnlyWalk (setting_for server zone rewrites (server_names config)) alias.owner types.A (0 ∷ 0 ∷ 0 ∷ []) (blackhole_walk server zone.origin alias)
+  only_walk alias is = only_blackhole server zone first rewrites some (server_names config) alias types.A refl is
 
   -- so no walk stands before it
   no_walk_before : (alias : Alias) → IsBlackhole zone alias → (others : List (List ℕ)) (walks : List Walk)
-      → PathsShow (setting_for server zone (server_names config)) alias.owner types.A (Blackhole (alias_place server zone.origin alias)) others walks
+      → PathsShow (setting_for server zone rewrites (server_names config)) alias.owner types.A (Blackhole (alias_place server zone.origin alias)) others walks
       → paths_cmp others ((0 ∷ 0 ∷ 0 ∷ []) ∷ []) ≢ Less
   no_walk_before alias is others walks paths =
-      let one = shown_by_one (with_sets (setting_for server zone (server_names config))) (alias_place server zone.origin alias) walks paths.show in
+      let one = shown_by_one (with_sets (setting_for server zone rewrites (server_names config))) (alias_place server zone.origin alias) walks paths.show in
       by others one.0 (paths.are_walks ∙ ap (map (λ (w : Walk). Some w)) one.1)
     where
       by : (others : List (List ℕ)) (walk : Walk)
-          → map (walk_along (setting_for server zone (server_names config)) alias.owner types.A) others ≡ Some walk ∷ []
+          → map (walk_along (setting_for server zone rewrites (server_names config)) alias.owner types.A) others ≡ Some walk ∷ []
           → paths_cmp others ((0 ∷ 0 ∷ 0 ∷ []) ∷ []) ≢ Less
       by [] walk along before = cc
       by (path ∷ []) walk along before =
-          let is_walk : walk_along (setting_for server zone (server_names config)) alias.owner types.A path ≡ Some walk = cc in
+          let is_walk : walk_along (setting_for server zone rewrites (server_names config)) alias.owner types.A path ≡ Some walk = cc in
           let same : path ≡ 0 ∷ 0 ∷ 0 ∷ [] = (only_walk alias is).only path walk is_walk in
           let tied : Equal ≡ Less = sym (ap (λ (p : List ℕ). paths_cmp (p ∷ []) ((0 ∷ 0 ∷ 0 ∷ []) ∷ [])) same) ∙ before in
           cc
@@ -135,7 +134,7 @@ module _ (server : Labels) (zone : Zone) (first : IsFirstZone zone) (named : All
       sym (or_from _ _ (or_from _ _ (and_right _ _ differs) refl) refl)
 
   -- the entry of a blackhole is right
-  pub entry_right : (alias : Alias) → IsBlackhole zone alias → IsEntry config default_rewrites (blackhole_entry server zone.origin alias)
+  pub entry_right : (alias : Alias) → IsBlackhole zone alias → IsEntry config rewrites (blackhole_entry server zone.origin alias)
   entry_right alias is =
       record {
         class = Exact alias.owner;
@@ -147,7 +146,7 @@ module _ (server : Labels) (zone : Zone) (first : IsFirstZone zone) (named : All
         first_type = λ rtype _. a_first rtype;
         walks = record {
           are_walks = ap (λ found. found ∷ []) (only_walk alias is).is_walk;
-          show = blackhole_walk_shows server zone first alias;
+          show = blackhole_walk_shows server zone first rewrites some alias;
         };
         first_walks = no_walk_before alias is;
         repeats = λ walk is_walk.

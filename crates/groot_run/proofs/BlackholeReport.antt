@@ -7,7 +7,7 @@
 --   shown_is_alias         so a blackhole that a query shows is that of an alias of the query's name
 --   entry_right            the query for the owner with type A shows it first
 --   report_of_blackholes   and the entries of the aliases that are blackholes are the report's
-use Rattle.std.proofs.Common.{◌≡◌, ℕ, true, List, [], ◌∷◌, map, All, Contains, get_or, Less, sym, refl, ap, ◌∙◌, subst}
+use Rattle.std.proofs.Common.{◌≡◌, ℕ, ◌<◌, true, List, [], ◌∷◌, map, All, Contains, get_or, Less, sym, refl, ap, ◌∙◌, subst}
 use Rattle.std.specs.Ordering.{ordering_then}
 use Rattle.std.proofs.lemmas.Cmp.{tied_itself}
 use Rattle.dns_data.specs.Name.{Labels, IsName, name_cmp}
@@ -22,8 +22,7 @@ use Rattle.net_model.specs.FaultOrder.{fault_cmp}
 use Rattle.net_model.specs.Nearest.{server_names}
 use Rattle.net_model.specs.Reading.{zones, ground_of}
 use Rattle.groot_run.specs.Blackholes.{Alias, IsBlackhole, AreBlackholes, alias_place, blackhole_entry, blackhole_entries}
-use Rattle.groot_run.specs.FirstShape.{is_first_shape, one_zone, IsFirstConfig}
-use Rattle.groot_run.specs.Outcome.{default_rewrites}
+use Rattle.groot_run.specs.FirstShape.{is_first_shape, one_zone, is_first_config}
 use Rattle.groot_run.specs.Report.{Entry, is_looked_for, IsEntry, IsShown, IsTreeSize, IsReport}
 use Rattle.groot_run.proofs.BlackholeEntry.{owner_is_name, entry_right}
 use Rattle.groot_run.proofs.FirstBlackholes.{shown_is_alias, owner_shows}
@@ -44,27 +43,27 @@ places_as_owners server origin a b before =
 
 -- ---- the report
 
-module _ (server : Labels) (zone : Zone) (first : IsFirstZone zone) where
+module _ (server : Labels) (zone : Zone) (first : IsFirstZone zone) (rewrites : ℕ) (some : 0 < rewrites) where
   -- the configuration of a server that holds the zone
   abbrev config : Config
   config = config_for server zone
 
   -- the blackhole of each entry is shown, where the owners are names
-  entry_shown : All (λ (rr : Rr). IsName rr.owner) zone.rrs → (alias : Alias) → IsBlackhole zone alias → IsShown config default_rewrites (Blackhole (alias_place server zone.origin alias))
+  entry_shown : All (λ (rr : Rr). IsName rr.owner) zone.rrs → (alias : Alias) → IsBlackhole zone alias → IsShown config rewrites (Blackhole (alias_place server zone.origin alias))
   entry_shown named alias is =
       record {
         looked_for = refl;
         query = alias.owner;
         rtype = types.A;
-        is_name = owner_is_name server zone first named alias is;
-        shows = owner_shows server zone first alias types.A refl is;
+        is_name = owner_is_name server zone first named rewrites some alias is;
+        shows = owner_shows server zone first rewrites some alias types.A refl is;
       }
 
   -- each fault that a query shows is that of an entry
-  shown_has_entry : (aliases : List Alias) → AreBlackholes zone aliases → (fault : Fault) → IsShown config default_rewrites fault
+  shown_has_entry : (aliases : List Alias) → AreBlackholes zone aliases → (fault : Fault) → IsShown config rewrites fault
       → Contains (map (λ entry. entry.fault) (blackhole_entries server zone.origin aliases)) fault
   shown_has_entry aliases are (Blackhole place) shown =
-      let alias = shown_is_alias server zone first shown.query shown.rtype place shown.shows in
+      let alias = shown_is_alias server zone first rewrites some shown.query shown.rtype place shown.shows in
       subst (λ (p : Place). Contains (map (λ entry. entry.fault) (blackhole_entries server zone.origin aliases)) (Blackhole p)) alias.3
       (map_has (λ (entry : Entry). entry.fault) (blackhole_entries server zone.origin aliases) (blackhole_entry server zone.origin alias.0)
       (map_has (blackhole_entry server zone.origin) aliases alias.0 ((are.all alias.0).1 alias.1)))
@@ -72,8 +71,8 @@ module _ (server : Labels) (zone : Zone) (first : IsFirstZone zone) where
 
   -- so the entries of the blackholes are the report's
   report_of_zone : All (λ (rr : Rr). IsName rr.owner) zone.rrs → (aliases : List Alias) (names classes : ℕ) → IsTreeSize (ground_of config) names classes → AreBlackholes zone aliases
-      → IsReport config default_rewrites
-      (record { classes = classes; names = names; rewrites = default_rewrites; entries = blackhole_entries server zone.origin aliases })
+      → IsReport config rewrites
+      (record { classes = classes; names = names; rewrites = rewrites; entries = blackhole_entries server zone.origin aliases })
   report_of_zone named aliases names classes size are =
       record {
         size = size;
@@ -82,10 +81,10 @@ module _ (server : Labels) (zone : Zone) (first : IsFirstZone zone) where
             pairs_of_images (blackhole_entry server zone.origin) (λ (a b : Entry). fault_cmp a.fault b.fault ≡ Less) aliases
             (λ i j d before within. places_as_owners server zone.origin (get_or aliases i d) (get_or aliases j d) (are.ordered i j d before within));
         each_right =
-            all_images (blackhole_entry server zone.origin) (IsEntry config default_rewrites) aliases
-            (λ alias among. entry_right server zone first named alias ((are.all alias).0 among));
+            all_images (blackhole_entry server zone.origin) (IsEntry config rewrites) aliases
+            (λ alias among. entry_right server zone first named rewrites some alias ((are.all alias).0 among));
         each_shown =
-            all_images (blackhole_entry server zone.origin) (λ (entry : Entry). IsShown config default_rewrites entry.fault) aliases
+            all_images (blackhole_entry server zone.origin) (λ (entry : Entry). IsShown config rewrites entry.fault) aliases
             (λ alias among. entry_shown named alias ((are.all alias).0 among));
         all_shown = shown_has_entry aliases are;
       }
@@ -104,21 +103,21 @@ parts_made server first rest shape other zone named held =
       subst IsFirstZone same_zone (first_zone first rest shape),
     )
 
-parts_of : (config : Config) → IsFirstConfig config → IsOf config
+parts_of : (config : Config) → is_first_config config ≡ true → IsOf config
 parts_of config is = let made = how_made config is in subst IsOf made.made (parts_made made.server made.first made.rest made.shape)
 
 -- the report of a configuration of the first shape: its blackholes, each by the query for its alias's owner
-pub report_of_blackholes : (config : Config) → IsFirstConfig config → (server : Labels) (zone : Zone)
+pub report_of_blackholes : (config : Config) → is_first_config config ≡ true → (rewrites : ℕ) → 0 < rewrites → (server : Labels) (zone : Zone)
     → server_names config ≡ server ∷ [] → zones config ≡ zone ∷ []
     → All (λ (rr : Rr). IsName rr.owner) zone.rrs → (aliases : List Alias) (names classes : ℕ)
     → IsTreeSize (ground_of config) names classes
     → AreBlackholes zone aliases
-    → IsReport config default_rewrites
-    (record { classes = classes; names = names; rewrites = default_rewrites; entries = blackhole_entries server zone.origin aliases })
-report_of_blackholes config is server zone called held named aliases names classes size are =
+    → IsReport config rewrites
+    (record { classes = classes; names = names; rewrites = rewrites; entries = blackhole_entries server zone.origin aliases })
+report_of_blackholes config is rewrites some server zone called held named aliases names classes size are =
     let parts = parts_of config is server zone called held in
     subst
-    (λ (c : Config). IsReport c default_rewrites
-    (record { classes = classes; names = names; rewrites = default_rewrites; entries = blackhole_entries server zone.origin aliases })) parts.0
-    (report_of_zone server zone parts.1 named aliases names classes
+    (λ (c : Config). IsReport c rewrites
+    (record { classes = classes; names = names; rewrites = rewrites; entries = blackhole_entries server zone.origin aliases })) parts.0
+    (report_of_zone server zone parts.1 rewrites some named aliases names classes
     (subst (λ (c : Config). IsTreeSize (ground_of c) names classes) (sym parts.0) size) are)

@@ -1,6 +1,6 @@
 -- The blackholes that queries show in a configuration of the first shape: those of its aliases whose target doesn't
 -- exist, each by the query for its alias's owner.
-use Rattle.std.proofs.Common.{◌≡◌, Bool, true, false, List, [], ◌∷◌, ◌++◌, Option, Some, None, sym, refl, ap, ◌∙◌, subst}
+use Rattle.std.proofs.Common.{◌≡◌, ℕ, ◌<◌, Bool, true, false, List, [], ◌∷◌, ◌++◌, Option, Some, None, sym, refl, ap, ◌∙◌, subst}
 use Rattle.std.specs.Prelude.{if◌then◌else◌, option_map}
 use Rattle.std.proofs.lemmas.Option.{same_Some}
 use Rattle.dns_data.specs.Name.{Labels, is_prefix}
@@ -21,7 +21,6 @@ use Rattle.net_model.specs.Order.{in_order}
 use Rattle.net_model.specs.Shown.{LastRewriteAt, ShowsBlackhole, ShowsIn}
 use Rattle.net_model.specs.Zone.{exists_in, data_at, data_cmp}
 use Rattle.groot_run.specs.Blackholes.{Alias, IsBlackhole, alias_place, blackhole_walk}
-use Rattle.groot_run.specs.Outcome.{default_rewrites}
 use Rattle.groot_run.proofs.FirstAliases.{OwnsAlias, alias_for, alias_tells, alias_told}
 use Rattle.groot_run.proofs.FirstNearest.{config_for, nearest_inside}
 use Rattle.groot_run.proofs.FirstRecords.{IsFirstZone}
@@ -73,7 +72,7 @@ last_place before state walk place states rewritten =
 pub owns_blackhole : (zone : Zone) (alias : Alias) → IsBlackhole zone alias → OwnsAlias zone alias.owner alias.target
 owns_blackhole zone alias is = record { rr = is.rr; among = is.among; owned = is.owned; holds = is.holds }
 
-module _ (server : Labels) (zone : Zone) (first : IsFirstZone zone) where
+module _ (server : Labels) (zone : Zone) (first : IsFirstZone zone) (rewrites : ℕ) (some : 0 < rewrites) where
   -- a walk that no alias rewrites shows no blackhole
   plain_shows_none : (query : Labels) (rtype : RrType) (place : Place)
       → ShowsBlackhole (plain_walk server zone query rtype) place → ⊥
@@ -94,20 +93,20 @@ module _ (server : Labels) (zone : Zone) (first : IsFirstZone zone) where
       )
 
   -- a blackhole that a query shows is that of an alias, and the query is for the alias's owner
-  pub shown_is_alias : (query : Labels) (rtype : RrType) (place : Place) → ShowsIn (config_for server zone) default_rewrites query rtype (Blackhole place)
+  pub shown_is_alias : (query : Labels) (rtype : RrType) (place : Place) → ShowsIn (config_for server zone) rewrites query rtype (Blackhole place)
       → (alias : Alias) × IsBlackhole zone alias × (alias.owner ≡ query) × (alias_place server zone.origin alias ≡ place)
   shown_is_alias query rtype place shown = by (alias_for zone query rtype) refl where
     by : (target : Option Labels) → alias_for zone query rtype ≡ target
         → (alias : Alias) × IsBlackhole zone alias × (alias.owner ≡ query) × (alias_place server zone.origin alias ≡ place)
     by None e =
         absurd (plain_shows_none query rtype place
-        (only_walk_shows (setting_for server zone shown.followed) query rtype place (0 ∷ 0 ∷ [])
+        (only_walk_shows (setting_for server zone rewrites shown.followed) query rtype place (0 ∷ 0 ∷ [])
         (plain_walk server zone query rtype) shown.shows.walks
-        (only_plain server zone first shown.followed query rtype e) shown.shows.are_walks shown.shows.show))
+        (only_plain server zone first rewrites some shown.followed query rtype e) shown.shows.are_walks shown.shows.show))
     by (Some target) e =
-        let shows = only_walk_shows (setting_for server zone shown.followed) query rtype place (0 ∷ 0 ∷ 0 ∷ [])
+        let shows = only_walk_shows (setting_for server zone rewrites shown.followed) query rtype place (0 ∷ 0 ∷ 0 ∷ [])
         (alias_walk server zone query target rtype) shown.shows.walks
-        (only_alias server zone first shown.followed query target rtype e) shown.shows.are_walks shown.shows.show in
+        (only_alias server zone first rewrites some shown.followed query target rtype e) shown.shows.are_walks shown.shows.show in
         let is = alias_shows query target rtype place (alias_tells zone query rtype target e) shows in
         (record { owner = query; target = target }, is.0, refl, is.1)
 
@@ -135,11 +134,11 @@ module _ (server : Labels) (zone : Zone) (first : IsFirstZone zone) where
 
   -- it is the only one of each query for the alias's owner with a type other than CNAME
   pub only_blackhole : (followed : List Labels) (alias : Alias) (rtype : RrType) → type_eq rtype types.Cname ≡ false → IsBlackhole zone alias
-      → IsOnlyWalk (setting_for server zone followed) alias.owner rtype (0 ∷ 0 ∷ 0 ∷ []) (blackhole_walk server zone.origin alias)
+      → IsOnlyWalk (setting_for server zone rewrites followed) alias.owner rtype (0 ∷ 0 ∷ 0 ∷ []) (blackhole_walk server zone.origin alias)
   only_blackhole followed alias rtype other is =
       let owns = owns_blackhole zone alias is in
-      subst (IsOnlyWalk (setting_for server zone followed) alias.owner rtype (0 ∷ 0 ∷ 0 ∷ [])) (walk_of_blackhole alias rtype is)
-      (only_alias server zone first followed alias.owner alias.target rtype (alias_told zone first alias.owner alias.target rtype other owns))
+      subst (IsOnlyWalk (setting_for server zone rewrites followed) alias.owner rtype (0 ∷ 0 ∷ 0 ∷ [])) (walk_of_blackhole alias rtype is)
+      (only_alias server zone first rewrites some followed alias.owner alias.target rtype (alias_told zone first alias.owner alias.target rtype other owns))
 
   -- and it shows the blackhole
   pub blackhole_walk_shows : (alias : Alias) → ShowsBlackhole (blackhole_walk server zone.origin alias) (alias_place server zone.origin alias)
@@ -147,7 +146,7 @@ module _ (server : Labels) (zone : Zone) (first : IsFirstZone zone) where
 
   -- so the query does
   pub owner_shows : (alias : Alias) (rtype : RrType) → type_eq rtype types.Cname ≡ false → IsBlackhole zone alias
-      → ShowsIn (config_for server zone) default_rewrites alias.owner rtype (Blackhole (alias_place server zone.origin alias))
+      → ShowsIn (config_for server zone) rewrites alias.owner rtype (Blackhole (alias_place server zone.origin alias))
   owner_shows alias rtype other is =
       record {
         followed = server_names (config_for server zone);

@@ -1,18 +1,19 @@
 -- What the first shape says of each record of a zone, in parts.
-use Rattle.std.proofs.Common.{◌≡◌, ◌≤◌, Bool, true, false, cond, List, [], ◌∷◌, codes, length, Contains, Some, None, sym, refl, ap, ◌∙◌, subst, inl, inr, leb-true, eqb-true}
+use Rattle.std.proofs.Common.{◌≡◌, ◌≤◌, true, false, ◌&&◌, List, [], ◌∷◌, codes, length, Contains, sym, refl, ap, ◌∙◌, subst, inl, inr, leb-true, eqb-true, true≢false}
 use Rattle.std.specs.List.{list_any}
 use Rattle.std.proofs.lemmas.Bool.{and_parts, not-true}
 use Rattle.dns_data.specs.Label.{label_eq}
-use Rattle.dns_data.specs.Name.{Labels, wire_octets, is_prefix}
+use Rattle.dns_data.specs.Name.{Labels, wire_octets, is_prefix, name_eq}
 use Rattle.dns_data.specs.Rdata.{has_type}
 use Rattle.dns_data.specs.declared.rdata.Rdata.{Rdata}
 use Rattle.dns_data.specs.declared.rdata.Rdata.TheVariants.{Ns, Cname, Dname}
 use Rattle.dns_data.specs.declared.rdata.Rr.{Rr}
 use Rattle.dns_data.specs.declared.rr_type.RrType.TheVariants as types
 use Rattle.net_model.specs.declared.config.Config.{Config}
+use Rattle.net_model.specs.declared.config.Server.{Server}
 use Rattle.net_model.specs.declared.config.Zone.{Zone}
 use Rattle.net_model.specs.Zone.{is_of}
-use Rattle.groot_run.specs.FirstShape.{is_plain_owner, is_plain_data, is_plain_record, is_plain_alias, records_at, is_first_shape, one_zone, config_of, IsFirstConfig}
+use Rattle.groot_run.specs.FirstShape.{is_plain_owner, is_plain_data, is_plain_record, is_plain_alias, records_at, is_first_shape, one_zone, is_first_zone, is_first_zones, is_first_servers, is_first_config}
 use Rattle.dns_data.proofs.Membership.{first_or_later}
 use Rattle.dns_data.proofs.Searches.{each_of_all}
 use Rattle.dns_data.proofs.Names.{name_eq_decides}
@@ -130,12 +131,40 @@ pub record IsMade (config : Config) : Type 0 where
   pub made : one_zone server first.owner (first ∷ rest) ≡ config
   pub shape : is_first_shape (first ∷ rest) ≡ true
 
-pub how_made : (config : Config) → IsFirstConfig config → IsMade config
-how_made config is = by is.server is.rrs is.made where
-  by : (server : Labels) (rrs : List Rr) → config_of server rrs ≡ Some config → IsMade config
-  by server [] e = cc
-  by server (first ∷ rest) e = decided (is_first_shape (first ∷ rest)) refl e where
-    decided : (b : Bool) → is_first_shape (first ∷ rest) ≡ b
-        → cond b (Some (one_zone server first.owner (first ∷ rest))) None ≡ Some config → IsMade config
-    decided true shape e = record { server = server; first = first; rest = rest; made = cc; shape = shape }
-    decided false shape e = cc
+-- a zone that passes the test, on a server of this name
+made_zone : (server : Labels) (zone : Zone) → is_first_zone zone.origin zone.rrs ≡ true
+    → IsMade (record { tops = server ∷ []; servers = record { name = server; zones = zone ∷ [] } ∷ [] })
+made_zone server zone is = by zone.origin zone.rrs is where
+  by : (origin : Labels) (rrs : List Rr) → is_first_zone origin rrs ≡ true → IsMade (one_zone server origin rrs)
+  by origin [] is = cc
+  by origin (first ∷ rest) is =
+      let parts = and_parts (name_eq first.owner origin) (is_first_shape (first ∷ rest)) is in
+      record {
+        server = server;
+        first = first;
+        rest = rest;
+        made = ap (λ (o : Labels). one_zone server o (first ∷ rest)) ((name_eq_decides first.owner origin).0 parts.0);
+        shape = parts.1;
+      }
+
+-- and a server that is the only top one
+made_server : (top : Labels) (server : Server) → (name_eq top server.name && is_first_zones server.zones) ≡ true
+    → IsMade (record { tops = top ∷ []; servers = server ∷ [] })
+made_server top server is = by server.name server.zones is where
+  by : (name : Labels) (zones : List Zone) → (name_eq top name && is_first_zones zones) ≡ true
+      → IsMade (record { tops = top ∷ []; servers = record { name = name; zones = zones } ∷ [] })
+  by name [] is = absurd (true≢false (sym (and_parts (name_eq top name) false is).1))
+  by name (zone ∷ []) is =
+      let parts = and_parts (name_eq top name) (is_first_zone zone.origin zone.rrs) is in
+      subst (λ (n : Labels). IsMade (record { tops = top ∷ []; servers = record { name = n; zones = zone ∷ [] } ∷ [] }))
+      ((name_eq_decides top name).0 parts.0) (made_zone top zone parts.1)
+  by name (zone ∷ other ∷ zones) is = absurd (true≢false (sym (and_parts (name_eq top name) false is).1))
+
+pub how_made : (config : Config) → is_first_config config ≡ true → IsMade config
+how_made config is = by config.tops config.servers is where
+  by : (tops : List Labels) (servers : List Server) → is_first_servers tops servers ≡ true → IsMade (record { tops = tops; servers = servers })
+  by [] servers is = cc
+  by (top ∷ []) [] is = cc
+  by (top ∷ []) (server ∷ []) is = made_server top server is
+  by (top ∷ []) (server ∷ other ∷ servers) is = cc
+  by (top ∷ other ∷ tops) servers is = cc

@@ -11,7 +11,7 @@ use Rattle.net_model.specs.declared.class.Class.TheVariants.{Below}
 use Rattle.net_model.specs.declared.config.Config.{Config}
 use Rattle.net_model.specs.Class.{IsFirstUnnamed, IsRepresentative}
 use Rattle.net_model.specs.Reading.{Ground, records, ground_of}
-use Rattle.groot_run.specs.FirstShape.{is_first_shape, one_zone, IsFirstConfig}
+use Rattle.groot_run.specs.FirstShape.{is_first_shape, one_zone, is_first_config}
 use Rattle.groot_run.specs.Report.{IsTreeSize}
 use Rattle.groot_run.specs.SortedTree.{new_prefixes, tree_after, tree_of}
 use Rattle.groot_run.proofs.SortedTree.{InOrder, rising_tree, tree_has, from_tree, length-new_prefixes}
@@ -180,7 +180,7 @@ sized_by_parts server first rest shape few sorted same order named =
     (subst (λ (list : List Rr). length list ≤ most_records) whole few)
 
 -- where the owners are behind references to the names of these records
-pub size_of_first : (config : Config) → IsFirstConfig config → length (records config) ≤ most_records → (rrs : List Rr) → rrs ≡ records config
+pub size_of_first : (config : Config) → is_first_config config ≡ true → length (records config) ≤ most_records → (rrs : List Rr) → rrs ≡ records config
     → (owners : List (Bor Labels)) → IsPermutation (map (λ rr. rr.owner) rrs) (map (λ (o : Bor Labels). o.now) owners)
     → IsSorted name_cmp (map (λ (o : Bor Labels). o.now) owners) → All (λ (rr : Rr). IsName rr.owner) (records config)
     → IsTreeSize (ground_of config) (length (tree_of (map (λ (o : Bor Labels). o.now) owners))) (2 * length (tree_of (map (λ (o : Bor Labels). o.now) owners)))

@@ -1,8 +1,8 @@
 -- The walks in a configuration of the first shape: each query has one. It ends at once, or an alias rewrites it and it
 -- ends at the target.
-use Rattle.std.proofs.Common.{◌≡◌, Bool, true, false, List, [], ◌∷◌, map, Some, None, sym, refl, ap, ◌∙◌, subst, inl, inr}
+use Rattle.std.proofs.Common.{◌≡◌, ℕ, ◌<◌, Bool, true, false, List, [], ◌∷◌, map, Some, None, sym, refl, ap, ◌∙◌, subst, inl, inr}
 use Rattle.std.specs.Prelude.{if◌then◌else◌, is_some}
-use Rattle.std.proofs.lemmas.Bool.{cases_Bool}
+use Rattle.std.proofs.lemmas.Bool.{cases_Bool, lt-ltb}
 use Rattle.dns_data.specs.Name.{Labels, is_prefix}
 use Rattle.dns_data.specs.declared.rdata.Rdata.{Rdata}
 use Rattle.dns_data.specs.declared.rr_type.RrType.{RrType}
@@ -11,7 +11,7 @@ use Rattle.net_model.specs.declared.found.Found.TheVariants as found_as
 use Rattle.net_model.specs.declared.place.Place.{Place}
 use Rattle.net_model.specs.declared.walk.Hop.TheVariants.{Rewrite}
 use Rattle.net_model.specs.declared.walk.Leaf.{Leaf}
-use Rattle.net_model.specs.declared.walk.Leaf.TheVariants.{Answer, NoData, NxDomain, Outside}
+use Rattle.net_model.specs.declared.walk.Leaf.TheVariants.{Answer, NoData, NxDomain, Outside, Limit}
 use Rattle.net_model.specs.declared.walk.State.{State}
 use Rattle.net_model.specs.declared.walk.Walk.{Walk}
 use Rattle.net_model.specs.Lookup.{answer_of}
@@ -19,15 +19,14 @@ use Rattle.net_model.specs.Nearest.{nearest_of}
 use Rattle.net_model.specs.Order.{in_order}
 use Rattle.net_model.specs.Step.{Setting, Go, End, arrived, rewritten, after_lookup, in_zone, next}
 use Rattle.net_model.specs.Zone.{exists_in, data_at, data_cmp}
-use Rattle.groot_run.specs.Outcome.{default_rewrites}
 use Rattle.groot_run.proofs.FirstAliases.{OwnsAlias, alias_for, alias_tells, found_plain, found_alias, target_unaliased}
 use Rattle.groot_run.proofs.FirstNearest.{config_for, nearest_inside, nearest_outside}
 use Rattle.groot_run.proofs.FirstRecords.{IsFirstZone}
 use Rattle.groot_run.proofs.OnlyWalk.{IsOnlyWalk, ends_only, goes_only, begins_only}
 
--- what the walks of the zone's configuration are read in, while these servers are followed
-abbrev pub setting_for : Labels → Zone → List Labels → Setting
-setting_for server zone followed = record { config = config_for server zone; rewrites = default_rewrites; followed = followed }
+-- what the walks of the zone's configuration are read in, with so many rewrites, while these servers are followed
+abbrev pub setting_for : Labels → Zone → ℕ → List Labels → Setting
+setting_for server zone rewrites followed = record { config = config_for server zone; rewrites = rewrites; followed = followed }
 
 -- the end of a walk at a name whose data of the type are these
 abbrev pub leaf_of : List Rdata → Leaf
@@ -77,9 +76,9 @@ module _ (server : Labels) (zone : Zone) where
         leaf = leaf_at zone target rtype;
       }
 
-module _ (server : Labels) (zone : Zone) (first : IsFirstZone zone) (followed : List Labels) where
+module _ (server : Labels) (zone : Zone) (first : IsFirstZone zone) (rewrites : ℕ) (some : 0 < rewrites) (followed : List Labels) where
   abbrev setting : Setting
-  setting = setting_for server zone followed
+  setting = setting_for server zone rewrites followed
 
   -- at the server a query that no alias rewrites ends
   plain_step : (rtype : RrType) (state : State) → state.server ≡ server → alias_for zone state.name rtype ≡ None
@@ -120,6 +119,8 @@ module _ (server : Labels) (zone : Zone) (first : IsFirstZone zone) (followed : 
       ap (in_zone setting rtype (begun server zone query))
       (nearest_inside server zone query (alias_inside query target (alias_tells zone query rtype target e)))
       ∙ ap (after_lookup setting (begun server zone query) zone.origin) (found_alias zone first query rtype target e)
+      ∙ ap (λ (b : Bool). if b then rewritten setting.config (begun server zone query) (place_of server zone query) false target
+      else End None (Limit (place_of server zone query)) ∷ []) (lt-ltb 0 rewrites some)
       ∙ same_server query target
 
   -- ---- walks

@@ -1,6 +1,5 @@
 pub mod BlackholeEntry
 pub mod BlackholeReport
-pub mod Directories
 pub mod FewRecords
 pub mod FirstAliases
 pub mod FirstBlackholes
@@ -10,14 +9,11 @@ pub mod FirstNearest
 pub mod FirstRecords
 pub mod FirstTree
 pub mod FirstWalks
-pub mod Fronts
-pub mod Json
-pub mod LastDot
 pub mod NameSearches
 pub mod OneEntry
+pub mod OneOutcome
 pub mod OneReport
 pub mod OnlyWalk
-pub mod Pieces
 pub mod PlainAliases
 pub mod ReportValues
 pub mod SortedNames

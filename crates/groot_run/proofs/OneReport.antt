@@ -31,7 +31,7 @@ module _ (ground : Ground) where
       same_rising name_cmp names_total a b p.ordered q.ordered
       (λ above has. (q.all above).1 ((p.all above).0 has)) (λ above has. (p.all above).1 ((q.all above).0 has))
 
-  one_size : (names classes names' classes' : ℕ) → IsTreeSize ground names classes → IsTreeSize ground names' classes'
+  pub one_size : (names classes names' classes' : ℕ) → IsTreeSize ground names classes → IsTreeSize ground names' classes'
       → (names ≡ names') × (classes ≡ classes')
   one_size names classes names' classes' p q =
       let tree : p.tree ≡ q.tree = one_tree p.tree q.tree p.is_tree q.is_tree in

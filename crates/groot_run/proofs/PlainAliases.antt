@@ -14,7 +14,7 @@ use Rattle.net_model.specs.Reading.{records}
 use Rattle.net_model.specs.Zone.{is_of}
 use Rattle.groot_run.specs.Aliases.{alias_with, aliases_in, is_alone}
 use Rattle.groot_run.specs.Blackholes.{Alias}
-use Rattle.groot_run.specs.FirstShape.{records_at, is_plain_alias, is_first_shape, IsFirstConfig}
+use Rattle.groot_run.specs.FirstShape.{records_at, is_plain_alias, is_first_shape, is_first_config}
 use Rattle.groot_run.proofs.FirstRecords.{how_made}
 use Rattle.groot_run.proofs.ZoneAliases.{sorted_owners_at}
 
@@ -73,7 +73,7 @@ plain_by_owners rrs owners alias_owners same_owners same_alias_owners =
     ∙ all_plain rrs rrs
 
 -- a configuration of the first shape has the records of a zone of that shape
-pub records_of_shape : (config : Config) → IsFirstConfig config → is_first_shape (records config) ≡ true
+pub records_of_shape : (config : Config) → is_first_config config ≡ true → is_first_shape (records config) ≡ true
 records_of_shape config first =
     let made = how_made config first in
     subst (λ (c : Config). is_first_shape (records c) ≡ true) made.made

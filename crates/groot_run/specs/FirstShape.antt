@@ -1,5 +1,5 @@
--- The first shape: one zone, without DNAME records, zone cuts, wildcards or chains of aliases.
-use Rattle.std.specs.Prelude.{◌≡◌, ℕ, length, Bool, true, false, ◌&&◌, not, nat_le, List, [], ◌∷◌, codes, Option, Some, None, if◌then◌else◌, ◌==◌}
+-- The first shape: one server with one zone, without DNAME records, zone cuts, wildcards or chains of aliases.
+use Rattle.std.specs.Prelude.{ℕ, length, Bool, true, false, ◌&&◌, not, nat_le, List, [], ◌∷◌, codes, ◌==◌}
 use Rattle.std.specs.List.{list_any, list_all, filter}
 use Rattle.dns_data.specs.Label.{label_eq}
 use Rattle.dns_data.specs.Name.{Labels, wire_octets, is_prefix, name_eq}
@@ -9,6 +9,8 @@ use Rattle.dns_data.specs.declared.rdata.Rdata.{Rdata}
 use Rattle.dns_data.specs.declared.rdata.Rdata.TheVariants as data_of
 use Rattle.dns_data.specs.declared.rr_type.RrType.TheVariants as types
 use Rattle.net_model.specs.declared.config.Config.{Config}
+use Rattle.net_model.specs.declared.config.Server.{Server}
+use Rattle.net_model.specs.declared.config.Zone.{Zone}
 use Rattle.net_model.specs.Zone.{is_of}
 
 -- how many octets an owner may have
@@ -55,6 +57,25 @@ is_first_shape (first ∷ rest) =
     && list_all (is_plain_record first.owner) rest
     && list_all (λ rr. is_plain_alias (first ∷ rest) rr.owner rr.rdata) rest
 
+-- the zone's records are those of a zone of the first shape, and the first of them is at the origin
+abbrev pub is_first_zone : Labels → List Rr → Bool
+is_first_zone origin [] = false
+is_first_zone origin (first ∷ rest) = name_eq first.owner origin && is_first_shape (first ∷ rest)
+
+-- one of the zones, which has no other beside it, is of the first shape
+abbrev pub is_first_zones : List Zone → Bool
+is_first_zones (zone ∷ []) = is_first_zone zone.origin zone.rrs
+is_first_zones zones = false
+
+-- one server is the only one and the only top one, and it holds one zone, of the first shape
+abbrev pub is_first_servers : List Labels → List Server → Bool
+is_first_servers (top ∷ []) (server ∷ []) = name_eq top server.name && is_first_zones server.zones
+is_first_servers tops servers = false
+
+-- the configuration is of the first shape
+abbrev pub is_first_config : Config → Bool
+is_first_config config = is_first_servers config.tops config.servers
+
 -- the configuration of one server that is the only top server and holds one zone
 abbrev pub one_zone : Labels → Labels → List Rr → Config
 one_zone server origin rrs =
@@ -62,15 +83,3 @@ one_zone server origin rrs =
       tops = server ∷ [];
       servers = record { name = server; zones = record { origin = origin; rrs = rrs } ∷ [] } ∷ [];
     }
-
--- the configuration of a zone's records, if they are of the first shape
-abbrev pub config_of : Labels → List Rr → Option Config
-config_of server [] = None
-config_of server (first ∷ rest) =
-    if is_first_shape (first ∷ rest) then Some (one_zone server first.owner (first ∷ rest)) else None
-
--- the configuration is of the first shape
-pub record IsFirstConfig (config : Config) : Type 0 where
-  pub server : Labels
-  pub rrs : List Rr
-  pub made : config_of server rrs ≡ Some config

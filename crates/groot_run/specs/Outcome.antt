@@ -1,18 +1,23 @@
--- What a run may answer, by the job, by what the files give and by the counts of failures.
-use Rattle.std.specs.Prelude.{◌≡◌, ℕ, ◌⊎◌, Bool, true, false, List, [], ◌∷◌, ◌++◌, codes, Option, Some, None}
-use Rattle.std.specs.Io.KnownBytes.{Appends}
-use Rattle.io_edges.specs.Counts.{Rose}
+-- How a run ends: its status, the text for out and the line for err, by its job and by what is told of the files.
+use Rattle.std.specs.Prelude.{◌≡◌, ℕ, ◌<◌, ◌≤◌, ◌⊎◌, Bool, true, false, List, [], ◌∷◌, ◌++◌, codes, decimal, Result, Ok, Err}
+use Rattle.io_edges.specs.Files.{Told}
 use Rattle.net_model.specs.declared.config.Config.{Config}
+use Rattle.net_model.specs.Reading.{ground_of}
+use Rattle.config_load.specs.Conf.{conf}
+use Rattle.config_load.specs.Load.{ComesTo, NoReadFailed}
+use Rattle.config_load.specs.Reading.{Reading, Reads, Refuses, Misses, Unknown}
+use Rattle.config_load.specs.Refusal.{fields_line, refusal_line}
+use Rattle.config_load.specs.declared.fault.LoadFault.{LoadFault}
+use Rattle.groot_line.specs.Usage.{usage_line}
+use Rattle.groot_line.specs.declared.fault.LineFault.{LineFault}
+use Rattle.groot_line.specs.declared.job.Job.{Job}
+use Rattle.groot_line.specs.declared.job.Job.TheVariants.{Check}
+use Rattle.groot_run.specs.declared.ending.Ending.{Ending}
 use Rattle.groot_run.specs.declared.status.Status.{Status}
 use Rattle.groot_run.specs.declared.status.Status.TheVariants.{Clean, Faults, Usage, Refused, Classes, States, Walks, ReadFault, WriteFault, NoMemory}
-use Rattle.groot_run.specs.Conf.{Contents, Reading, Reads, Refuses, Refusal, conf, IsOpened, refusal_line}
-use Rattle.groot_run.specs.Job.{Job, Check, usage_line}
-use Rattle.groot_run.specs.Report.{Report, IsReport, Entry}
+use Rattle.groot_run.specs.FirstShape.{is_first_config}
+use Rattle.groot_run.specs.Report.{Report, IsReport, IsTreeSize, Entry}
 use Rattle.groot_run.specs.ReportText.{report_text}
-
--- the rewrites that a query may use
-abbrev pub default_rewrites : ℕ
-default_rewrites = 12
 
 -- the number of a status, as the program ends with it
 abbrev pub status_number : Status → ℕ
@@ -27,67 +32,106 @@ status_number (ReadFault file) = 5
 status_number WriteFault = 6
 status_number NoMemory = 7
 
--- the status of a report that was written whole
+-- the status of a report that is written whole
 abbrev pub status_of : List Entry → Status
 status_of [] = Clean
 status_of (entry ∷ entries) = Faults
 
--- what the job's files give, where there is a job and the files tell their bytes
-abbrev pub known_reading : Option Contents → Option Job → Option Reading
-known_reading (Some held) (Some (Check meta)) = Some (conf held meta)
-known_reading held job = None
+-- ---- the ways to end
 
--- out took the whole text of the report of what the files give, and the status is that report's
-pub record WroteReport (reading : Reading) (before after : Option (List ℕ)) (answer : Status) : Type 0 where
-  pub config : Config
+-- nothing for out, and a line for err
+abbrev pub without_output : Status → List ℕ → Ending
+without_output status line = record { status = status; out = []; err = line }
+
+-- the words are no job
+abbrev pub usage : Ending
+usage = without_output Usage usage_line
+
+-- the files of this metadata file are refused
+abbrev pub refused : List ℕ → LoadFault → Ending
+refused meta fault = without_output Refused (refusal_line meta fault)
+
+-- they read, and what they give isn't checked yet
+abbrev pub not_yet : List ℕ → Ending
+not_yet meta = without_output Refused (fields_line meta (decimal 0) (codes "not-yet"))
+
+-- the class tree has more names than this limit
+abbrev pub too_many_names : ℕ → Ending
+too_many_names limit = without_output Classes (codes "classes: more than " ++ (decimal limit ++ codes "\n"))
+
+-- a file could not be read
+abbrev pub read_failed : List ℕ → Ending
+read_failed file = without_output (ReadFault file) (file ++ codes ": read failed\n")
+
+-- memory ran out
+abbrev pub no_memory : Ending
+no_memory = without_output NoMemory (codes "no memory\n")
+
+-- a report
+abbrev pub reported : Report → Ending
+reported report = record { status = status_of report.entries; out = report_text report; err = [] }
+
+-- ---- the outcome of a job
+
+-- the class tree of the configuration has more names than the limit
+pub record HasMoreNames (config : Config) (limit : ℕ) : Type 0 where
+  pub names : ℕ
+  pub classes : ℕ
+  pub size : IsTreeSize (ground_of config) names classes
+  pub more : limit < names
+
+-- the run ends with the report of the configuration, whose class tree is within the limit
+pub record IsReported (config : Config) (limit rewrites : ℕ) (ending : Ending) : Type 0 where
   pub report : Report
-  pub reads : reading ≡ Reads config
-  pub is_report : IsReport config default_rewrites report
-  pub whole : Appends before after (report_text report)
-  pub told : answer ≡ status_of report.entries
+  pub is_report : IsReport config rewrites report
+  pub within : report.names ≤ limit
+  pub whole : ending ≡ reported report
 
--- out took a front of that text
-pub record WroteFront (reading : Reading) (before after : Option (List ℕ)) : Type 0 where
-  pub config : Config
-  pub report : Report
-  pub front : List ℕ
-  pub rest : List ℕ
-  pub reads : reading ≡ Reads config
-  pub is_report : IsReport config default_rewrites report
-  pub splits : report_text report ≡ front ++ rest
-  pub taken : Appends before after front
+-- what the check of a configuration gives: its report, unless its class tree has more names than the limit
+abbrev pub IsChecked : Config → ℕ → ℕ → Ending → Type 0
+IsChecked config limit rewrites ending =
+    (HasMoreNames config limit × (ending ≡ too_many_names limit)) ⊎ IsReported config limit rewrites ending
 
--- A status has its cause in what the files give: a refusal is theirs, and a whole output or a front of one is that
--- of the report. Want of memory may always come, and a failed read has its cause in a count. No other status comes of
--- a job.
-abbrev pub HasCause : Reading → Option (List ℕ) → Option (List ℕ) → Status → Type 0
-HasCause reading before after Clean = WroteReport reading before after Clean
-HasCause reading before after Faults = WroteReport reading before after Faults
-HasCause reading before after Refused = (refusal : Refusal) × (reading ≡ Refuses refusal)
-HasCause reading before after (ReadFault file) = Unit {0}
-HasCause reading before after WriteFault = WroteFront reading before after
-HasCause reading before after NoMemory = Unit {0}
-HasCause reading before after answer = ⊥
+-- what the check gives of a configuration by whether it is of the first shape
+abbrev pub IsCheckedAs : Bool → List ℕ → ℕ → ℕ → Config → Ending → Type 0
+IsCheckedAs true meta limit rewrites config ending = IsChecked config limit rewrites ending
+IsCheckedAs false meta limit rewrites config ending = ending ≡ not_yet meta
 
--- the same, where it is known what the files give
-abbrev pub HasKnownCause : Option Reading → Option (List ℕ) → Option (List ℕ) → Status → Type 0
-HasKnownCause None before after answer = Unit {0}
-HasKnownCause (Some reading) before after answer = HasCause reading before after answer
+-- what `check` gives of a configuration: until it takes all that read, one of a larger shape is refused
+abbrev pub Checks : List ℕ → ℕ → ℕ → Config → Ending → Type 0
+Checks meta limit rewrites config ending = IsCheckedAs (is_first_config config) meta limit rewrites config ending
 
--- a failed read is of a file whose count of failures rose
-abbrev pub ReadFaultRose : (List ℕ → ℕ) → (List ℕ → ℕ) → Status → Type 0
-ReadFaultRose before after (ReadFault file) = Rose (before file) (after file)
-ReadFaultRose before after answer = Unit {0}
+-- What a command gives that reads the files of this metadata file, by what it gives of a configuration. Where a file isn't
+-- held, or nothing is told of it, it gives nothing: such a run ends in a failed read.
+abbrev pub OfReading : List ℕ → (Config → Ending → Type 0) → Reading Config → Ending → Type 0
+OfReading meta of_config (Reads config) ending = of_config config ending
+OfReading meta of_config (Refuses fault) ending = ending ≡ refused meta fault
+OfReading meta of_config (Misses file) ending = ⊥
+OfReading meta of_config (Unknown file) ending = ⊥
 
--- a failed read is of an opened file
-abbrev pub ReadFaultOpened : Contents → List ℕ → Status → Type 0
-ReadFaultOpened held meta (ReadFault file) = IsOpened held meta file
-ReadFaultOpened held meta answer = Unit {0}
+-- What the words' job gives, by what is told of the files: an equation for each command. Of the commands that words may
+-- ask for, `check` alone is run so far; the others are answered as no job is.
+abbrev pub Outcome : (List ℕ → Told) → Result Job LineFault → Ending → Type 0
+Outcome told (Ok (Check meta workers classes rewrites)) ending = OfReading meta (Checks meta classes rewrites) (conf meta told) ending
+Outcome told job ending = ending ≡ usage
 
--- the same, where there is a job and the files tell their bytes
-abbrev pub ReadFaultKnown : Option Contents → Option Job → Status → Type 0
-ReadFaultKnown (Some held) (Some (Check meta)) answer = ReadFaultOpened held meta answer
-ReadFaultKnown held job answer = Unit {0}
+-- a run ends in the outcome of its job, in a failed read or for want of memory
+abbrev pub IsEnding : (List ℕ → Told) → Result Job LineFault → Ending → Type 0
+IsEnding told job ending =
+    Outcome told job ending ⊎ ((file : List ℕ) × (ending ≡ read_failed file)) ⊎ (ending ≡ no_memory)
+
+-- ---- failed reads
+
+-- The job comes to the file: every step of its reading before gives no refusal, and comes to no opened name that isn't
+-- held.
+abbrev pub JobComesTo : (List ℕ → Told) → Result Job LineFault → List ℕ → Type 0
+JobComesTo told (Ok (Check meta workers classes rewrites)) file = ComesTo meta told file
+JobComesTo told job file = ⊥
+
+-- no count of a file that the job opens rose
+abbrev pub NoJobReadFailed : (List ℕ → Told) → Result Job LineFault → (List ℕ → ℕ) → (List ℕ → ℕ) → Type 0
+NoJobReadFailed told (Ok (Check meta workers classes rewrites)) before after = NoReadFailed meta told before after
+NoJobReadFailed told job before after = Unit {0}
 
 -- a status that says that nothing was written to out
 abbrev pub writes_nothing : Status → Bool
@@ -95,44 +139,3 @@ writes_nothing Clean = false
 writes_nothing Faults = false
 writes_nothing WriteFault = false
 writes_nothing answer = true
-
--- no count of an opened file rose
-abbrev pub NoReadFailed : Contents → List ℕ → (List ℕ → ℕ) → (List ℕ → ℕ) → Type 0
-NoReadFailed held meta before after = (file : List ℕ) → IsOpened held meta file → Rose (before file) (after file) → ⊥
-
--- the refusal of what the files give
-abbrev pub RefusalOf : Option Reading → Refusal → Type 0
-RefusalOf None refusal = Unit {0}
-RefusalOf (Some reading) refusal = reading ≡ Refuses refusal
-
--- the line on err of a status
-abbrev pub IsErrLine : Option Reading → Status → List ℕ → Type 0
-IsErrLine reading Clean line = line ≡ []
-IsErrLine reading Faults line = line ≡ []
-IsErrLine reading Usage line = line ≡ usage_line
-IsErrLine reading Refused line = (refusal : Refusal) × RefusalOf reading refusal × (line ≡ refusal_line refusal)
-IsErrLine reading (ReadFault file) line = line ≡ file ++ codes ": read failed\n"
-IsErrLine reading WriteFault line = line ≡ codes "output failed\n"
-IsErrLine reading NoMemory line = line ≡ codes "no memory\n"
-IsErrLine reading answer line = ⊥
-
--- a sink took a front of a text
-pub record TookFront (before after : Option (List ℕ)) (text : List ℕ) : Type 0 where
-  pub front : List ℕ
-  pub rest : List ℕ
-  pub splits : text ≡ front ++ rest
-  pub taken : Appends before after front
-
--- a sink took the line; or its count rose, and it took a front of it
-pub record TookLine (before after : Option (List ℕ)) (failed_before failed_after : ℕ) (line : List ℕ) : Type 0 where
-  pub front : List ℕ
-  pub rest : List ℕ
-  pub splits : line ≡ front ++ rest
-  pub taken : Appends before after front
-  pub whole : (rest ≡ []) ⊎ Rose failed_before failed_after
-
--- the line on err of the status, and what err took of it
-pub record ToldOnErr (reading : Option Reading) (answer : Status) (before after : Option (List ℕ)) (failed_before failed_after : ℕ) : Type 0 where
-  pub line : List ℕ
-  pub is_line : IsErrLine reading answer line
-  pub took : TookLine before after failed_before failed_after line

@@ -1,34 +1,125 @@
-//! How a run ends, before it is told on err.
+//! How a run ends, before anything is written.
 
+ghost use Rattle.std.specs.Prelude.{◌≡◌, ◌⊎◌, decimal, IfOk};
+ghost use Rattle.config_load.specs.Refusal.{fields_line};
+ghost use Rattle.groot_run.specs.Outcome as outcome;
+
+use crate::line::Line;
 use crate::status::Status;
-use dns_data::Text;
+use config_load::LoadFault;
+use dns_data::{NoMemory, Octets, Text};
+use groot_line::usage_line;
+use itoa::Buffer;
+use std::alloc::Global;
 
-/// Why files are refused: the file, the line in it, or 0, and the code.
+/// How a run ends: its status, the text for out, and the line for err.
 #[derive(Debug, Drop)]
-pub struct Refused {
-    pub file: Text,
-    pub line: u32,
-    pub code: &'static str,
-}
-
-/// How a run ends: refused, or in any other way.
-#[derive(Debug, Drop)]
-pub enum Ending {
-    Refused(Refused),
-    Done(Status),
+pub struct Ending {
+    pub status: Status,
+    pub out: Octets,
+    pub err: Line,
 }
 
 impl Ending {
-    ghost use Rattle.std.specs.Prelude.{◌≡◌};
-    ghost use Rattle.groot_run.specs.Ending.{ending_status};
-
-    /// The status of the ending.
-    pub fn into_status(self) -> Status
-        ensures { result ≡ ending_status self }
+    /// The words are no job.
+    pub(crate) fn usage() -> Ending
+        ensures { result ≡ outcome.usage }
     {
-        match self {
-            Ending::Refused(_) => Status::Refused,
-            Ending::Done(status) => status,
+        without_output(Status::Usage, Line::fixed(usage_line()))
+    }
+
+    /// Memory ran out.
+    pub(crate) fn no_memory() -> Ending
+        ensures { result ≡ outcome.no_memory }
+    {
+        without_output(Status::NoMemory, Line::fixed("no memory\n"))
+    }
+
+    /// A file could not be read.
+    pub(crate) fn read_failed(alloc: Global, file: Text) -> Ending
+        ensures { (result ≡ outcome.read_failed file) ⊎ (result ≡ outcome.no_memory) }
+    {
+        match Line::of_pieces(alloc, &[file.as_str().as_bytes(), b": read failed\n"]) {
+            Ok(line) => without_output(Status::ReadFault(file), line),
+            Err(NoMemory) => Ending::no_memory(),
         }
     }
+
+    /// The files of this metadata file are refused.
+    pub(crate) fn refused(alloc: Global, meta: &str, fault: &LoadFault) -> Ending
+        ensures { (result ≡ outcome.refused meta.now fault.now) ⊎ (result ≡ outcome.no_memory) }
+    {
+        match refusal_line(alloc, fault.file(meta), fault.line(), fault.code()) {
+            Ok(line) => without_output(Status::Refused, line),
+            Err(NoMemory) => Ending::no_memory(),
+        }
+    }
+
+    /// The files of this metadata file read, and what they give isn't checked yet.
+    pub(crate) fn not_yet(alloc: Global, meta: &str) -> Ending
+        ensures { (result ≡ outcome.not_yet meta.now) ⊎ (result ≡ outcome.no_memory) }
+    {
+        match refusal_line(alloc, meta, 0, "not-yet") {
+            Ok(line) => without_output(Status::Refused, line),
+            Err(NoMemory) => Ending::no_memory(),
+        }
+    }
+
+    /// The class tree has more names than this limit.
+    pub(crate) fn too_many_names(alloc: Global, limit: u32) -> Ending
+        ensures { (result ≡ outcome.too_many_names limit) ⊎ (result ≡ outcome.no_memory) }
+    {
+        let mut digits = Buffer::new();
+        let number = digits.format(limit);
+        match Line::of_pieces(alloc, &[b"classes: more than ", number.as_bytes(), b"\n"]) {
+            Ok(line) => without_output(Status::Classes, line),
+            Err(NoMemory) => Ending::no_memory(),
+        }
+    }
+}
+
+/// An ending with nothing for out.
+fn without_output(status: Status, err: Line) -> Ending
+    ensures { result ≡ outcome.without_output status err }
+{
+    Ending {
+        status,
+        out: Octets::new(),
+        err,
+    }
+}
+
+/// The line of a refusal.
+fn refusal_line<'a>(
+    alloc: Global,
+    file: &'a str,
+    line: u32,
+    code: &'a str,
+) -> Result<Line, NoMemory>
+    ensures { IfOk result (λ told. told ≡ fields_line file.now (decimal line) code.now) }
+{
+    let mut digits = Buffer::new();
+    fields_line_of(alloc, file, digits.format(line), code)
+}
+
+/// A file, a line in it and a code, as a refusal's line.
+fn fields_line_of<'a>(
+    alloc: Global,
+    file: &'a str,
+    line: &'a str,
+    code: &'a str,
+) -> Result<Line, NoMemory>
+    ensures { IfOk result (λ told. told ≡ fields_line file.now line.now code.now) }
+{
+    Line::of_pieces(
+        alloc,
+        &[
+            file.as_bytes(),
+            b":",
+            line.as_bytes(),
+            b": ",
+            code.as_bytes(),
+            b"\n",
+        ],
+    )
 }

@@ -2,26 +2,24 @@
 
 ghost use Rattle.groot_run.specs.Aliases.{alias_of};
 ghost use Rattle.groot_run.specs.Blackholes.{blackhole_entries};
-ghost use Rattle.groot_run.specs.FirstShape.{IsFirstConfig};
-ghost use Rattle.groot_run.specs.Outcome.{default_rewrites};
-ghost use Rattle.groot_run.specs.Report.{Report, IsReport};
+ghost use Rattle.dns_data.specs.Name.{IsName};
+ghost use Rattle.groot_run.specs.FirstShape.{is_first_config};
+ghost use Rattle.groot_run.specs.Report.{Report, IsReport, IsTreeSize};
 ghost use Rattle.groot_run.specs.ReportParts.{report_object};
 ghost use Rattle.groot_run.specs.ReportText.{entry_value, report_text};
 ghost use Rattle.serde_json.specs.View.{view};
 ghost use Rattle.serde_json.specs.Written.{has_float, compact_text};
-ghost use Rattle.std.specs.Prelude.{◌≡◌, false, ◌++◌, codes, map, length, IfOk};
+ghost use Rattle.net_model.specs.Reading.{records, ground_of};
+ghost use Rattle.std.specs.Prelude.{◌≡◌, ◌<◌, true, false, ◌++◌, codes, map, length, All, IfOk};
 
 use crate::aliases::{Alias, blackholes};
 use crate::entry::{Home, blackhole};
 use crate::shape::{only_server, only_zone};
-use crate::tree::{TreeSize, tree_size};
+use crate::tree::TreeSize;
 use dns_data::NoMemory;
 use net_model::Config;
 use serde_json::{Value, json};
 use std::alloc::Global;
-
-/// The rewrites that a query may use.
-const DEFAULT_REWRITES: u32 = 12;
 
 /// The text of a report, and how many entries it has.
 #[derive(Debug, Drop)]
@@ -30,14 +28,22 @@ pub(crate) struct Written {
     pub entries: usize,
 }
 
-/// The report of a configuration of the first shape, as text that ends with a line feed. Its entries are the zone's
-/// blackholes, the one kind of fault that is looked for.
-pub(crate) fn report(alloc: Global, config: &Config) -> Result<Written, NoMemory>
-    requires { IsFirstConfig config.now }
-    ensures { IfOk result (λ written. (report : Report) × IsReport config.now default_rewrites report
-        × (written.entries ≡ length report.entries) × (written.text.items ≡ report_text report)) }
+/// The report of a configuration of the first shape with a class tree of this size, as text that ends with a line feed.
+/// Its entries are the zone's blackholes, the one kind of fault that is looked for.
+pub(crate) fn report(
+    alloc: Global,
+    config: &Config,
+    size: &TreeSize,
+    rewrites: u32,
+) -> Result<Written, NoMemory>
+    requires shape { is_first_config config.now ≡ true }
+    requires names { All (λ rr. IsName rr.owner) (records config.now) }
+    requires size { IsTreeSize (ground_of config.now) size.now.names size.now.classes }
+    requires some { 0 < rewrites }
+    ensures { IfOk result (λ written. (report : Report) × IsReport config.now rewrites report
+        × (report.names ≡ size.now.names) × (written.entries ≡ length report.entries)
+        × (written.text.items ≡ report_text report)) }
 {
-    let size = tree_size(alloc, config)?;
     let zone = only_zone(config);
     let home = Home {
         server: only_server(config),
@@ -45,7 +51,7 @@ pub(crate) fn report(alloc: Global, config: &Config) -> Result<Written, NoMemory
     };
     let lost = blackholes(alloc, zone)?;
     let aliases = lost.as_slice();
-    let text = text_of(alloc, &size, home, aliases)?;
+    let text = text_of(alloc, size, rewrites, home, aliases)?;
     Ok(Written {
         text,
         entries: aliases.len(),
@@ -56,18 +62,19 @@ pub(crate) fn report(alloc: Global, config: &Config) -> Result<Written, NoMemory
 fn text_of(
     alloc: Global,
     size: &TreeSize,
+    rewrites: u32,
     home: Home,
     aliases: &[Alias],
 ) -> Result<Vec<u8>, NoMemory>
     ensures { IfOk result (λ text. text.items ≡ report_text (record {
       classes = size.now.classes;
       names = size.now.names;
-      rewrites = default_rewrites;
+      rewrites = rewrites;
       entries = blackhole_entries home.entry.server.now home.entry.origin.now (map alias_of aliases.now);
     })) }
 {
     let entries = entries_of(alloc, home, aliases)?;
-    let value = value_of(alloc, size, entries, DEFAULT_REWRITES)?;
+    let value = value_of(alloc, size, entries, rewrites)?;
     text_line(alloc, &value)
 }
 

@@ -1,29 +1,30 @@
 //! The top call.
 
-ghost use Rattle.std.specs.Prelude.{◌≡◌, ◌≢◌, ◌↔◌, ◌⊎◌, ℕ, List, map, Some, None, IsTrue};
-ghost use Rattle.std.specs.Io.KnownBytes.{Keeps};
+ghost use Rattle.std.specs.Prelude.{◌≡◌, ◌≢◌, ◌⊎◌, ℕ, List, [], map, Ok, IsTrue};
+ghost use Rattle.std.specs.Io.KnownBytes.{Appends, Keeps};
 ghost use Rattle.io_edges.specs.Counts.{Rose};
+ghost use Rattle.io_edges.specs.Files.{TellsAll};
 ghost use Rattle.net_model.specs.declared.config.Config.{Config as Configuration};
-ghost use Rattle.groot_run.specs.Conf.{Contents, conf, Reads, Refuses, Misses, Refusal};
-ghost use Rattle.groot_run.specs.Ending.{ending_status, IsKnownRefusal};
-ghost use Rattle.groot_run.specs.FirstShape.{IsFirstConfig};
-ghost use Rattle.groot_run.specs.Job.{Check, job_of};
-ghost use Rattle.groot_run.specs.Outcome.{HasCause, HasKnownCause, ReadFaultRose, ReadFaultKnown, WroteReport, NoReadFailed, ToldOnErr, known_reading, writes_nothing};
+ghost use Rattle.config_load.specs.Conf.{conf};
+ghost use Rattle.config_load.specs.Load.{NoReadFailed};
+ghost use Rattle.config_load.specs.Reading.{Reads};
+ghost use Rattle.groot_line.specs.declared.job.Job.TheVariants.{Check};
+ghost use Rattle.groot_line.specs.Job.{job_of};
+ghost use Rattle.groot_run.specs.declared.ending.Ending.{Ending as Ended};
+ghost use Rattle.groot_run.specs.Outcome.{Outcome, Checks, IsEnding, JobComesTo, NoJobReadFailed, writes_nothing, no_memory};
+ghost use Rattle.groot_run.specs.Writing.{IsLeft, TookLine};
 
-use crate::code::code_of_cause;
-use crate::ending::{Ending, Refused};
-use crate::fault::LoadFault;
-use crate::job::check_job;
-use crate::load::load;
+use crate::check::Limits;
+use crate::ending::Ending;
+use crate::load::check_files;
 use crate::output::{tell, write_all};
-use crate::report::report;
 use crate::status::Status;
-use io_edges::{Files, Gate, Sink};
-use net_model::Config;
+use groot_line::{Job, LineFault, read_words};
+use io_edges::{Failed, Files, Gate, Sink};
 use std::alloc::Global;
 
-/// Does what the words after the program's name ask for, and tells on err how it ended. The gate isn't asked while
-/// one worker judges.
+/// Does what the words after the program's name ask for, writes its text on out, and tells on err how it ended. The
+/// gate isn't asked while one worker judges.
 pub fn groot<F: Files, O: Sink, E: Sink, G: Gate + Sync>(
     alloc: Global,
     words: &[&str],
@@ -32,94 +33,86 @@ pub fn groot<F: Files, O: Sink, E: Sink, G: Gate + Sync>(
     err: &mut E,
     _gate: &G,
 ) -> Status
-    // For files that read, out took exactly the text of their report, and the status says whether it has a fault.
-    ensures headline { (held : Contents) (meta : List ℕ) (config : Configuration) →
-        F.held files.old ≡ Some held → job_of (map (λ word. word.now) words.now) ≡ Some (Check meta) →
-        conf held meta ≡ Reads config →
-        NoReadFailed held meta (F.faults files.old) (F.faults files.new) →
+    // For files that read, by the octets that were read of them, out took exactly the text of their report, and the
+    // status says whether it has a fault.
+    ensures headline { (meta : List ℕ) (workers classes rewrites : ℕ) (config : Configuration) →
+        job_of (map (λ word. word.now) words.now) ≡ Ok (Check meta workers classes rewrites) →
+        conf meta (F.told files.new) ≡ Reads config →
+        NoReadFailed meta (F.told files.new) (F.faults files.old) (F.faults files.new) →
         (Rose (O.faults out.old) (O.faults out.new) → ⊥) →
-        (result ≡ Status.NoMemory) ⊎ WroteReport (Reads config) (O.taken out.old) (O.taken out.new) result }
+        ((ending : Ended) × Checks meta classes rewrites config ending
+        × (result ≡ ending.status) × Appends (O.taken out.old) (O.taken out.new) ending.out)
+        ⊎ (result ≡ Status.NoMemory) }
 
-    // Each answer has its cause.
-    ensures usage { (result ≡ Status.Usage) ↔ (job_of (map (λ word. word.now) words.now) ≡ None) }
-    ensures cause { HasKnownCause (known_reading (F.held files.old) (job_of (map (λ word. word.now) words.now)))
-        (O.taken out.old) (O.taken out.new) result }
-    ensures read_fault { ReadFaultRose (F.faults files.old) (F.faults files.new) result }
-    ensures read_opened { ReadFaultKnown (F.held files.old) (job_of (map (λ word. word.now) words.now)) result }
+    // Where nothing failed, the run is the outcome of the words' job.
+    ensures complete { NoJobReadFailed (F.told files.new) (job_of (map (λ word. word.now) words.now)) (F.faults files.old) (F.faults files.new) →
+        (Rose (O.faults out.old) (O.faults out.new) → ⊥) →
+        ((ending : Ended) × Outcome (F.told files.new) (job_of (map (λ word. word.now) words.now)) ending
+        × (result ≡ ending.status) × Appends (O.taken out.old) (O.taken out.new) ending.out)
+        ⊎ (result ≡ Status.NoMemory) }
+
+    // However it ends: as its job does, in a failed read or for want of memory, unless out fails; and err took its line.
+    ensures cause { (ending left : Ended)
+        × IsEnding (F.told files.new) (job_of (map (λ word. word.now) words.now)) ending
+        × IsLeft ending (O.taken out.old) (O.taken out.new) (O.faults out.old) (O.faults out.new) left
+        × (result ≡ left.status) × TookLine (E.taken err.old) (E.taken err.new) (E.faults err.old) (E.faults err.new) left.err }
+    ensures read_fault { (file : List ℕ) → result ≡ Status.ReadFault file →
+        JobComesTo (F.told files.new) (job_of (map (λ word. word.now) words.now)) file
+        × Rose (F.faults files.old file) (F.faults files.new file) }
     ensures write_fault { result ≡ Status.WriteFault → Rose (O.faults out.old) (O.faults out.new) }
-    ensures no_budget { (result ≢ Status.Classes) × (result ≢ Status.States) × (result ≢ Status.Walks) }
-
-    // Files that are refused, and a file that isn't held, give that answer and no other.
-    ensures refuses { (held : Contents) (meta : List ℕ) (refusal : Refusal) →
-        F.held files.old ≡ Some held → job_of (map (λ word. word.now) words.now) ≡ Some (Check meta) →
-        conf held meta ≡ Refuses refusal →
-        NoReadFailed held meta (F.faults files.old) (F.faults files.new) →
-        (result ≡ Status.Refused) ⊎ (result ≡ Status.NoMemory) }
-    ensures misses { (held : Contents) (meta name : List ℕ) →
-        F.held files.old ≡ Some held → job_of (map (λ word. word.now) words.now) ≡ Some (Check meta) →
-        conf held meta ≡ Misses name →
-        (result ≡ Status.NoMemory) ⊎ ((file : List ℕ) × (result ≡ Status.ReadFault file)) }
-
-    // What the outputs took.
     ensures silent { IsTrue (writes_nothing result) → Keeps (O.taken out.old) (O.taken out.new) }
-    ensures told { ToldOnErr (known_reading (F.held files.old) (job_of (map (λ word. word.now) words.now))) result
-        (E.taken err.old) (E.taken err.new) (E.faults err.old) (E.faults err.new) }
-{
-    let ending = run(alloc, words, files, out);
-    tell(err, &ending);
-    ending.into_status()
-}
 
-/// What the words ask for, up to its output.
-fn run<F: Files, O: Sink>(alloc: Global, words: &[&str], files: &mut F, out: &mut O) -> Ending
-    ensures usage { (ending_status result ≡ Status.Usage) ↔ (job_of (map (λ word. word.now) words.now) ≡ None) }
-    ensures cause { HasKnownCause (known_reading (F.held files.old) (job_of (map (λ word. word.now) words.now)))
-        (O.taken out.old) (O.taken out.new) (ending_status result) }
-    ensures read_fault { ReadFaultRose (F.faults files.old) (F.faults files.new) (ending_status result) }
-    ensures read_opened { ReadFaultKnown (F.held files.old) (job_of (map (λ word. word.now) words.now))
-        (ending_status result) }
-    ensures write_fault { ending_status result ≡ Status.WriteFault → Rose (O.faults out.old) (O.faults out.new) }
-    ensures silent { IsTrue (writes_nothing (ending_status result)) → Keeps (O.taken out.old) (O.taken out.new) }
-    ensures no_budget { (ending_status result ≢ Status.Classes) × (ending_status result ≢ Status.States)
-        × (ending_status result ≢ Status.Walks) }
-    ensures refused { IsKnownRefusal (known_reading (F.held files.old) (job_of (map (λ word. word.now) words.now))) result }
+    // Files that told all from the start tell the same after the run.
+    ensures from_the_start { TellsAll (F.told files.old) → F.told files.new ≡ F.told files.old }
 {
-    let Some(meta) = check_job(words) else {
-        return Ending::Done(Status::Usage);
-    };
-    match load(alloc, files, meta) {
-        Ok(config) => Ending::Done(write_report(alloc, &config, out)),
-        Err(LoadFault::Read { file }) => Ending::Done(Status::ReadFault(file)),
-        Err(LoadFault::NotYet { file }) => Ending::Refused(Refused {
-            file,
-            line: 0,
-            code: "not-yet",
-        }),
-        Err(LoadFault::Text { file, line, cause }) => Ending::Refused(Refused {
-            file,
-            line,
-            code: code_of_cause(&cause),
-        }),
-        Err(LoadFault::NoMemory) => Ending::Done(Status::NoMemory),
+    let ending = run_words(alloc, words, files);
+    match write_all(out, ending.out.items()) {
+        Ok(()) => {
+            tell(err, ending.err.octets());
+            ending.status
+        }
+        Err(Failed) => {
+            tell(err, b"output failed\n");
+            Status::WriteFault
+        }
     }
 }
 
-/// Makes the report of a configuration of the first shape, and writes it whole.
-fn write_report<O: Sink>(alloc: Global, config: &Config, out: &mut O) -> Status
-    requires { IsFirstConfig config.now }
-    ensures cause { HasCause (Reads config.now) (O.taken out.old) (O.taken out.new) result }
-    ensures no_read { (file : List ℕ) → result ≢ Status.ReadFault file }
-    ensures not_refused { result ≢ Status.Refused }
-    ensures write_fault { result ≡ Status.WriteFault → Rose (O.faults out.old) (O.faults out.new) }
-    ensures silent { IsTrue (writes_nothing result) → Keeps (O.taken out.old) (O.taken out.new) }
-    ensures no_budget { (result ≢ Status.Classes) × (result ≢ Status.States) × (result ≢ Status.Walks) }
+/// Does what the words after the program's name ask for, up to the writing: the status with which the run ends, the
+/// text for out and the line for err.
+pub fn run_words<F: Files>(alloc: Global, words: &[&str], files: &mut F) -> Ending
+    // For files that read, by the octets that were read of them, the run ends in the report of their configuration.
+    ensures headline { (meta : List ℕ) (workers classes rewrites : ℕ) (config : Configuration) →
+        job_of (map (λ word. word.now) words.now) ≡ Ok (Check meta workers classes rewrites) →
+        conf meta (F.told files.new) ≡ Reads config →
+        NoReadFailed meta (F.told files.new) (F.faults files.old) (F.faults files.new) →
+        Checks meta classes rewrites config result ⊎ (result ≡ no_memory) }
+
+    // Where no read failed, it is the outcome of the words' job.
+    ensures complete { NoJobReadFailed (F.told files.new) (job_of (map (λ word. word.now) words.now)) (F.faults files.old) (F.faults files.new) →
+        Outcome (F.told files.new) (job_of (map (λ word. word.now) words.now)) result ⊎ (result ≡ no_memory) }
+
+    // However it ends: as its job does, in a failed read or for want of memory. A failed read comes before no refusal.
+    ensures cause { IsEnding (F.told files.new) (job_of (map (λ word. word.now) words.now)) result }
+    ensures read_fault { (file : List ℕ) → result.status ≡ Status.ReadFault file →
+        JobComesTo (F.told files.new) (job_of (map (λ word. word.now) words.now)) file
+        × Rose (F.faults files.old file) (F.faults files.new file) }
+    ensures no_write_fault { result.status ≢ Status.WriteFault }
+    ensures silent { IsTrue (writes_nothing result.status) → result.out ≡ [] }
+
+    // Files that told all from the start tell the same after the run.
+    ensures from_the_start { TellsAll (F.told files.old) → F.told files.new ≡ F.told files.old }
 {
-    let Ok(written) = report(alloc, config) else {
-        return Status::NoMemory;
-    };
-    match write_all(out, written.text.as_slice()) {
-        Ok(()) if written.entries == 0 => Status::Clean,
-        Ok(()) => Status::Faults,
-        Err(_) => Status::WriteFault,
+    match read_words(alloc, words) {
+        Ok(
+            Job::Check {
+                meta,
+                classes,
+                rewrites,
+                ..
+            },
+        ) => check_files(alloc, files, meta.as_str(), Limits { classes, rewrites }),
+        Ok(_) | Err(LineFault::Usage) => Ending::usage(),
+        Err(LineFault::NoMemory) => Ending::no_memory(),
     }
 }

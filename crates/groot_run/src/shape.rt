@@ -1,53 +1,44 @@
 //! Configurations of the first shape.
 
-ghost use Rattle.std.specs.Prelude.{◌≡◌, ◌∷◌, [], codes, map, IfOk, IsPermutation, IsSorted};
+ghost use Rattle.std.specs.Prelude.{◌≡◌, ◌∷◌, [], true, codes, map, IfOk, IsPermutation, IsSorted};
 ghost use Rattle.std.specs.List.{list_any, list_all};
 ghost use Rattle.dns_data.specs.Label.{label_eq};
 ghost use Rattle.dns_data.specs.Name.{name_cmp};
 ghost use Rattle.dns_data.specs.Rdata.{has_type};
 ghost use Rattle.groot_run.specs.Aliases.{alias_of, is_alone};
-ghost use Rattle.groot_run.specs.FirstShape.{config_of, is_plain_owner, is_plain_data, is_plain_record, is_plain_alias, is_first_shape, IsFirstConfig};
+ghost use Rattle.groot_run.specs.FirstShape.{is_plain_owner, is_plain_data, is_plain_record, is_plain_alias, is_first_shape, is_first_zone, is_first_config};
 ghost use Rattle.net_model.specs.Nearest.{server_names};
 ghost use Rattle.net_model.specs.Reading.{records, zones};
 
 use crate::aliases::{Alias, aliases_of};
 use crate::owners::{has, is_once, owners_in_order};
-use dns_data::{List, Name, NoMemory, Rdata, Rr, RrType};
-use net_model::{Config, Server, Zone};
+use dns_data::{Name, NoMemory, Rdata, Rr, RrType};
+use net_model::{Config, Zone};
 use std::alloc::Global;
 
 /// How many records a zone of the first shape may have.
-pub(crate) const MOST_ZONE_RECORDS: usize = 500;
+const MOST_ZONE_RECORDS: usize = 500;
 
 /// How many octets the owner of a record may have, each label with its length and the root counted.
 const MOST_OWNER_OCTETS: u32 = 200;
 
-/// The configuration of one zone on one server, or `None` where the records aren't of the first shape.
-pub fn config_of(alloc: Global, server: Name, rrs: List<Rr>) -> Result<Option<Config>, NoMemory>
-    ensures { IfOk result (λ found. found ≡ config_of server rrs) }
+/// Whether the configuration is of the first shape: one server is the only one and the only top one, and holds one
+/// zone, of at most 500 records, whose first one is at its origin.
+pub(crate) fn is_first_config(alloc: Global, config: &Config) -> Result<bool, NoMemory>
+    ensures { IfOk result (λ first. first ≡ is_first_config config.now) }
 {
-    if !is_first(alloc, rrs.items())? {
-        return Ok(None);
-    }
-    let [first, ..] = rrs.items() else {
-        return Ok(None);
+    let ([top], [server]) = (config.tops.items(), config.servers.items()) else {
+        return Ok(false);
     };
-    let origin = first.owner.copy(alloc)?;
-    let mut zones = List::new(alloc);
-    zones.push(Zone { origin, rrs })?;
-    let mut tops = List::new(alloc);
-    tops.push(server.copy(alloc)?)?;
-    let mut servers = List::new(alloc);
-    servers.push(Server {
-        name: server,
-        zones,
-    })?;
-    Ok(Some(Config { tops, servers }))
+    let [zone] = server.zones.items() else {
+        return Ok(false);
+    };
+    Ok(*top == server.name && is_first_zone(alloc, zone)?)
 }
 
 /// The name of the only server of a configuration of the first shape.
 pub(crate) fn only_server(config: &Config) -> &Name
-    requires { IsFirstConfig config.now }
+    requires { is_first_config config.now ≡ true }
     ensures { server_names config.now ≡ result.now ∷ [] }
 {
     &config.servers.items()[0].name
@@ -55,11 +46,21 @@ pub(crate) fn only_server(config: &Config) -> &Name
 
 /// The only zone of a configuration of the first shape.
 pub(crate) fn only_zone(config: &Config) -> &Zone
-    requires { IsFirstConfig config.now }
+    requires { is_first_config config.now ≡ true }
     ensures zones { zones config.now ≡ result.now ∷ [] }
     ensures records { result.now.rrs ≡ records config.now }
 {
     &config.servers.items()[0].zones.items()[0]
+}
+
+/// Whether the zone's first record is at its origin, and its records are those of a zone of the first shape.
+fn is_first_zone(alloc: Global, zone: &Zone) -> Result<bool, NoMemory>
+    ensures { IfOk result (λ first. first ≡ is_first_zone zone.now.origin zone.now.rrs) }
+{
+    let [first, ..] = zone.rrs.items() else {
+        return Ok(false);
+    };
+    Ok(first.owner == zone.origin && is_first(alloc, zone.rrs.items())?)
 }
 
 /// Whether the records are those of a zone of the first shape. It sorts references to the owners, and searches among

@@ -1,11 +1,11 @@
 //! The size of the class tree of a configuration of the first shape.
 
-ghost use Rattle.std.specs.Prelude.{◌≡◌, ◌-◌, ◌≤◌, length, map, option_map, unwrap_or, [], All, IfOk};
+ghost use Rattle.std.specs.Prelude.{◌≡◌, true, ◌-◌, ◌≤◌, length, map, option_map, unwrap_or, [], All, IfOk};
 ghost use Rattle.std.specs.List.{common_prefix_len};
 ghost use Rattle.dns_data.specs.Label.{label_eq};
 ghost use Rattle.dns_data.specs.Name.{IsName};
 ghost use Rattle.net_model.specs.Reading.{records, ground_of};
-ghost use Rattle.groot_run.specs.FirstShape.{IsFirstConfig};
+ghost use Rattle.groot_run.specs.FirstShape.{is_first_config};
 ghost use Rattle.groot_run.specs.Report.{IsTreeSize};
 ghost use Rattle.groot_run.specs.SortedTree.{tree_of};
 
@@ -25,7 +25,7 @@ pub(crate) struct TreeSize {
 /// The size of the class tree of a configuration of the first shape, whose owners are names. It sorts references to
 /// the owners, and copies no name.
 pub(crate) fn tree_size(alloc: Global, config: &Config) -> Result<TreeSize, NoMemory>
-    requires { IsFirstConfig config.now }
+    requires { is_first_config config.now ≡ true }
     ensures size { IfOk result (λ size. IsTreeSize (ground_of config.now) size.names size.classes) }
     ensures names { IfOk result (λ size. All (λ rr. IsName rr.owner) (records config.now)) }
 {
