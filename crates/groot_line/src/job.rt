@@ -7,7 +7,7 @@ ghost use Rattle.groot_line.specs.Job.{job_of, job_by, asked};
 use crate::arguments::{Arguments, read_arguments};
 use crate::command::Command;
 use crate::fault::LineFault;
-use crate::operands::{drill_number, asked_meta, asked_name, only_meta, asked_type};
+use crate::operands::{asked_meta, asked_name, asked_type, drill_number, only_meta};
 use dns_data::{Name, RrType, Text};
 use std::alloc::Global;
 

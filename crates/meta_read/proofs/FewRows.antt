@@ -24,6 +24,7 @@ each-length {B} {D} step number (item ∷ items) made is =
         let e : first ∷ more ≡ made = cc in
         ap length (sym e) ∙ ap suc (longer more here)
     by_rest longer first (Err fault) here is = absurd cc
+
     by_first : ((more : List B) → each step (number + 1) items ≡ Ok more → length more ≡ length items) → (first : Result B MetaFault) → (first >>= (λ first. each step (number + 1) items >>= (λ rest. Ok (first ∷ rest)))) ≡ Ok made → length made ≡ length (item ∷ items)
     by_first longer (Ok first) is = by_rest longer first (each step (number + 1) items) refl is
     by_first longer (Err fault) is = absurd cc
@@ -33,6 +34,7 @@ rows-few value rows is = by_list (list_at (codes "ZoneFiles") value) is where
   by_test : (values : List Data) (many : Bool) → nat_lt most_rows (length values) ≡ many → (if many then Err TooManyRows else each row_of 1 values) ≡ Ok rows → length rows ≤ most_rows
   by_test values true here is = absurd cc
   by_test values false here is = let same : length rows ≡ length values = each-length row_of 1 values rows is in grind (arith, nat_tests)
+
   by_list : (o : Option (List Data)) → (ok_or o (Shape 0) >>= (λ values. if nat_lt most_rows (length values) then Err TooManyRows else each row_of 1 values)) ≡ Ok rows → length rows ≤ most_rows
   by_list None is = absurd cc
   by_list (Some values) is = by_test values (nat_lt most_rows (length values)) refl is
@@ -43,12 +45,15 @@ metadata-few octets found is = by_value (value_of octets) is where
   by_unhosted : (tops : List Labels) (rows : List MetaRow) (o : Option Labels) → unless_unhosted o (record { tops = tops; rows = rows }) ≡ Ok found → found.rows ≡ rows
   by_unhosted tops rows None is = let e : record { tops = tops; rows = rows } ≡ found = cc in ap (λ (m : Meta). m.rows) (sym e)
   by_unhosted tops rows (Some top) is = absurd cc
+
   by_rows : (value : Data) (tops : List Labels) (said : Result (List MetaRow) MetaFault) → rows_of value ≡ said → (said >>= (λ rows. unless_unhosted (first_unhosted tops rows) (record { tops = tops; rows = rows }))) ≡ Ok found → length found.rows ≤ most_rows
   by_rows value tops (Ok rows) here is = subst (λ (all : List MetaRow). length all ≤ most_rows) (sym (by_unhosted tops rows (first_unhosted tops rows) is)) (rows-few value rows here)
   by_rows value tops (Err fault) here is = absurd cc
+
   by_tops : (value : Data) (said : Result (List Labels) MetaFault) → (said >>= (λ tops. rows_of value >>= (λ rows. unless_unhosted (first_unhosted tops rows) (record { tops = tops; rows = rows })))) ≡ Ok found → length found.rows ≤ most_rows
   by_tops value (Ok tops) is = by_rows value tops (rows_of value) refl is
   by_tops value (Err fault) is = absurd cc
+
   by_value : (o : Option Data) → (ok_or o NotJson >>= metadata_in) ≡ Ok found → length found.rows ≤ most_rows
   by_value None is = absurd cc
   by_value (Some value) is = by_tops value (tops_of value) is
