@@ -1,3 +1,4 @@
+pub mod FoldedLabels
 pub mod GraphSets
 pub mod InOrder
 pub mod KeptLinks

@@ -6,26 +6,8 @@ use Rattle.dns_data.specs.Label.{IsLabel, is_label_octet, label_of}
 use Rattle.dns_data.specs.Name.{Labels}
 use Rattle.dns_data.specs.Octet.{folded, is_upper}
 use Rattle.dns_data.specs.declared.fault.NameFault.TheVariants.{EmptyLabel, LabelTooLong}
+use Rattle.label_graph.proofs.FoldedLabels.{told}
 use Rattle.label_graph.proofs.parts.last_label.Goals as goal
-
--- octets of a label are folded
-folded_label : (octets : List ℕ) → list_all is_label_octet octets ≡ true → map folded octets ≡ octets
-folded_label [] each = refl
-folded_label (octet ∷ octets) each =
-    let parts = and_parts (is_label_octet octet) (list_all is_label_octet octets) each in
-    let plain : is_upper octet ≡ false = not-true (is_upper octet) (and_parts _ _ parts.0).1 in
-    let first : folded octet ≡ octet = rw plain refl in
-    let rest : map folded octets ≡ octets = folded_label octets parts.1 in
-    cc
-
--- the label of a label's octets is it
-told : (octets label : List ℕ) → IsLabel octets → label_of octets ≡ Ok label → label ≡ octets
-told octets label is e = by (length octets == 0) (nat_lt 63 (length octets)) e where
-  by : (empty long : Bool)
-      → (if empty then Err EmptyLabel else (if long then Err LabelTooLong else Ok (map folded octets))) ≡ Ok label → label ≡ octets
-  by true long e = cc
-  by false true e = cc
-  by false false e = let same : map folded octets ≡ label = cc in sym same ∙ folded_label octets is.octets
 
 -- one label passed more
 passed : (name rest after : Labels) (last : Option (Bor (List ℕ))) (label : List ℕ) → rest ≡ label ∷ after

@@ -1,0 +1,144 @@
+-- The partition of names into classes, and the names that stand for them.
+use Rattle.std.proofs.Common.{◌≡◌, ◌∙◌, ℕ, ◌<◌, ◌≤◌, List, [], ◌∷◌, ◌++◌, length, take, inl, inr, sym, refl, ap, subst, append_assoc, append-nil, arith}
+use Rattle.std.specs.List.{AllByRecursion}
+use Rattle.std.proofs.lemmas.Bool.{cases_lt}
+use Rattle.std.proofs.lemmas.List.{take_at, length-append}
+use Rattle.dns_data.specs.Label.{IsLabel}
+use Rattle.dns_data.specs.Name.{Labels, IsName, wire_octets}
+use Rattle.dns_data.proofs.NameFronts.{two_fronts, octets_of_prefix, octets_with_label}
+use Rattle.dns_data.proofs.Names.{name_append}
+use Rattle.net_model.specs.declared.class.Class.{Class}
+use Rattle.net_model.specs.declared.class.Class.TheVariants.{Exact, Below}
+use Rattle.net_model.specs.Class.{IsClassOf, IsFirstUnnamed}
+use Rattle.net_model.specs.Reading.{Ground, IsNamed}
+use Rattle.label_graph.specs.LiveSet.{IsClosed}
+use Rattle.label_graph.proofs.LiveNames.{prefix_is_named}
+use Rattle.query_classes.specs.Members.{IsEmptyClass, StandsFor}
+use Rattle.query_classes.proofs.TrialSteps.{shorter_first}
+
+-- a name has one class
+pub one_class : (ground : Ground) (name : Labels) (a b : Class) → IsClassOf ground name a → IsClassOf ground name b → b ≡ a
+one_class ground name (Exact a) (Exact b) one other = ap (λ (n : Labels). Exact n) (other.0 ∙ sym one.0)
+one_class ground name (Exact a) (Below b) one other = absurd (other.0 one.1)
+one_class ground name (Below a) (Exact b) one other = absurd (one.0 other.1)
+one_class ground name (Below a) (Below b) (unnamed, one) (also, other) =
+    let first : length b ≤ length a = one.longest b other.below other.prefix other.named in
+    let second : length a ≤ length b = other.longest a one.below one.prefix one.named in
+    let size : length b ≡ length a = omega arith in
+    let same : b ≡ a =
+    sym (take_at b other.below (length a) size) ∙ ap (take (length a)) (sym other.prefix ∙ one.prefix) ∙ take_at a one.below (length a) refl in
+    ap (λ (n : Labels). Below n) same
+
+-- a label of a name
+label_of_name : (above : Labels) (label : List ℕ) (rest : Labels) → AllByRecursion IsLabel (above ++ label ∷ rest) → IsLabel label
+label_of_name [] label rest each = each.0
+label_of_name (x ∷ above) label rest each = label_of_name above label rest each.1
+
+-- the labels above
+labels_above : (above rest : Labels) → AllByRecursion IsLabel (above ++ rest) → AllByRecursion IsLabel above
+labels_above [] rest each = tt
+labels_above (x ∷ above) rest each = (each.0, labels_above above rest each.1)
+
+module _ (ground : Ground) (closed : IsClosed ground) where
+  -- a name is in the class below a named one where a label more makes an unnamed one
+  pub in_below : (above : Labels) (label : List ℕ) (rest : Labels) → IsNamed ground above → (IsNamed ground (above ++ label ∷ []) → ⊥)
+      → IsClassOf ground (above ++ label ∷ rest) (Below above)
+  in_below above label rest named unnamed = (
+    λ is. unnamed (prefix_is_named ground closed (above ++ label ∷ []) rest (subst (IsNamed ground) (sym whole) is)),
+    record { below = label ∷ rest; prefix = refl; named = named; longest = λ longer more e is. at_most longer more e is },
+  )
+    where
+      whole : (above ++ label ∷ []) ++ rest ≡ above ++ label ∷ rest
+      whole = append_assoc above (label ∷ []) rest
+
+      at_most : (longer more : Labels) → above ++ label ∷ rest ≡ longer ++ more → IsNamed ground longer → length longer ≤ length above
+      at_most longer more e is =
+          elim (cases_lt (length above) (length longer)) [
+            | inr short ↦ short
+            | inl long ↦ elim (two_fronts (above ++ label ∷ []) rest longer more (whole ∙ e)) [
+              | inl (between, begins) ↦ absurd (unnamed (prefix_is_named ground closed (above ++ label ∷ []) between (subst (IsNamed ground) (sym begins) is)))
+              | inr (between, begins) ↦ absurd (unnamed (subst (IsNamed ground) (whole_front longer between long begins) is))
+            ]
+          ]
+        where
+          whole_front : (longer between : Labels) → length above < length longer → longer ++ between ≡ above ++ label ∷ [] → longer ≡ above ++ label ∷ []
+          whole_front longer [] long begins = sym (append-nil longer) ∙ begins
+          whole_front longer (x ∷ between) long begins =
+              absurd (omega (arith, ap length begins, length-append longer (x ∷ between), length-append above (label ∷ [])))
+
+  -- a member of the class below a name isn't shorter than the name with its first free label
+  pub not_shorter : (above : Labels) (label : List ℕ) → IsFirstUnnamed ground above label → (member : Labels) → IsName member → IsClassOf ground member (Below above)
+      → wire_octets (above ++ label ∷ []) ≤ wire_octets member
+  not_shorter above label first member is (unnamed, longest) = by longest.below longest.prefix where
+    by : (below : Labels) → member ≡ above ++ below → wire_octets (above ++ label ∷ []) ≤ wire_octets member
+    by [] e = absurd (unnamed (subst (IsNamed ground) (sym (e ∙ append-nil above)) longest.named))
+    by (own ∷ rest) e =
+        let own_is : IsLabel own = label_of_name above own rest (subst (AllByRecursion IsLabel) e is.labels) in
+        let whole : (above ++ own ∷ []) ++ rest ≡ member = append_assoc above (own ∷ []) rest ∙ sym e in
+        let own_unnamed : IsNamed ground (above ++ own ∷ []) → ⊥ =
+        λ named. (let long : length (above ++ own ∷ []) ≤ length above = longest.longest (above ++ own ∷ []) rest (sym whole) named in
+        omega (arith, length-append above (own ∷ []))) in
+        let not_longer : length label ≤ length own =
+        elim (cases_lt (length own) (length label)) [
+          | inl shorter ↦ absurd (own_unnamed (first.first own own_is (shorter_first own label shorter)))
+          | inr fits ↦ fits
+        ] in
+        let front : wire_octets (above ++ own ∷ []) ≤ wire_octets member = octets_of_prefix (above ++ own ∷ []) member (rest, whole) in
+        omega (arith, octets_with_label above label, octets_with_label above own)
+
+  -- the name with the first free label stands for the class below, where it isn't too long
+  pub stands_below : (above : Labels) (label : List ℕ) → IsNamed ground above → AllByRecursion IsLabel above → IsFirstUnnamed ground above label
+      → wire_octets (above ++ label ∷ []) ≤ 255 → StandsFor ground (Below above) (above ++ label ∷ [])
+  stands_below above label named labels first short =
+      record {
+        represents = record { label = label; first = first; extends = refl; is_name = name_append above (label ∷ []) labels (first.is_label, tt) short };
+        is_name = name_append above (label ∷ []) labels (first.is_label, tt) short;
+        is_member = in_below above label [] named first.unnamed;
+        shortest = not_shorter above label first;
+      }
+
+  -- where it is too long, or there is none, the class is empty
+  pub empty_long : (above : Labels) (label : List ℕ) → IsFirstUnnamed ground above label → 255 < wire_octets (above ++ label ∷ []) → IsEmptyClass ground (Below above)
+  empty_long above label first long member is of =
+      let size : wire_octets (above ++ label ∷ []) ≤ wire_octets member = not_shorter above label first member is of in
+      let short : wire_octets member ≤ 255 = is.short in
+      omega arith
+
+  pub empty_full : (above : Labels) → ((label : List ℕ) → IsLabel label → IsNamed ground (above ++ label ∷ [])) → IsEmptyClass ground (Below above)
+  empty_full above full member is (unnamed, longest) = by longest.below longest.prefix where
+    by : (below : Labels) → member ≡ above ++ below → ⊥
+    by [] e = unnamed (subst (IsNamed ground) (sym (e ∙ append-nil above)) longest.named)
+    by (own ∷ rest) e =
+        let whole : (above ++ own ∷ []) ++ rest ≡ member = append_assoc above (own ∷ []) rest ∙ sym e in
+        let long : length (above ++ own ∷ []) ≤ length above =
+        longest.longest (above ++ own ∷ []) rest (sym whole) (full own (label_of_name above own rest (subst (AllByRecursion IsLabel) e is.labels))) in
+        omega (arith, length-append above (own ∷ []))
+
+  -- a named name stands for its own class
+  pub stands_exact : (name : Labels) → IsNamed ground name → IsName name → StandsFor ground (Exact name) name
+  stands_exact name named is =
+      record {
+        represents = refl;
+        is_name = is;
+        is_member = (refl, named);
+        shortest = λ member member_is of. (let same : name ≡ member = of.0 in subst (λ (n : Labels). wire_octets name ≤ wire_octets n) same (omega arith));
+      }
+
+  -- a member of the class below a name shows that it has one that stands for it
+  pub below_stood : (above : Labels) (label own : List ℕ) (rest : Labels) → IsNamed ground above → (IsNamed ground (above ++ own ∷ []) → ⊥)
+      → IsName (above ++ own ∷ rest) → IsFirstUnnamed ground above label → StandsFor ground (Below above) (above ++ label ∷ [])
+  below_stood above label own rest named unnamed is first =
+      let size : wire_octets (above ++ label ∷ []) ≤ wire_octets (above ++ own ∷ rest) =
+      not_shorter above label first (above ++ own ∷ rest) is (in_below above own rest named unnamed) in
+      let short : wire_octets (above ++ own ∷ rest) ≤ 255 = is.short in
+      stands_below above label named (labels_above above (own ∷ rest) is.labels) first (omega arith)
+
+-- a label of a name is a label
+pub first_label_of : (above : Labels) (label : List ℕ) (rest : Labels) → IsName (above ++ label ∷ rest) → IsLabel label
+first_label_of above label rest is = label_of_name above label rest is.labels
+
+-- a name with one label more passed
+pub label_more : (name above rest after : Labels) (own octets : List ℕ) → name ≡ above ++ rest → rest ≡ octets ∷ after → own ≡ octets
+    → name ≡ (above ++ own ∷ []) ++ after
+label_more name above rest after own octets passed first same =
+    passed ∙ ap (λ (l : Labels). above ++ l) first ∙ ap (λ (l : List ℕ). above ++ l ∷ after) (sym same) ∙ sym (append_assoc above (own ∷ []) after)

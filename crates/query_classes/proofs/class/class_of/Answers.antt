@@ -1,0 +1,105 @@
+use Rattle.std.proofs.Common.{◌≡◌, ◌∙◌, ℕ, ◌<◌, List, [], ◌∷◌, ◌++◌, length, Contains, Option, Some, None, sym, ap, refl, subst, true≢false, arith}
+use Rattle.dns_data.specs.Name.{Labels, IsName}
+use Rattle.dns_data.proofs.Membership.{none_in_nil, has_first}
+use Rattle.net_model.specs.declared.class.Class.TheVariants.{Below}
+use Rattle.net_model.specs.Class.{IsClassOf}
+use Rattle.net_model.specs.Reading.{Ground, IsNamed, ReadsOnTo}
+use Rattle.label_graph.specs.LiveSet.{IsClosed, IsLiveSet, name_at}
+use Rattle.label_graph.proofs.LiveNames.{prefix_is_named}
+use Rattle.label_graph.proofs.TargetLinks.{place_among, among_place}
+use Rattle.query_classes.specs.Free.{IsFree}
+use Rattle.query_classes.specs.Members.{StandsFor}
+use Rattle.query_classes.proofs.ClassLaws.{one_class, in_below, below_stood, first_label_of, label_more}
+use Rattle.query_classes.proofs.class.class_of.Goals as goal
+
+-- a name without a live base name isn't named
+not_named : (ground : Ground) (name : Labels) (live : List ℕ) → IsLiveSet ground name live → live ≡ [] → IsNamed ground name → ⊥
+not_named ground name live of none named =
+    let (place, below, is) = place_among ground.names named.base named.among in
+    none_in_nil place (subst (λ (l : List ℕ). Contains l place) none
+    ((of.live place below).1 (subst (λ (n : Labels). ReadsOnTo ground.redirections name n) (sym is) named.reads)))
+
+-- one with a live base name is
+live_named : (ground : Ground) (name : Labels) (live : List ℕ) → IsLiveSet ground name live → (live ≡ [] → ⊥) → IsNamed ground name
+live_named ground name [] of some = absurd (some refl)
+live_named ground name (place ∷ live) of some =
+    let below : place < length ground.names = of.within 0 0 (omega arith) in
+    record { base = name_at ground.names place; among = among_place ground.names place below; reads = (of.live place below).0 (has_first place live) }
+
+-- a free label where one of a name's labels is free
+stood : (ground : Ground) → IsClosed ground → (above rest : Labels) (own : List ℕ) (found : Option (List ℕ)) → IsNamed ground above
+    → (IsNamed ground (above ++ own ∷ []) → ⊥) → IsName (above ++ own ∷ rest) → IsFree ground above found
+    → (name : Labels) × StandsFor ground (Below above) name
+stood ground closed above rest own None named unnamed is full = absurd (unnamed (full own (first_label_of above own rest is)))
+stood ground closed above rest own (Some label) named unnamed is first =
+    (above ++ label ∷ [], below_stood ground closed above label own rest named unnamed is first)
+
+-- the name with its next label
+at_label : (q above rest after : Labels) (own octets : List ℕ) → q ≡ above ++ rest → rest ≡ octets ∷ after → own ≡ octets → q ≡ above ++ own ∷ after
+at_label q above rest after own octets passed first same =
+    passed ∙ ap (λ (l : Labels). above ++ l) first ∙ ap (λ (l : List ℕ). above ++ l ∷ after) (sym same)
+
+pub returns-then-is_empty-clause-class : goal.returns-then-is_empty-clause-class
+returns-then-is_empty-clause-class c =
+    let graph : Ground = c.args.graph.now in
+    let above : Labels = c.loop-octets.above in
+    let own : List ℕ = c.in_ok-label.label in
+    let q_is = at_label c.args.q.now above c.loop-octets.rest c.next.new.self own c.in-Some.octets.now c.loop-octets.invariant.passed c.in-Some.ensures.first c.in_ok-label.ensures in
+    let unnamed = not_named graph (above ++ own ∷ []) c.in_ok-next.next (c.in_ok-next.ensures above c.loop-octets.invariant.live) (c.is_empty.ensures.0 c.if-is_empty.true) in
+    subst (λ (n : Labels). IsClassOf graph n (Below above)) (sym q_is)
+    (in_below graph c.graph_is_closed.ensures above own c.next.new.self c.loop-octets.invariant.named unnamed)
+
+pub returns-then-is_empty-clause-one : goal.returns-then-is_empty-clause-one
+returns-then-is_empty-clause-one c other of =
+    let graph : Ground = c.args.graph.now in
+    let above : Labels = c.loop-octets.above in
+    let own : List ℕ = c.in_ok-label.label in
+    let q_is = at_label c.args.q.now above c.loop-octets.rest c.next.new.self own c.in-Some.octets.now c.loop-octets.invariant.passed c.in-Some.ensures.first c.in_ok-label.ensures in
+    let unnamed = not_named graph (above ++ own ∷ []) c.in_ok-next.next (c.in_ok-next.ensures above c.loop-octets.invariant.live) (c.is_empty.ensures.0 c.if-is_empty.true) in
+    one_class graph c.args.q.now (Below above) other
+    (subst (λ (n : Labels). IsClassOf graph n (Below above)) (sym q_is)
+    (in_below graph c.graph_is_closed.ensures above own c.next.new.self c.loop-octets.invariant.named unnamed)) of
+
+pub returns-then-is_empty-clause-represented : goal.returns-then-is_empty-clause-represented
+returns-then-is_empty-clause-represented c =
+    let graph : Ground = c.args.graph.now in
+    let above : Labels = c.loop-octets.above in
+    let own : List ℕ = c.in_ok-label.label in
+    let q_is = at_label c.args.q.now above c.loop-octets.rest c.next.new.self own c.in-Some.octets.now c.loop-octets.invariant.passed c.in-Some.ensures.first c.in_ok-label.ensures in
+    let unnamed = not_named graph (above ++ own ∷ []) c.in_ok-next.next (c.in_ok-next.ensures above c.loop-octets.invariant.live) (c.is_empty.ensures.0 c.if-is_empty.true) in
+    stood graph c.graph_is_closed.ensures above c.next.new.self own c.in_ok-_free._free c.loop-octets.invariant.named unnamed
+    (subst IsName q_is c.labels-rest.ensures.name) (c.in_ok-_free.ensures above c.loop-octets.invariant.live)
+
+pub returns-then-is_empty-clause-prefixes : goal.returns-then-is_empty-clause-prefixes
+returns-then-is_empty-clause-prefixes c = prefix_is_named c.args.graph.now c.graph_is_closed.ensures
+
+pub returns-clause-prefixes : goal.returns-clause-prefixes
+returns-clause-prefixes c = prefix_is_named c.args.graph.now c.graph_is_closed.ensures
+
+pub loop-octets-preserved-in_ok-above : goal.loop-octets-preserved-in_ok-above
+loop-octets-preserved-in_ok-above c =
+    let graph : Ground = c.args.graph.now in
+    let above : Labels = c.loop-octets.above in
+    let own : List ℕ = c.in_ok-label.label in
+    let live = c.in_ok-next.ensures above c.loop-octets.invariant.live in
+    let passed = label_more c.args.q.now above c.loop-octets.rest c.next.new.self own c.in-Some.octets.now c.loop-octets.invariant.passed c.in-Some.ensures.first c.in_ok-label.ensures in
+    let named = live_named graph (above ++ own ∷ []) c.in_ok-next.next live (λ none. true≢false (sym (c.is_empty.ensures.1 none) ∙ c.if-is_empty.false)) in
+    record {
+      passed = passed ∙ ap (λ (n : Labels). n ++ c.next.new.self) (sym c.in_ok-above.ensures);
+      live = subst (λ (n : Labels). IsLiveSet graph n c.in_ok-next.next) (sym c.in_ok-above.ensures) live;
+      named = subst (IsNamed graph) (sym c.in_ok-above.ensures) named;
+    }
+
+pub loop-octets-preserved : goal.loop-octets-preserved
+loop-octets-preserved c =
+    let graph : Ground = c.args.graph.now in
+    let above : Labels = c.loop-octets.above in
+    let own : List ℕ = c.in_ok-label.label in
+    let live = c.in_ok-next.ensures above c.loop-octets.invariant.live in
+    let passed = label_more c.args.q.now above c.loop-octets.rest c.next.new.self own c.in-Some.octets.now c.loop-octets.invariant.passed c.in-Some.ensures.first c.in_ok-label.ensures in
+    let named = live_named graph (above ++ own ∷ []) c.in_ok-next.next live (λ none. true≢false (sym (c.is_empty.ensures.1 none) ∙ c.if-is_empty.false)) in
+    record {
+      passed = passed ∙ ap (λ (n : Labels). n ++ c.next.new.self) (sym c.in_ok-above.ensures);
+      live = subst (λ (n : Labels). IsLiveSet graph n c.in_ok-next.next) (sym c.in_ok-above.ensures) live;
+      named = subst (IsNamed graph) (sym c.in_ok-above.ensures) named;
+    }

@@ -1,0 +1,23 @@
+-- The class tree, a level at a time.
+use Rattle.std.specs.Prelude.{◌≡◌, ◌↔◌, ℕ, ◌≤◌, List, [], ◌∷◌, ◌++◌, Contains, map, nat_le}
+use Rattle.std.specs.List.{filter}
+use Rattle.dns_data.specs.Name.{Labels, wire_octets}
+use Rattle.net_model.specs.Reading.{Ground, IsNamed}
+use Rattle.label_graph.specs.LiveSet.{AreInOrder}
+
+-- the name is one label below the other
+abbrev pub IsOneBelow : Labels → Labels → Type 0
+IsOneBelow above name = (label : List ℕ) × (name ≡ above ++ label ∷ [])
+
+-- the name is in the class tree: it is named and has at most 255 octets
+abbrev pub IsInTree : Ground → Labels → Type 0
+IsInTree ground name = IsNamed ground name × (wire_octets name ≤ 255)
+
+-- the names are those of the class tree one label below the name, in order
+pub record AreChildren (ground : Ground) (above : Labels) (names : List Labels) : Type 0 where
+  pub ordered : AreInOrder names
+  pub all : (name : Labels) → Contains names name ↔ (IsInTree ground name × IsOneBelow above name)
+
+-- the name with each of the labels below, where that has at most 255 octets
+abbrev pub fitting : Labels → List (List ℕ) → List Labels
+fitting above labels = filter (λ name. nat_le (wire_octets name) 255) (map (λ label. above ++ label ∷ []) labels)

@@ -1,0 +1,23 @@
+-- What a class has, and the name that stands for it.
+use Rattle.std.specs.Prelude.{◌≤◌}
+use Rattle.dns_data.specs.Name.{Labels, IsName, wire_octets}
+use Rattle.net_model.specs.declared.class.Class.{Class}
+use Rattle.net_model.specs.declared.class.Class.TheVariants.{Exact, Below}
+use Rattle.net_model.specs.Class.{IsClassOf, IsRepresentative}
+use Rattle.net_model.specs.Reading.{Ground}
+
+-- the name by which a class goes
+abbrev pub class_name : Class → Labels
+class_name (Exact alone) = alone
+class_name (Below above) = above
+
+-- no name is in the class
+abbrev pub IsEmptyClass : Ground → Class → Type 0
+IsEmptyClass ground class = (member : Labels) → IsName member → IsClassOf ground member class → ⊥
+
+-- the name stands for the class: it is its representative and in it, and no name of the class has fewer octets
+pub record StandsFor (ground : Ground) (class : Class) (name : Labels) : Type 0 where
+  pub represents : IsRepresentative ground class name
+  pub is_name : IsName name
+  pub is_member : IsClassOf ground name class
+  pub shortest : (member : Labels) → IsName member → IsClassOf ground member class → wire_octets name ≤ wire_octets member
