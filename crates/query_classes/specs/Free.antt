@@ -7,5 +7,5 @@ use Rattle.net_model.specs.Reading.{Ground, IsNamed}
 
 -- the label is the first that makes an unnamed name below this one, or every label makes a named one
 abbrev pub IsFree : Ground → Labels → Option (List ℕ) → Type 0
-IsFree ground above found =
-    MatchOption found ((label : List ℕ) → IsLabel label → IsNamed ground (above ++ label ∷ [])) (IsFirstUnnamed ground above)
+IsFree basis above found =
+    MatchOption found ((label : List ℕ) → IsLabel label → IsNamed basis (above ++ label ∷ [])) (IsFirstUnnamed basis above)
