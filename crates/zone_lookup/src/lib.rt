@@ -10,3 +10,6 @@ mod answers;
 mod lookup;
 
 pub use lookup::find;
+
+#[cfg(test)]
+mod tests;
