@@ -11,3 +11,6 @@ mod sym_name;
 
 pub use substitution::{fits, substitute, substitute_sym};
 pub use sym_name::SymName;
+
+#[cfg(test)]
+mod tests;
