@@ -26,7 +26,8 @@ use Rattle.net_model.specs.Reading.{IsNamed, records, origins_and_owners, ground
 use Rattle.net_model.specs.Shown.{ShowsIn, with_sets}
 use Rattle.net_model.specs.Walk.{walk_along}
 use Rattle.groot_run.specs.Blackholes.{Alias, IsBlackhole, alias_place, blackhole_walk, blackhole_entry}
-use Rattle.groot_run.specs.Report.{repeats, ClassShows, PathsShow, paths_cmp, IsEntry}
+use Rattle.graph_form.specs.Report.{repeats, PathsShow, paths_cmp}
+use Rattle.groot_run.specs.Report.{ClassShows, IsEntry}
 use Rattle.groot_run.proofs.FirstAliases.{target_differs}
 use Rattle.groot_run.proofs.FirstBlackholes.{owns_blackhole, shown_is_alias, only_blackhole, blackhole_walk_shows, owner_shows}
 use Rattle.groot_run.proofs.FirstNearest.{config_for}

@@ -23,7 +23,8 @@ use Rattle.net_model.specs.Nearest.{server_names}
 use Rattle.net_model.specs.Reading.{zones, ground_of}
 use Rattle.groot_run.specs.Blackholes.{Alias, IsBlackhole, AreBlackholes, alias_place, blackhole_entry, blackhole_entries}
 use Rattle.groot_run.specs.FirstShape.{is_first_shape, one_zone, is_first_config}
-use Rattle.groot_run.specs.Report.{Entry, is_looked_for, IsEntry, IsShown, IsTreeSize, IsReport}
+use Rattle.graph_form.specs.declared.report.ReportEntry.{ReportEntry}
+use Rattle.groot_run.specs.Report.{is_looked_for, IsEntry, IsShown, IsTreeSize, IsReport}
 use Rattle.groot_run.proofs.BlackholeEntry.{owner_is_name, entry_right}
 use Rattle.groot_run.proofs.FirstBlackholes.{shown_is_alias, owner_shows}
 use Rattle.groot_run.proofs.FirstNearest.{config_for}
@@ -61,11 +62,11 @@ module _ (server : Labels) (zone : Zone) (first : IsFirstZone zone) (rewrites : 
 
   -- each fault that a query shows is that of an entry
   shown_has_entry : (aliases : List Alias) → AreBlackholes zone aliases → (fault : Fault) → IsShown config rewrites fault
-      → Contains (map (λ entry. entry.fault) (blackhole_entries server zone.origin aliases)) fault
+      → Contains (map (λ entry. entry.seen.fault) (blackhole_entries server zone.origin aliases)) fault
   shown_has_entry aliases are (Blackhole place) shown =
       let alias = shown_is_alias server zone first rewrites some shown.query shown.rtype place shown.shows in
-      subst (λ (p : Place). Contains (map (λ entry. entry.fault) (blackhole_entries server zone.origin aliases)) (Blackhole p)) alias.3
-      (map_has (λ (entry : Entry). entry.fault) (blackhole_entries server zone.origin aliases) (blackhole_entry server zone.origin alias.0)
+      subst (λ (p : Place). Contains (map (λ entry. entry.seen.fault) (blackhole_entries server zone.origin aliases)) (Blackhole p)) alias.3
+      (map_has (λ (entry : ReportEntry). entry.seen.fault) (blackhole_entries server zone.origin aliases) (blackhole_entry server zone.origin alias.0)
       (map_has (blackhole_entry server zone.origin) aliases alias.0 ((are.all alias.0).1 alias.1)))
   shown_has_entry aliases are fault shown = let looked_for : is_looked_for fault ≡ true = shown.looked_for in cc
 
@@ -78,13 +79,13 @@ module _ (server : Labels) (zone : Zone) (first : IsFirstZone zone) (rewrites : 
         size = size;
         limit = refl;
         ordered =
-            pairs_of_images (blackhole_entry server zone.origin) (λ (a b : Entry). fault_cmp a.fault b.fault ≡ Less) aliases
+            pairs_of_images (blackhole_entry server zone.origin) (λ (a b : ReportEntry). fault_cmp a.seen.fault b.seen.fault ≡ Less) aliases
             (λ i j d before within. places_as_owners server zone.origin (get_or aliases i d) (get_or aliases j d) (are.ordered i j d before within));
         each_right =
             all_images (blackhole_entry server zone.origin) (IsEntry config rewrites) aliases
             (λ alias among. entry_right server zone first named rewrites some alias ((are.all alias).0 among));
         each_shown =
-            all_images (blackhole_entry server zone.origin) (λ (entry : Entry). IsShown config rewrites entry.fault) aliases
+            all_images (blackhole_entry server zone.origin) (λ (entry : ReportEntry). IsShown config rewrites entry.seen.fault) aliases
             (λ alias among. entry_shown named alias ((are.all alias).0 among));
         all_shown = shown_has_entry aliases are;
       }

@@ -15,7 +15,6 @@ pub mod OneOutcome
 pub mod OneReport
 pub mod OnlyWalk
 pub mod PlainAliases
-pub mod ReportValues
 pub mod SortedNames
 pub mod SortedTree
 pub mod ZoneAliases

@@ -9,7 +9,9 @@ use Rattle.net_model.specs.declared.config.Config.{Config}
 use Rattle.net_model.specs.FaultOrder.{fault_cmp}
 use Rattle.net_model.specs.Reading.{Ground, ground_of}
 use Rattle.net_model.specs.Tree.{IsClassTree, AreBelowClasses}
-use Rattle.groot_run.specs.Report.{Entry, Report, IsEntry, IsShown, IsTreeSize, IsReport}
+use Rattle.graph_form.specs.declared.report.Report.{Report}
+use Rattle.graph_form.specs.declared.report.ReportEntry.{ReportEntry}
+use Rattle.groot_run.specs.Report.{IsEntry, IsShown, IsTreeSize, IsReport}
 use Rattle.groot_run.proofs.OneEntry.{one_entry}
 use Rattle.net_model.proofs.FaultOrder.{faults_total}
 use Rattle.dns_data.proofs.Membership.{from_map}
@@ -44,26 +46,26 @@ module _ (ground : Ground) where
 -- ---- the entries
 
 module _ (config : Config) (rewrites : ℕ) where
-  entry_right : (report : Report) → IsReport config rewrites report → (entry : Entry) → Contains report.entries entry → IsEntry config rewrites entry
+  entry_right : (report : Report) → IsReport config rewrites report → (entry : ReportEntry) → Contains report.entries entry → IsEntry config rewrites entry
   entry_right report is entry has =
       All-contains (IsEntry config rewrites) report.entries entry (All-from_recursion (IsEntry config rewrites) report.entries is.each_right) has
 
-  entry_shown : (report : Report) → IsReport config rewrites report → (entry : Entry) → Contains report.entries entry → IsShown config rewrites entry.fault
+  entry_shown : (report : Report) → IsReport config rewrites report → (entry : ReportEntry) → Contains report.entries entry → IsShown config rewrites entry.seen.fault
   entry_shown report is entry has =
-      let shown = λ (entry : Entry). IsShown config rewrites entry.fault in
+      let shown = λ (entry : ReportEntry). IsShown config rewrites entry.seen.fault in
       All-contains shown report.entries entry (All-from_recursion shown report.entries is.each_shown) has
 
   -- an entry of one report is in the other
-  also_listed : (a b : Report) → IsReport config rewrites a → IsReport config rewrites b → (entry : Entry) → Contains a.entries entry → Contains b.entries entry
+  also_listed : (a b : Report) → IsReport config rewrites a → IsReport config rewrites b → (entry : ReportEntry) → Contains a.entries entry → Contains b.entries entry
   also_listed a b p q entry has =
-      let found = from_map (λ (entry : Entry). entry.fault) b.entries entry.fault (q.all_shown entry.fault (entry_shown a p entry has)) in
+      let found = from_map (λ (entry : ReportEntry). entry.seen.fault) b.entries entry.seen.fault (q.all_shown entry.seen.fault (entry_shown a p entry has)) in
       let same = one_entry config rewrites found.0 entry (entry_right b q found.0 found.1) (entry_right a p entry has) found.2 in
       subst (Contains b.entries) same found.1
 
   -- so both list the same entries
   one_list : (a b : Report) → IsReport config rewrites a → IsReport config rewrites b → a.entries ≡ b.entries
   one_list a b p q =
-      same_rising (on (λ (entry : Entry). entry.fault) fault_cmp) (on_total (λ (entry : Entry). entry.fault) faults_total)
+      same_rising (on (λ (entry : ReportEntry). entry.seen.fault) fault_cmp) (on_total (λ (entry : ReportEntry). entry.seen.fault) faults_total)
       a.entries b.entries p.ordered q.ordered (also_listed a b p q) (also_listed b a q p)
 
 -- reports with the same fields are one

@@ -10,9 +10,10 @@ use Rattle.net_model.specs.declared.fault.Fault.TheVariants.{Blackhole}
 use Rattle.net_model.specs.declared.place.Place.{Place}
 use Rattle.net_model.specs.declared.walk.Hop.TheVariants.{Rewrite}
 use Rattle.net_model.specs.declared.walk.Leaf.TheVariants.{NxDomain}
+use Rattle.net_model.specs.declared.walk.State.{State}
 use Rattle.net_model.specs.declared.walk.Walk.{Walk}
 use Rattle.net_model.specs.Zone.{exists_in}
-use Rattle.groot_run.specs.Report.{Entry}
+use Rattle.graph_form.specs.declared.report.ReportEntry.{ReportEntry}
 
 -- the owner and the target of a CNAME record
 pub record Alias : Type 0 where
@@ -37,28 +38,34 @@ pub record AreBlackholes (zone : Zone) (aliases : List Alias) : Type 0 where
 abbrev pub alias_place : Labels → Labels → Alias → Place
 alias_place server origin alias = record { server = server; zone = origin; owner = alias.owner }
 
+-- the state in which the query for an alias's owner begins, and that to which the alias leads
+abbrev pub owner_state : Labels → Labels → Alias → State
+owner_state server origin alias =
+    record { server = server; name = alias.owner; carried = true; cut = 0; used = 0; last = None; zone = Some origin }
+
+abbrev pub target_state : Labels → Labels → Alias → State
+target_state server origin alias =
+    record { server = server; name = alias.target; carried = false; cut = 0; used = 1; last = Some (alias_place server origin alias); zone = Some origin }
+
 -- the walk of a query for the owner, with a type other than CNAME: to the target, which doesn't exist
 abbrev pub blackhole_walk : Labels → Labels → Alias → Walk
 blackhole_walk server origin alias =
     record {
-      states = record { server = server; name = alias.owner; carried = true; cut = 0; used = 0; last = None; zone = Some origin }
-          ∷ record { server = server; name = alias.target; carried = false; cut = 0; used = 1; last = Some (alias_place server origin alias); zone = Some origin }
-          ∷ [];
+      states = owner_state server origin alias ∷ target_state server origin alias ∷ [];
       hops = Rewrite (alias_place server origin alias) false alias.target ∷ [];
       leaf = NxDomain;
     }
 
 -- the entry of an alias that is a blackhole: the query for its owner with the first type shows it
-abbrev pub blackhole_entry : Labels → Labels → Alias → Entry
+abbrev pub blackhole_entry : Labels → Labels → Alias → ReportEntry
 blackhole_entry server origin alias =
     record {
-      fault = Blackhole (alias_place server origin alias);
-      rtype = A;
+      seen = record { fault = Blackhole (alias_place server origin alias); rtype = A };
       query = alias.owner;
       repeats = false;
       walks = blackhole_walk server origin alias ∷ [];
     }
 
 -- the entries of a zone's blackholes
-abbrev pub blackhole_entries : Labels → Labels → List Alias → List Entry
+abbrev pub blackhole_entries : Labels → Labels → List Alias → List ReportEntry
 blackhole_entries server origin aliases = map (blackhole_entry server origin) aliases

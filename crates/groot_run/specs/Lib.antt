@@ -10,8 +10,8 @@ pub use Rattle.net_model.specs.Shown
 pub use Rattle.net_model.specs.Step
 pub use Rattle.net_model.specs.Tree
 pub use Rattle.net_model.specs.Walk
-pub use Rattle.serde_json.specs.Data
-pub use Rattle.serde_json.specs.Written
+pub use Rattle.graph_form.specs.Report as WalkReport
+pub use Rattle.report_json.specs.Report as ReportText
 pub use Rattle.io_edges.specs.Counts
 pub use Rattle.io_edges.specs.Files
 pub use Rattle.config_load.specs.Conf
@@ -24,8 +24,6 @@ pub mod FirstShape
 pub mod Blackholes
 pub mod Aliases
 pub mod Report
-pub mod ReportText
-pub mod ReportParts
 pub mod Outcome
 pub mod Writing
 pub mod Line

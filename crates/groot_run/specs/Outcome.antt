@@ -8,6 +8,9 @@ use Rattle.config_load.specs.Load.{ComesTo, NoReadFailed}
 use Rattle.config_load.specs.Reading.{Reading, Reads, Refuses, Misses, Unknown}
 use Rattle.config_load.specs.Refusal.{fields_line, refusal_line}
 use Rattle.config_load.specs.declared.fault.LoadFault.{LoadFault}
+use Rattle.graph_form.specs.declared.report.Report.{Report}
+use Rattle.graph_form.specs.declared.report.ReportEntry.{ReportEntry}
+use Rattle.report_json.specs.Report.{report_text}
 use Rattle.groot_line.specs.Usage.{usage_line}
 use Rattle.groot_line.specs.declared.fault.LineFault.{LineFault}
 use Rattle.groot_line.specs.declared.job.Job.{Job}
@@ -16,8 +19,7 @@ use Rattle.groot_run.specs.declared.ending.Ending.{Ending}
 use Rattle.groot_run.specs.declared.status.Status.{Status}
 use Rattle.groot_run.specs.declared.status.Status.TheVariants.{Clean, Faults, Usage, Refused, Classes, States, Walks, ReadFault, WriteFault, NoMemory}
 use Rattle.groot_run.specs.FirstShape.{is_first_config}
-use Rattle.groot_run.specs.Report.{Report, IsReport, IsTreeSize, Entry}
-use Rattle.groot_run.specs.ReportText.{report_text}
+use Rattle.groot_run.specs.Report.{IsReport, IsTreeSize}
 
 -- the number of a status, as the program ends with it
 abbrev pub status_number : Status → ℕ
@@ -33,7 +35,7 @@ status_number WriteFault = 6
 status_number NoMemory = 7
 
 -- the status of a report that is written whole
-abbrev pub status_of : List Entry → Status
+abbrev pub status_of : List ReportEntry → Status
 status_of [] = Clean
 status_of (entry ∷ entries) = Faults
 

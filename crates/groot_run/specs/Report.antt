@@ -21,36 +21,14 @@ use Rattle.net_model.specs.Reading.{Ground, ground_of, IsNamed}
 use Rattle.net_model.specs.Shown.{ShowsIn, WalksShow, with_sets}
 use Rattle.net_model.specs.Step.{Setting, following}
 use Rattle.net_model.specs.Tree.{IsClassTree, AreBelowClasses}
-use Rattle.net_model.specs.Walk.{walk_along, path_cmp}
-
--- A fault with the query and the type that show it first, whether the first walk comes to a server twice with one
--- name, and the walks.
-pub record Entry : Type 0 where
-  pub fault : Fault
-  pub rtype : RrType
-  pub query : Labels
-  pub repeats : Bool
-  pub walks : List Walk
-
-pub record Report : Type 0 where
-  pub classes : ℕ
-  pub names : ℕ
-  pub rewrites : ℕ
-  pub entries : List Entry
+use Rattle.graph_form.specs.Report.{repeats, PathsShow, paths_cmp}
+use Rattle.graph_form.specs.declared.report.Report.{Report}
+use Rattle.graph_form.specs.declared.report.ReportEntry.{ReportEntry}
 
 -- the kinds of fault that are looked for
 abbrev pub is_looked_for : Fault → Bool
 is_looked_for (Blackhole place) = true
 is_looked_for fault = false
-
--- two states are at one server with one name
-abbrev pub is_same_place : State → State → Bool
-is_same_place a b = name_eq a.server b.server && name_eq a.name b.name
-
--- two of the states are
-abbrev pub repeats : List State → Bool
-repeats [] = false
-repeats (state ∷ states) = list_any (is_same_place state) states || repeats states
 
 -- it is a class of the tree: of a name that is named
 abbrev pub IsClass : Config → Class → Type 0
@@ -63,27 +41,18 @@ pub record ClassShows (config : Config) (rewrites : ℕ) (class : Class) (query 
   pub represents : IsRepresentative (ground_of config) class query
   pub shows : ShowsIn config rewrites query rtype fault
 
--- the walks along these lists of branch numbers, in order, are walks of the query that show the fault
-pub record PathsShow (setting : Setting) (query : Labels) (rtype : RrType) (fault : Fault) (paths : List (List ℕ)) (walks : List Walk) : Type 0 where
-  pub are_walks : map (walk_along setting query rtype) paths ≡ map Some walks
-  pub show : WalksShow (with_sets setting) walks fault
-
--- the order of walks, and of pairs of walks by the earlier and then the later one
-abbrev pub paths_cmp : List (List ℕ) → List (List ℕ) → Ordering
-paths_cmp a b = slice_cmp path_cmp a b
-
 -- the entry has the first representative in class order that shows its fault, then the first type in number
 -- order, then the first walk or pair of walks
-pub record IsEntry (config : Config) (rewrites : ℕ) (entry : Entry) : Type 0 where
+pub record IsEntry (config : Config) (rewrites : ℕ) (entry : ReportEntry) : Type 0 where
   pub class : Class
   pub followed : List Labels
   pub paths : List (List ℕ)
   pub in_force : IsInForce config rewrites followed
-  pub shown : ClassShows config rewrites class entry.query entry.rtype entry.fault
-  pub first_class : (other : Class) (query : Labels) (rtype : RrType) → ClassShows config rewrites other query rtype entry.fault → class_cmp other class ≢ Less
-  pub first_type : (rtype : RrType) → ShowsIn config rewrites entry.query rtype entry.fault → number_of entry.rtype ≤ number_of rtype
-  pub walks : PathsShow (following config rewrites followed) entry.query entry.rtype entry.fault paths entry.walks
-  pub first_walks : (others : List (List ℕ)) (walks : List Walk) → PathsShow (following config rewrites followed) entry.query entry.rtype entry.fault others walks → paths_cmp others paths ≢ Less
+  pub shown : ClassShows config rewrites class entry.query entry.seen.rtype entry.seen.fault
+  pub first_class : (other : Class) (query : Labels) (rtype : RrType) → ClassShows config rewrites other query rtype entry.seen.fault → class_cmp other class ≢ Less
+  pub first_type : (rtype : RrType) → ShowsIn config rewrites entry.query rtype entry.seen.fault → number_of entry.seen.rtype ≤ number_of rtype
+  pub walks : PathsShow (following config rewrites followed) entry.query entry.seen.rtype entry.seen.fault paths entry.walks
+  pub first_walks : (others : List (List ℕ)) (walks : List Walk) → PathsShow (following config rewrites followed) entry.query entry.seen.rtype entry.seen.fault others walks → paths_cmp others paths ≢ Less
   pub repeats : (first : Walk) → slice_get entry.walks 0 ≡ Some first → entry.repeats ≡ repeats first.states
 
 -- some query, which is a name, shows the fault with one of the twelve types
@@ -107,7 +76,7 @@ pub record IsTreeSize (ground : Ground) (names classes : ℕ) : Type 0 where
 pub record IsReport (config : Config) (rewrites : ℕ) (report : Report) : Type 0 where
   pub size : IsTreeSize (ground_of config) report.names report.classes
   pub limit : report.rewrites ≡ rewrites
-  pub ordered : AllPairs (λ a b. fault_cmp a.fault b.fault ≡ Less) report.entries
+  pub ordered : AllPairs (λ a b. fault_cmp a.seen.fault b.seen.fault ≡ Less) report.entries
   pub each_right : AllByRecursion (IsEntry config rewrites) report.entries
-  pub each_shown : AllByRecursion (λ entry. IsShown config rewrites entry.fault) report.entries
-  pub all_shown : (fault : Fault) → IsShown config rewrites fault → Contains (map (λ entry. entry.fault) report.entries) fault
+  pub each_shown : AllByRecursion (λ entry. IsShown config rewrites entry.seen.fault) report.entries
+  pub all_shown : (fault : Fault) → IsShown config rewrites fault → Contains (map (λ entry. entry.seen.fault) report.entries) fault

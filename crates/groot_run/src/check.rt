@@ -2,7 +2,7 @@
 
 ghost use Rattle.std.specs.Prelude.{◌≡◌, ◌⊎◌, ◌<◌, true, IfOk};
 ghost use Rattle.groot_run.specs.FirstShape.{is_first_config};
-ghost use Rattle.groot_run.specs.Outcome.{Checks, IsChecked, no_memory};
+ghost use Rattle.groot_run.specs.Outcome.{Checks, IsChecked, status_of, no_memory};
 
 use crate::ending::Ending;
 use crate::line::Line;
@@ -10,8 +10,10 @@ use crate::report::report;
 use crate::shape::is_first_config;
 use crate::status::Status;
 use crate::tree::tree_size;
-use dns_data::{NoMemory, Octets};
+use dns_data::NoMemory;
+use graph_form::ReportEntry;
 use net_model::Config;
+use report_json::report_text;
 use std::alloc::Global;
 
 /// How large a check may be: how many names the class tree may have, and how many rewrites a query may use.
@@ -55,14 +57,20 @@ fn reported(alloc: Global, config: &Config, limits: Limits) -> Result<Ending, No
     if size.names > limits.classes {
         return Ok(Ending::too_many_names(alloc, limits.classes));
     }
-    let written = report(alloc, config, &size, limits.rewrites)?;
+    let report = report(alloc, config, &size, limits.rewrites)?;
     Ok(Ending {
-        status: if written.entries == 0 {
-            Status::Clean
-        } else {
-            Status::Faults
-        },
-        out: Octets::from_vec(written.text),
+        status: status_of(report.entries.items()),
+        out: report_text(alloc, &report)?,
         err: Line::fixed(""),
     })
+}
+
+/// The status of a report with these entries.
+fn status_of(entries: &[ReportEntry]) -> Status
+    ensures { result ≡ status_of entries.now }
+{
+    match entries {
+        [] => Status::Clean,
+        _ => Status::Faults,
+    }
 }

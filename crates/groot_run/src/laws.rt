@@ -7,7 +7,8 @@ ghost use Rattle.groot_line.specs.declared.fault.LineFault.{LineFault};
 ghost use Rattle.groot_line.specs.declared.job.Job.{Job};
 ghost use Rattle.groot_run.specs.declared.ending.Ending.{Ending};
 ghost use Rattle.groot_run.specs.Outcome.{Outcome};
-ghost use Rattle.groot_run.specs.Report.{IsReport, Report};
+ghost use Rattle.graph_form.specs.declared.report.Report.{Report};
+ghost use Rattle.groot_run.specs.Report.{IsReport};
 
 /// A configuration has at most one report with so many rewrites.
 pub fn one_report()
