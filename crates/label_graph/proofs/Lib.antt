@@ -1,3 +1,4 @@
+pub mod BaseGround
 pub mod FoldedLabels
 pub mod GraphSets
 pub mod InOrder

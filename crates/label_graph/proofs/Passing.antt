@@ -1,5 +1,7 @@
 -- What holds of some item of a list's front, and of a front with one item more.
-use Rattle.std.proofs.Common.{◌≡◌, ◌∙◌, ℕ, ◌+◌, ◌<◌, ◌≤◌, ◌⊎◌, List, [], ◌∷◌, ◌++◌, length, take, get_or, Contains, inl, inr, sym, subst}
+use Rattle.std.specs.List.{flat_map}
+use Rattle.std.proofs.lemmas.Grind.{flat_map-append}
+use Rattle.std.proofs.Common.{ap, append-nil, ◌≡◌, ◌∙◌, ℕ, ◌+◌, ◌<◌, ◌≤◌, ◌⊎◌, List, [], ◌∷◌, ◌++◌, length, take, get_or, Contains, inl, inr, sym, subst}
 use Rattle.std.proofs.lemmas.List.{take_more, take_all}
 use Rattle.std.proofs.lemmas.List.Elements.{Contains-append_left, Contains-append_right, Contains-append_cases}
 use Rattle.std.specs.Prelude.{◌↔◌}
@@ -108,3 +110,10 @@ push_iff xs x P p only y = (
 -- no item put where none is so
 pub keep_iff : {X : Type 0} (xs : List X) (P : X → Type 0) → ((y : X) → P y → ⊥) → (y : X) → Contains xs y ↔ (Contains xs y ⊎ P y)
 keep_iff xs P none y = (λ has. inl has, λ either. elim either [ inl has ↦ has | inr new ↦ absurd (none y new) ])
+
+-- lists of items in a row, with one item more
+pub flat_more : {X Y : Type 0} (f : X → List Y) (xs : List X) (k : ℕ) (x : X) → k < length xs → x ≡ get_or xs k x
+    → flat_map f (take (k + 1) xs) ≡ flat_map f (take k xs) ++ f x
+flat_more {X = X} {Y = Y} f xs k x below is =
+    ap (flat_map f) (take_more xs k x below ∙ ap (λ (y : X). take k xs ++ y ∷ []) (sym is)) ∙ flat_map-append f (take k xs) (x ∷ [])
+    ∙ ap (λ (l : List Y). flat_map f (take k xs) ++ l) (append-nil (f x))

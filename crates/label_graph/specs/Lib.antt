@@ -1,6 +1,7 @@
 pub use Rattle.dns_data.specs.Label
 pub use Rattle.dns_data.specs.Name
 pub use Rattle.net_model.specs.Reading
+pub mod Base
 pub mod Graphs
 pub mod LinkRows
 pub mod LastLabel

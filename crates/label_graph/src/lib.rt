@@ -9,6 +9,7 @@
 //! a label more costs a binary search for each place. The labels below a live set are listed without a search.
 #![tactic(auto)]
 
+mod base;
 mod graph;
 pub mod laws;
 mod links;
@@ -21,6 +22,7 @@ mod saturation;
 mod sorting;
 mod targets;
 
+pub use base::{BaseNames, base_of};
 pub use graph::LabelGraph;
 pub use live::LiveSet;
 pub use pair::Pair;

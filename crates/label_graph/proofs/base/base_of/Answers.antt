@@ -1,0 +1,67 @@
+use Rattle.std.proofs.Common.{◌≡◌, ◌∙◌, List, [], ◌∷◌, ◌++◌, map, take, Contains, inl, inr, sym, ap, subst}
+use Rattle.std.specs.Prelude.{◌↔◌}
+use Rattle.std.specs.List.{flat_map}
+use Rattle.std.specs.Cmp.Lexicographic.{nat_list_eq_equiv, lists_equiv, lists_ties, texts_ties}
+use Rattle.std.proofs.lemmas.List.{take_all}
+use Rattle.dns_data.specs.Label.{label_cmp}
+use Rattle.dns_data.specs.Name.{Labels, name_cmp, name_eq}
+use Rattle.dns_data.proofs.NameOrder.{names_total}
+use Rattle.dns_data.proofs.Names.{name_eq_decides}
+use Rattle.net_model.specs.declared.config.Server.{Server}
+use Rattle.net_model.specs.Reading.{Redirection, redirections_of, ground_of}
+use Rattle.label_graph.specs.Base.{IsInServer, server_redirections}
+use Rattle.label_graph.specs.Pairs.{redirection}
+use Rattle.label_graph.proofs.BaseGround.{base_closed, base_names, base_redirections}
+use Rattle.label_graph.proofs.InOrder.{once_in_order, in_order_has, from_in_order}
+use Rattle.label_graph.proofs.Passing.{more_iff, some_all, all_some, flat_more}
+use Rattle.label_graph.proofs.base.base_of.Goals as goal
+
+pub loop-server-preserved : goal.loop-server-preserved
+loop-server-preserved c =
+    record {
+      names = λ name. more_iff (IsInServer name) c.items-server-items.result.now c.loop-server.server-index c.server-item.result c.loop-server-test.true c.server-item.is
+          _ _ _ (c.loop-server.invariant.names name) (c.in_ok-put_server.ensures.names name);
+      pairs =
+          c.in_ok-put_server.ensures.pairs
+          ∙ ap (λ (l : List Redirection). l ++ server_redirections c.server-item.result) c.loop-server.invariant.pairs
+          ∙ sym (flat_more server_redirections c.items-server-items.result.now c.loop-server.server-index c.server-item.result c.loop-server-test.true c.server-item.is);
+    }
+
+pub returns-clause-order : goal.returns-clause-order
+returns-clause-order c =
+    rw c.from_vec.ensures
+    (once_in_order name_cmp names_total name_eq (lists_ties label_cmp texts_ties) (lists_equiv nat_list_eq_equiv) (λ x y. (name_eq_decides x y).0) _ _ c.in_ok-names.ensures)
+
+pub returns-clause-same : goal.returns-clause-same
+returns-clause-same c =
+    record {
+      names = λ name. rw c.from_vec.ensures (there name, back name);
+      redirections = λ r. rw (c.from_vec-2.ensures, pairs) (base_redirections c.args.config.now r);
+    }
+  where
+    servers : c.items-server-items.result.now ≡ c.args.config.now.servers
+    servers = c.items-server-items.ensures
+
+    pairs : map redirection c.loop-server.dnames.items ≡ flat_map server_redirections c.args.config.now.servers
+    pairs =
+        c.loop-server.invariant.pairs
+        ∙ ap (flat_map server_redirections) (take_all c.loop-server.server-index c.items-server-items.result.now c.loop-server-test.false ∙ servers)
+
+    there : (name : Labels) → Contains c.in_ok-names.names.items name → Contains (ground_of c.args.config.now).names name
+    there name has =
+        let put = from_in_order name_cmp names_total name_eq (lists_ties label_cmp texts_ties) (lists_equiv nat_list_eq_equiv) (λ x y. (name_eq_decides x y).0) _ _ c.in_ok-names.ensures name has in
+        (base_names c.args.config.now name).0 (elim ((c.loop-server.invariant.names name).0 put) [
+          | inl root ↦ inl root
+          | inr some ↦ inr (rw (← servers) (some_all (IsInServer name) c.items-server-items.result.now c.loop-server.server-index c.loop-server-test.false some))
+        ])
+
+    back : (name : Labels) → Contains (ground_of c.args.config.now).names name → Contains c.in_ok-names.names.items name
+    back name has =
+        in_order_has name_cmp names_total name_eq (lists_ties label_cmp texts_ties) (lists_equiv nat_list_eq_equiv) (λ x y. (name_eq_decides x y).0) _ _ c.in_ok-names.ensures name
+        ((c.loop-server.invariant.names name).1 (elim ((base_names c.args.config.now name).1 has) [
+          | inl root ↦ inl root
+          | inr some ↦ inr (all_some (IsInServer name) c.items-server-items.result.now c.loop-server.server-index c.loop-server-test.false (rw servers some))
+        ]))
+
+pub returns-clause-closed : goal.returns-clause-closed
+returns-clause-closed c = base_closed c.args.config.now _ (returns-clause-same c)

@@ -1,0 +1,25 @@
+-- The base names of a configuration, zone by zone.
+use Rattle.std.specs.Prelude.{◌⊎◌, List}
+use Rattle.std.specs.List.{flat_map}
+use Rattle.dns_data.specs.Name.{Labels}
+use Rattle.net_model.specs.declared.config.Server.{Server}
+use Rattle.net_model.specs.declared.config.Zone.{Zone}
+use Rattle.net_model.specs.Reading.{Redirection, redirection_of}
+use Rattle.label_graph.specs.Graphs.{SomeItem}
+use Rattle.label_graph.specs.Targets.{IsFrontFrom}
+
+-- the name is a front of the zone's origin or of the owner of one of its records
+abbrev pub IsInZone : Labels → Zone → Type 0
+IsInZone name zone = IsFrontFrom 0 zone.origin name ⊎ SomeItem (λ rr. IsFrontFrom 0 rr.owner name) zone.rrs
+
+-- the same of a zone of the server
+abbrev pub IsInServer : Labels → Server → Type 0
+IsInServer name server = SomeItem (IsInZone name) server.zones
+
+-- the redirections of a zone's records
+abbrev pub zone_redirections : Zone → List Redirection
+zone_redirections zone = flat_map (λ rr. redirection_of rr.owner rr.rdata) zone.rrs
+
+-- those of a server's zones
+abbrev pub server_redirections : Server → List Redirection
+server_redirections server = flat_map zone_redirections server.zones

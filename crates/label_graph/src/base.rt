@@ -1,0 +1,99 @@
+//! The base names of a configuration.
+
+ghost use Rattle.std.specs.Prelude.{◌≡◌, ◌↔◌, ◌⊎◌, [], ◌++◌, map, Contains, IfOk, OnOk};
+ghost use Rattle.std.specs.List.{flat_map};
+ghost use Rattle.dns_data.specs.Name.{Labels};
+ghost use Rattle.net_model.specs.Reading.{redirection_of, ground_of};
+ghost use Rattle.label_graph.specs.Base.{IsInServer, IsInZone, server_redirections, zone_redirections};
+ghost use Rattle.label_graph.specs.LiveSet.{AreInOrder, IsClosed};
+ghost use Rattle.label_graph.specs.Pairs.{redirection, ground_with, AreSame};
+ghost use Rattle.label_graph.specs.Targets.{IsFrontFrom};
+
+use crate::pair::Pair;
+use crate::parts::put_fronts;
+use crate::sorting::in_order;
+use dns_data::{List, Name, NoMemory, Rdata, Rr};
+use net_model::{Config, Server, Zone};
+use std::alloc::Global;
+
+/// Base names in order, each once, and the pairs of DNAME records.
+#[derive(Debug, Drop)]
+pub struct BaseNames {
+    pub names: List<Name>,
+    pub dnames: List<Pair>,
+}
+
+/// The base names of the configuration: the root, and all prefixes of its zones' origins and its records' owners; with
+/// the pairs of its DNAME records.
+pub fn base_of(alloc: Global, config: &Config) -> Result<BaseNames, NoMemory>
+    ensures same { IfOk result (λ base. AreSame (ground_with base.names base.dnames) (ground_of config.now)) }
+    ensures closed { IfOk result (λ base. IsClosed (ground_with base.names base.dnames)) }
+    ensures order { IfOk result (λ base. AreInOrder base.names) }
+{
+    let mut names = Vec::new(alloc);
+    let mut dnames = Vec::new(alloc);
+    names.push(Name::root())?;
+    for server in config.servers.items() {
+        put_server(alloc, server, &mut names, &mut dnames)?;
+    }
+    let names = in_order(names)?;
+    Ok(BaseNames {
+        names: List::from_vec(names),
+        dnames: List::from_vec(dnames),
+    })
+}
+
+/// Puts the fronts of the origins and owners of a server, and the pairs of its DNAME records, at the end.
+fn put_server(
+    alloc: Global,
+    server: &Server,
+    names: &mut Vec<Name>,
+    dnames: &mut Vec<Pair>,
+) -> Result<(), NoMemory>
+    ensures names { OnOk result ((name : Labels) → Contains names.new.items name ↔ (Contains names.old.items name ⊎ IsInServer name server.now)) }
+    ensures pairs { OnOk result (map redirection dnames.new.items ≡ map redirection dnames.old.items ++ server_redirections server.now) }
+{
+    for zone in server.zones.items() {
+        put_zone(alloc, zone, names, dnames)?;
+    }
+    Ok(())
+}
+
+/// Puts the fronts of the origin and the owners of a zone, and the pairs of its DNAME records, at the end.
+fn put_zone(
+    alloc: Global,
+    zone: &Zone,
+    names: &mut Vec<Name>,
+    dnames: &mut Vec<Pair>,
+) -> Result<(), NoMemory>
+    ensures names { OnOk result ((name : Labels) → Contains names.new.items name ↔ (Contains names.old.items name ⊎ IsInZone name zone.now)) }
+    ensures pairs { OnOk result (map redirection dnames.new.items ≡ map redirection dnames.old.items ++ zone_redirections zone.now) }
+{
+    put_fronts(alloc, names, &zone.origin, 0)?;
+    for rr in zone.rrs.items() {
+        put_record(alloc, rr, names, dnames)?;
+    }
+    Ok(())
+}
+
+/// Puts the fronts of the owner of a record, and its pair if it is a DNAME record, at the end.
+fn put_record(
+    alloc: Global,
+    rr: &Rr,
+    names: &mut Vec<Name>,
+    dnames: &mut Vec<Pair>,
+) -> Result<(), NoMemory>
+    ensures names { OnOk result ((name : Labels) → Contains names.new.items name ↔ (Contains names.old.items name ⊎ IsFrontFrom 0 rr.now.owner name)) }
+    ensures pairs { OnOk result (map redirection dnames.new.items ≡ map redirection dnames.old.items ++ redirection_of rr.now.owner rr.now.rdata) }
+{
+    put_fronts(alloc, names, &rr.owner, 0)?;
+    match &rr.rdata {
+        Rdata::Dname(target) => {
+            let from = rr.owner.copy(alloc)?;
+            let to = target.copy(alloc)?;
+            dnames.push(Pair { from, to })?;
+            Ok(())
+        }
+        _ => Ok(()),
+    }
+}
