@@ -13,8 +13,10 @@ use Rattle.net_model.specs.Class.{IsFirstUnnamed, IsRepresentative}
 use Rattle.net_model.specs.Reading.{Ground, records, ground_of}
 use Rattle.groot_run.specs.FirstShape.{is_first_shape, one_zone, is_first_config}
 use Rattle.groot_run.specs.Report.{IsTreeSize}
-use Rattle.groot_run.specs.SortedTree.{new_prefixes, tree_after, tree_of}
-use Rattle.groot_run.proofs.SortedTree.{InOrder, rising_tree, tree_has, from_tree, length-new_prefixes}
+use Rattle.zone_tree.specs.Names.{new_prefixes, tree_after}
+use Rattle.groot_run.specs.SortedTree.{tree_of}
+use Rattle.zone_tree.proofs.SortedTree.{InOrder, in_order as in_order_below}
+use Rattle.groot_run.proofs.SortedTree.{rising_tree, tree_has, from_tree, length-new_prefixes}
 use Rattle.groot_run.proofs.FirstGround.{no_redirections, ground_has, from_ground}
 use Rattle.groot_run.proofs.FirstRecords.{first_zone, how_made}
 use Rattle.dns_data.proofs.NameOrder.{turned, UpTo, Before, names_total, pairs_from_rising}
@@ -25,27 +27,9 @@ use Rattle.net_model.proofs.Naming.{named_among, among_named}
 use Rattle.net_model.proofs.FreeLabel.{free_label}
 use Rattle.net_model.proofs.FirstLabel.{first_unnamed}
 
--- ---- names in order, as a sort leaves them
-
-one_up : (k : ℕ) → suc k + 1 ≡ suc (k + 1)
-one_up k = omega arith
-
-in_order_after : (first : Labels) (names : List Labels) → IsSorted name_cmp (first ∷ names) → InOrder first names
-in_order_after first [] sorted = tt
-in_order_after first (next ∷ names) sorted = (
-  ap is_gt (names_total.antisymm first next) ∙ sym (turned (name_cmp next first))
-      ∙ sorted 0 [] (omega arith) (omega arith),
-  in_order_after next names (λ k d low high.
-      subst (λ (m : ℕ). is_lt (name_cmp (get_or (first ∷ next ∷ names) m d) (get_or (next ∷ names) k d)) ≡ false) (one_up k)
-      (sorted (suc k) d (omega arith) (omega arith))),
-)
-
+-- names in order, as a sort leaves them, stand in order behind the root
 pub in_order : (names : List Labels) → IsSorted name_cmp names → InOrder [] names
-in_order [] sorted = tt
-in_order (first ∷ names) sorted = (root first, in_order_after first names sorted) where
-  root : (name : Labels) → UpTo [] name
-  root [] = refl
-  root (label ∷ name) = refl
+in_order names sorted = in_order_below [] names sorted (λ name has. (name, refl))
 
 -- how many records a configuration may have for its class tree to be counted
 abbrev most_records : ℕ
@@ -136,17 +120,6 @@ module _ (server : Labels) (first : Rr) (rest : List Rr) (shape : is_first_shape
         counts_names = refl;
         counts_classes = omega arith;
       }
-
--- names behind references, in order
-pub sorted_names : {X : Type 0} (f : X → Labels) (xs : List X) → IsSorted (λ x y. name_cmp (f x) (f y)) xs → IsSorted name_cmp (map f xs)
-sorted_names f [] sorted = λ k d low high. absurd (omega arith)
-sorted_names f (x ∷ xs) sorted = λ k d low high.
-    let long = length-map (x ∷ xs) f in
-    let within : k + 1 < length (x ∷ xs) = omega arith in
-    let here : k < length (x ∷ xs) = omega arith in
-    let later = get_or-map f (x ∷ xs) (k + 1) x d within in
-    let earlier = get_or-map f (x ∷ xs) k x d here in
-    rw (later, earlier) (sorted k x low within)
 
 -- one name more is counted
 pub counted_more : (names i shared : ℕ) (before labels : Labels) (owners : List (Bor Labels)) (owner : Bor Labels)

@@ -10,7 +10,7 @@ use Rattle.std.proofs.lemmas.List.Folds.{list_any-append}
 use Rattle.dns_data.specs.Name.{Labels, name_cmp, name_eq, is_prefix}
 use Rattle.groot_run.specs.SortedNames.{is_before, AreNotBefore}
 use Rattle.groot_run.proofs.FirstTree.{in_order}
-use Rattle.groot_run.proofs.SortedTree.{InOrder}
+use Rattle.zone_tree.proofs.SortedTree.{InOrder}
 use Rattle.dns_data.proofs.Names.{name_eq_decides, same_names}
 use Rattle.dns_data.proofs.NameOrder.{turned, UpTo, Before, names_total, prefix_up_to, before_up_to, before_differs, behind_differs, new_prefix_after}
 use Rattle.dns_data.proofs.Membership.{none_in_nil, has_first, first_or_later}

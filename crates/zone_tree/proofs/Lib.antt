@@ -5,5 +5,5 @@ mod NameData
 mod Pairs
 mod Prefixes
 mod SearchedNames
-mod SortedTree
+pub mod SortedTree
 mod Types

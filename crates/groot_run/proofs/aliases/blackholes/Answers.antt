@@ -6,7 +6,7 @@ use Rattle.dns_data.specs.Name.{name_cmp}
 use Rattle.groot_run.specs.Aliases.{alias_of, aliases_in, leads_nowhere}
 use Rattle.groot_run.specs.Blackholes.{Alias}
 use Rattle.groot_run.specs.declared.aliases.Alias.{Alias as Borrowed}
-use Rattle.groot_run.proofs.FirstTree.{sorted_names}
+use Rattle.zone_tree.proofs.SortedTree.{sorted_names}
 use Rattle.groot_run.proofs.ZoneAliases.{are_blackholes}
 use Rattle.groot_run.proofs.aliases.blackholes.Goals as goal
 

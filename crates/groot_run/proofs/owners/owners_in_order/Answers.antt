@@ -1,7 +1,7 @@
 use Rattle.std.proofs.Common.{Bor}
 use Rattle.std.proofs.lemmas.List.Sorted.{IsPermutation-map}
 use Rattle.dns_data.specs.Name.{Labels}
-use Rattle.groot_run.proofs.FirstTree.{sorted_names}
+use Rattle.zone_tree.proofs.SortedTree.{sorted_names}
 use Rattle.groot_run.proofs.owners.owners_in_order.Goals as goal
 
 pub returns-clause-same : goal.returns-clause-same

@@ -3,7 +3,7 @@ use Rattle.std.proofs.lemmas.List.Sorted.{IsPermutation-map}
 use Rattle.std.proofs.lemmas.Simd.{map-map}
 use Rattle.dns_data.specs.Name.{Labels}
 use Rattle.groot_run.specs.declared.aliases.Alias.{Alias}
-use Rattle.groot_run.proofs.FirstTree.{sorted_names}
+use Rattle.zone_tree.proofs.SortedTree.{sorted_names}
 use Rattle.groot_run.proofs.shape.alias_owners_in_order.Goals as goal
 
 pub returns-clause-same : goal.returns-clause-same

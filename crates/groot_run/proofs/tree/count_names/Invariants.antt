@@ -1,6 +1,7 @@
 use Rattle.std.proofs.Common.{◌≡◌, ◌+◌, ◌*◌, ◌≤◌, All, Bor, [], length, map, option_map, unwrap_or, take, drop}
 use Rattle.dns_data.specs.Name.{IsName, Labels}
-use Rattle.groot_run.specs.SortedTree.{tree_after, tree_of}
+use Rattle.zone_tree.specs.Names.{tree_after}
+use Rattle.groot_run.specs.SortedTree.{tree_of}
 use Rattle.groot_run.proofs.tree.count_names.Given as goal
 
 -- the names counted and those still to come are all, no owner adds more than 254, and each passed is a name
