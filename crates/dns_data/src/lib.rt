@@ -32,7 +32,7 @@ pub use name::Name;
 pub use number::{read_number, with_digit};
 pub use octets::Octets;
 pub use printing::rdata_text;
-pub use rdata::{Rdata, Rr};
+pub use rdata::{Rdata, Rr, copied_data};
 pub use rr_type::RrType;
 pub use spelling::escaped_octet;
 pub use text::Text;

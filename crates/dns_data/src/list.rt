@@ -3,6 +3,7 @@
 ghost use Rattle.std.specs.Prelude.{◌≡◌, ◌∷◌, ◌++◌, [], IfOk, OnOk, OnErr};
 
 use crate::memory::NoMemory;
+use crate::name::Name;
 use crate::octets::Octets;
 use std::alloc::Global;
 use std::cmp::Ordering;
@@ -73,6 +74,19 @@ impl List<Octets> {
         let mut list = List::new(alloc);
         for octets in self.items() {
             list.push(octets.copy(alloc)?)?;
+        }
+        Ok(list)
+    }
+}
+
+impl List<Name> {
+    /// An equal list.
+    pub fn copy(&self, alloc: Global) -> Result<List<Name>, NoMemory>
+        ensures { IfOk result (λ list. list ≡ self.now) }
+    {
+        let mut list = List::new(alloc);
+        for name in self.items() {
+            list.push(name.copy(alloc)?)?;
         }
         Ok(list)
     }

@@ -221,3 +221,14 @@ impl Rdata {
         })
     }
 }
+
+/// Equal data, in their order.
+pub fn copied_data(alloc: Global, items: &[Rdata]) -> Result<List<Rdata>, NoMemory>
+    ensures { IfOk result (λ copies. copies ≡ items.now) }
+{
+    let mut copies = List::new(alloc);
+    for rdata in items {
+        copies.push(rdata.copy(alloc)?)?;
+    }
+    Ok(copies)
+}

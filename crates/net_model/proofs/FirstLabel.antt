@@ -15,7 +15,7 @@ use Rattle.net_model.proofs.Naming.{is_listed, from_listed, named_among, among_n
 use Rattle.net_model.proofs.TrialOrder.{trials_total}
 
 -- how a number stands to a greater one
-nat_cmp_less : (m n : ℕ) → m < n → nat_cmp m n ≡ Less
+pub nat_cmp_less : (m n : ℕ) → m < n → nat_cmp m n ≡ Less
 nat_cmp_less m n h = ap (λ b. cond b Less (cond (nat_eq m n) Equal Greater)) (lt-ltb m n h)
 
 -- and to a lesser one
@@ -25,15 +25,15 @@ nat_cmp_greater m n h =
     ∙ ap (λ b. cond b Equal Greater) (ne_eqb m n (λ e. omega arith))
 
 -- the rest of the comparison of labels of one length
-abbrev by_octets : List ℕ → List ℕ → Ordering
+abbrev pub by_octets : List ℕ → List ℕ → Ordering
 by_octets a b = slice_cmp (λ x y. nat_cmp (octet_rank x) (octet_rank y)) a b
 
 -- a shorter label is tried first
-shorter_first : (a b : List ℕ) → length a < length b → trial_cmp a b ≡ Less
+pub shorter_first : (a b : List ℕ) → length a < length b → trial_cmp a b ≡ Less
 shorter_first a b shorter = ap (λ o. ordering_then o (by_octets a b)) (nat_cmp_less (length a) (length b) shorter)
 
 -- and one that is tried first isn't longer
-first_not_longer : (a b : List ℕ) → trial_cmp a b ≡ Less → length a ≤ length b
+pub first_not_longer : (a b : List ℕ) → trial_cmp a b ≡ Less → length a ≤ length b
 first_not_longer a b e =
     elim (cases_lt (length b) (length a)) [
       | inl longer ↦ (

@@ -1,7 +1,10 @@
 //! States and walks of a query.
 
+ghost use Rattle.std.specs.Prelude.{◌≡◌, IfOk};
+
 use crate::place::{Cut, Place};
-use dns_data::{List, Name, Rdata};
+use dns_data::{List, Name, NoMemory, Rdata, copied_data};
+use std::alloc::Global;
 
 /// Where a query stands: at which server it asks for which name, whether the name still carries the query's
 /// last labels (no CNAME was followed), the labels of the zone cut that led here, the rewrites used and the
@@ -60,4 +63,80 @@ pub struct Walk {
     pub states: List<State>,
     pub hops: List<Hop>,
     pub leaf: Leaf,
+}
+
+impl State {
+    /// An equal state.
+    pub fn copy(&self, alloc: Global) -> Result<State, NoMemory>
+        ensures { IfOk result (λ copy. copy ≡ self.now) }
+    {
+        Ok(State {
+            server: self.server.copy(alloc)?,
+            name: self.name.copy(alloc)?,
+            carried: self.carried,
+            cut: self.cut,
+            used: self.used,
+            last: copied_last(alloc, &self.last)?,
+            zone: copied_zone(alloc, &self.zone)?,
+        })
+    }
+}
+
+/// An equal place of the last rewrite.
+fn copied_last(alloc: Global, last: &Option<Place>) -> Result<Option<Place>, NoMemory>
+    ensures { IfOk result (λ copy. copy ≡ last.now) }
+{
+    match last {
+        Some(place) => Ok(Some(place.copy(alloc)?)),
+        None => Ok(None),
+    }
+}
+
+/// An equal origin of a state's zone.
+fn copied_zone(alloc: Global, zone: &Option<Name>) -> Result<Option<Name>, NoMemory>
+    ensures { IfOk result (λ copy. copy ≡ zone.now) }
+{
+    match zone {
+        Some(origin) => Ok(Some(origin.copy(alloc)?)),
+        None => Ok(None),
+    }
+}
+
+impl Hop {
+    /// An equal hop.
+    pub fn copy(&self, alloc: Global) -> Result<Hop, NoMemory>
+        ensures { IfOk result (λ copy. copy ≡ self.now) }
+    {
+        match self {
+            Hop::Refer(cut) => Ok(Hop::Refer(cut.copy(alloc)?)),
+            Hop::Rewrite {
+                place,
+                by_dname,
+                to,
+            } => Ok(Hop::Rewrite {
+                place: place.copy(alloc)?,
+                by_dname: *by_dname,
+                to: to.copy(alloc)?,
+            }),
+        }
+    }
+}
+
+impl Leaf {
+    /// An equal end.
+    pub fn copy(&self, alloc: Global) -> Result<Leaf, NoMemory>
+        ensures { IfOk result (λ copy. copy ≡ self.now) }
+    {
+        match self {
+            Leaf::Answer(rdata) => Ok(Leaf::Answer(copied_data(alloc, rdata.items())?)),
+            Leaf::NoData => Ok(Leaf::NoData),
+            Leaf::NxDomain => Ok(Leaf::NxDomain),
+            Leaf::Outside => Ok(Leaf::Outside),
+            Leaf::Unhosted(ns) => Ok(Leaf::Unhosted(ns.copy(alloc)?)),
+            Leaf::Lame(ns) => Ok(Leaf::Lame(ns.copy(alloc)?)),
+            Leaf::Limit(place) => Ok(Leaf::Limit(place.copy(alloc)?)),
+            Leaf::Overlong(place) => Ok(Leaf::Overlong(place.copy(alloc)?)),
+            Leaf::NoAddress(ns) => Ok(Leaf::NoAddress(ns.copy(alloc)?)),
+        }
+    }
 }
