@@ -9,7 +9,7 @@ ghost use Rattle.net_model.specs.Lookup.{first_name, answer_of, at_name, redirec
 ghost use Rattle.net_model.specs.Zone.{ns_names, targets_at};
 ghost use Rattle.zone_tree.specs.Tree.{IsNode, name_of};
 
-use dns_data::{JoinFault, List, Name, NoMemory, Rdata, RrType};
+use dns_data::{JoinFault, List, Name, NoMemory, Rdata, RrType, copied_data};
 use name_rules::substitute;
 use net_model::Found;
 use std::alloc::Global;
@@ -94,17 +94,6 @@ fn answer_of(alloc: Global, items: &[Rdata]) -> Result<Found, NoMemory>
         return Ok(Found::NoData);
     }
     Ok(Found::Answer(copies))
-}
-
-/// Copies of data.
-fn copied_data(alloc: Global, items: &[Rdata]) -> Result<List<Rdata>, NoMemory>
-    ensures { IfOk result (λ copies. copies ≡ items.now) }
-{
-    let mut copies = List::new(alloc);
-    for rdata in items {
-        copies.push(rdata.copy(alloc)?)?;
-    }
-    Ok(copies)
 }
 
 /// Copies of names.

@@ -1,6 +1,0 @@
-use Rattle.std.proofs.Common.{◌≡◌, take}
-use Rattle.zone_lookup.proofs.answers.copied_data.Given as goal
-
--- copies of the data so far
-abbrev pub invariant-loop-rdata : goal.invariant-loop-rdata
-invariant-loop-rdata l = l.copies ≡ take l.rdata-index l.items
