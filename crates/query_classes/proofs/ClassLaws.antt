@@ -11,10 +11,10 @@ use Rattle.net_model.specs.declared.class.Class.{Class}
 use Rattle.net_model.specs.declared.class.Class.TheVariants.{Exact, Below}
 use Rattle.net_model.specs.Class.{IsClassOf, IsFirstUnnamed}
 use Rattle.net_model.specs.Reading.{Ground, IsNamed}
+use Rattle.net_model.proofs.FirstLabel.{shorter_first}
 use Rattle.label_graph.specs.LiveSet.{IsClosed}
 use Rattle.label_graph.proofs.LiveNames.{prefix_is_named}
 use Rattle.query_classes.specs.Members.{IsEmptyClass, StandsFor}
-use Rattle.query_classes.proofs.TrialSteps.{shorter_first}
 
 -- a name has one class
 pub one_class : (ground : Ground) (name : Labels) (a b : Class) → IsClassOf ground name a → IsClassOf ground name b → b ≡ a

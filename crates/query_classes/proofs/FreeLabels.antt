@@ -43,7 +43,8 @@ module _ {X : Type 0} (p q : X → Bool) (within : (x : X) → q x ≡ true → 
 abbrev pub last_of : Labels → List ℕ
 last_of name = get_or name (length name - 1) []
 
-last_of_below : (above : Labels) (label : List ℕ) → last_of (above ++ label ∷ []) ≡ label
+-- is its last label
+pub last_of_below : (above : Labels) (label : List ℕ) → last_of (above ++ label ∷ []) ≡ label
 last_of_below above label = get_or_at above label [] [] (length (above ++ label ∷ []) - 1) (sym (place above label)) where
   place : (above : Labels) (label : List ℕ) → length (above ++ label ∷ []) - 1 ≡ length above
   place above label = omega (arith, length-append above (label ∷ []))

@@ -1,3 +1,7 @@
 pub mod ClassLaws
+pub mod FirstFree
 pub mod FreeLabels
+pub mod NamesBelow
+pub mod TreeRows
+pub mod TreeWalk
 pub mod TrialSteps

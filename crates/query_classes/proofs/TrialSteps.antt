@@ -1,7 +1,6 @@
 -- The label that is tried next: none stands between.
 use Rattle.std.proofs.Common.{◌≡◌, ◌∙◌, ℕ, zero, suc, ◌+◌, ◌-◌, ◌<◌, ◌≤◌, ◌⊎◌, true, List, [], ◌∷◌, ◌++◌, length, take, get_or, replicate, Ordering, Less, Equal, Greater, nat_cmp, inl, inr, sym, refl, ap, subst, append_assoc, arith}
 use Rattle.std.specs.Cmp.{nat_cmp_is}
-use Rattle.std.specs.Cmp.Lexicographic.{slice_cmp}
 use Rattle.std.specs.List.{list_all}
 use Rattle.std.specs.Ordering.{ordering_then}
 use Rattle.std.proofs.lemmas.Bool.{cases_lt, and_parts, and_from}
@@ -10,12 +9,9 @@ use Rattle.std.proofs.lemmas.Bool.Decides.{nat_tests}
 use Rattle.std.proofs.lemmas.List.{length-append, length-replicate, length-take-le, take_more}
 use Rattle.dns_data.specs.Label.{IsLabel, is_label_octet}
 use Rattle.net_model.specs.Class.{octet_rank, trial_cmp}
+use Rattle.net_model.proofs.FirstLabel.{by_octets, shorter_first}
 use Rattle.net_model.proofs.TrialOrder.{exact_trials}
 use Rattle.query_classes.specs.Trials.{AreNextOctets, IsLabelBehind, IsLastBut, IsOctetBehind}
-
--- the comparison of labels of one length
-abbrev pub by_octets : List ℕ → List ℕ → Ordering
-by_octets a b = slice_cmp (λ x y. nat_cmp (octet_rank x) (octet_rank y)) a b
 
 -- how two numbers compare
 data Compared (m n : ℕ) : Type 0 where
@@ -134,11 +130,6 @@ raised_behind (x ∷ front) octet next k behind =
     ∙ raised_behind front octet next k behind
 
 -- ---- labels
-
--- a shorter label is tried first
-pub shorter_first : (a b : List ℕ) → length a < length b → trial_cmp a b ≡ Less
-shorter_first a b shorter =
-    ap (λ (o : Ordering). ordering_then o (by_octets a b)) (sym (nat_cmp_is (length a) (length b) Less shorter))
 
 -- labels of one length by their octets
 same_length : (a b : List ℕ) → length a ≡ length b → trial_cmp a b ≡ by_octets a b

@@ -1,17 +1,19 @@
 -- The class tree, a level at a time.
-use Rattle.std.specs.Prelude.{◌≡◌, ◌↔◌, ℕ, ◌≤◌, List, [], ◌∷◌, ◌++◌, Contains, map, nat_le}
+use Rattle.std.specs.Prelude.{◌≡◌, ◌↔◌, ℕ, List, [], ◌∷◌, ◌++◌, Contains, map, nat_le, Option, MatchOption}
 use Rattle.std.specs.List.{filter}
-use Rattle.dns_data.specs.Name.{Labels, wire_octets}
+use Rattle.dns_data.specs.Name.{Labels, IsName, wire_octets}
+use Rattle.net_model.specs.declared.class.Class.TheVariants.{Below}
 use Rattle.net_model.specs.Reading.{Ground, IsNamed}
 use Rattle.label_graph.specs.LiveSet.{AreInOrder}
+use Rattle.query_classes.specs.Members.{IsEmptyClass, StandsFor}
 
 -- the name is one label below the other
 abbrev pub IsOneBelow : Labels → Labels → Type 0
 IsOneBelow above name = (label : List ℕ) × (name ≡ above ++ label ∷ [])
 
--- the name is in the class tree: it is named and has at most 255 octets
+-- the name is in the class tree: it is named, and a name of at most 255 octets
 abbrev pub IsInTree : Ground → Labels → Type 0
-IsInTree ground name = IsNamed ground name × (wire_octets name ≤ 255)
+IsInTree ground name = IsNamed ground name × IsName name
 
 -- the names are those of the class tree one label below the name, in order
 pub record AreChildren (ground : Ground) (above : Labels) (names : List Labels) : Type 0 where
@@ -21,3 +23,7 @@ pub record AreChildren (ground : Ground) (above : Labels) (names : List Labels) 
 -- the name with each of the labels below, where that has at most 255 octets
 abbrev pub fitting : Labels → List (List ℕ) → List Labels
 fitting above labels = filter (λ name. nat_le (wire_octets name) 255) (map (λ label. above ++ label ∷ []) labels)
+
+-- what stands for the class below the name: its representative, or nothing where the class is empty
+abbrev pub IsBelow : Ground → Labels → Option Labels → Type 0
+IsBelow ground name found = MatchOption found (IsEmptyClass ground (Below name)) (StandsFor ground (Below name))

@@ -2,8 +2,10 @@ pub use Rattle.dns_data.specs.Label
 pub use Rattle.dns_data.specs.Name
 pub use Rattle.net_model.specs.Class
 pub use Rattle.net_model.specs.Reading
+pub use Rattle.net_model.specs.Tree
 pub use Rattle.label_graph.specs.LiveSet
 pub mod Members
 pub mod Children
 pub mod Free
+pub mod Rows
 pub mod Trials

@@ -1,19 +1,17 @@
 //! The class of a name, the representative of a class, and the names below a name.
 
 ghost use Rattle.std.specs.Prelude.{◌≡◌, [], ◌∷◌, ◌++◌, MatchOption, IfOk};
-ghost use Rattle.dns_data.specs.Label.{IsLabel};
 ghost use Rattle.dns_data.specs.Name.{IsName, Labels};
-ghost use Rattle.label_graph.specs.LiveSet.{IsLiveSet};
 ghost use Rattle.net_model.specs.declared.class.Class.{Class as ClassValue};
-ghost use Rattle.net_model.specs.declared.class.Class.TheVariants.{Below as BelowName};
 ghost use Rattle.net_model.specs.Class.{IsClassOf};
 ghost use Rattle.net_model.specs.Reading.{IsNamed};
 ghost use Rattle.query_classes.specs.Members.{class_name, IsEmptyClass, StandsFor};
 
-use crate::free::free_label;
-use dns_data::{JoinFault, Label, Name, NoMemory};
+use crate::free::label_with;
+use crate::live_name::LiveName;
+use dns_data::{Label, Name, NoMemory};
+use label_graph::LabelGraph;
 use label_graph::laws::graph_is_closed;
-use label_graph::{LabelGraph, LiveSet};
 use net_model::Class;
 use std::alloc::Global;
 
@@ -33,7 +31,6 @@ pub fn class_of(alloc: Global, graph: &LabelGraph, q: &Name) -> Result<Class, No
         let label = label_with(alloc, octets)?;
         let next = graph.advance(alloc, &live, &label)?;
         if next.is_empty() {
-            let _free = free_label(alloc, graph, &live)?;
             return Ok(Class::Below(above));
         }
         above = one_below(alloc, &above, &label)?;
@@ -53,7 +50,7 @@ pub fn representative(
 {
     match class {
         Class::Exact(name) => Ok(Some(alone(alloc, name)?)),
-        Class::Below(above) => below(alloc, graph, above),
+        Class::Below(above) => LiveName::of(alloc, graph, above)?.below(alloc, graph),
     }
 }
 
@@ -64,52 +61,6 @@ fn alone(alloc: Global, name: &Name) -> Result<Name, NoMemory>
 {
     let _ = name.labels();
     name.copy(alloc)
-}
-
-/// The representative of the class below a named name, or `None` where the class is empty.
-fn below(alloc: Global, graph: &LabelGraph, above: &Name) -> Result<Option<Name>, NoMemory>
-    requires { IsNamed graph.now above.now }
-    ensures { IfOk result (λ found. MatchOption found (IsEmptyClass graph.now (BelowName above.now)) (StandsFor graph.now (BelowName above.now))) }
-{
-    graph_is_closed(graph);
-    let _ = above.labels();
-    let live = live_of(alloc, graph, above)?;
-    let Some(label) = free_label(alloc, graph, &live)? else {
-        return Ok(None);
-    };
-    let mut name = above.copy(alloc)?;
-    match name.push(alloc, &label) {
-        Ok(()) => {
-            let _ = name.octets();
-            Ok(Some(name))
-        }
-        Err(JoinFault::TooLong) => Ok(None),
-        Err(JoinFault::NoMemory) => Err(NoMemory),
-    }
-}
-
-/// The live set of a name.
-pub(crate) fn live_of(alloc: Global, graph: &LabelGraph, name: &Name) -> Result<LiveSet, NoMemory>
-    ensures { IfOk result (IsLiveSet graph.now name.now) }
-{
-    let mut live = graph.start(alloc)?;
-    let mut rest = name.labels();
-    while let Some(octets) = rest.next() {
-        let label = label_with(alloc, octets)?;
-        live = graph.advance(alloc, &live, &label)?;
-    }
-    Ok(live)
-}
-
-/// The label with these octets.
-fn label_with(alloc: Global, octets: &[u8]) -> Result<Label, NoMemory>
-    requires { IsLabel octets.now }
-    ensures { IfOk result (λ label. label ≡ octets.now) }
-{
-    match Label::from_octets(alloc, octets) {
-        Ok(label) => Ok(label),
-        Err(_) => Err(NoMemory),
-    }
 }
 
 /// The name with a label below.

@@ -1,17 +1,26 @@
-//! Classes of query names: the class of a name, its representative, and the class tree a level at a time, over the
-//! graph of base names and DNAME redirections.
+//! Classes of query names: the class of a name, the representative of a class, and the class tree, over the graph of base
+//! names and DNAME redirections.
 //!
 //! The layer above may rest on this: each name is in the one class that `class_of` answers; a class that isn't empty
 //! has a representative, which is in it and no longer than any of its names; of a named name all prefixes are named.
+//! `class_tree` lists the names of the class tree in order, each with the representative of the class below it.
 //!
-//! Costs: a name is walked label by label from the root. A representative tries labels in order until one is free, so
-//! at most one more than there are named names one label below.
+//! Costs: a name is walked label by label from the root. A live name keeps its live set, so that the names below it are
+//! one step away; the whole tree takes one step for each of its names, and the names that wait are those beside the way
+//! down. A representative tries labels in order until one is free, so at most one more than there are named names one
+//! label below.
 #![tactic(auto)]
 
 mod class;
+mod fault;
 mod free;
 mod level;
+mod live_name;
+mod tree;
 mod trial;
 
 pub use class::{class_of, representative};
+pub use fault::TreeFault;
 pub use level::children;
+pub use live_name::LiveName;
+pub use tree::{ClassRow, class_tree};

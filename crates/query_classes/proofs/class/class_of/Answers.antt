@@ -1,4 +1,4 @@
-use Rattle.std.proofs.Common.{◌≡◌, ◌∙◌, ℕ, ◌<◌, List, [], ◌∷◌, ◌++◌, length, Contains, Option, Some, None, sym, ap, refl, subst, true≢false, arith}
+use Rattle.std.proofs.Common.{◌≡◌, ◌∙◌, ℕ, ◌<◌, List, [], ◌∷◌, ◌++◌, length, Contains, sym, ap, refl, subst, true≢false, arith}
 use Rattle.dns_data.specs.Name.{Labels, IsName}
 use Rattle.dns_data.proofs.Membership.{none_in_nil, has_first}
 use Rattle.net_model.specs.declared.class.Class.TheVariants.{Below}
@@ -7,9 +7,9 @@ use Rattle.net_model.specs.Reading.{Ground, IsNamed, ReadsOnTo}
 use Rattle.label_graph.specs.LiveSet.{IsClosed, IsLiveSet, name_at}
 use Rattle.label_graph.proofs.LiveNames.{prefix_is_named}
 use Rattle.label_graph.proofs.TargetLinks.{place_among, among_place}
-use Rattle.query_classes.specs.Free.{IsFree}
 use Rattle.query_classes.specs.Members.{StandsFor}
 use Rattle.query_classes.proofs.ClassLaws.{one_class, in_below, below_stood, first_label_of, label_more}
+use Rattle.query_classes.proofs.FirstFree.{first_free}
 use Rattle.query_classes.proofs.class.class_of.Goals as goal
 
 -- a name without a live base name isn't named
@@ -26,12 +26,11 @@ live_named ground name (place ∷ live) of some =
     let below : place < length ground.names = of.within 0 0 (omega arith) in
     record { base = name_at ground.names place; among = among_place ground.names place below; reads = (of.live place below).0 (has_first place live) }
 
--- a free label where one of a name's labels is free
-stood : (ground : Ground) → IsClosed ground → (above rest : Labels) (own : List ℕ) (found : Option (List ℕ)) → IsNamed ground above
-    → (IsNamed ground (above ++ own ∷ []) → ⊥) → IsName (above ++ own ∷ rest) → IsFree ground above found
-    → (name : Labels) × StandsFor ground (Below above) name
-stood ground closed above rest own None named unnamed is full = absurd (unnamed (full own (first_label_of above own rest is)))
-stood ground closed above rest own (Some label) named unnamed is first =
+-- what stands for the class below a name, where one of a name's labels is free
+stood : (ground : Ground) → IsClosed ground → (above rest : Labels) (own : List ℕ) (live : List ℕ) → IsLiveSet ground above live → IsNamed ground above
+    → (IsNamed ground (above ++ own ∷ []) → ⊥) → IsName (above ++ own ∷ rest) → (name : Labels) × StandsFor ground (Below above) name
+stood ground closed above rest own live of named unnamed is =
+    let (label, first) = first_free ground closed above live of own (first_label_of above own rest is) unnamed in
     (above ++ label ∷ [], below_stood ground closed above label own rest named unnamed is first)
 
 -- the name with its next label
@@ -67,8 +66,8 @@ returns-then-is_empty-clause-represented c =
     let own : List ℕ = c.in_ok-label.label in
     let q_is = at_label c.args.q.now above c.loop-octets.rest c.next.new.self own c.in-Some.octets.now c.loop-octets.invariant.passed c.in-Some.ensures.first c.in_ok-label.ensures in
     let unnamed = not_named graph (above ++ own ∷ []) c.in_ok-next.next (c.in_ok-next.ensures above c.loop-octets.invariant.live) (c.is_empty.ensures.0 c.if-is_empty.true) in
-    stood graph c.graph_is_closed.ensures above c.next.new.self own c.in_ok-_free._free c.loop-octets.invariant.named unnamed
-    (subst IsName q_is c.labels-rest.ensures.name) (c.in_ok-_free.ensures above c.loop-octets.invariant.live)
+    stood graph c.graph_is_closed.ensures above c.next.new.self own c.loop-octets.live c.loop-octets.invariant.live c.loop-octets.invariant.named unnamed
+    (subst IsName q_is c.labels-rest.ensures.name)
 
 pub returns-then-is_empty-clause-prefixes : goal.returns-then-is_empty-clause-prefixes
 returns-then-is_empty-clause-prefixes c = prefix_is_named c.args.graph.now c.graph_is_closed.ensures

@@ -1,6 +1,6 @@
 use Rattle.std.proofs.Common.{[], ◌∷◌, ◌++◌}
 use Rattle.query_classes.proofs.ClassLaws.{label_more}
-use Rattle.query_classes.proofs.class.live_of.Goals as goal
+use Rattle.query_classes.proofs.live_name.live_of.Goals as goal
 
 pub loop-octets-preserved-in_ok-live-2 : goal.loop-octets-preserved-in_ok-live-2
 loop-octets-preserved-in_ok-live-2 c =

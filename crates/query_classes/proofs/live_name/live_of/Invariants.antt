@@ -1,7 +1,7 @@
 use Rattle.std.proofs.Common.{◌≡◌, ◌++◌, length}
 use Rattle.dns_data.specs.Name.{Labels}
 use Rattle.label_graph.specs.LiveSet.{IsLiveSet}
-use Rattle.query_classes.proofs.class.live_of.Given as goal
+use Rattle.query_classes.proofs.live_name.live_of.Given as goal
 
 -- the live set is that of the labels passed
 abbrev pub invariant-loop-octets : goal.invariant-loop-octets

@@ -1,0 +1,25 @@
+use Rattle.std.proofs.Common.{◌≡◌, ◌∙◌, List, map, All, sym, ap, subst}
+use Rattle.std.proofs.lemmas.List.Elements.{All-contains}
+use Rattle.dns_data.specs.Name.{Labels, IsName}
+use Rattle.dns_data.proofs.Membership.{from_map, all_from_contains}
+use Rattle.query_classes.specs.Children.{AreChildren, fitting}
+use Rattle.query_classes.specs.declared.live_name.LiveName.{LiveName}
+use Rattle.query_classes.proofs.NamesBelow.{children_are}
+use Rattle.query_classes.proofs.live_name.LiveName.children.Goals as goal
+
+all_named : (found : List LiveName) → All (λ one. IsName one.name) found → All IsName (map (λ one. one.name) found)
+all_named found each =
+    all_from_contains IsName (map (λ (one : LiveName). one.name) found) (λ name has.
+    let (one, among, is) = from_map (λ (o : LiveName). o.name) found name has in
+    subst IsName is (All-contains (λ (o : LiveName). IsName o.name) found one each among))
+
+pub returns-clause-names : goal.returns-clause-names
+returns-clause-names c =
+    let above : Labels = c.args.self.now.name in
+    let found : List LiveName = c.in_ok-names.names.items in
+    let same : map (λ (one : LiveName). one.name) found ≡ fitting above c.in_ok-labels.labels =
+    c.in_ok-names.ensures.fitting ∙ ap (fitting above) c.items.ensures in
+    subst (λ (l : List LiveName). AreChildren c.args.graph.now above (map (λ (one : LiveName). one.name) l)) (sym c.from_vec.ensures)
+    (subst (AreChildren c.args.graph.now above) (sym same)
+    (children_are c.args.graph.now above c.in_ok-labels.labels c.in_ok-labels.ensures.order
+    (c.in_ok-labels.ensures.labels above c.requires) (subst (All IsName) same (all_named found c.in_ok-names.ensures.names))))

@@ -1,0 +1,41 @@
+//! Why there is no class tree.
+
+ghost use Rattle.std.specs.Prelude.{◌≡◌};
+ghost use Rattle.query_classes.specs.declared.fault.TreeFault.TheVariants as tree_fault;
+
+use dns_data::NoMemory;
+use std::alloc::{AllocError, AllocFailed};
+use thiserror::Error;
+
+/// Why there is no class tree.
+#[derive(Clone, Copy, Debug, PartialEq, Eq, Error)]
+pub enum TreeFault {
+    #[error("the class tree has more names than the limit")]
+    TooMany,
+    #[error("no memory")]
+    NoMemory,
+}
+
+impl From<AllocError> for TreeFault {
+    ghost from_gives = { λ _ fault. fault ≡ tree_fault.NoMemory };
+
+    fn from(_fault: AllocError) -> TreeFault {
+        TreeFault::NoMemory
+    }
+}
+
+impl<T: Drop> From<AllocFailed<T>> for TreeFault {
+    ghost from_gives = { λ _ fault. fault ≡ tree_fault.NoMemory };
+
+    fn from(_fault: AllocFailed<T>) -> TreeFault {
+        TreeFault::NoMemory
+    }
+}
+
+impl From<NoMemory> for TreeFault {
+    ghost from_gives = { λ _ fault. fault ≡ tree_fault.NoMemory };
+
+    fn from(_fault: NoMemory) -> TreeFault {
+        TreeFault::NoMemory
+    }
+}

@@ -1,0 +1,137 @@
+//! Names with their live sets.
+
+ghost use Rattle.std.specs.Prelude.{◌≡◌, [], ◌∷◌, ◌++◌, map, All, IfOk, OnOk};
+ghost use Rattle.dns_data.specs.Name.{IsName};
+ghost use Rattle.label_graph.specs.LiveSet.{IsLiveSet};
+ghost use Rattle.net_model.specs.Reading.{IsNamed};
+ghost use Rattle.query_classes.specs.Children.{AreChildren, IsBelow, fitting};
+
+use crate::free::{free_label, label_with};
+use dns_data::{JoinFault, Label, List, Name, NoMemory};
+use label_graph::laws::graph_is_closed;
+use label_graph::{LabelGraph, LiveSet};
+use std::alloc::Global;
+
+/// A name with its live set in a graph, so that a walk down the class tree goes on from where it stands.
+#[derive(Debug, Drop)]
+pub struct LiveName {
+    pub name: Name,
+    pub live: LiveSet,
+}
+
+impl LiveName {
+    /// The root with its live set.
+    pub fn root(alloc: Global, graph: &LabelGraph) -> Result<LiveName, NoMemory>
+        ensures root { IfOk result (λ found. found.name ≡ []) }
+        ensures live { IfOk result (λ found. IsLiveSet graph.now found.name found.live) }
+    {
+        let live = graph.start(alloc)?;
+        Ok(LiveName {
+            name: Name::root(),
+            live,
+        })
+    }
+
+    /// The name with its live set.
+    pub fn of(alloc: Global, graph: &LabelGraph, name: &Name) -> Result<LiveName, NoMemory>
+        ensures name { IfOk result (λ found. found.name ≡ name.now) }
+        ensures live { IfOk result (λ found. IsLiveSet graph.now found.name found.live) }
+    {
+        let live = live_of(alloc, graph, name)?;
+        let name = name.copy(alloc)?;
+        Ok(LiveName { name, live })
+    }
+
+    /// The named names of at most 255 octets one label below, in order, each with its live set.
+    pub fn children(&self, alloc: Global, graph: &LabelGraph) -> Result<List<LiveName>, NoMemory>
+        requires { IsLiveSet graph.now self.now.name self.now.live }
+        ensures names { IfOk result (λ names. AreChildren graph.now self.now.name (map (λ below. below.name) names)) }
+        ensures live { IfOk result (λ names. All (λ below. IsLiveSet graph.now below.name below.live) names) }
+    {
+        let labels = graph.next_labels(alloc, &self.live)?;
+        let names = self.with_labels(alloc, graph, labels.items())?;
+        Ok(List::from_vec(names))
+    }
+
+    /// The representative of the class below the name, which is a named one, or `None` where that class is empty.
+    pub fn below(&self, alloc: Global, graph: &LabelGraph) -> Result<Option<Name>, NoMemory>
+        requires live { IsLiveSet graph.now self.now.name self.now.live }
+        requires named { IsNamed graph.now self.now.name }
+        ensures { IfOk result (IsBelow graph.now self.now.name) }
+    {
+        graph_is_closed(graph);
+        let _ = self.name.labels();
+        let Some(label) = free_label(alloc, graph, &self.live)? else {
+            return Ok(None);
+        };
+        let mut name = self.name.copy(alloc)?;
+        match name.push(alloc, &label) {
+            Ok(()) => {
+                let _ = name.octets();
+                Ok(Some(name))
+            }
+            Err(JoinFault::TooLong) => Ok(None),
+            Err(JoinFault::NoMemory) => Err(NoMemory),
+        }
+    }
+
+    /// The names of at most 255 octets with one of the labels below this one, each with its live set.
+    fn with_labels(
+        &self,
+        alloc: Global,
+        graph: &LabelGraph,
+        labels: &[Label],
+    ) -> Result<Vec<LiveName>, NoMemory>
+        requires { IsLiveSet graph.now self.now.name self.now.live }
+        ensures fitting { IfOk result (λ names. map (λ below. below.name) names.items ≡ fitting self.now.name labels.now) }
+        ensures names { IfOk result (λ names. All (λ below. IsName below.name) names.items) }
+        ensures live { IfOk result (λ names. All (λ below. IsLiveSet graph.now below.name below.live) names.items) }
+    {
+        let mut names = Vec::new(alloc);
+        for label in labels {
+            self.put_below(alloc, graph, label, &mut names)?;
+        }
+        Ok(names)
+    }
+
+    /// Puts the name with the label below at the end, with its live set, where it has at most 255 octets.
+    fn put_below(
+        &self,
+        alloc: Global,
+        graph: &LabelGraph,
+        label: &Label,
+        names: &mut Vec<LiveName>,
+    ) -> Result<(), NoMemory>
+        requires live { IsLiveSet graph.now self.now.name self.now.live }
+        requires names { All (λ below. IsName below.name) names.old.items }
+        requires all_live { All (λ below. IsLiveSet graph.now below.name below.live) names.old.items }
+        ensures fitting { OnOk result (map (λ below. below.name) names.new.items ≡ map (λ below. below.name) names.old.items ++ fitting self.now.name (label.now ∷ [])) }
+        ensures names { OnOk result (All (λ below. IsName below.name) names.new.items) }
+        ensures live { OnOk result (All (λ below. IsLiveSet graph.now below.name below.live) names.new.items) }
+    {
+        let mut name = self.name.copy(alloc)?;
+        match name.push(alloc, label) {
+            Ok(()) => {
+                let _ = name.labels();
+                let live = graph.advance(alloc, &self.live, label)?;
+                names.push(LiveName { name, live })?;
+                Ok(())
+            }
+            Err(JoinFault::TooLong) => Ok(()),
+            Err(JoinFault::NoMemory) => Err(NoMemory),
+        }
+    }
+}
+
+/// The live set of a name.
+fn live_of(alloc: Global, graph: &LabelGraph, name: &Name) -> Result<LiveSet, NoMemory>
+    ensures { IfOk result (IsLiveSet graph.now name.now) }
+{
+    let mut live = graph.start(alloc)?;
+    let mut rest = name.labels();
+    while let Some(octets) = rest.next() {
+        let label = label_with(alloc, octets)?;
+        live = graph.advance(alloc, &live, &label)?;
+    }
+    Ok(live)
+}

@@ -1,0 +1,60 @@
+//! The class tree, from the root down.
+
+ghost use Rattle.std.specs.Prelude.{◌≡◌, ◌++◌, ◌≤◌, length, reverse, All, IfOk, OnOk, IsErrOf};
+ghost use Rattle.net_model.specs.Tree.{IsClassTree, AreBelowClasses, HasMoreThan};
+ghost use Rattle.query_classes.specs.Children.{IsInTree, IsBelow};
+ghost use Rattle.query_classes.specs.Rows.{tree_names, below_names};
+
+use crate::fault::TreeFault;
+use crate::live_name::LiveName;
+use dns_data::{List, Name, NoMemory};
+use label_graph::LabelGraph;
+use label_graph::laws::graph_is_closed;
+use std::alloc::Global;
+
+/// A name of the class tree, which is alone in its class, and the representative of the class below it, or `None`
+/// where that class is empty.
+#[derive(Debug, Drop)]
+pub struct ClassRow {
+    pub name: Name,
+    pub below: Option<Name>,
+}
+
+/// The class tree, where it has at most so many names: its names in order, each with the representative of the class
+/// below it.
+pub fn class_tree(alloc: Global, graph: &LabelGraph, most: u32) -> Result<List<ClassRow>, TreeFault>
+    ensures tree { IfOk result (λ rows. IsClassTree graph.now (tree_names rows)) }
+    ensures below { IfOk result (λ rows. All (λ row. IsBelow graph.now row.name row.below) rows) }
+    ensures classes { IfOk result (λ rows. AreBelowClasses graph.now (tree_names rows) (below_names rows)) }
+    ensures few { IfOk result (λ rows. length rows ≤ most) }
+    ensures none_more { OnOk result (HasMoreThan (IsInTree graph.now) most → ⊥) }
+    ensures too_many { IsErrOf result TreeFault.TooMany → HasMoreThan (IsInTree graph.now) most }
+{
+    graph_is_closed(graph);
+    let mut rows = Vec::new(alloc);
+    let mut waiting = Vec::new(alloc);
+    waiting.push(LiveName::root(alloc, graph)?)?;
+    while let Some(next) = waiting.pop() {
+        if rows.len() == most as usize {
+            return Err(TreeFault::TooMany);
+        }
+        let below = next.below(alloc, graph)?;
+        put_last_first(next.children(alloc, graph)?, &mut waiting)?;
+        rows.push(ClassRow {
+            name: next.name,
+            below,
+        })?;
+    }
+    Ok(List::from_vec(rows))
+}
+
+/// Puts the names at the end, the last one first.
+fn put_last_first(names: List<LiveName>, waiting: &mut Vec<LiveName>) -> Result<(), NoMemory>
+    ensures { OnOk result (waiting.new.items ≡ waiting.old.items ++ reverse names) }
+{
+    let mut names = names.into_vec();
+    while let Some(last) = names.pop() {
+        waiting.push(last)?;
+    }
+    Ok(())
+}
