@@ -1,2 +1,4 @@
 pub use Rattle.net_model.specs.Lookup
+pub use Rattle.net_model.specs.Nearest
 pub use Rattle.zone_tree.specs.Tree
+pub mod Hosts

@@ -1,4 +1,4 @@
-//! The lookup of a name and a type in a zone.
+//! The lookup of a name and a type in a zone, and the zone in which a server looks a name up.
 //!
 //! The layer above may rest on this: `find` answers what the definition `found` says of the zone.
 //!
@@ -7,8 +7,10 @@
 #![tactic(auto)]
 
 mod answers;
+mod hosts;
 mod lookup;
 
+pub use hosts::{Host, Hosts};
 pub use lookup::find;
 
 #[cfg(test)]

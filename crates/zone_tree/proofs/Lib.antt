@@ -3,7 +3,7 @@ mod Descents
 mod Existing
 mod NameData
 mod Pairs
-mod Prefixes
+pub mod Prefixes
 mod SearchedNames
 pub mod SortedTree
 mod Types

@@ -1,0 +1,89 @@
+-- The zone with the longest origin at or above a name, found from the name's fronts.
+use Rattle.std.proofs.Common.{◌≡◌, ℕ, ◌+◌, ◌<◌, ◌≤◌, Bool, true, false, cond, List, [], ◌∷◌, ◌++◌, reverse, length, take, drop, Contains, Option, Some, None, find, is_some, sym, refl, ap, ◌∙◌, arith, append_assoc, length-append}
+use Rattle.std.specs.Prelude.{option_and_then}
+use Rattle.std.proofs.lemmas.List.{take-append-drop, take-append-le, take_all, length-take-le}
+use Rattle.std.proofs.lemmas.List.Sorted.{IsPermutation-reverse, IsPermutation-sym, Contains-permutation}
+use Rattle.dns_data.specs.Name.{Labels, name_eq, is_prefix}
+use Rattle.net_model.specs.declared.config.Server.{Server}
+use Rattle.net_model.specs.declared.config.Zone.{Zone}
+use Rattle.net_model.specs.Nearest.{zone_with_origin, nearest}
+use Rattle.net_model.specs.Prefix.{prefixes, longest}
+use Rattle.dns_data.proofs.Membership.{none_in_nil, from_map}
+use Rattle.dns_data.proofs.NameFronts.{Begins, is_prefix_told}
+use Rattle.dns_data.proofs.Names.{name_eq_decides}
+use Rattle.dns_data.proofs.Searches.{find_none}
+use Rattle.net_model.proofs.Prefixes.{longer, longest_above, from_prefixes}
+use Rattle.zone_tree.proofs.Prefixes.{longest_itself}
+
+-- a front is so many labels of the name
+front_is_take : (above rest name : Labels) → above ++ rest ≡ name → take (length above) name ≡ above
+front_is_take above rest name e =
+    ap (take (length above)) (sym e) ∙ take-append-le (length above) above rest (omega arith) ∙ take_all (length above) above (omega arith)
+
+module _ (test : Labels → Bool) (name : Labels) where
+  -- a longer front than one of so many labels has more labels
+  further : (k : ℕ) (tail below : Labels) → k ≤ length name → take k name ++ tail ≡ name → Contains (longer tail) below
+      → (j : ℕ) × (k < j) × (j ≤ length name) × (take k name ++ below ≡ take j name)
+  further k [] below within e has = absurd (none_in_nil below has)
+  further k (label ∷ rest) below within e has =
+      let found = from_map (λ (x : Labels). label ∷ x) (prefixes rest) below has in
+      let begins = from_prefixes rest found.0 found.1 in
+      let whole : (take k name ++ (label ∷ found.0)) ++ begins.0 ≡ name =
+      append_assoc (take k name) (label ∷ found.0) begins.0 ∙ ap (λ (x : Labels). take k name ++ label ∷ x) begins.1 ∙ e in
+      let many : length (take k name) ≡ k = length-take-le k name within in
+      let long : length (take k name ++ (label ∷ found.0)) ≡ k + length (label ∷ found.0) = length-append (take k name) (label ∷ found.0) ∙ ap (λ (n : ℕ). n + length (label ∷ found.0)) many in
+      let all : length (take k name ++ (label ∷ found.0)) + length begins.0 ≡ length name =
+      sym (length-append (take k name ++ (label ∷ found.0)) begins.0) ∙ ap (λ (x : Labels). length x) whole in (
+        length (take k name ++ (label ∷ found.0)),
+        omega arith,
+        omega arith,
+        ap (λ (x : Labels). take k name ++ x) (sym found.2) ∙ sym (front_is_take (take k name ++ (label ∷ found.0)) begins.0 name whole),
+      )
+
+  -- the longest front that passes, where none with more labels does
+  pub longest_at : (k : ℕ) → k ≤ length name → test (take k name) ≡ true → ((j : ℕ) → k < j → j ≤ length name → test (take j name) ≡ false)
+      → longest test name ≡ Some (take k name)
+  longest_at k within passes fails =
+      ap (longest test) (sym (take-append-drop k name))
+      ∙ longest_above test (take k name) (drop k name)
+      (λ below has. let one = further k (drop k name) below within (take-append-drop k name) has in ap test one.3 ∙ fails one.0 one.1 one.2)
+      ∙ longest_itself test (take k name) passes
+
+  -- and that none passes
+  pub longest_none : ((j : ℕ) → j ≤ length name → test (take j name) ≡ false) → longest test name ≡ None
+  longest_none fails =
+      find_none test (reverse (prefixes name)) (λ above has.
+      let there = Contains-permutation (reverse (prefixes name)) (prefixes name) above
+      (IsPermutation-sym (prefixes name) (reverse (prefixes name)) (IsPermutation-reverse (prefixes name))) has in
+      let begins = from_prefixes name above there in
+      let long : length above + length begins.0 ≡ length name = sym (length-append above begins.0) ∙ ap (λ (x : Labels). length x) begins.1 in
+      ap test (sym (front_is_take above begins.0 name begins.1)) ∙ fails (length above) (omega arith))
+
+-- what a search finds passes
+found_passes : (test : Zone → Bool) (zones : List Zone) (zone : Zone) → find test zones ≡ Some zone → test zone ≡ true
+found_passes test [] zone e = cc
+found_passes test (first ∷ zones) zone e = by (test first) refl e (found_passes test zones zone) where
+  by : (b : Bool) → test first ≡ b → cond b (Some first) (find test zones) ≡ Some zone → (find test zones ≡ Some zone → test zone ≡ true) → test zone ≡ true
+  by true is e rest = let same : first ≡ zone = cc in ap test (sym same) ∙ is
+  by false is e rest = rest e
+
+module _ (server : Server) (name : Labels) where
+  abbrev holds : Labels → Bool
+  holds above = is_some (zone_with_origin server above)
+
+  -- the zone is the nearest, where no longer front is an origin
+  pub nearest_at : (k : ℕ) (zone : Zone) → k ≤ length name → zone_with_origin server (take k name) ≡ Some zone
+      → ((j : ℕ) → k < j → j ≤ length name → holds (take j name) ≡ false) → nearest server name ≡ Some zone
+  nearest_at k zone within is none =
+      ap (option_and_then (zone_with_origin server)) (longest_at holds name k within (ap is_some is) none) ∙ is
+
+  -- it has the name
+  pub nearest_has : (k : ℕ) (zone : Zone) → zone_with_origin server (take k name) ≡ Some zone → is_prefix zone.origin name ≡ true
+  nearest_has k zone is =
+      let origin : zone.origin ≡ take k name =
+      (name_eq_decides zone.origin (take k name)).0 (found_passes (λ (z : Zone). name_eq z.origin (take k name)) server.zones zone is) in
+      is_prefix_told zone.origin name (drop k name, ap (λ (x : Labels). x ++ drop k name) origin ∙ take-append-drop k name)
+
+  -- and there is none, where no front is an origin
+  pub nearest_none : ((j : ℕ) → j ≤ length name → holds (take j name) ≡ false) → nearest server name ≡ None
+  nearest_none none = ap (option_and_then (zone_with_origin server)) (longest_none holds name none)
