@@ -3,6 +3,7 @@ mod Representatives
 mod Showing
 mod Words
 mod Worked
+pub mod AllWalks
 pub mod Counting
 pub mod Descent
 pub mod FaultOrder
@@ -14,5 +15,7 @@ pub mod Leads
 pub mod LearntSets
 pub mod Naming
 pub mod Prefixes
+pub mod RoundsExist
+pub mod StepBounds
 pub mod TrialOrder
 pub mod WalkEnds
