@@ -35,7 +35,7 @@ seven true b c d e f g = six b c d e f g
 seven false b c d e f g = refl
 
 -- data are compared as they are equal
-same_data : (a b : Rdata) → (data_impl.ghosts).eq a b ≡ data_eq a b
+pub same_data : (a b : Rdata) → (data_impl.ghosts).eq a b ≡ data_eq a b
 same_data (A a) (A b) = refl
 same_data (Ns a) (Ns b) = refl
 same_data (Cname a) (Cname b) = refl
