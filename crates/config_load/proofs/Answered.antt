@@ -7,7 +7,7 @@ use Rattle.net_model.specs.declared.config.Config.{Config}
 use Rattle.config_load.specs.Conf.{conf}
 use Rattle.config_load.specs.Faults.{FailedAt}
 use Rattle.config_load.specs.Follows.{ByTold, TellsNoOther, StopsEarly, Follows, Answers}
-use Rattle.config_load.specs.Load.{without, ComesTo, NoReadFailed, Gives, FailedWhereItCame, IsReadFault, IsWhole}
+use Rattle.config_load.specs.Load.{without, ReadingComesTo, NoReadFailed, Gives, FailedWhereItCame, IsReadFault, IsWhole}
 use Rattle.config_load.specs.Reading.{Reading, Reads, Refuses, Misses, Unknown}
 use Rattle.config_load.specs.declared.fault.LoadFault.{LoadFault}
 use Rattle.config_load.specs.declared.fault.LoadFault.TheVariants.{Read, TooLong, Meta, Text, Rule, ZoneTwice, NoMemory}
@@ -79,7 +79,7 @@ without-only told file name untold some = by_test (pointwise nat_eq name file) r
 -- a failed read is of a file to which the reading comes
 pub FailedWhereItCame-answers : (told : List ℕ → Told) (meta : List ℕ) (result : Result Config LoadFault) → Answers told (conf meta) result → FailedWhereItCame meta told result
 FailedWhereItCame-answers told meta (Err (Read file)) a = by_cases (a (without file told) (TellsNoOther-without told file) (without-here told file)) where
-  by_cases : (conf meta (without file told) ≡ Unknown file) ⊎ StopsEarly told (without file told) (conf meta (without file told)) → ComesTo meta told file
+  by_cases : (conf meta (without file told) ≡ Unknown file) ⊎ StopsEarly told (without file told) (conf meta (without file told)) → ReadingComesTo meta told file
   by_cases (inl e) = e
   by_cases (inr (name, is, untold, some)) = is ∙ ap Unknown (without-only told file name untold some)
 FailedWhereItCame-answers told meta (Ok value) a = tt

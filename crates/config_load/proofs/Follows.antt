@@ -4,7 +4,7 @@ use Rattle.std.proofs.lemmas.Bool.Decides.{nat_tests}
 use Rattle.io_edges.specs.Files.{Told, Untold, NotHeld, Holds, IsToldAnd, StaysTold}
 use Rattle.config_load.specs.Faults.{IsTooLongOf}
 use Rattle.config_load.specs.Follows.{ByTold, TellsNoOther, StopsEarly, Follows, Reaches, Answers}
-use Rattle.config_load.specs.Reading.{Reading, Reads, Refuses, Unknown, ◌>>=◌, octets_of, octets_in, most_octets}
+use Rattle.config_load.specs.Reading.{Reading, Reads, Refuses, Unknown, ◌>>=◌, file_octets, told_octets, most_octets}
 use Rattle.config_load.specs.declared.fault.LoadFault.{LoadFault}
 use Rattle.config_load.specs.declared.fault.LoadFault.TheVariants.{Read, TooLong, Meta, Text, Rule, ZoneTwice, NoMemory}
 
@@ -102,33 +102,33 @@ module _ {A B : Type 0} where
       Answers-then old new (λ t. first t >>= next t) (λ t. next t value) result stays (Follows-bind old first (λ _. Reads value) next a) b
 
 -- a file of which octets are told
-follows_holds : (told : List ℕ → Told) (name octets : List ℕ) (reading : Reading (List ℕ)) → told name ≡ Holds octets → octets_in name (Holds octets) ≡ reading → Follows told (octets_of name) (λ _. reading)
+follows_holds : (told : List ℕ → Told) (name octets : List ℕ) (reading : Reading (List ℕ)) → told name ≡ Holds octets → told_octets name (Holds octets) ≡ reading → Follows told (file_octets name) (λ _. reading)
 follows_holds told name octets reading here is other no_other = by_cases (no_other name) where
-  by_cases : (told name ≡ Untold) ⊎ ((other name ≡ told name) ⊎ (other name ≡ Untold)) → (octets_of name other ≡ reading) ⊎ StopsEarly told other (octets_of name other)
+  by_cases : (told name ≡ Untold) ⊎ ((other name ≡ told name) ⊎ (other name ≡ Untold)) → (file_octets name other ≡ reading) ⊎ StopsEarly told other (file_octets name other)
   by_cases (inl untold) = let no : Holds octets ≡ Untold = sym here ∙ untold in absurd cc
-  by_cases (inr (inl same)) = inl (ap (octets_in name) (same ∙ here) ∙ is)
-  by_cases (inr (inr untold)) = inr (name, ap (octets_in name) untold, untold, λ gone. let no : Holds octets ≡ Untold = sym here ∙ gone in absurd cc)
+  by_cases (inr (inl same)) = inl (ap (told_octets name) (same ∙ here) ∙ is)
+  by_cases (inr (inr untold)) = inr (name, ap (told_octets name) untold, untold, λ gone. let no : Holds octets ≡ Untold = sym here ∙ gone in absurd cc)
 
 -- a file that was read to its end
-pub Follows-whole : (told : List ℕ → Told) (name octets : List ℕ) → told name ≡ Holds octets → length octets ≤ most_octets → Follows told (octets_of name) (λ _. Reads octets)
+pub Follows-whole : (told : List ℕ → Told) (name octets : List ℕ) → told name ≡ Holds octets → length octets ≤ most_octets → Follows told (file_octets name) (λ _. Reads octets)
 Follows-whole told name octets here short = follows_holds told name octets (Reads octets) here (grind (arith, nat_tests))
 
 -- a file that is too long
-pub Follows-too_long : (told : List ℕ → Told) (name : List ℕ) → IsToldAnd (told name) (λ octets. most_octets < length octets) → Follows told (octets_of name) (λ _. Refuses (TooLong name))
+pub Follows-too_long : (told : List ℕ → Told) (name : List ℕ) → IsToldAnd (told name) (λ octets. most_octets < length octets) → Follows told (file_octets name) (λ _. Refuses (TooLong name))
 Follows-too_long told name long = by_told (told name) refl long where
-  by_told : (is : Told) → told name ≡ is → IsToldAnd is (λ octets. most_octets < length octets) → Follows told (octets_of name) (λ _. Refuses (TooLong name))
+  by_told : (is : Told) → told name ≡ is → IsToldAnd is (λ octets. most_octets < length octets) → Follows told (file_octets name) (λ _. Refuses (TooLong name))
   by_told Untold here long = absurd long
   by_told NotHeld here long = absurd long
   by_told (Holds octets) here long = follows_holds told name octets (Refuses (TooLong name)) here (grind (arith, nat_tests))
 
 -- a file whose reading fails
-pub Reaches-here : (told : List ℕ → Told) (name : List ℕ) → Reaches told (octets_of name) name
-Reaches-here told name other no_other gone = inl (ap (octets_in name) gone)
+pub Reaches-here : (told : List ℕ → Told) (name : List ℕ) → Reaches told (file_octets name) name
+Reaches-here told name other no_other gone = inl (ap (told_octets name) gone)
 
 -- the fault of a file that is too long
-pub Answers-too_long : (told : List ℕ → Told) (name : List ℕ) (fault : LoadFault) → IsTooLongOf name fault → IsToldAnd (told name) (λ octets. most_octets < length octets) → (let answer : Result (List ℕ) LoadFault = Err fault in Answers told (octets_of name) answer)
+pub Answers-too_long : (told : List ℕ → Told) (name : List ℕ) (fault : LoadFault) → IsTooLongOf name fault → IsToldAnd (told name) (λ octets. most_octets < length octets) → (let answer : Result (List ℕ) LoadFault = Err fault in Answers told (file_octets name) answer)
 Answers-too_long told name NoMemory is long = tt
-Answers-too_long told name (TooLong file) is long = subst (λ n. Follows told (octets_of name) (λ _. Refuses (TooLong n))) (sym is) (Follows-too_long told name long)
+Answers-too_long told name (TooLong file) is long = subst (λ n. Follows told (file_octets name) (λ _. Refuses (TooLong n))) (sym is) (Follows-too_long told name long)
 Answers-too_long told name (Read file) is long = absurd is
 Answers-too_long told name (Meta fault) is long = absurd is
 Answers-too_long told name (Text file line cause) is long = absurd is

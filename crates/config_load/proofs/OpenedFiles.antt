@@ -4,7 +4,7 @@ use Rattle.dns_data.specs.Answers.{AnswersOr, with_fault}
 use Rattle.dns_data.specs.Name.{Labels}
 use Rattle.io_edges.specs.Files.{Told, StaysTold}
 use Rattle.master_read.proofs.Counts.{texts_ask}
-use Rattle.master_read.specs.Reader.{Held, StandsFor, HasEnded, asked_by, is_over, is_no_memory}
+use Rattle.master_read.specs.Reader.{Held, IsReaderOf, HasEnded, asked_by, is_over, is_no_memory}
 use Rattle.master_read.specs.ZoneText.{Unread, Faulty, Asks, zone_text}
 use Rattle.master_read.specs.declared.asked.Asked.{Asked}
 use Rattle.master_read.specs.declared.asked.Asked.TheVariants.{Include, Done}
@@ -18,7 +18,7 @@ use Rattle.config_load.specs.Fed.{HasFed, HasEndedFile, FailsToRead}
 use Rattle.config_load.specs.Follows.{ByTold, Follows, Answers}
 use Rattle.config_load.specs.Joined.{joined}
 use Rattle.config_load.specs.ReadFiles.{read_files}
-use Rattle.config_load.specs.Reading.{Reads, Refuses, Unknown, ◌>>=◌, octets_of}
+use Rattle.config_load.specs.Reading.{Reads, Refuses, Unknown, ◌>>=◌, file_octets}
 use Rattle.config_load.specs.declared.fault.LoadFault.{LoadFault}
 use Rattle.config_load.specs.declared.left.Left.{Left}
 use Rattle.config_load.specs.declared.zone_files.ZoneFiles.{ZoneFiles}
@@ -27,7 +27,7 @@ use Rattle.config_load.proofs.Follows.{Follows-same, Follows-then, Follows-bind,
 -- the reading that goes on with the file of this name, behind those with these names and texts
 abbrev pub next_file : List ℕ → Labels → Left → ℕ → List (List ℕ) → List (List ℕ) → List ℕ → ByTold ZoneFiles
 next_file meta origin left times names texts name told =
-    octets_of name told >>= λ text. files_behind meta origin left times (names ++ name ∷ []) (texts ++ text ∷ []) told
+    file_octets name told >>= λ text. files_behind meta origin left times (names ++ name ∷ []) (texts ++ text ∷ []) told
 
 -- it begins with the row's file
 pub zone_files-first : (meta : List ℕ) (row : MetaRow) (left : Left) (told : List ℕ → Told) → zone_files meta row left told ≡ next_file meta (unwrap_or row.origin []) left left.includes [] [] (joined meta row.file) told
@@ -49,19 +49,19 @@ is_done Done never = refl
 pub files_behind-asks : (meta : List ℕ) (origin : Labels) (left : Left) (times : ℕ) (names texts : List (List ℕ)) (file : List ℕ) (told : List ℕ → Told) → zone_text origin left.records left.includes texts ≡ Err (Asks file) → files_behind meta origin left (suc times) names texts told ≡ next_file meta origin left times names texts (joined meta file) told
 unfolding files_behind
 files_behind-asks meta origin left times names texts file told asks =
-    ap (settled names (λ file. octets_of (joined meta file) told >>= λ text. files_behind meta origin left times (names ++ joined meta file ∷ []) (texts ++ text ∷ []) told)) asks
+    ap (settled names (λ file. file_octets (joined meta file) told >>= λ text. files_behind meta origin left times (names ++ joined meta file ∷ []) (texts ++ text ∷ []) told)) asks
 
 files_behind-gives : (meta : List ℕ) (origin : Labels) (left : Left) (times : ℕ) (names texts : List (List ℕ)) (text : ZoneText) (told : List ℕ → Told) → zone_text origin left.records left.includes texts ≡ Ok text → files_behind meta origin left times names texts told ≡ Reads (record { names = names; text = text })
 unfolding files_behind
 files_behind-gives meta origin left zero names texts text told gives = ap (settled names (λ file. Unknown (joined meta file))) gives
 files_behind-gives meta origin left (suc times) names texts text told gives =
-    ap (settled names (λ file. octets_of (joined meta file) told >>= λ text. files_behind meta origin left times (names ++ joined meta file ∷ []) (texts ++ text ∷ []) told)) gives
+    ap (settled names (λ file. file_octets (joined meta file) told >>= λ text. files_behind meta origin left times (names ++ joined meta file ∷ []) (texts ++ text ∷ []) told)) gives
 
 files_behind-faulty : (meta : List ℕ) (origin : Labels) (left : Left) (times : ℕ) (names texts : List (List ℕ)) (fault : TextFault) (told : List ℕ → Told) → zone_text origin left.records left.includes texts ≡ Err (Faulty fault) → files_behind meta origin left times names texts told ≡ Refuses (of_text names fault)
 unfolding files_behind
 files_behind-faulty meta origin left zero names texts fault told faulty = ap (settled names (λ file. Unknown (joined meta file))) faulty
 files_behind-faulty meta origin left (suc times) names texts fault told faulty =
-    ap (settled names (λ file. octets_of (joined meta file) told >>= λ text. files_behind meta origin left times (names ++ joined meta file ∷ []) (texts ++ text ∷ []) told)) faulty
+    ap (settled names (λ file. file_octets (joined meta file) told >>= λ text. files_behind meta origin left times (names ++ joined meta file ∷ []) (texts ++ text ∷ []) told)) faulty
 
 -- what texts give that have ended
 pub Answers-ended : (meta : List ℕ) (origin : Labels) (left : Left) (times : ℕ) (names texts : List (List ℕ)) (told : List ℕ → Told) (given : Result ZoneText TextFault) → AnswersOr (Faulty text_faults.NoMemory) (with_fault Faulty given) (zone_text origin left.records left.includes texts) → Answers told (files_behind meta origin left times names texts) (read_files names given)
@@ -73,10 +73,10 @@ Answers-ended meta origin left times names texts told (Err (text_faults.At file 
 Answers-ended meta origin left times names texts told (Err text_faults.NoMemory) answered = tt
 
 -- a file that was read, behind those before
-pub Follows-read : (first : ByTold ZoneFiles) (old new : List ℕ → Told) (meta : List ℕ) (origin : Labels) (left : Left) (times : ℕ) (names texts : List (List ℕ)) (name octets : List ℕ) → StaysTold old new → Follows old first (next_file meta origin left times names texts name) → Follows new (octets_of name) (λ _. Reads octets) → Follows new first (files_behind meta origin left times (names ++ name ∷ []) (texts ++ octets ∷ []))
+pub Follows-read : (first : ByTold ZoneFiles) (old new : List ℕ → Told) (meta : List ℕ) (origin : Labels) (left : Left) (times : ℕ) (names texts : List (List ℕ)) (name octets : List ℕ) → StaysTold old new → Follows old first (next_file meta origin left times names texts name) → Follows new (file_octets name) (λ _. Reads octets) → Follows new first (files_behind meta origin left times (names ++ name ∷ []) (texts ++ octets ∷ []))
 Follows-read first old new meta origin left times names texts name octets stays so_far whole =
     Follows-then old new first (next_file meta origin left times names texts name) _ stays so_far
-    (Follows-bind new (octets_of name) (λ _. Reads octets) (λ told text. files_behind meta origin left times (names ++ name ∷ []) (texts ++ text ∷ []) told) whole)
+    (Follows-bind new (file_octets name) (λ _. Reads octets) (λ told text. files_behind meta origin left times (names ++ name ∷ []) (texts ++ text ∷ []) told) whole)
 
 -- The files that were opened of a row's zone: the file of this name is open, and the reader was fed nothing of it.
 pub record HasOpened (meta : List ℕ) (row : MetaRow) (left : Left) (told : List ℕ → Told) (names : List (List ℕ)) (name : List ℕ) (reader : Held) : Type 0 where
@@ -84,12 +84,12 @@ pub record HasOpened (meta : List ℕ) (row : MetaRow) (left : Left) (told : Lis
   pub times : ℕ
   pub few : times + length names ≡ left.includes
   pub as_many : length texts ≡ length names
-  pub stands : StandsFor reader (unwrap_or row.origin []) left.records left.includes texts []
+  pub stands : IsReaderOf reader (unwrap_or row.origin []) left.records left.includes texts []
   pub so_far : Follows told (zone_files meta row left) (next_file meta (unwrap_or row.origin []) left times names texts name)
 
 module _ (meta : List ℕ) (row : MetaRow) (left : Left) where
   -- the row's file
-  pub HasOpened-first : (told : List ℕ → Told) (name : List ℕ) (reader : Held) → name ≡ joined meta row.file → StandsFor reader (unwrap_or row.origin []) left.records left.includes [] [] → HasOpened meta row left told [] name reader
+  pub HasOpened-first : (told : List ℕ → Told) (name : List ℕ) (reader : Held) → name ≡ joined meta row.file → IsReaderOf reader (unwrap_or row.origin []) left.records left.includes [] [] → HasOpened meta row left told [] name reader
   HasOpened-first told name reader is stands = record {
     texts = [];
     times = left.includes;
@@ -162,4 +162,4 @@ module _ (meta : List ℕ) (row : MetaRow) (left : Left) where
     pub Answers-unread : (fault : LoadFault) (result : Result ZoneFiles LoadFault) → StaysTold old new → HasOpened meta row left old names name reader → FailsToRead new name fault → IsErrAnd result (λ passed. passed ≡ fault) → Answers new (zone_files meta row left) result
     Answers-unread fault result stays opened fails is =
         Answers-then old new (zone_files meta row left) (next_file meta (unwrap_or row.origin []) left opened.times names opened.texts name) result stays opened.so_far
-        (Answers-passed new (octets_of name) (λ told text. files_behind meta (unwrap_or row.origin []) left opened.times (names ++ name ∷ []) (opened.texts ++ text ∷ []) told) fault result is fails)
+        (Answers-passed new (file_octets name) (λ told text. files_behind meta (unwrap_or row.origin []) left opened.times (names ++ name ∷ []) (opened.texts ++ text ∷ []) told) fault result is fails)

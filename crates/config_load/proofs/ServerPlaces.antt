@@ -12,15 +12,15 @@ use Rattle.dns_data.specs.Name.{Labels, name_eq, name_cmp}
 use Rattle.dns_data.proofs.Names.{name_eq_decides}
 use Rattle.net_model.specs.declared.config.Server.{Server}
 use Rattle.net_model.specs.declared.config.Zone.{Zone}
-use Rattle.config_load.specs.Hosted.{place_of, with_zone_at, ArePlaces, AreTellers}
+use Rattle.config_load.specs.Hosted.{server_place, with_zone_at, ArePlaces, AreTellers}
 use Rattle.config_load.specs.Servers.{has_zone, with_zone, given}
 use Rattle.config_load.specs.declared.fault.LoadFault.TheVariants.{ZoneTwice}
 
 -- a place is that of a server
-pub place_of-below : (name : Labels) (servers : List Server) (place : ℕ) → place_of name servers ≡ Some place → place < length servers
+pub place_of-below : (name : Labels) (servers : List Server) (place : ℕ) → server_place name servers ≡ Some place → place < length servers
 place_of-below name [] place is = absurd cc
 place_of-below name (server ∷ servers) place is =
-    by_test (name_eq name server.name) (place_of name servers) (place_of-below name servers) is
+    by_test (name_eq name server.name) (server_place name servers) (place_of-below name servers) is
   where
     by_test : (here : Bool) (rest : Option ℕ) → ((p : ℕ) → rest ≡ Some p → p < length servers) → (if here then Some 0 else option_map (λ p. suc p) rest) ≡ Some place → place < length (server ∷ servers)
     by_test true rest below is = let e : 0 ≡ place = cc in omega arith
@@ -28,10 +28,10 @@ place_of-below name (server ∷ servers) place is =
     by_test false None below is = absurd cc
 
 -- the server of this name has one zone more, where there is one
-pub with_zone-at : (name : Labels) (zone : Zone) (servers : List Server) (place : ℕ) → place_of name servers ≡ Some place → with_zone name zone servers ≡ with_zone_at place zone servers
+pub with_zone-at : (name : Labels) (zone : Zone) (servers : List Server) (place : ℕ) → server_place name servers ≡ Some place → with_zone name zone servers ≡ with_zone_at place zone servers
 with_zone-at name zone [] place is = absurd cc
 with_zone-at name zone (server ∷ servers) place is =
-    by_test (name_eq name server.name) (place_of name servers) (with_zone-at name zone servers) place is
+    by_test (name_eq name server.name) (server_place name servers) (with_zone-at name zone servers) place is
   where
     more : Server
     more = record server { zones = server.zones ++ zone ∷ [] }
@@ -42,10 +42,10 @@ with_zone-at name zone (server ∷ servers) place is =
     by_test false None same place is = absurd cc
 
 -- no other server has it, where there is none
-pub with_zone-new : (name : Labels) (zone : Zone) (servers : List Server) → place_of name servers ≡ None → with_zone name zone servers ≡ servers ++ (record { name = name; zones = zone ∷ [] }) ∷ []
+pub with_zone-new : (name : Labels) (zone : Zone) (servers : List Server) → server_place name servers ≡ None → with_zone name zone servers ≡ servers ++ (record { name = name; zones = zone ∷ [] }) ∷ []
 with_zone-new name zone [] is = refl
 with_zone-new name zone (server ∷ servers) is =
-    by_test (name_eq name server.name) (place_of name servers) (with_zone-new name zone servers) is
+    by_test (name_eq name server.name) (server_place name servers) (with_zone-new name zone servers) is
   where
     by_test : (here : Bool) (rest : Option ℕ) → (rest ≡ None → with_zone name zone servers ≡ servers ++ (record { name = name; zones = zone ∷ [] }) ∷ []) → (if here then Some 0 else option_map (λ p. suc p) rest) ≡ None → (if here then (record server { zones = server.zones ++ zone ∷ [] }) ∷ servers else server ∷ with_zone name zone servers) ≡ server ∷ (servers ++ (record { name = name; zones = zone ∷ [] }) ∷ [])
     by_test true rest new is = absurd cc
@@ -53,19 +53,19 @@ with_zone-new name zone (server ∷ servers) is =
     by_test false None new is = ap (λ ss. server ∷ ss) (new refl)
 
 -- a zone more at a server that is there moves no server
-pub place_of-kept : (name other : Labels) (zone : Zone) (servers : List Server) (place : ℕ) → place_of name servers ≡ Some place → place_of other (with_zone_at place zone servers) ≡ place_of other servers
+pub place_of-kept : (name other : Labels) (zone : Zone) (servers : List Server) (place : ℕ) → server_place name servers ≡ Some place → server_place other (with_zone_at place zone servers) ≡ server_place other servers
 place_of-kept name other zone servers place is = kept servers place where
-  kept : (servers : List Server) (place : ℕ) → place_of other (with_zone_at place zone servers) ≡ place_of other servers
+  kept : (servers : List Server) (place : ℕ) → server_place other (with_zone_at place zone servers) ≡ server_place other servers
   kept [] place = refl
   kept (server ∷ servers) zero = refl
   kept (server ∷ servers) (suc place) = ap (λ rest. if name_eq other server.name then Some 0 else option_map (λ p. suc p) rest) (kept servers place)
 
 -- the place of a server that comes behind the others
-pub place_of-more : (other : Labels) (servers : List Server) (last : Server) → place_of other (servers ++ last ∷ []) ≡ option_or (place_of other servers) (if name_eq other last.name then Some (length servers) else None)
+pub place_of-more : (other : Labels) (servers : List Server) (last : Server) → server_place other (servers ++ last ∷ []) ≡ option_or (server_place other servers) (if name_eq other last.name then Some (length servers) else None)
 place_of-more other [] last = elim (name_eq other last.name) as (λ b. (if b then Some 0 else option_map (λ p. suc p) None) ≡ (if b then Some 0 else None)) [ true ↦ refl | false ↦ refl ]
 place_of-more other (server ∷ servers) last =
     ap (λ rest. if name_eq other server.name then Some 0 else option_map (λ p. suc p) rest) (place_of-more other servers last)
-    ∙ by_tests (name_eq other server.name) (place_of other servers) (name_eq other last.name)
+    ∙ by_tests (name_eq other server.name) (server_place other servers) (name_eq other last.name)
   where
     by_tests : (here : Bool) (rest : Option ℕ) (at_last : Bool) → (if here then Some 0 else option_map (λ p. suc p) (option_or rest (if at_last then Some (length servers) else None))) ≡ option_or (if here then Some 0 else option_map (λ p. suc p) rest) (if at_last then Some (length (server ∷ servers)) else None)
     by_tests true rest at_last = refl
@@ -132,12 +132,12 @@ with_zone_at-set (first ∷ servers) (suc place) server zone zones below here mo
     ap (λ ss. first ∷ ss) (with_zone_at-set servers place server zone zones (omega arith) here more)
 
 -- places stay where a server gets a zone more
-pub ArePlaces-kept : (places : map.BTreeMap Labels ℕ) (name : Labels) (zone : Zone) (servers : List Server) (place : ℕ) → ArePlaces places servers → place_of name servers ≡ Some place → ArePlaces places (with_zone_at place zone servers)
+pub ArePlaces-kept : (places : map.BTreeMap Labels ℕ) (name : Labels) (zone : Zone) (servers : List Server) (place : ℕ) → ArePlaces places servers → server_place name servers ≡ Some place → ArePlaces places (with_zone_at place zone servers)
 ArePlaces-kept places name zone servers place are here other =
     are other ∙ sym (place_of-kept name other zone servers place here)
 
 -- a server more has the place behind the others
-pub ArePlaces-more : (old new : map.BTreeMap Labels ℕ) (name : Labels) (zones : List Zone) (servers : List Server) → ArePlaces old servers → place_of name servers ≡ None → map.Updates name_cmp old new name (Some (length servers)) → ArePlaces new (servers ++ (record { name = name; zones = zones }) ∷ [])
+pub ArePlaces-more : (old new : map.BTreeMap Labels ℕ) (name : Labels) (zones : List Zone) (servers : List Server) → ArePlaces old servers → server_place name servers ≡ None → map.Updates name_cmp old new name (Some (length servers)) → ArePlaces new (servers ++ (record { name = name; zones = zones }) ∷ [])
 ArePlaces-more old new name zones servers are none updates other =
     updates.0 other
     ∙ (λ i. cond (test i) (Some (length servers)) (are other i))
@@ -151,12 +151,12 @@ ArePlaces-more old new name zones servers are none updates other =
     or_none (Some place) = refl
     or_none None = refl
 
-    by_test : (same : Bool) → name_eq other name ≡ same → cond same (Some (length servers)) (place_of other servers) ≡ option_or (place_of other servers) (if same then Some (length servers) else None)
+    by_test : (same : Bool) → name_eq other name ≡ same → cond same (Some (length servers)) (server_place other servers) ≡ option_or (server_place other servers) (if same then Some (length servers) else None)
     by_test true same =
         let one : other ≡ name = (name_eq_decides other name).0 same in
-        let gone : place_of other servers ≡ None = ap (λ n. place_of n servers) one ∙ none in
+        let gone : server_place other servers ≡ None = ap (λ n. server_place n servers) one ∙ none in
         sym (ap (λ o. option_or o (Some (length servers))) gone)
-    by_test false apart = or_none (place_of other servers)
+    by_test false apart = or_none (server_place other servers)
 
 -- a zone more is told from then on
 pub AreTellers-more : (old new : tree.BTreeSet (List Labels)) (name : Labels) (zone : Zone) (servers : List Server) → AreTellers old servers → tree.Updates (slice_cmp name_cmp) old new (name ∷ zone.origin ∷ []) true → AreTellers new (with_zone name zone servers)
@@ -177,7 +177,7 @@ AreTellers-more old new name zone servers are updates other origin =
     by_tests false b has = refl
 
 -- the same of what a call did, where it didn't fail
-pub ArePlaces-pushed : {T E : Type 0} (r : Result T E) (old new : map.BTreeMap Labels ℕ) (name : Labels) (zone : Zone) (servers after : List Server) → ArePlaces old servers → place_of name servers ≡ None → OnOk r (after ≡ servers ++ (record { name = name; zones = zone ∷ [] }) ∷ []) → OnOk r (map.Updates name_cmp old new name (Some (length servers))) → OnOk r (ArePlaces new after)
+pub ArePlaces-pushed : {T E : Type 0} (r : Result T E) (old new : map.BTreeMap Labels ℕ) (name : Labels) (zone : Zone) (servers after : List Server) → ArePlaces old servers → server_place name servers ≡ None → OnOk r (after ≡ servers ++ (record { name = name; zones = zone ∷ [] }) ∷ []) → OnOk r (map.Updates name_cmp old new name (Some (length servers))) → OnOk r (ArePlaces new after)
 ArePlaces-pushed (Ok _) old new name zone servers after are none put updates =
     subst (λ (others : List Server). ArePlaces new others) (sym put) (ArePlaces-more old new name (zone ∷ []) servers are none updates)
 ArePlaces-pushed (Err _) old new name zone servers after are none put updates = tt

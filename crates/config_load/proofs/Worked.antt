@@ -8,7 +8,7 @@ use Rattle.net_model.specs.declared.config.Server.{Server}
 use Rattle.net_model.specs.declared.config.Zone.{Zone}
 use Rattle.rdata_forms.specs.declared.fault.RdataFault.TheVariants as data_faults
 use Rattle.config_load.specs.Conf.{conf, metadata}
-use Rattle.config_load.specs.Faults.{name_of}
+use Rattle.config_load.specs.Faults.{name_numbered}
 use Rattle.config_load.specs.Joined.{joined}
 use Rattle.config_load.specs.Reading.{Misses, Unknown}
 use Rattle.config_load.specs.Refusal.{file_of, line_of, code_of, fields_line}
@@ -30,7 +30,7 @@ from_the_root : joined (codes "d/meta.json") (codes "/x.zone") ≡ codes "/x.zon
 from_the_root = refl
 
 -- The second file is named by its number.
-second_file : name_of (codes "t.zone" ∷ codes "sub.zone" ∷ []) 1 ≡ codes "sub.zone"
+second_file : name_numbered (codes "t.zone" ∷ codes "sub.zone" ∷ []) 1 ≡ codes "sub.zone"
 second_file = refl
 
 -- Servers stand in the order of their first rows, and a zone behind those of its server.

@@ -12,7 +12,7 @@ use Rattle.net_model.specs.declared.config.Config.{Config}
 use Rattle.zone_rules.specs.ZoneOf.{zone_of}
 use Rattle.config_load.specs.Faults.{of_metadata, of_text, of_rule}
 use Rattle.config_load.specs.Joined.{joined}
-use Rattle.config_load.specs.Reading.{Reading, Reads, Refuses, Unknown, ◌>>=◌, unless_refused, octets_of}
+use Rattle.config_load.specs.Reading.{Reading, Reads, Refuses, Unknown, ◌>>=◌, unless_refused, file_octets}
 use Rattle.config_load.specs.Servers.{given}
 use Rattle.config_load.specs.declared.left.Left.{Left}
 use Rattle.config_load.specs.declared.rows.Rows.{Rows}
@@ -42,14 +42,14 @@ files_behind meta origin left zero names texts told =
     settled names (λ file. Unknown (joined meta file)) (zone_text origin left.records left.includes texts)
 files_behind meta origin left (suc times) names texts told =
     settled names
-    (λ file. octets_of (joined meta file) told >>= λ text.
+    (λ file. file_octets (joined meta file) told >>= λ text.
     files_behind meta origin left times (names ++ joined meta file ∷ []) (texts ++ text ∷ []) told)
     (zone_text origin left.records left.includes texts)
 
 -- the files of a row's zone: its file, and those that are included
 unfoldable pub zone_files : List ℕ → MetaRow → Left → (List ℕ → Told) → Reading ZoneFiles
 zone_files meta row left told = do
-  text ← octets_of (joined meta row.file) told
+  text ← file_octets (joined meta row.file) told
   files_behind meta (unwrap_or row.origin []) left left.includes (joined meta row.file ∷ []) (text ∷ []) told
 
 -- the zone of a row's files, and what it leaves
@@ -77,7 +77,7 @@ with_rows meta number (row ∷ more) rows told = with_row meta number row rows t
 
 -- The metadata.
 unfoldable pub metadata : List ℕ → (List ℕ → Told) → Reading Metadata
-metadata meta told = octets_of meta told >>= λ octets. unless_refused of_metadata (metadata_of octets)
+metadata meta told = file_octets meta told >>= λ octets. unless_refused of_metadata (metadata_of octets)
 
 -- what the files give for a metadata file's name
 unfoldable pub conf : List ℕ → (List ℕ → Told) → Reading Config

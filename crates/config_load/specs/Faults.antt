@@ -16,17 +16,17 @@ of_metadata meta_faults.NoMemory = NoMemory
 of_metadata fault = Meta fault
 
 -- the name of the file of this number; each number in a fault is that of an opened file
-abbrev pub name_of : List (List ℕ) → ℕ → List ℕ
-name_of names number = unwrap_or (slice_get names number) []
+abbrev pub name_numbered : List (List ℕ) → ℕ → List ℕ
+name_numbered names number = unwrap_or (slice_get names number) []
 
 -- a fault in the text of one of the files with these names
 abbrev pub of_text : List (List ℕ) → TextFault → LoadFault
-of_text names (text_faults.At number line cause) = Text (name_of names number) line cause
+of_text names (text_faults.At number line cause) = Text (name_numbered names number) line cause
 of_text names text_faults.NoMemory = NoMemory
 
 -- a rule that a record in one of the files with these names breaks
 abbrev pub of_rule : List (List ℕ) → RuleFault → LoadFault
-of_rule names (rule_faults.At number line cause) = Rule (name_of names number) line cause
+of_rule names (rule_faults.At number line cause) = Rule (name_numbered names number) line cause
 of_rule names rule_faults.NoMemory = NoMemory
 
 -- a failed read of the file, or want of memory

@@ -10,10 +10,10 @@ use Rattle.net_model.specs.declared.config.Zone.{Zone}
 use Rattle.config_load.specs.Servers.{has_zone}
 
 -- the place of the first server of this name
-abbrev pub place_of : Labels → List Server → Option ℕ
-place_of name [] = None
-place_of name (server ∷ servers) =
-    if name_eq name server.name then Some 0 else option_map (λ place. suc place) (place_of name servers)
+abbrev pub server_place : Labels → List Server → Option ℕ
+server_place name [] = None
+server_place name (server ∷ servers) =
+    if name_eq name server.name then Some 0 else option_map (λ place. suc place) (server_place name servers)
 
 -- one zone more at the server at this place
 abbrev pub with_zone_at : ℕ → Zone → List Server → List Server
@@ -23,7 +23,7 @@ with_zone_at (suc place) zone (server ∷ servers) = server ∷ with_zone_at pla
 
 -- each server is found at its place by its name
 abbrev pub ArePlaces : map.BTreeMap Labels ℕ → List Server → Type 0
-ArePlaces places servers = (name : Labels) → map.get name_cmp places name ≡ place_of name servers
+ArePlaces places servers = (name : Labels) → map.get name_cmp places name ≡ server_place name servers
 
 -- it is known of each name and origin, which together tell a zone, whether a server of this name has such a zone
 abbrev pub AreTellers : tree.BTreeSet (List Labels) → List Server → Type 0

@@ -16,8 +16,8 @@ without file told name = if pointwise nat_eq name file then Untold else told nam
 
 -- The reading comes to this file: if nothing were told of it, nothing more would be known. Each step before gives no
 -- refusal and comes to no file that isn't held.
-abbrev pub ComesTo : List ℕ → (List ℕ → Told) → List ℕ → Type 0
-ComesTo meta told file = conf meta (without file told) ≡ Unknown file
+abbrev pub ReadingComesTo : List ℕ → (List ℕ → Told) → List ℕ → Type 0
+ReadingComesTo meta told file = conf meta (without file told) ≡ Unknown file
 
 -- the metadata read, and some row of them names this file
 abbrev pub IsRowsFile : List ℕ → (List ℕ → Told) → List ℕ → Type 0
@@ -27,7 +27,7 @@ IsRowsFile meta told file =
 -- the names of the files that are opened: the metadata file, those of its rows, and those that are included where the
 -- reading comes to
 abbrev pub IsOpened : List ℕ → (List ℕ → Told) → List ℕ → Type 0
-IsOpened meta told file = (file ≡ meta) ⊎ (IsRowsFile meta told file ⊎ ComesTo meta told file)
+IsOpened meta told file = (file ≡ meta) ⊎ (IsRowsFile meta told file ⊎ ReadingComesTo meta told file)
 
 -- no count of an opened file rose
 abbrev pub NoReadFailed : List ℕ → (List ℕ → Told) → (List ℕ → ℕ) → (List ℕ → ℕ) → Type 0
@@ -42,7 +42,7 @@ Gives reading (Err fault) = reading ≡ Refuses fault
 
 -- a failed read is of a file to which the reading comes
 abbrev pub FailedWhereItCame : {T : Type 0} → List ℕ → (List ℕ → Told) → Result T LoadFault → Type 0
-FailedWhereItCame meta told (Err (Read file)) = ComesTo meta told file
+FailedWhereItCame meta told (Err (Read file)) = ReadingComesTo meta told file
 FailedWhereItCame meta told result = Unit {0}
 
 -- a failed read, or want of memory

@@ -30,11 +30,11 @@ abbrev pub most_octets : ℕ
 most_octets = 16777216
 
 -- the octets that are told, unless they are too many
-abbrev pub octets_in : List ℕ → Told → Reading (List ℕ)
-octets_in name Untold = Unknown name
-octets_in name NotHeld = Misses name
-octets_in name (Holds octets) = if nat_le (length octets) most_octets then Reads octets else Refuses (TooLong name)
+abbrev pub told_octets : List ℕ → Told → Reading (List ℕ)
+told_octets name Untold = Unknown name
+told_octets name NotHeld = Misses name
+told_octets name (Holds octets) = if nat_le (length octets) most_octets then Reads octets else Refuses (TooLong name)
 
 -- the octets of the file of this name
-abbrev pub octets_of : List ℕ → (List ℕ → Told) → Reading (List ℕ)
-octets_of name told = octets_in name (told name)
+abbrev pub file_octets : List ℕ → (List ℕ → Told) → Reading (List ℕ)
+file_octets name told = told_octets name (told name)

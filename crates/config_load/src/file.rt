@@ -6,7 +6,7 @@ ghost use Rattle.io_edges.specs.Files.{Holds, StaysTold, first_told};
 ghost use Rattle.config_load.specs.Faults.{FailedAt, IsReadOf};
 ghost use Rattle.config_load.specs.Fed.{HasFed, FailsToRead, IsFed};
 ghost use Rattle.config_load.specs.Follows.{Answers};
-ghost use Rattle.config_load.specs.Reading.{octets_of, most_octets};
+ghost use Rattle.config_load.specs.Reading.{file_octets, most_octets};
 
 use crate::fault::LoadFault;
 use dns_data::List;
@@ -26,7 +26,7 @@ pub(crate) fn read_whole<F: Files>(
     files: &mut F,
     name: &str,
 ) -> Result<List<u8>, LoadFault>
-    ensures answers { Answers (F.told files.new) (octets_of name.now) result }
+    ensures answers { Answers (F.told files.new) (file_octets name.now) result }
     ensures cause { FailedAt (F.faults files.old) (F.faults files.new) result }
     ensures stays { StaysTold (F.told files.old) (F.told files.new) }
     ensures never_fall { NoneFell (F.faults files.old) (F.faults files.new) }

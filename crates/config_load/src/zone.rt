@@ -12,7 +12,7 @@ ghost use Rattle.config_load.specs.Follows.{Answers};
 
 use crate::fault::LoadFault;
 use crate::left::Left;
-use crate::zone_files::{name_of, read_zone_files};
+use crate::zone_files::{name_numbered, read_zone_files};
 use dns_data::{List, Name, Rr, Text};
 use io_edges::Files;
 use meta_read::MetaRow;
@@ -59,7 +59,7 @@ fn checked(
     match check_zone(alloc, origin, rrs) {
         Ok(zone) => Ok(zone),
         Err(RuleFault::At { file, line, cause }) => Err(LoadFault::Rule {
-            file: name_of(alloc, names, file),
+            file: name_numbered(alloc, names, file),
             line,
             cause,
         }),

@@ -4,7 +4,7 @@ ghost use Rattle.std.specs.Prelude.{◌≡◌, [], IfOk, unwrap_or};
 ghost use Rattle.io_edges.specs.Counts.{NoneFell};
 ghost use Rattle.io_edges.specs.Files.{StaysTold};
 ghost use Rattle.config_load.specs.Conf.{zone_files};
-ghost use Rattle.config_load.specs.Faults.{FailedAt, name_of};
+ghost use Rattle.config_load.specs.Faults.{FailedAt, name_numbered};
 ghost use Rattle.config_load.specs.Follows.{Answers};
 ghost use Rattle.config_load.specs.ReadFiles.{read_files};
 
@@ -77,7 +77,7 @@ fn told(
     match given {
         Ok(text) => Ok(ZoneFiles { names, text }),
         Err(TextFault::At { file, line, cause }) => Err(LoadFault::Text {
-            file: name_of(alloc, names, file),
+            file: name_numbered(alloc, names, file),
             line,
             cause,
         }),
@@ -86,8 +86,8 @@ fn told(
 }
 
 /// The name of the file of this number.
-pub(crate) fn name_of(alloc: Global, names: List<Text>, number: u32) -> Text
-    ensures { result ≡ name_of names number }
+pub(crate) fn name_numbered(alloc: Global, names: List<Text>, number: u32) -> Text
+    ensures { result ≡ name_numbered names number }
 {
     let mut names = names.into_vec();
     let place = number as usize;

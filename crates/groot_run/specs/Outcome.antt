@@ -4,7 +4,7 @@ use Rattle.io_edges.specs.Files.{Told}
 use Rattle.net_model.specs.declared.config.Config.{Config}
 use Rattle.net_model.specs.Reading.{ground_of}
 use Rattle.config_load.specs.Conf.{conf}
-use Rattle.config_load.specs.Load.{ComesTo, NoReadFailed}
+use Rattle.config_load.specs.Load.{ReadingComesTo, NoReadFailed}
 use Rattle.config_load.specs.Reading.{Reading, Reads, Refuses, Misses, Unknown}
 use Rattle.config_load.specs.Refusal.{fields_line, refusal_line}
 use Rattle.config_load.specs.declared.fault.LoadFault.{LoadFault}
@@ -127,7 +127,7 @@ IsEnding told job ending =
 -- The job comes to the file: every step of its reading before gives no refusal, and comes to no opened name that isn't
 -- held.
 abbrev pub JobComesTo : (List ℕ → Told) → Result Job LineFault → List ℕ → Type 0
-JobComesTo told (Ok (Check meta workers classes rewrites)) file = ComesTo meta told file
+JobComesTo told (Ok (Check meta workers classes rewrites)) file = ReadingComesTo meta told file
 JobComesTo told job file = ⊥
 
 -- no count of a file that the job opens rose

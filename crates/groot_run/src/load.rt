@@ -4,7 +4,7 @@ ghost use Rattle.std.specs.Prelude.{◌≡◌, ◌⊎◌, ◌<◌, ℕ, List};
 ghost use Rattle.io_edges.specs.Counts.{Rose};
 ghost use Rattle.io_edges.specs.Files.{TellsAll};
 ghost use Rattle.config_load.specs.Conf.{conf};
-ghost use Rattle.config_load.specs.Load.{ComesTo};
+ghost use Rattle.config_load.specs.Load.{ReadingComesTo};
 ghost use Rattle.groot_run.specs.NotLoaded.{IsNotLoaded};
 ghost use Rattle.groot_run.specs.Outcome.{Checks, OfReading, read_failed, no_memory};
 
@@ -23,7 +23,7 @@ pub(crate) fn check_files<F: Files>(
 ) -> Ending
     requires { 0 < limits.rewrites }
     ensures cause { OfReading meta.now (Checks meta.now limits.classes limits.rewrites) (conf meta.now (F.told files.new)) result
-        ⊎ ((file : List ℕ) × (result ≡ read_failed file) × ComesTo meta.now (F.told files.new) file
+        ⊎ ((file : List ℕ) × (result ≡ read_failed file) × ReadingComesTo meta.now (F.told files.new) file
         × Rose (F.faults files.old file) (F.faults files.new file)) ⊎ (result ≡ no_memory) }
     ensures from_the_start { TellsAll (F.told files.old) → F.told files.new ≡ F.told files.old }
 {

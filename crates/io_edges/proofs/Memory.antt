@@ -8,7 +8,7 @@ use Rattle.std.specs.FinMap as map
 use Rattle.std.specs.declared.cmp.Ordering.{Ordering}
 use Rattle.std.specs.declared.cmp.Ordering.TheVariants.{Less, Equal, Greater}
 use Rattle.std.proofs.lemmas.Bool.Decides.{nat_tests}
-use Rattle.io_edges.specs.Counts.{last_count, one_more, Rose, NoneFell}
+use Rattle.io_edges.specs.Counts.{last_count, risen, Rose, NoneFell}
 use Rattle.io_edges.specs.Files.{all_told}
 use Rattle.io_edges.specs.MemoryFiles.{Stored, FileMap, FilesInMemory, octets_at, told_by, failed_once_more, failures_of, with_file, next_fails, after_failure, after_call}
 
@@ -45,35 +45,35 @@ told_by-after_failure m new name e =
 -- a call changes nothing that is told
 pub told_by-after_call : (m new : FilesInMemory) (name : List ℕ) → new ≡ after_call m name → told_by new ≡ told_by m
 told_by-after_call m new name e =
-    let counted : FilesInMemory = record m { calls = one_more m.calls } in
+    let counted : FilesInMemory = record m { calls = risen m.calls } in
     ap told_by e
     ∙ elim (next_fails m name) as (λ b. told_by (if b then after_failure counted name else counted) ≡ told_by m) [ true ↦ told_by-after_failure counted _ name refl | false ↦ refl ]
 
-one_more-le : (count : ℕ) → count ≤ one_more count
+one_more-le : (count : ℕ) → count ≤ risen count
 one_more-le count = grind (arith, nat_tests)
 
 -- after one more, a count rose
-pub Rose-one_more : (count : ℕ) → Rose count (one_more count)
+pub Rose-one_more : (count : ℕ) → Rose count (risen count)
 Rose-one_more count = elim (nat_lt count last_count) as (λ b. nat_lt count last_count ≡ b → Rose count (if b then count + 1 else count)) [ true ↦ λ e. inl (omega arith) | false ↦ λ e. inr (grind (arith, nat_tests)) ] refl
 
-not_below : (absent : ℕ) (files : FileMap) (name : List ℕ) (o : Option Stored) → map.get files name ≡ o → (other : List ℕ) → option_map_or (λ file. file.failures) (map.get files other) absent ≤ option_map_or (λ file. file.failures) (map.get (failed_once_more files name o) other) (if is_none o then one_more absent else absent)
+not_below : (absent : ℕ) (files : FileMap) (name : List ℕ) (o : Option Stored) → map.get files name ≡ o → (other : List ℕ) → option_map_or (λ file. file.failures) (map.get files other) absent ≤ option_map_or (λ file. file.failures) (map.get (failed_once_more files name o) other) (if is_none o then risen absent else absent)
 not_below absent files name None e other = larger (map.get files other)
   where
-    larger : (o : Option Stored) → option_map_or (λ file. file.failures) o absent ≤ option_map_or (λ file. file.failures) o (one_more absent)
+    larger : (o : Option Stored) → option_map_or (λ file. file.failures) o absent ≤ option_map_or (λ file. file.failures) o (risen absent)
     larger None = one_more-le absent
     larger (Some file) = omega arith
 not_below absent files name (Some file) e other =
     at_change (λ old new. option_map_or (λ file. file.failures) old absent ≤ option_map_or (λ file. file.failures) new absent) (λ o. omega arith) files name _
-    (subst (λ o. option_map_or (λ file. file.failures) o absent ≤ one_more file.failures) (sym e) (one_more-le file.failures)) other
+    (subst (λ o. option_map_or (λ file. file.failures) o absent ≤ risen file.failures) (sym e) (one_more-le file.failures)) other
 
 -- a failure lets no count fall
 pub NoneFell-after_failure : (m new : FilesInMemory) (name : List ℕ) → new ≡ after_failure m name → NoneFell (failures_of m) (failures_of new)
 NoneFell-after_failure m new name e other = subst (λ after. failures_of m other ≤ failures_of after other) (sym e) (not_below m.absent m.files name (map.get m.files name) refl other)
 
-rose-here : (absent : ℕ) (files : FileMap) (name : List ℕ) (o : Option Stored) → map.get files name ≡ o → Rose (option_map_or (λ file. file.failures) o absent) (option_map_or (λ file. file.failures) (map.get (failed_once_more files name o) name) (if is_none o then one_more absent else absent))
-rose-here absent files name None e = subst (λ o. Rose absent (option_map_or (λ file. file.failures) o (one_more absent))) (sym e) (Rose-one_more absent)
+rose-here : (absent : ℕ) (files : FileMap) (name : List ℕ) (o : Option Stored) → map.get files name ≡ o → Rose (option_map_or (λ file. file.failures) o absent) (option_map_or (λ file. file.failures) (map.get (failed_once_more files name o) name) (if is_none o then risen absent else absent))
+rose-here absent files name None e = subst (λ o. Rose absent (option_map_or (λ file. file.failures) o (risen absent))) (sym e) (Rose-one_more absent)
 rose-here absent files name (Some file) e =
-    let put : Stored = record { octets = file.octets; failures = one_more file.failures } in
+    let put : Stored = record { octets = file.octets; failures = risen file.failures } in
     let got = map.get-insert nat_list_cmp_total files name put name ∙ ap (λ b. cond b (Some put) (map.get files name)) ((eq_by_cmp_equiv nat_list_cmp_total).refl name) in
     subst (λ o. Rose file.failures (option_map_or (λ file. file.failures) o absent)) (sym got) (Rose-one_more file.failures)
 

@@ -11,9 +11,9 @@ use Rattle.std.specs.Cmp.Lexicographic.{slice_cmp, nat_list_cmp_total}
 use Rattle.std.specs.FinMap as finite
 use Rattle.std.proofs.lemmas.Map.Text.{btree_map_updates_text, text_cmp, is_eq-slice_cmp}
 use Rattle.std.proofs.lemmas.Map.Lookups.{exact_bytes}
-use Rattle.io_edges.specs.Counts.{one_more}
+use Rattle.io_edges.specs.Counts.{risen}
 use Rattle.io_edges.specs.declared.shelf.Kept.{Kept}
-use Rattle.io_edges.specs.Counts.{one_more}
+use Rattle.io_edges.specs.Counts.{risen}
 use Rattle.io_edges.specs.MemoryFiles.{with_octets, with_failure, failed_once_more}
 use Rattle.io_edges.specs.Shelf.{stored, named, shelf_of}
 
@@ -52,7 +52,7 @@ module _ {A : Type 0} where
       sym (ap (failed_once_more (shelf_of m.entries) name) (get-shelf_of m name ∙ ap (option_map stored) (sym none)))
 
   -- a name whose file has one failure more
-  pub changed-with_failure : (name : List ℕ) (kept : Kept) (failures : ℕ) (old new : BTreeMap (String A) Kept) → Some kept ≡ get_by_text old name → failures ≡ one_more kept.failures → WritesThrough string_cmp (λ key. slice_cmp nat_cmp name (string_bytes key)) old (record { octets = kept.octets; failures = failures }) new → shelf_of new.entries ≡ with_failure (shelf_of old.entries) name
+  pub changed-with_failure : (name : List ℕ) (kept : Kept) (failures : ℕ) (old new : BTreeMap (String A) Kept) → Some kept ≡ get_by_text old name → failures ≡ risen kept.failures → WritesThrough string_cmp (λ key. slice_cmp nat_cmp name (string_bytes key)) old (record { octets = kept.octets; failures = failures }) new → shelf_of new.entries ≡ with_failure (shelf_of old.entries) name
   changed-with_failure name kept failures old new found more written =
       shelf_of-update name (record { octets = kept.octets; failures = failures }) old new (written.3 (subst IsSome found refl))
       ∙ (λ i. with_octets (shelf_of old.entries) name kept.octets (more i))

@@ -3,7 +3,7 @@ use Rattle.std.proofs.Common.{◌≡◌, ℕ, ◌+◌, ◌<◌, ◌≤◌, ◌++
 use Rattle.std.proofs.Math.ListN.{length-take, length-append}
 use Rattle.std.proofs.Math.Seq.{take-add}
 use Rattle.std.proofs.lemmas.List.{take_all}
-use Rattle.io_edges.specs.Files.{Told, Untold, NotHeld, Holds, IsToldAnd, StaysTold, TellsAll, SameElsewhere, IsFrontFrom, first_told}
+use Rattle.io_edges.specs.Files.{Told, Untold, NotHeld, Holds, IsToldAnd, StaysTold, TellsAll, SameElsewhere, IsPieceFrom, first_told}
 
 -- what is told over two steps stays told
 pub StaysTold-then : (first between last : List ℕ → Told) → StaysTold first between → StaysTold between last → StaysTold first last
@@ -42,17 +42,17 @@ first_told-stays before after at (inl untold) long =
 first_told-stays before after at (inr same) long = ap (λ told. first_told told at) same
 
 -- with a piece that was read behind them
-pub first_told-more : (before after : Told) (piece : List ℕ) (at count : ℕ) → (before ≡ Untold) ⊎ (after ≡ before) → length (first_told before at) ≡ at → IsToldAnd after (λ octets. IsFrontFrom octets at count piece) → first_told after (at + count) ≡ first_told before at ++ take count piece
+pub first_told-more : (before after : Told) (piece : List ℕ) (at count : ℕ) → (before ≡ Untold) ⊎ (after ≡ before) → length (first_told before at) ≡ at → IsToldAnd after (λ octets. IsPieceFrom octets at count piece) → first_told after (at + count) ≡ first_told before at ++ take count piece
 first_told-more before after piece at count stays long read =
     by_told after read ∙ ap (λ got. got ++ take count piece) (first_told-stays before after at stays long)
   where
-    by_told : (after : Told) → IsToldAnd after (λ octets. IsFrontFrom octets at count piece) → first_told after (at + count) ≡ first_told after at ++ take count piece
+    by_told : (after : Told) → IsToldAnd after (λ octets. IsPieceFrom octets at count piece) → first_told after (at + count) ≡ first_told after at ++ take count piece
     by_told Untold read = absurd read
     by_told NotHeld read = absurd read
     by_told (Holds octets) read = take-add at count octets ∙ ap (λ rest. take at octets ++ rest) (sym read)
 
 -- and these are so many
-pub first_told-longer : (before after : Told) (piece : List ℕ) (at count : ℕ) → (before ≡ Untold) ⊎ (after ≡ before) → length (first_told before at) ≡ at → count ≤ length piece → IsToldAnd after (λ octets. IsFrontFrom octets at count piece) → length (first_told after (at + count)) ≡ at + count
+pub first_told-longer : (before after : Told) (piece : List ℕ) (at count : ℕ) → (before ≡ Untold) ⊎ (after ≡ before) → length (first_told before at) ≡ at → count ≤ length piece → IsToldAnd after (λ octets. IsPieceFrom octets at count piece) → length (first_told after (at + count)) ≡ at + count
 first_told-longer before after piece at count stays long fits read =
     let got = first_told before at in
     let more : length (first_told after (at + count)) ≡ length (got ++ take count piece) = ap length (first_told-more before after piece at count stays long read) in

@@ -26,8 +26,8 @@ abbrev pub SameElsewhere : List ℕ → (List ℕ → Told) → (List ℕ → To
 SameElsewhere name before after = (other : List ℕ) → other ≢ name → after other ≡ before other
 
 -- the first `count` octets of the piece are those that stand in the octets from `at`
-abbrev pub IsFrontFrom : List ℕ → ℕ → ℕ → List ℕ → Type 0
-IsFrontFrom octets at count piece = take count piece ≡ take count (drop at octets)
+abbrev pub IsPieceFrom : List ℕ → ℕ → ℕ → List ℕ → Type 0
+IsPieceFrom octets at count piece = take count piece ≡ take count (drop at octets)
 
 -- the first so many of the octets that are told; none while no octets are told
 abbrev pub first_told : Told → ℕ → List ℕ

@@ -5,7 +5,7 @@ use Rattle.std.specs.Ordering.{nat_cmp}
 use Rattle.std.specs.Cmp.Lexicographic.{slice_cmp}
 use Rattle.std.specs.Coded.{Coded, code_by, coded×, coded_ℕ, coded_list}
 use Rattle.std.specs.FinMap as map
-use Rattle.io_edges.specs.Counts.{one_more, is_listed}
+use Rattle.io_edges.specs.Counts.{risen, is_listed}
 use Rattle.io_edges.specs.Files.{Told, all_told}
 
 -- a file: its octets, and how many calls failed at it
@@ -36,7 +36,7 @@ with_octets files name octets failures = map.insert files name (record { octets 
 -- the files with one failure more at this one, where there is one
 abbrev pub failed_once_more : FileMap → List ℕ → Option Stored → FileMap
 failed_once_more files name None = files
-failed_once_more files name (Some file) = with_octets files name file.octets (one_more file.failures)
+failed_once_more files name (Some file) = with_octets files name file.octets (risen file.failures)
 
 -- the files after one failure more at this name
 abbrev pub with_failure : FileMap → List ℕ → FileMap
@@ -69,17 +69,17 @@ failures_of m name = option_map_or (λ file. file.failures) (map.get m.files nam
 
 -- whether the next call fails, at this name: its number is listed, or the name isn't held
 abbrev pub next_fails : FilesInMemory → List ℕ → Bool
-next_fails m name = is_listed m.fails (one_more m.calls) || is_none (map.get m.files name)
+next_fails m name = is_listed m.fails (risen m.calls) || is_none (map.get m.files name)
 
 -- one failure more at this name: at its file, or at the absent names
 abbrev pub after_failure : FilesInMemory → List ℕ → FilesInMemory
 after_failure m name =
-    record m { files = with_failure m.files name; absent = if is_none (map.get m.files name) then one_more m.absent else m.absent }
+    record m { files = with_failure m.files name; absent = if is_none (map.get m.files name) then risen m.absent else m.absent }
 
 -- after one call more
 abbrev pub after_call : FilesInMemory → List ℕ → FilesInMemory
 after_call m name =
-    let counted : FilesInMemory = record m { calls = one_more m.calls } in
+    let counted : FilesInMemory = record m { calls = risen m.calls } in
     if next_fails m name then after_failure counted name else counted
 
 -- no file, and no call so far

@@ -1,7 +1,7 @@
 //! The calls that a form in memory is told to fail.
 
 ghost use Rattle.std.specs.Prelude.{◌≡◌};
-ghost use Rattle.io_edges.specs.Counts.{one_more, is_listed};
+ghost use Rattle.io_edges.specs.Counts.{risen, is_listed};
 
 use crate::counts::raise;
 use dns_data::List;
@@ -23,8 +23,8 @@ impl Calls {
 
     /// Counts one call more, and answers whether its number is listed.
     pub fn count(&mut self) -> bool
-        ensures listed { result ≡ is_listed self.old.fails (one_more self.old.made) }
-        ensures counted { self.new ≡ record self.old { made = one_more self.old.made } }
+        ensures listed { result ≡ is_listed self.old.fails (risen self.old.made) }
+        ensures counted { self.new ≡ record self.old { made = risen self.old.made } }
     {
         self.made = raise(self.made);
         let made = self.made;

@@ -2,7 +2,7 @@
 
 ghost use Rattle.std.specs.Prelude.{◌≡◌, ℕ, ◌<◌, ◌≤◌, List, length, OnErr, IfOk};
 ghost use Rattle.io_edges.specs.Counts.{NoneFell, Rose};
-ghost use Rattle.io_edges.specs.Files.{Told, IsToldAnd, StaysTold, SameElsewhere, IsFrontFrom};
+ghost use Rattle.io_edges.specs.Files.{Told, IsToldAnd, StaysTold, SameElsewhere, IsPieceFrom};
 
 use crate::failed::Failed;
 
@@ -23,7 +23,7 @@ pub trait Files {
         // What is read, of the octets that are told after the call.
         ensures fits { IfOk result (λ count. count ≤ length into.new) }
         ensures front { IfOk result (λ count.
-            IsToldAnd (told self.new name.now) (λ octets. IsFrontFrom octets at count into.new)) }
+            IsToldAnd (told self.new name.now) (λ octets. IsPieceFrom octets at count into.new)) }
         ensures end { IfOk result (λ count. count ≡ 0 → 0 < length into.new →
             IsToldAnd (told self.new name.now) (λ octets. length octets ≤ at)) }
 

@@ -2,7 +2,7 @@
 
 ghost use Rattle.std.specs.Prelude.{◌≡◌, ◌↔◌, ℕ, ◌-◌, ◌<◌, ◌≤◌, List, length, drop, min, IsTrue, IsErr, OnOk, OnErr, IfOk};
 ghost use Rattle.io_edges.specs.Counts.{NoneFell, Rose};
-ghost use Rattle.io_edges.specs.Files.{IsToldAnd, StaysTold, SameElsewhere, IsFrontFrom};
+ghost use Rattle.io_edges.specs.Files.{IsToldAnd, StaysTold, SameElsewhere, IsPieceFrom};
 ghost use Rattle.io_edges.specs.MemoryFiles.{told_by, failures_of, next_fails, after_failure, after_call, no_files, with_file};
 
 use crate::calls::Calls;
@@ -88,7 +88,7 @@ impl Files for MemoryFiles {
     fn read(&mut self, name: &str, at: u64, into: &mut [u8]) -> Result<usize, Failed>
         ensures fits { IfOk result (λ count. count ≤ length into.new) }
         ensures front { IfOk result (λ count.
-            IsToldAnd (told_by self.new name.now) (λ octets. IsFrontFrom octets at count into.new)) }
+            IsToldAnd (told_by self.new name.now) (λ octets. IsPieceFrom octets at count into.new)) }
         ensures end { IfOk result (λ count. count ≡ 0 → 0 < length into.new →
             IsToldAnd (told_by self.new name.now) (λ octets. length octets ≤ at)) }
         ensures cause { OnErr result (Rose (failures_of self.old name.now) (failures_of self.new name.now)) }

@@ -3,7 +3,7 @@
 ghost use Rattle.std.specs.Prelude.{◌≡◌, ◌↔◌, ◌<◌, ◌≤◌, length, take, IsTrue, IsErr, OnErr, IfOk};
 ghost use Rattle.std.specs.Io.KnownBytes.{Appends, Keeps};
 ghost use Rattle.io_edges.specs.Counts.{Rose};
-ghost use Rattle.io_edges.specs.MemorySink.{taken_by, fitting, refuses_next, after_write, nothing_taken};
+ghost use Rattle.io_edges.specs.MemorySink.{told_taken, room_for, refuses_next, after_write, nothing_taken};
 
 use crate::calls::Calls;
 use crate::counts::raise;
@@ -65,7 +65,7 @@ impl MemorySink {
 }
 
 impl Sink for MemorySink {
-    ghost taken = { taken_by };
+    ghost taken = { told_taken };
 
     ghost faults = { λ s. s.failures };
 
@@ -73,14 +73,14 @@ impl Sink for MemorySink {
         ensures fits { IfOk result (λ count. count ≤ length bytes.now) }
         ensures some { IfOk result (λ count. 0 < length bytes.now → 0 < count) }
         ensures appends { IfOk result (λ count.
-            Appends (taken_by self.old) (taken_by self.new) (take count bytes.now)) }
-        ensures err { OnErr result (Keeps (taken_by self.old) (taken_by self.new)) }
+            Appends (told_taken self.old) (told_taken self.new) (take count bytes.now)) }
+        ensures err { OnErr result (Keeps (told_taken self.old) (told_taken self.new)) }
         ensures cause { OnErr result (Rose self.old.failures self.new.failures) }
         ensures never_falls { self.old.failures ≤ self.new.failures }
 
         // Exactly when it fails, how much it takes, and what it leaves.
         ensures fails { IsErr result ↔ IsTrue (refuses_next self.old bytes.now) }
-        ensures whole { IfOk result (λ count. count ≡ fitting self.old bytes.now) }
+        ensures whole { IfOk result (λ count. count ≡ room_for self.old bytes.now) }
         ensures after { self.new ≡ after_write self.old bytes.now }
     {
         let listed = self.calls.count();

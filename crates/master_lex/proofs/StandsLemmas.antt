@@ -15,7 +15,7 @@ use Rattle.master_lex.specs.declared.taken.Taken.TheVariants as answers
 use Rattle.master_lex.specs.Contents.{Contents, behind, contents, text_entries, text_fault}
 use Rattle.master_lex.specs.States.{State, empty, run, Fits, IsTidy, ahead_by, ahead, last_fault, whole_by, made, without_fault, last_entry}
 use Rattle.master_lex.specs.Taking.{IsFault, left_answer, IsAnswer, given_with}
-use Rattle.master_lex.specs.Lexer.{Lexing, Remains, StandsFor, left, LastTaken}
+use Rattle.master_lex.specs.Lexer.{Lexing, Remains, IsLexerOf, left, LastTaken}
 use Rattle.master_lex.proofs.Running.{run_ahead, end_ahead}
 use Rattle.master_lex.proofs.Settled.{held_fault, not_settled}
 
@@ -30,7 +30,7 @@ behind_behind xs ys rest = ap (λ (w : List Entry). record rest { whole = w }) (
 
 -- what is fed goes on with the text
 pub fed_stands : (s s' : State) (n n' : ℕ) (text piece : List ℕ) (given : List Entry) (finished : Bool) → finished ≡ false → IsTidy s → s' ≡ run s piece → n' ≡ n + length piece
-    → StandsFor (record { state = s; fed = n; finished = finished }) text given → StandsFor (record { state = s'; fed = n'; finished = finished }) (text ++ piece) given
+    → IsLexerOf (record { state = s; fed = n; finished = finished }) text given → IsLexerOf (record { state = s'; fed = n'; finished = finished }) (text ++ piece) given
 fed_stands s s' n n' text piece given finished unended tidy e m h = rw unended (record {
   fed = m ∙ ap (λ k. k + length piece) h.fed ∙ sym (length-append text piece);
   agrees = λ more. ap contents (append_assoc text piece more) ∙ (rw unended at h.agrees) (piece ++ more)
@@ -39,7 +39,7 @@ fed_stands s s' n n' text piece given finished unended tidy e m h = rw unended (
 
 -- what is left where the text ends
 pub end_stands : (s : State) (n : ℕ) (finished : Bool) → finished ≡ false → IsTidy s → (text : List ℕ) (given : List Entry)
-    → StandsFor (record { state = s; fed = n; finished = finished }) text given → StandsFor (record { state = s; fed = n; finished = true }) text given
+    → IsLexerOf (record { state = s; fed = n; finished = finished }) text given → IsLexerOf (record { state = s; fed = n; finished = true }) text given
 end_stands s n finished unended tidy text given h =
     let ahead_is : (more : List ℕ) → contents (text ++ more) ≡ behind given (ahead s more) = rw unended at h.agrees in
     let all : contents text ≡ behind given (record { whole = s.ready; last = last_entry s; fault = last_fault s.position })
@@ -53,7 +53,7 @@ end_stands s n finished unended tidy text given h =
     }
 
 -- a lexer that was fed nothing
-pub new_stands : StandsFor (record { state = empty; fed = 0; finished = false }) [] []
+pub new_stands : IsLexerOf (record { state = empty; fed = 0; finished = false }) [] []
 new_stands = record { fed = refl; agrees = λ more. refl }
 
 -- ---- the whole entries
@@ -78,7 +78,7 @@ same_last s ready = ap (without_fault (last_fault s.position)) (same_made s.posi
 
 -- the first of them was taken
 pub first_stands : (s s' : State) (n : ℕ) (finished : Bool) (entry : Entry) → s ≡ record s' { ready = entry ∷ s'.ready } → (text : List ℕ) (given : List Entry)
-    → StandsFor (record { state = s; fed = n; finished = finished }) text given → StandsFor (record { state = s'; fed = n; finished = finished }) text (given ++ entry ∷ [])
+    → IsLexerOf (record { state = s; fed = n; finished = finished }) text given → IsLexerOf (record { state = s'; fed = n; finished = finished }) text (given ++ entry ∷ [])
 first_stands s s' n finished entry e text given h = record { fed = h.fed; agrees = by finished h.agrees } where
   by : (finished : Bool) → MatchBool finished (Remains s text given) ((more : List ℕ) → contents (text ++ more) ≡ behind given (ahead s more))
       → MatchBool finished (Remains s' text (given ++ entry ∷ [])) ((more : List ℕ) → contents (text ++ more) ≡ behind (given ++ entry ∷ []) (ahead s' more))
@@ -118,7 +118,7 @@ fault_is s text given tidy h = by s.position.mode tidy (λ more. ap (λ (c : Con
 -- a lexer answers by what is left
 pub stands_answer : (s : State) (n : ℕ) (finished : Bool) (result : Result Taken TakeFault) → IsTidy s
     → AnswersOr NoMemory result (left_answer finished (left (record { state = s; fed = n; finished = finished })) (known_fault (record { state = s; fed = n; finished = finished })))
-    → (text : List ℕ) (given : List Entry) → StandsFor (record { state = s; fed = n; finished = finished }) text given → IsAnswer finished text given result
+    → (text : List ℕ) (given : List Entry) → IsLexerOf (record { state = s; fed = n; finished = finished }) text given → IsAnswer finished text given result
 stands_answer s n true result tidy a text given h = (
   last_fault s.position,
   (sym h.agrees.fault, rw (left_over given (s.ready ++ last_entry s) (text_entries text) (h.agrees.entries ∙ append_assoc given s.ready (last_entry s))) a),
@@ -148,8 +148,8 @@ pub same_lexer : (s s' : State) (n : ℕ) (finished : Bool) (result : Result Tak
     → OnErr result (◌≡◌ {A = Lexing} (record { state = s'; fed = n; finished = finished }) (record { state = s; fed = n; finished = finished }))
 same_lexer s s' n finished result h = on_err_weaker result (λ e. rw e refl) h
 
-last_stands : (s s' : State) (n : ℕ) (text : List ℕ) (given : List Entry) (taken : Taken) → s.ready ≡ [] → StandsFor (record { state = s; fed = n; finished = true }) text given → LastTaken s s' taken
-    → StandsFor (record { state = s'; fed = n; finished = true }) text (given_with given taken)
+last_stands : (s s' : State) (n : ℕ) (text : List ℕ) (given : List Entry) (taken : Taken) → s.ready ≡ [] → IsLexerOf (record { state = s; fed = n; finished = true }) text given → LastTaken s s' taken
+    → IsLexerOf (record { state = s'; fed = n; finished = true }) text (given_with given taken)
 last_stands s s' n text given taken none h l = record {
   fed = h.fed;
   agrees = record {
@@ -160,11 +160,11 @@ last_stands s s' n text given taken none h l = record {
 }
 
 pub last_keeps : (s s' : State) (n : ℕ) (finished : Bool) (result : Result Taken TakeFault) → finished ≡ true → s.ready ≡ [] → IfOk result (LastTaken s s')
-    → (text : List ℕ) (given : List Entry) → StandsFor (record { state = s; fed = n; finished = finished }) text given
-    → IfOk result (λ taken. StandsFor (record { state = s'; fed = n; finished = finished }) text (given_with given taken))
+    → (text : List ℕ) (given : List Entry) → IsLexerOf (record { state = s; fed = n; finished = finished }) text given
+    → IfOk result (λ taken. IsLexerOf (record { state = s'; fed = n; finished = finished }) text (given_with given taken))
 last_keeps s s' n finished result ended none l text given h =
-    let h' : StandsFor (record { state = s; fed = n; finished = true }) text given = rw ended at h in
-    rw ended (IfOk-weaker result (LastTaken s s') (λ taken. StandsFor (record { state = s'; fed = n; finished = true }) text (given_with given taken)) (λ taken. last_stands s s' n text given taken none h') l)
+    let h' : IsLexerOf (record { state = s; fed = n; finished = true }) text given = rw ended at h in
+    rw ended (IfOk-weaker result (LastTaken s s') (λ taken. IsLexerOf (record { state = s'; fed = n; finished = true }) text (given_with given taken)) (λ taken. last_stands s s' n text given taken none h') l)
 
 -- ---- what is answered
 

@@ -12,7 +12,7 @@ use Rattle.master_lex.specs.declared.taken.Taken.TheVariants as answers
 use Rattle.master_lex.specs.Contents.{Contents, behind, contents, text_entries, text_fault}
 use Rattle.master_lex.specs.States.{empty, run, ahead_by, last_entry, ahead}
 use Rattle.master_lex.specs.Taking.{left_answer, IsAnswer}
-use Rattle.master_lex.specs.Lexer.{Lexing, Remains, StandsFor}
+use Rattle.master_lex.specs.Lexer.{Lexing, Remains, IsLexerOf}
 use Rattle.master_lex.proofs.UndoLemmas.{moves_far}
 use Rattle.master_lex.proofs.Running.{run_ahead, end_ahead}
 use Rattle.master_lex.proofs.StandsLemmas.{drop_front}
@@ -55,7 +55,7 @@ fault_by (e ∷ rest) fault line kind h = absurd cc
 all_given : (given rest total : List Entry) → total ≡ given ++ rest → rest ≡ [] → given ≡ total
 all_given given rest total e none = sym (e ∙ ap (λ (r : List Entry). given ++ r) none ∙ append-nil given)
 
-module _ (lexer : Lexing) (text : List ℕ) (given : List Entry) (ended : lexer.finished ≡ true) (stands : StandsFor lexer text given) where
+module _ (lexer : Lexing) (text : List ℕ) (given : List Entry) (ended : lexer.finished ≡ true) (stands : IsLexerOf lexer text given) where
   rest : List Entry
   rest = drop (length given) (text_entries text)
 
@@ -102,7 +102,7 @@ pub joined_all : {B : Type 0} (f : B → List ℕ) (xs : List B) (i : ℕ) (so_f
 joined_all f xs i so_far total l h = sym (ap (λ zs. so_far ++ flat_map f zs) (nothing_left xs i l) ∙ append-nil so_far) ∙ h
 
 -- the entries that were taken are the first of the text, however it goes on, if it hasn't ended
-pub taken_first : (lexer : Lexing) (text : List ℕ) (taken : List Entry) → StandsFor lexer text taken
+pub taken_first : (lexer : Lexing) (text : List ℕ) (taken : List Entry) → IsLexerOf lexer text taken
     → (more : List ℕ) → (lexer.finished ≡ true → more ≡ []) → (others : List Entry) × (text_entries (text ++ more) ≡ taken ++ others)
 taken_first lexer text taken stands more none = by lexer.finished stands.agrees none where
   by : (finished : Bool) → MatchBool finished (Remains lexer.state text taken) ((more : List ℕ) → contents (text ++ more) ≡ behind taken (ahead lexer.state more))

@@ -14,7 +14,7 @@ pub record Lexing : Type 0 where
   pub finished : Bool
 
 -- the limits within which the code counts
-pub record IsSound (state : State) (fed : ℕ) : Type 0 where
+pub record IsSoundLexer (state : State) (fed : ℕ) : Type 0 where
   pub tidy : IsTidy state
   pub line : state.position.line ≤ fed + 1
   pub depth : state.position.depth ≤ fed
@@ -26,7 +26,7 @@ pub record Remains (state : State) (text : List ℕ) (given : List Entry) : Type
   pub fault : text_fault text ≡ last_fault state.position
 
 -- The lexer was fed the text, and of its entries those given were taken.
-pub record StandsFor (lexer : Lexing) (text : List ℕ) (given : List Entry) : Type 0 where
+pub record IsLexerOf (lexer : Lexing) (text : List ℕ) (given : List Entry) : Type 0 where
   pub fed : lexer.fed ≡ length text
   pub agrees : MatchBool lexer.finished (Remains lexer.state text given)
       ((more : List ℕ) → contents (text ++ more) ≡ behind given (ahead lexer.state more))

@@ -2,7 +2,7 @@
 
 ghost use Rattle.std.specs.Prelude.{◌≡◌, ◌+◌, ◌-◌, ◌^◌, ◌<◌, ◌≤◌, ℕ, List, [], ◌++◌, length, true, false, OnOk, OnErr, IfOk};
 ghost use Rattle.master_lex.specs.declared.entry.Entry.{Entry};
-ghost use Rattle.master_lex.specs.Lexer.{StandsFor, left};
+ghost use Rattle.master_lex.specs.Lexer.{IsLexerOf, left};
 ghost use Rattle.master_lex.specs.Taking.{IsAnswer, given_with};
 
 use crate::fault::TakeFault;
@@ -22,19 +22,19 @@ pub struct Lexer {
 
 impl Model for Lexer {
     ghost use Rattle.master_lex.specs.States.{state_of};
-    ghost use Rattle.master_lex.specs.Lexer.{Lexing, IsSound};
+    ghost use Rattle.master_lex.specs.Lexer.{Lexing, IsSoundLexer};
 
     ghost Value = { Lexing };
 
     ghost view = { λ a. record { state = state_of a.scanner; fed = a.fed; finished = a.finished } };
 
-    ghost invariant = { λ a. IsSound (state_of a.scanner) a.fed };
+    ghost invariant = { λ a. IsSoundLexer (state_of a.scanner) a.fed };
 }
 
 impl Lexer {
     /// The lexer that was fed nothing. It takes no memory.
     pub fn new(alloc: Global) -> Lexer
-        ensures stands { StandsFor result [] [] }
+        ensures stands { IsLexerOf result [] [] }
         ensures open { result.finished ≡ false }
     {
         Lexer {
@@ -48,8 +48,8 @@ impl Lexer {
     pub fn feed(&mut self, alloc: Global, piece: &[u8]) -> Result<(), NoMemory>
         requires open { self.old.finished ≡ false }
         requires short { self.old.fed + length piece.now < 2 ^ 32 - 1 }
-        ensures stands { (text : List ℕ) (given : List Entry) → StandsFor self.old text given
-            → OnOk result (StandsFor self.new (text ++ piece.now) given) }
+        ensures stands { (text : List ℕ) (given : List Entry) → IsLexerOf self.old text given
+            → OnOk result (IsLexerOf self.new (text ++ piece.now) given) }
         ensures fed { OnOk result (self.new.fed ≡ self.old.fed + length piece.now) }
         ensures open { self.new.finished ≡ false }
         ensures err { OnErr result (self.new ≡ self.old) }
@@ -66,7 +66,7 @@ impl Lexer {
     /// Says that the text has ended.
     pub fn finish(&mut self)
         requires { self.old.finished ≡ false }
-        ensures stands { (text : List ℕ) (given : List Entry) → StandsFor self.old text given → StandsFor self.new text given }
+        ensures stands { (text : List ℕ) (given : List Entry) → IsLexerOf self.old text given → IsLexerOf self.new text given }
         ensures finished { self.new.finished ≡ true }
     {
         self.finished = true;
@@ -75,10 +75,10 @@ impl Lexer {
     /// Takes the next entry. `Lex` comes where it has a fault, and then again at each call; after
     /// `NoMemory` the call can be tried again.
     pub fn take(&mut self, alloc: Global) -> Result<Taken, TakeFault>
-        ensures answer { (text : List ℕ) (given : List Entry) → StandsFor self.old text given
+        ensures answer { (text : List ℕ) (given : List Entry) → IsLexerOf self.old text given
             → IsAnswer self.old.finished text given result }
-        ensures stands { (text : List ℕ) (given : List Entry) → StandsFor self.old text given
-            → IfOk result (λ taken. StandsFor self.new text (given_with given taken)) }
+        ensures stands { (text : List ℕ) (given : List Entry) → IsLexerOf self.old text given
+            → IfOk result (λ taken. IsLexerOf self.new text (given_with given taken)) }
         ensures left { IfOk result (λ taken. left self.old ≡ given_with [] taken ++ left self.new) }
         ensures finished { self.new.finished ≡ self.old.finished }
         ensures fed { self.new.fed ≡ self.old.fed }

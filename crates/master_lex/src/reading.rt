@@ -3,7 +3,7 @@
 ghost use Rattle.std.specs.Prelude.{◌≡◌, ◌-◌, ◌^◌, ◌<◌, ℕ, List, [], length, true, IfOk};
 ghost use Rattle.std.specs.List.{flat_map};
 ghost use Rattle.master_lex.specs.Contents.{text_entries, text_fault};
-ghost use Rattle.master_lex.specs.Lexer.{StandsFor};
+ghost use Rattle.master_lex.specs.Lexer.{IsLexerOf};
 
 use crate::entry::Entry;
 use crate::fault::{LexFault, TakeFault};
@@ -48,7 +48,7 @@ pub fn read_entries(alloc: Global, pieces: &[&[u8]]) -> Result<Reading, NoMemory
 /// Takes all entries of a text that has ended, and its fault.
 fn take_all(alloc: Global, lexer: &mut Lexer) -> Result<Reading, NoMemory>
     requires { lexer.old.finished ≡ true }
-    ensures { (text : List ℕ) → StandsFor lexer.old text []
+    ensures { (text : List ℕ) → IsLexerOf lexer.old text []
         → IfOk result (λ reading. (reading.entries ≡ text_entries text) × (reading.fault ≡ text_fault text)) }
 {
     let mut entries = List::new(alloc);

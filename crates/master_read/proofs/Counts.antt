@@ -13,7 +13,7 @@ use Rattle.master_lex.specs.declared.fault.LexFault.{LexFault}
 use Rattle.master_read.specs.Context.{under, back_at}
 use Rattle.master_read.specs.Directives.{Directive, Sets, Includes, is_directive, directive_of}
 use Rattle.master_read.specs.Entries.{Made, record_of}
-use Rattle.master_read.specs.ZoneText.{Unread, Faulty, Asks, Progress, Effect, Leaves, Opens, Include, no_records, in_context, at, said_by, with_made, effect_of, with_effect, with_entry, with_entries, ended, with_rest, with_file, with_next, one_included, included, most_levels, zone_text_of, zone_text, record_entries, opened_record_entries}
+use Rattle.master_read.specs.ZoneText.{Unread, Faulty, Asks, Progress, Effect, Leaves, Opens, Include, no_records, in_context, at, said_by, with_made, effect_of, with_effect, with_entry, with_entries, ended, with_rest, with_file, with_next_text, one_included, included, most_levels, zone_text_of, zone_text, record_entries, opened_record_entries}
 use Rattle.master_read.specs.declared.context.Context.{Context}
 use Rattle.master_read.specs.declared.fault.TextCause.{TextCause}
 use Rattle.master_read.specs.declared.fault.TextCause.TheVariants.{TooMany, TooManyIncludes}
@@ -273,13 +273,13 @@ next_counts limits p q text texts is less rest =
     }
 
 next_text_counts : (limits : Limits) (include : Include) → IncludeCounts limits include → (name : List ℕ) (origin : Labels) (p q : Progress) (texts : List (List ℕ)) → p.texts ≡ texts
-    → p.records.included < limits.includes → with_next name (with_file include limits.room origin) (one_included p) texts ≡ Ok q → Counts limits p 0 q
+    → p.records.included < limits.includes → with_next_text name (with_file include limits.room origin) (one_included p) texts ≡ Ok q → Counts limits p 0 q
 next_text_counts limits include counts name origin p q [] is less e = absurd cc
 next_text_counts limits include counts name origin p q (text ∷ texts) is less e =
     next_counts limits p q text texts is less (file_counts limits include counts origin text (record (one_included p) { texts = texts }) q e)
 
 next_text_asks : (limits : Limits) (include : Include) → IncludeCounts limits include → IncludeAsks limits include → (name : List ℕ) (origin : Labels) (p : Progress) (asked : List ℕ) (texts : List (List ℕ))
-    → p.texts ≡ texts → p.records.included < limits.includes → with_next name (with_file include limits.room origin) (one_included p) texts ≡ Err (Asks asked) → IsWithin limits p
+    → p.texts ≡ texts → p.records.included < limits.includes → with_next_text name (with_file include limits.room origin) (one_included p) texts ≡ Err (Asks asked) → IsWithin limits p
 next_text_asks limits include counts asks name origin p asked [] is less e = let none : length p.texts ≡ 0 = ap (λ (ts : List (List ℕ)). length ts) is in omega (arith, none, less)
 next_text_asks limits include counts asks name origin p asked (text ∷ texts) is less e =
     let one : length p.texts ≡ length texts + 1 = ap (λ (ts : List (List ℕ)). length ts) is ∙ sym (add-one (length texts)) in
@@ -292,8 +292,8 @@ included_counts limits zero file line name origin p q e = absurd cc
 included_counts limits (suc levels) file line name origin p q e =
     by (nat_le limits.includes p.records.included) refl e (next_text_counts limits (included limits levels) (included_counts limits levels) name origin p q p.texts refl) where
       by : (full : Bool) → nat_le limits.includes p.records.included ≡ full
-          → cond full (Err (Faulty (At file line TooManyIncludes))) (with_next name (with_file (included limits levels) limits.room origin) (one_included p) p.texts) ≡ Ok q
-          → (p.records.included < limits.includes → with_next name (with_file (included limits levels) limits.room origin) (one_included p) p.texts ≡ Ok q → Counts limits p 0 q) → Counts limits p 0 q
+          → cond full (Err (Faulty (At file line TooManyIncludes))) (with_next_text name (with_file (included limits levels) limits.room origin) (one_included p) p.texts) ≡ Ok q
+          → (p.records.included < limits.includes → with_next_text name (with_file (included limits levels) limits.room origin) (one_included p) p.texts ≡ Ok q → Counts limits p 0 q) → Counts limits p 0 q
       by true is d next = absurd cc
       by false is d next = next (grind (arith, nat_tests)) d
 
@@ -304,8 +304,8 @@ included_asks limits (suc levels) file line name origin p asked e =
     by (nat_le limits.includes p.records.included) refl e
     (next_text_asks limits (included limits levels) (included_counts limits levels) (included_asks limits levels) name origin p asked p.texts refl) where
       by : (full : Bool) → nat_le limits.includes p.records.included ≡ full
-          → cond full (Err (Faulty (At file line TooManyIncludes))) (with_next name (with_file (included limits levels) limits.room origin) (one_included p) p.texts) ≡ Err (Asks asked)
-          → (p.records.included < limits.includes → with_next name (with_file (included limits levels) limits.room origin) (one_included p) p.texts ≡ Err (Asks asked) → IsWithin limits p) → IsWithin limits p
+          → cond full (Err (Faulty (At file line TooManyIncludes))) (with_next_text name (with_file (included limits levels) limits.room origin) (one_included p) p.texts) ≡ Err (Asks asked)
+          → (p.records.included < limits.includes → with_next_text name (with_file (included limits levels) limits.room origin) (one_included p) p.texts ≡ Err (Asks asked) → IsWithin limits p) → IsWithin limits p
       by true is d next = absurd cc
       by false is d next = next (grind (arith, nat_tests)) d
 

@@ -28,7 +28,7 @@ use Rattle.master_read.specs.Fault.{tells_of_name, tells_of_data, tells_of_text,
 use Rattle.master_read.specs.Reader.{Held}
 use Rattle.master_read.specs.Steps.{fault_at, IsFaultOf, entry_makes}
 use Rattle.master_read.specs.Words.{type_word, class_word}
-use Rattle.master_read.specs.ZoneText.{Unread, Faulty, Asks, TellsOfUnread, Progress, Effect, Leaves, Opens, Include, no_records, at, with_made, effect_of, with_effect, with_entry, with_entries, ended, with_rest, with_file, with_next, one_included, included, most_levels, zone_text}
+use Rattle.master_read.specs.ZoneText.{Unread, Faulty, Asks, TellsOfUnread, Progress, Effect, Leaves, Opens, Include, no_records, at, with_made, effect_of, with_effect, with_entry, with_entries, ended, with_rest, with_file, with_next_text, one_included, included, most_levels, zone_text}
 use Rattle.master_read.specs.declared.context.Context.{Context}
 use Rattle.master_read.specs.declared.fault.EntryFault.{EntryFault}
 use Rattle.master_read.specs.declared.fault.EntryFault.TheVariants.{Cause, NoMemory as WantsMemory}
@@ -245,7 +245,7 @@ with_file_told include told room origin text progress =
     (λ more. ended_told progress.records.included progress.records.context (text_fault text) more)
 
 next_told : (include : Include) → ToldBy include → (room : ℕ) (name : List ℕ) (origin : Labels) (progress : Progress) (texts : List (List ℕ))
-    → IfErr (with_next name (with_file include room origin) progress texts) IsUnread
+    → IfErr (with_next_text name (with_file include room origin) progress texts) IsUnread
 next_told include told room name origin progress [] = tt
 next_told include told room name origin progress (text ∷ texts) = with_file_told include told room origin text _
 

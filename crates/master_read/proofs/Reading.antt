@@ -8,12 +8,12 @@ use Rattle.dns_data.specs.Name.{Labels}
 use Rattle.master_lex.specs.Contents.{text_entries, text_fault}
 use Rattle.master_lex.specs.declared.entry.Entry.{Entry}
 use Rattle.master_lex.specs.declared.fault.LexFault.{LexFault}
-use Rattle.master_lex.specs.Lexer.{Lexing, StandsFor}
+use Rattle.master_lex.specs.Lexer.{Lexing, IsLexerOf}
 use Rattle.master_lex.proofs.Values.{taken_first}
 use Rattle.master_read.specs.Context.{under, back_at}
 use Rattle.master_read.specs.Reader.{Held, rest_of, rest_around, texts_give, IsSettled}
-use Rattle.master_read.specs.Steps.{fault_at, IsFaultOf, IsOpened, IsPausing, MayOpen, entry_makes}
-use Rattle.master_read.specs.ZoneText.{Unread, Faulty, Asks, Progress, Effect, Leaves, Opens, Include, at, effect_of, with_effect, with_entry, with_entries, ended, with_rest, with_file, with_next, one_included, included, as_zone_text, zone_text_of}
+use Rattle.master_read.specs.Steps.{fault_at, IsFaultOf, OpensFile, IsPausing, MayOpen, entry_makes}
+use Rattle.master_read.specs.ZoneText.{Unread, Faulty, Asks, Progress, Effect, Leaves, Opens, Include, at, effect_of, with_effect, with_entry, with_entries, ended, with_rest, with_file, with_next_text, one_included, included, as_zone_text, zone_text_of}
 use Rattle.master_read.specs.declared.fault.EntryFault.{EntryFault}
 use Rattle.master_read.specs.declared.fault.EntryFault.TheVariants.{Cause, NoMemory as WantsMemory}
 use Rattle.master_read.specs.declared.fault.TextCause.{TextCause}
@@ -131,7 +131,7 @@ module _ (limits : Limits) (file : File) (around : List File) (origin : Labels) 
 
   -- a fault was met: it is settled
   pub settles : (records : Records) (entries : List Entry) (ended : List (List ℕ)) (taken : List Entry) (lexer : Lexing) (text : List ℕ) (fault : TextFault)
-      → HasFault limits.room file.number records entries fault → fault ≢ NoMemory → lexer.finished ≡ false → StandsFor lexer text taken
+      → HasFault limits.room file.number records entries fault → fault ≢ NoMemory → lexer.finished ≡ false → IsLexerOf lexer text taken
       → Reads limits file around records entries origin ended taken → IsSettled fault limits origin ended text
   settles records entries ended taken lexer text fault has named unended stands reads more later =
       let first = taken_first lexer text taken stands more (λ e. absurd cc) in
@@ -230,12 +230,12 @@ rest_first limits file entry entries fault progress =
 -- what it makes, where the file may be opened
 opens : (limits : Limits) (levels room file line : ℕ) (name : List ℕ) (origin : Labels) (progress : Progress) → progress.records.included < limits.includes
     → included limits (suc levels) file line name origin progress
-    ≡ with_next name (with_file (included limits levels) limits.room origin) (one_included progress) progress.texts
+    ≡ with_next_text name (with_file (included limits levels) limits.room origin) (one_included progress) progress.texts
 unfolding included
 opens limits levels room file line name origin progress less = by (nat_le limits.includes progress.records.included) refl where
   by : (full : Bool) → nat_le limits.includes progress.records.included ≡ full
-      → cond full (Err (Faulty (At file line TooManyIncludes))) (with_next name (with_file (included limits levels) limits.room origin) (one_included progress) progress.texts)
-      ≡ with_next name (with_file (included limits levels) limits.room origin) (one_included progress) progress.texts
+      → cond full (Err (Faulty (At file line TooManyIncludes))) (with_next_text name (with_file (included limits levels) limits.room origin) (one_included progress) progress.texts)
+      ≡ with_next_text name (with_file (included limits levels) limits.room origin) (one_included progress) progress.texts
   by true e = absurd (grind (arith, nat_tests))
   by false e = refl
 
@@ -259,7 +259,7 @@ unfolding included
 too_many limits zero file line name origin progress deep less = absurd (omega arith)
 too_many limits (suc levels) file line name origin progress deep less = by (nat_le limits.includes progress.records.included) refl where
   by : (full : Bool) → nat_le limits.includes progress.records.included ≡ full
-      → cond full (Err (Faulty (At file line TooManyIncludes))) (with_next name (with_file (included limits levels) limits.room origin) (one_included progress) progress.texts)
+      → cond full (Err (Faulty (At file line TooManyIncludes))) (with_next_text name (with_file (included limits levels) limits.room origin) (one_included progress) progress.texts)
       ≡ Err (Faulty (At file line TooManyIncludes))
   by true e = refl
   by false e = absurd (grind (arith, nat_tests))
@@ -279,9 +279,9 @@ made_too_many held entry texts name origin e deep less =
 
 -- ---- a file that is included is opened
 
-module _ (held new : Held) (entry : Entry) (name : List ℕ) (below : Labels) (may : MayOpen held entry name below) (opened : IsOpened below held new) where
+module _ (held new : Held) (entry : Entry) (name : List ℕ) (below : Labels) (may : MayOpen held entry name below) (opened : OpensFile below held new) where
   makes : (texts : List (List ℕ)) → entry_makes held entry texts
-      ≡ with_next name (with_file (included held.limits new.file.levels) held.limits.room below) (one_included (record { records = held.records; texts = texts })) texts
+      ≡ with_next_text name (with_file (included held.limits new.file.levels) held.limits.room below) (one_included (record { records = held.records; texts = texts })) texts
   makes texts =
       let progress : Progress = record { records = held.records; texts = texts } in
       let deep : held.file.levels ≡ suc new.file.levels = sym opened.levels ∙ add-one new.file.levels in

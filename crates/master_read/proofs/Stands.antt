@@ -3,8 +3,8 @@ use Rattle.std.proofs.Common.{◌≡◌, ℕ, true, false, List, [], ◌∷◌, 
 use Rattle.std.specs.Prelude.{◌≢◌, Err}
 use Rattle.std.proofs.lemmas.List.{append-nil, length-append}
 use Rattle.dns_data.specs.Name.{Labels}
-use Rattle.master_read.specs.Reader.{Held, HasLimits, IsReading, IsSettled, StandsFor, GoesOn, asked_by, texts_give}
-use Rattle.master_read.specs.Steps.{ComesTo}
+use Rattle.master_read.specs.Reader.{Held, HasLimits, IsReading, IsSettled, IsReaderOf, GoesOn, asked_by, texts_give}
+use Rattle.master_read.specs.Steps.{HasComeTo}
 use Rattle.master_read.specs.ZoneText.{Faulty, zone_text}
 use Rattle.master_read.specs.declared.asked.Asked.TheVariants.{Include, Done}
 use Rattle.master_read.specs.declared.fault.TextFault.{TextFault}
@@ -13,7 +13,7 @@ use Rattle.master_read.specs.declared.fault.TextFault.TheVariants.{NoMemory}
 -- more was fed and read
 pub stands_on : (old new : Held) (piece : List ℕ) → old.fault ≡ None → new.fault ≡ None → new.limits ≡ old.limits → new.fed ≡ old.fed + length piece
     → ((origin : Labels) (ended : List (List ℕ)) (text : List ℕ) → IsReading old origin ended text → IsReading new origin ended (text ++ piece))
-    → (origin : Labels) (room includes : ℕ) (ended : List (List ℕ)) (text : List ℕ) → StandsFor old origin room includes ended text → StandsFor new origin room includes ended (text ++ piece)
+    → (origin : Labels) (room includes : ℕ) (ended : List (List ℕ)) (text : List ℕ) → IsReaderOf old origin room includes ended text → IsReaderOf new origin room includes ended (text ++ piece)
 stands_on old new piece none none' limits fed read origin room includes ended text h = record {
   limits = rw limits h.limits;
   fed_is = fed ∙ ap (λ n. n + length piece) h.fed_is ∙ sym (length-append text piece);
@@ -23,7 +23,7 @@ stands_on old new piece none none' limits fed read origin room includes ended te
 -- a fault was met
 pub meets : (old new : Held) (piece : List ℕ) (fault : TextFault) → old.fault ≡ None → new.fault ≡ Some fault → new.limits ≡ old.limits → new.fed ≡ old.fed + length piece
     → ((origin : Labels) (ended : List (List ℕ)) (text : List ℕ) → IsReading old origin ended text → fault ≢ NoMemory → IsSettled fault old.limits origin ended (text ++ piece)) → fault ≢ NoMemory
-    → (origin : Labels) (room includes : ℕ) (ended : List (List ℕ)) (text : List ℕ) → StandsFor old origin room includes ended text → StandsFor new origin room includes ended (text ++ piece)
+    → (origin : Labels) (room includes : ℕ) (ended : List (List ℕ)) (text : List ℕ) → IsReaderOf old origin room includes ended text → IsReaderOf new origin room includes ended (text ++ piece)
 meets old new piece fault none some limits fed settles named origin room includes ended text h = record {
   limits = rw limits h.limits;
   fed_is = fed ∙ ap (λ n. n + length piece) h.fed_is ∙ sym (length-append text piece);
@@ -37,7 +37,7 @@ by_limits held room includes origin texts h =
 
 -- a fault that is settled is that of the texts so far
 pub settled_now : (held : Held) (fault : TextFault) (origin : Labels) (room includes : ℕ) (ended : List (List ℕ)) (text : List ℕ) → held.fault ≡ Some fault
-    → StandsFor held origin room includes ended text → (fault ≢ NoMemory) × (texts_give held.limits origin (ended ++ text ∷ []) ≡ Err (Faulty fault))
+    → IsReaderOf held origin room includes ended text → (fault ≢ NoMemory) × (texts_give held.limits origin (ended ++ text ∷ []) ≡ Err (Faulty fault))
 settled_now held fault origin room includes ended text some h =
     let settled = rw some at h.agrees in (
       settled.0,
@@ -45,18 +45,18 @@ settled_now held fault origin room includes ended text some h =
     )
 
 pub settled_asks : (held : Held) (fault : TextFault) (origin : Labels) (room includes : ℕ) (ended : List (List ℕ)) (text : List ℕ) → held.fault ≡ Some fault
-    → StandsFor held origin room includes ended text → Done ≡ asked_by (zone_text origin room includes (ended ++ text ∷ []))
+    → IsReaderOf held origin room includes ended text → Done ≡ asked_by (zone_text origin room includes (ended ++ text ∷ []))
 settled_asks held fault origin room includes ended text some h =
     sym (ap asked_by (by_limits held room includes origin (ended ++ text ∷ []) h.limits ∙ (settled_now held fault origin room includes ended text some h).1))
 
 pub settled_ends : (held new : Held) (fault : TextFault) (origin : Labels) (room includes : ℕ) (ended : List (List ℕ)) (text : List ℕ) → held.fault ≡ Some fault → new ≡ record held { ended = true }
-    → StandsFor held origin room includes ended text → GoesOn Done new origin room includes (ended ++ text ∷ [])
+    → IsReaderOf held origin room includes ended text → GoesOn Done new origin room includes (ended ++ text ∷ [])
 settled_ends held new fault origin room includes ended text some is h =
     rw is (refl, record { limits = h.limits; gives = rw some (settled_now held fault origin room includes ended text some h) })
 
 -- the texts ask for a file
 module _ (old new : Held) (origin : Labels) (room includes : ℕ) (ended : List (List ℕ)) (text : List ℕ) (none : old.fault ≡ None) (limits : new.limits ≡ old.limits)
-    (h : StandsFor old origin room includes ended text) where
+    (h : IsReaderOf old origin room includes ended text) where
   given : zone_text origin room includes (ended ++ text ∷ []) ≡ texts_give new.limits origin (ended ++ text ∷ [])
   given = rw limits (by_limits old room includes origin (ended ++ text ∷ []) h.limits)
 
@@ -64,17 +64,17 @@ module _ (old new : Held) (origin : Labels) (room includes : ℕ) (ended : List 
   pub reading : IsReading old origin ended text
   reading = rw none at h.agrees
 
-  pub file_asked : (file : List ℕ) → ComesTo (Some file) new origin (ended ++ text ∷ []) → Include file ≡ asked_by (zone_text origin room includes (ended ++ text ∷ []))
+  pub file_asked : (file : List ℕ) → HasComeTo (Some file) new origin (ended ++ text ∷ []) → Include file ≡ asked_by (zone_text origin room includes (ended ++ text ∷ []))
   file_asked file comes = sym (ap asked_by (given ∙ comes.0))
 
-  pub file_stands : (file : List ℕ) → new.ended ≡ false → new.fed ≡ 0 → new.fault ≡ old.fault → ComesTo (Some file) new origin (ended ++ text ∷ [])
+  pub file_stands : (file : List ℕ) → new.ended ≡ false → new.fed ≡ 0 → new.fault ≡ old.fault → HasComeTo (Some file) new origin (ended ++ text ∷ [])
       → GoesOn (Include file) new origin room includes (ended ++ text ∷ [])
   file_stands file unended fed fault comes = (unended, fed, record { limits = rw limits h.limits; fed_is = fed; agrees = rw (fault, none) comes.1 })
 
   -- or they have ended
-  pub all_asked : ComesTo None new origin (ended ++ text ∷ []) → Done ≡ asked_by (zone_text origin room includes (ended ++ text ∷ []))
+  pub all_asked : HasComeTo None new origin (ended ++ text ∷ []) → Done ≡ asked_by (zone_text origin room includes (ended ++ text ∷ []))
   all_asked comes = sym (ap asked_by (given ∙ comes))
 
-  pub all_ends : (last : Held) → last ≡ record new { ended = true } → new.fault ≡ old.fault → ComesTo None new origin (ended ++ text ∷ [])
+  pub all_ends : (last : Held) → last ≡ record new { ended = true } → new.fault ≡ old.fault → HasComeTo None new origin (ended ++ text ∷ [])
       → GoesOn Done last origin room includes (ended ++ text ∷ [])
   all_ends last is fault comes = rw is (refl, record { limits = rw limits h.limits; gives = rw (fault, none) comes })

@@ -4,7 +4,7 @@ use Rattle.std.specs.Prelude.{◌≡◌, ◌≢◌, ℕ, ◌≤◌, List, [], �
 use Rattle.dns_data.specs.Answers.{◌>>=◌}
 use Rattle.dns_data.specs.Name.{Labels}
 use Rattle.master_lex.specs.Contents.{text_entries, text_fault}
-use Rattle.master_lex.specs.Lexer.{Lexing, StandsFor as LexerStandsFor}
+use Rattle.master_lex.specs.Lexer.{Lexing, IsLexerOf}
 use Rattle.master_lex.specs.declared.entry.Entry.{Entry}
 use Rattle.master_lex.specs.declared.fault.LexFault.{LexFault}
 use Rattle.master_read.specs.Fault.{TellsOfText}
@@ -31,7 +31,7 @@ pub record Held : Type 0 where
   pub ended : Bool
 
 -- the limits within which the code counts, and that a fault is no want of memory in disguise
-pub record IsSound (held : Held) : Type 0 where
+pub record IsSoundReader (held : Held) : Type 0 where
   pub unended : held.lexer.finished ≡ false
   pub fed_less : held.lexer.fed ≤ held.fed
   pub tells : IfSome held.fault TellsOfText
@@ -64,7 +64,7 @@ HasRead held origin ended taken =
 -- the same of the text of the file that is open, of which so much was taken
 abbrev pub IsReading : Held → Labels → List (List ℕ) → List ℕ → Type 0
 IsReading held origin ended text =
-    (taken : List Entry) × (LexerStandsFor held.lexer text taken × HasRead held origin ended taken)
+    (taken : List Entry) × (IsLexerOf held.lexer text taken × HasRead held origin ended taken)
 
 -- the fault of the texts is settled, however the last of them goes on and whatever comes later
 abbrev pub IsSettled : TextFault → Limits → Labels → List (List ℕ) → List ℕ → Type 0
@@ -82,7 +82,7 @@ HasLimits held room includes = (held.limits.room ≡ room) × (held.limits.inclu
 
 -- The reader was fed the texts of files that ended, and this text of the file that is open, in the order in which the
 -- files were opened, with the names of the first below the origin, and with so much room.
-pub record StandsFor (held : Held) (origin : Labels) (room includes : ℕ) (ended : List (List ℕ)) (text : List ℕ) : Type 0 where
+pub record IsReaderOf (held : Held) (origin : Labels) (room includes : ℕ) (ended : List (List ℕ)) (text : List ℕ) : Type 0 where
   pub limits : HasLimits held room includes
   pub fed_is : held.fed ≡ length text
   pub agrees : StandsBy held.fault held origin ended text
@@ -114,7 +114,7 @@ IsOpenBehind Done held = held.ended ≡ true
 
 -- behind this answer a file is open, of which nothing was fed, or the texts have ended
 abbrev pub GoesOn : Asked → Held → Labels → ℕ → ℕ → List (List ℕ) → Type 0
-GoesOn (Include file) held origin room includes texts = (held.ended ≡ false) × (held.fed ≡ 0) × StandsFor held origin room includes texts []
+GoesOn (Include file) held origin room includes texts = (held.ended ≡ false) × (held.fed ≡ 0) × IsReaderOf held origin room includes texts []
 GoesOn Done held origin room includes texts = (held.ended ≡ true) × HasEnded held origin room includes texts
 
 -- memory ran out

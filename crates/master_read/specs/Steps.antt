@@ -46,7 +46,7 @@ pub record MayOpen (held : Held) (entry : Entry) (file : List ℕ) (origin : Lab
   pub includes : held.records.included < held.limits.includes
 
 -- a file more is open, whose names stand below an origin
-pub record IsOpened (origin : Labels) (old new : Held) : Type 0 where
+pub record OpensFile (origin : Labels) (old new : Held) : Type 0 where
   pub number : new.file.number ≡ old.records.included + 1
   pub levels : new.file.levels + 1 ≡ old.file.levels
   pub before : new.file.before ≡ old.records.context
@@ -55,6 +55,6 @@ pub record IsOpened (origin : Labels) (old new : Held) : Type 0 where
   pub records : new.records ≡ record old.records { context = under origin old.records.context; included = old.records.included + 1 }
 
 -- behind the texts a file is asked for, of which nothing was read, or they give what was read
-abbrev pub ComesTo : Option (List ℕ) → Held → Labels → List (List ℕ) → Type 0
-ComesTo (Some file) held origin texts = (texts_give held.limits origin texts ≡ Err (Asks file)) × IsReading held origin texts []
-ComesTo None held origin texts = HasReadAll held origin texts
+abbrev pub HasComeTo : Option (List ℕ) → Held → Labels → List (List ℕ) → Type 0
+HasComeTo (Some file) held origin texts = (texts_give held.limits origin texts ≡ Err (Asks file)) × IsReading held origin texts []
+HasComeTo None held origin texts = HasReadAll held origin texts

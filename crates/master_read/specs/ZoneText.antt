@@ -114,9 +114,9 @@ with_file include room origin text progress =
     (in_context progress (under origin progress.records.context))
 
 -- the next file, of this name; where no text is left, it is asked for
-abbrev pub with_next : List ℕ → (List ℕ → Progress → Result Progress Unread) → Progress → List (List ℕ) → Result Progress Unread
-with_next name next progress [] = Err (Asks name)
-with_next name next progress (text ∷ texts) = next text (record progress { texts = texts })
+abbrev pub with_next_text : List ℕ → (List ℕ → Progress → Result Progress Unread) → Progress → List (List ℕ) → Result Progress Unread
+with_next_text name next progress [] = Err (Asks name)
+with_next_text name next progress (text ∷ texts) = next text (record progress { texts = texts })
 
 -- one file more is included
 abbrev pub one_included : Progress → Progress
@@ -127,7 +127,7 @@ unfoldable pub included : Limits → ℕ → Include
 included limits zero file line name origin progress = Err (Faulty (At file line IncludeDepth))
 included limits (suc levels) file line name origin progress =
     if nat_le limits.includes progress.records.included then Err (Faulty (At file line TooManyIncludes))
-    else with_next name (with_file (included limits levels) limits.room origin) (one_included progress) progress.texts
+    else with_next_text name (with_file (included limits levels) limits.room origin) (one_included progress) progress.texts
 
 -- how many levels of included files may lie below a zone's file
 abbrev pub most_levels : ℕ

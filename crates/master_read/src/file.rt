@@ -3,7 +3,7 @@
 ghost use Rattle.std.specs.Prelude.{◌≡◌, ℕ, List, [], ◌∷◌, ◌++◌, true, false, not, Ok, Err, IfOk, IfErr, OnOk, IfSome, IfNone};
 ghost use Rattle.master_lex.specs.declared.entry.Entry.{Entry as LexEntry};
 ghost use Rattle.master_lex.specs.Contents.{text_entries, text_fault};
-ghost use Rattle.master_lex.specs.Lexer.{StandsFor as LexerStandsFor};
+ghost use Rattle.master_lex.specs.Lexer.{IsLexerOf};
 ghost use Rattle.master_read.specs.Directives.{is_include};
 ghost use Rattle.master_read.specs.Fault.{TellsOfText};
 ghost use Rattle.master_read.specs.Steps.{IsFaultOf, waits};
@@ -40,9 +40,9 @@ pub fn take_all(
     lexer: &mut Lexer,
     entries: &mut VecDeque<Entry>,
 ) -> Result<Option<LexFault>, NoMemory>
-    ensures stands { (text : List ℕ) (taken : List LexEntry) → LexerStandsFor lexer.old text taken
-        → OnOk result ((more : List LexEntry) × (entries.new.items ≡ entries.old.items ++ more) × LexerStandsFor lexer.new text (taken ++ more)) }
-    ensures all { lexer.old.finished ≡ true → (text : List ℕ) (taken : List LexEntry) → LexerStandsFor lexer.old text taken
+    ensures stands { (text : List ℕ) (taken : List LexEntry) → IsLexerOf lexer.old text taken
+        → OnOk result ((more : List LexEntry) × (entries.new.items ≡ entries.old.items ++ more) × IsLexerOf lexer.new text (taken ++ more)) }
+    ensures all { lexer.old.finished ≡ true → (text : List ℕ) (taken : List LexEntry) → IsLexerOf lexer.old text taken
         → IfOk result (λ fault. (more : List LexEntry) × (entries.new.items ≡ entries.old.items ++ more) × (text_entries text ≡ taken ++ more) × (fault ≡ text_fault text)) }
     ensures finished { lexer.new.finished ≡ lexer.old.finished }
     ensures fed { lexer.new.fed ≡ lexer.old.fed }

@@ -3,11 +3,11 @@
 ghost use Rattle.std.specs.Prelude.{◌≡◌, ◌≢◌, ◌+◌, ◌-◌, ◌^◌, ◌<◌, ◌≤◌, ℕ, List, [], ◌∷◌, ◌++◌, length, true, false, Some, Err, IfOk, IfErr, IsErr, OnOk, OnErr, MatchBool};
 ghost use Rattle.dns_data.specs.Answers.{AnswersOr, with_fault};
 ghost use Rattle.dns_data.specs.Name.{Labels};
-ghost use Rattle.master_lex.specs.Lexer.{StandsFor as LexerStandsFor};
+ghost use Rattle.master_lex.specs.Lexer.{IsLexerOf};
 ghost use Rattle.master_read.specs.Directives.{is_include};
 ghost use Rattle.master_read.specs.Fault.{TellsOfText};
-ghost use Rattle.master_read.specs.Reader.{StandsFor, GoesOn, HasEnded, HasFailed, HasReadAll, IsOpenBehind, IsReading, IsSettled, asked_by, is_over, texts_give};
-ghost use Rattle.master_read.specs.Steps.{ComesTo, IsFaultOf, IsOpened, IsPausing, MayOpen, entry_makes, fault_at};
+ghost use Rattle.master_read.specs.Reader.{IsReaderOf, GoesOn, HasEnded, HasFailed, HasReadAll, IsOpenBehind, IsReading, IsSettled, asked_by, is_over, texts_give};
+ghost use Rattle.master_read.specs.Steps.{HasComeTo, IsFaultOf, OpensFile, IsPausing, MayOpen, entry_makes, fault_at};
 ghost use Rattle.master_read.specs.ZoneText.{Asks, Faulty, zone_text};
 
 use crate::asked::Asked;
@@ -41,20 +41,20 @@ pub struct ZoneReader {
 }
 
 impl Model for ZoneReader {
-    ghost use Rattle.master_read.specs.Reader.{Held, IsSound};
+    ghost use Rattle.master_read.specs.Reader.{Held, IsSoundReader};
 
     ghost Value = { Held };
 
     ghost view = { λ a. record { lexer = a.lexer; file = a.file; around = a.around.items; records = a.records; limits = a.limits; fed = a.fed; fault = a.fault; ended = a.ended } };
 
-    ghost invariant = { λ a. IsSound (record { lexer = a.lexer; file = a.file; around = a.around.items; records = a.records; limits = a.limits; fed = a.fed; fault = a.fault; ended = a.ended }) };
+    ghost invariant = { λ a. IsSoundReader (record { lexer = a.lexer; file = a.file; around = a.around.items; records = a.records; limits = a.limits; fed = a.fed; fault = a.fault; ended = a.ended }) };
 }
 
 impl ZoneReader {
     /// The reader that was fed nothing of a zone's file. The file's names without a final dot stand below the origin,
     /// the files may have `room` record entries, and `includes` files may be included. It takes no memory.
     pub fn new(alloc: Global, origin: Name, room: u32, includes: u32) -> ZoneReader
-        ensures stands { StandsFor result origin room includes [] [] }
+        ensures stands { IsReaderOf result origin room includes [] [] }
         ensures fed { result.fed ≡ 0 }
         ensures open { result.ended ≡ false }
     {
@@ -81,8 +81,8 @@ impl ZoneReader {
     pub fn feed(&mut self, alloc: Global, piece: &[u8]) -> Result<(), NoMemory>
         requires open { self.old.ended ≡ false }
         requires short { self.old.fed + length piece.now < 2 ^ 32 - 1 }
-        ensures stands { (origin : Labels) (room includes : ℕ) (ended : List (List ℕ)) (text : List ℕ) → StandsFor self.old origin room includes ended text
-            → OnOk result (StandsFor self.new origin room includes ended (text ++ piece.now)) }
+        ensures stands { (origin : Labels) (room includes : ℕ) (ended : List (List ℕ)) (text : List ℕ) → IsReaderOf self.old origin room includes ended text
+            → OnOk result (IsReaderOf self.new origin room includes ended (text ++ piece.now)) }
         ensures fed { self.new.fed ≡ self.old.fed + length piece.now }
         ensures open { self.new.ended ≡ false }
         ensures failed { OnErr result (HasFailed self.new) }
@@ -104,9 +104,9 @@ impl ZoneReader {
     /// each call.
     pub fn end_file(&mut self, alloc: Global) -> Result<Asked, NoMemory>
         requires { self.old.ended ≡ false }
-        ensures asked { (origin : Labels) (room includes : ℕ) (ended : List (List ℕ)) (text : List ℕ) → StandsFor self.old origin room includes ended text
+        ensures asked { (origin : Labels) (room includes : ℕ) (ended : List (List ℕ)) (text : List ℕ) → IsReaderOf self.old origin room includes ended text
             → IfOk result (λ asked. asked ≡ asked_by (zone_text origin room includes (ended ++ text ∷ []))) }
-        ensures stands { (origin : Labels) (room includes : ℕ) (ended : List (List ℕ)) (text : List ℕ) → StandsFor self.old origin room includes ended text
+        ensures stands { (origin : Labels) (room includes : ℕ) (ended : List (List ℕ)) (text : List ℕ) → IsReaderOf self.old origin room includes ended text
             → IfOk result (λ asked. GoesOn asked self.new origin room includes (ended ++ text ∷ [])) }
         ensures open { IfOk result (λ asked. IsOpenBehind asked self.new) }
         ensures err { OnErr result (self.new.ended ≡ false) }
@@ -181,7 +181,7 @@ impl ZoneReader {
     /// all is read.
     fn read_on(&mut self, alloc: Global) -> Result<Option<Text>, TextFault>
         ensures asked { (origin : Labels) (ended : List (List ℕ)) (text : List ℕ) → IsReading self.old origin ended text
-            → IfOk result (λ file. ComesTo file self.new origin (ended ++ text ∷ [])) }
+            → IfOk result (λ file. HasComeTo file self.new origin (ended ++ text ∷ [])) }
         ensures fault { (origin : Labels) (ended : List (List ℕ)) (text : List ℕ) → IsReading self.old origin ended text
             → IfErr result (λ fault. fault ≢ TextFault.NoMemory → texts_give self.old.limits origin (ended ++ text ∷ []) ≡ Err (Faulty fault)) }
         ensures tells { IfErr result TellsOfText }
@@ -199,7 +199,7 @@ impl ZoneReader {
         ensures pauses { (origin : Labels) (ended : List (List ℕ)) (text : List ℕ) → IsReading self.old origin ended text
             → OnOk result (IsPausing self.new origin (ended ++ text ∷ []) self.new.file.entries.items) }
         ensures fed { self.new.fed ≡ 0 }
-        ensures lexer { LexerStandsFor self.new.lexer [] [] }
+        ensures lexer { IsLexerOf self.new.lexer [] [] }
         ensures same { self.new ≡ record self.old { lexer = self.new.lexer; file = self.new.file; fed = 0 } }
     {
         let mut lexer = mem::replace(&mut self.lexer, Lexer::new(alloc));
@@ -212,9 +212,9 @@ impl ZoneReader {
     /// Reads what is left of the files, from the inmost one on, up to an `$INCLUDE`, and answers the file that is
     /// included there, or `None` where all is read.
     fn read_files(&mut self, alloc: Global) -> Result<Option<Text>, TextFault>
-        requires { LexerStandsFor self.old.lexer [] [] }
+        requires { IsLexerOf self.old.lexer [] [] }
         ensures asked { (origin : Labels) (texts : List (List ℕ)) → IsPausing self.old origin texts self.old.file.entries.items
-            → IfOk result (λ file. ComesTo file self.new origin texts) }
+            → IfOk result (λ file. HasComeTo file self.new origin texts) }
         ensures fault { (origin : Labels) (texts : List (List ℕ)) → IsPausing self.old origin texts self.old.file.entries.items
             → IfErr result (λ fault. fault ≢ TextFault.NoMemory → texts_give self.old.limits origin texts ≡ Err (Faulty fault)) }
         ensures tells { IfErr result TellsOfText }
@@ -262,7 +262,7 @@ impl ZoneReader {
     /// Opens the file that an `$INCLUDE` of the inmost file names, and answers its name. A fault has the entry's line.
     fn include(&mut self, alloc: Global, entry: &Entry) -> Result<Text, TextFault>
         requires include { is_include entry.now ≡ true }
-        requires lexer { LexerStandsFor self.old.lexer [] [] }
+        requires lexer { IsLexerOf self.old.lexer [] [] }
         ensures asked { (origin : Labels) (texts : List (List ℕ)) → IsPausing self.old origin texts (entry.now ∷ self.old.file.entries.items)
             → IfOk result (λ file. (texts_give self.old.limits origin texts ≡ Err (Asks file)) × IsReading self.new origin texts []) }
         ensures fault { (origin : Labels) (texts : List (List ℕ)) → IsPausing self.old origin texts (entry.now ∷ self.old.file.entries.items)
@@ -297,7 +297,7 @@ impl ZoneReader {
         requires levels { 0 < self.old.file.levels }
         requires room { self.old.records.included < self.old.limits.includes }
         ensures name { IfOk result (λ file. file ≡ include.file) }
-        ensures opens { OnOk result (IsOpened include.origin self.old self.new) }
+        ensures opens { OnOk result (OpensFile include.origin self.old self.new) }
         ensures same { self.new ≡ record self.old { file = self.new.file; around = self.new.around; records = self.new.records } }
     {
         let before = self.records.enter(alloc, include.origin)?;

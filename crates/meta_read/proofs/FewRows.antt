@@ -7,7 +7,7 @@ use Rattle.dns_data.specs.Name.{Labels}
 use Rattle.meta_read.specs.Members.{value_of, list_at}
 use Rattle.meta_read.specs.Metadata.{metadata_of, metadata_in, unless_unhosted, first_unhosted}
 use Rattle.meta_read.specs.Names.{each}
-use Rattle.meta_read.specs.Rows.{rows_of, row_of, most_rows}
+use Rattle.meta_read.specs.Rows.{rows_of, read_row, most_rows}
 use Rattle.meta_read.specs.Tops.{tops_of}
 use Rattle.meta_read.specs.declared.fault.MetaFault.{MetaFault}
 use Rattle.meta_read.specs.declared.fault.MetaFault.TheVariants.{NotJson, Shape, TooManyRows}
@@ -31,11 +31,11 @@ each-length {B} {D} step number (item ∷ items) made is =
 
 rows-few : (value : Data) (rows : List MetaRow) → rows_of value ≡ Ok rows → length rows ≤ most_rows
 rows-few value rows is = by_list (list_at (codes "ZoneFiles") value) is where
-  by_test : (values : List Data) (many : Bool) → nat_lt most_rows (length values) ≡ many → (if many then Err TooManyRows else each row_of 1 values) ≡ Ok rows → length rows ≤ most_rows
+  by_test : (values : List Data) (many : Bool) → nat_lt most_rows (length values) ≡ many → (if many then Err TooManyRows else each read_row 1 values) ≡ Ok rows → length rows ≤ most_rows
   by_test values true here is = absurd cc
-  by_test values false here is = let same : length rows ≡ length values = each-length row_of 1 values rows is in grind (arith, nat_tests)
+  by_test values false here is = let same : length rows ≡ length values = each-length read_row 1 values rows is in grind (arith, nat_tests)
 
-  by_list : (o : Option (List Data)) → (ok_or o (Shape 0) >>= (λ values. if nat_lt most_rows (length values) then Err TooManyRows else each row_of 1 values)) ≡ Ok rows → length rows ≤ most_rows
+  by_list : (o : Option (List Data)) → (ok_or o (Shape 0) >>= (λ values. if nat_lt most_rows (length values) then Err TooManyRows else each read_row 1 values)) ≡ Ok rows → length rows ≤ most_rows
   by_list None is = absurd cc
   by_list (Some values) is = by_test values (nat_lt most_rows (length values)) refl is
 

@@ -15,5 +15,5 @@ each step number (item ∷ items) = do
   Ok (first ∷ rest)
 
 -- the name that a text of a row stands for: the root is the origin (RFC 1035 section 5.1)
-abbrev pub name_in : ℕ → List ℕ → Result Labels MetaFault
-name_in row text = with_fault (λ fault. BadName row) (name_of_text text [])
+abbrev pub name_in_row : ℕ → List ℕ → Result Labels MetaFault
+name_in_row row text = with_fault (λ fault. BadName row) (name_of_text text [])

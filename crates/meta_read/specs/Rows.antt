@@ -6,7 +6,7 @@ use Rattle.serde_json.specs.Find.{get}
 use Rattle.dns_data.specs.Answers.{◌>>=◌}
 use Rattle.dns_data.specs.Name.{Labels}
 use Rattle.meta_read.specs.Members.{list_at, text_at}
-use Rattle.meta_read.specs.Names.{each, name_in}
+use Rattle.meta_read.specs.Names.{each, name_in_row}
 use Rattle.meta_read.specs.declared.fault.MetaFault.{MetaFault}
 use Rattle.meta_read.specs.declared.fault.MetaFault.TheVariants.{Shape, TooManyRows}
 use Rattle.meta_read.specs.declared.meta.MetaRow.{MetaRow}
@@ -16,8 +16,8 @@ abbrev pub not_empty : List ℕ → Option (List ℕ)
 not_empty text = if length text == 0 then None else Some text
 
 -- the file of a row
-abbrev pub file_of : Data → Option (List ℕ)
-file_of row = option_and_then not_empty (text_at (codes "FileName") row)
+abbrev pub file_in_row : Data → Option (List ℕ)
+file_in_row row = option_and_then not_empty (text_at (codes "FileName") row)
 
 -- the text of an origin, or none: a string, or null, which is as none
 abbrev pub origin_text : Data → Option (Option (List ℕ))
@@ -34,16 +34,16 @@ origin_at (Some value) = origin_text value
 abbrev pub origin_in : ℕ → Option (List ℕ) → Result (Option Labels) MetaFault
 origin_in number None = Ok None
 origin_in number (Some text) = do
-  origin ← name_in number text
+  origin ← name_in_row number text
   Ok (Some origin)
 
 -- a row: its shape, then its names
-abbrev pub row_of : ℕ → Data → Result MetaRow MetaFault
-row_of number row = do
-  file ← ok_or (file_of row) (Shape number)
+abbrev pub read_row : ℕ → Data → Result MetaRow MetaFault
+read_row number row = do
+  file ← ok_or (file_in_row row) (Shape number)
   server_text ← ok_or (text_at (codes "NameServer") row) (Shape number)
   origin_text ← ok_or (origin_at (get (codes "Origin") row)) (Shape number)
-  server ← name_in number server_text
+  server ← name_in_row number server_text
   origin ← origin_in number origin_text
   Ok (record { file = file; server = server; origin = origin })
 
@@ -55,4 +55,4 @@ most_rows = 10000
 abbrev pub rows_of : Data → Result (List MetaRow) MetaFault
 rows_of value = do
   values ← ok_or (list_at (codes "ZoneFiles") value) (Shape 0)
-  if nat_lt most_rows (length values) then Err TooManyRows else each row_of 1 values
+  if nat_lt most_rows (length values) then Err TooManyRows else each read_row 1 values

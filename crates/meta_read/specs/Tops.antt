@@ -8,7 +8,7 @@ use Rattle.dns_data.specs.Answers.{◌>>=◌}
 use Rattle.dns_data.specs.Distinct.{distinct}
 use Rattle.dns_data.specs.Name.{Labels, name_eq}
 use Rattle.meta_read.specs.Members.{list_at}
-use Rattle.meta_read.specs.Names.{each, name_in}
+use Rattle.meta_read.specs.Names.{each, name_in_row}
 use Rattle.meta_read.specs.declared.fault.MetaFault.{MetaFault}
 use Rattle.meta_read.specs.declared.fault.MetaFault.TheVariants.{Shape, NoTops}
 
@@ -16,7 +16,7 @@ use Rattle.meta_read.specs.declared.fault.MetaFault.TheVariants.{Shape, NoTops}
 abbrev pub top_of : ℕ → Data → Result Labels MetaFault
 top_of number value = do
   text ← ok_or (as_str value) (Shape 0)
-  name_in 0 text
+  name_in_row 0 text
 
 -- the names of a list of strings
 abbrev pub tops_in : List Data → Result (List Labels) MetaFault

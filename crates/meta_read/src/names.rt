@@ -6,7 +6,7 @@ ghost use Rattle.std.specs.BTreeSet as tree;
 ghost use Rattle.dns_data.specs.Answers.{AnswersOr};
 ghost use Rattle.dns_data.specs.Distinct.{distinct};
 ghost use Rattle.dns_data.specs.Name.{name_eq, name_cmp};
-ghost use Rattle.meta_read.specs.Names.{name_in};
+ghost use Rattle.meta_read.specs.Names.{name_in_row};
 
 use crate::fault::MetaFault;
 use dns_data::{List, Name, NameFault, NoMemory};
@@ -14,8 +14,8 @@ use std::alloc::Global;
 use std::collections::BTreeSet;
 
 /// The name that a text of a row stands for, with the root as origin.
-pub(crate) fn name_in(alloc: Global, row: u32, text: &str) -> Result<Name, MetaFault>
-    ensures { AnswersOr MetaFault.NoMemory result (name_in row text.now) }
+pub(crate) fn name_in_row(alloc: Global, row: u32, text: &str) -> Result<Name, MetaFault>
+    ensures { AnswersOr MetaFault.NoMemory result (name_in_row row text.now) }
 {
     match Name::from_text(alloc, text.as_bytes(), &Name::root()) {
         Ok(name) => Ok(name),

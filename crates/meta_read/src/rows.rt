@@ -6,12 +6,12 @@ ghost use Rattle.serde_json.specs.Find.{get};
 ghost use Rattle.serde_json.specs.View.{view};
 ghost use Rattle.dns_data.specs.Answers.{AnswersOr};
 ghost use Rattle.meta_read.specs.Names.{each};
-ghost use Rattle.meta_read.specs.Rows.{rows_of, row_of, file_of, origin_at, origin_text, origin_in, most_rows};
+ghost use Rattle.meta_read.specs.Rows.{rows_of, read_row, file_in_row, origin_at, origin_text, origin_in, most_rows};
 
 use crate::fault::MetaFault;
 use crate::members::{list_at, text_at};
 use crate::meta::MetaRow;
-use crate::names::name_in;
+use crate::names::name_in_row;
 use dns_data::{List, Name, Text};
 use serde_json::Value;
 use std::alloc::Global;
@@ -35,7 +35,7 @@ pub(crate) fn read_rows(alloc: Global, value: &Value) -> Result<List<MetaRow>, M
 /// The row of each value, with its number, counted from 1.
 fn each_row(alloc: Global, values: &[Value]) -> Result<List<MetaRow>, MetaFault>
     requires { length values.now ≤ most_rows }
-    ensures { AnswersOr MetaFault.NoMemory result (each row_of 1 (map view values.now)) }
+    ensures { AnswersOr MetaFault.NoMemory result (each read_row 1 (map view values.now)) }
 {
     let mut rows = List::new(alloc);
     for (i, value) in values.iter().enumerate() {
@@ -46,9 +46,9 @@ fn each_row(alloc: Global, values: &[Value]) -> Result<List<MetaRow>, MetaFault>
 
 /// A row: its shape is looked at before its names.
 fn read_row(alloc: Global, number: u32, row: &Value) -> Result<MetaRow, MetaFault>
-    ensures { AnswersOr MetaFault.NoMemory result (row_of number (view row.now)) }
+    ensures { AnswersOr MetaFault.NoMemory result (read_row number (view row.now)) }
 {
-    let Some(file) = file_of(row) else {
+    let Some(file) = file_in_row(row) else {
         return Err(MetaFault::Shape { row: number });
     };
     let Some(server) = text_at(row, "NameServer") else {
@@ -57,7 +57,7 @@ fn read_row(alloc: Global, number: u32, row: &Value) -> Result<MetaRow, MetaFaul
     let Some(origin) = origin_of(row) else {
         return Err(MetaFault::Shape { row: number });
     };
-    let server = name_in(alloc, number, server)?;
+    let server = name_in_row(alloc, number, server)?;
     let origin = origin_in(alloc, number, origin)?;
     let file = Text::from_str(alloc, file)?;
     Ok(MetaRow {
@@ -68,8 +68,8 @@ fn read_row(alloc: Global, number: u32, row: &Value) -> Result<MetaRow, MetaFaul
 }
 
 /// The file's name, or `None` where it isn't a string with an octet.
-fn file_of(row: &Value) -> Option<&str>
-    ensures { option_map (λ file. file.now) result ≡ file_of (view row.now) }
+fn file_in_row(row: &Value) -> Option<&str>
+    ensures { option_map (λ file. file.now) result ≡ file_in_row (view row.now) }
 {
     let file = text_at(row, "FileName")?;
     if file.is_empty() {
@@ -105,7 +105,7 @@ fn origin_in(alloc: Global, number: u32, text: Option<&str>) -> Result<Option<Na
     ensures { AnswersOr MetaFault.NoMemory result (origin_in number (option_map (λ text. text.now) text.entry)) }
 {
     match text {
-        Some(text) => Ok(Some(name_in(alloc, number, text)?)),
+        Some(text) => Ok(Some(name_in_row(alloc, number, text)?)),
         None => Ok(None),
     }
 }

@@ -10,7 +10,7 @@ ghost use Rattle.meta_read.specs.Tops.{tops_of, tops_in, top_of};
 
 use crate::fault::MetaFault;
 use crate::members::list_at;
-use crate::names::{name_in, once};
+use crate::names::{name_in_row, once};
 use dns_data::{List, Name};
 use serde_json::Value;
 use std::alloc::Global;
@@ -62,7 +62,7 @@ fn top_of(alloc: Global, value: &Value) -> Result<Name, MetaFault>
     ensures { AnswersOr MetaFault.NoMemory result (top_of 1 (view value.now)) }
 {
     match value.as_str() {
-        Some(text) => name_in(alloc, 0, text),
+        Some(text) => name_in_row(alloc, 0, text),
         None => Err(MetaFault::Shape { row: 0 }),
     }
 }

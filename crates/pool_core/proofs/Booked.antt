@@ -14,8 +14,8 @@ use Rattle.pool_core.specs.declared.entry.Entry.TheVariants.{Claim as ClaimEntry
 use Rattle.pool_core.specs.declared.spot.Spot.{Spot}
 use Rattle.pool_core.specs.declared.spot.Spot.TheVariants.{Issued, Claimed, Filed}
 use Rattle.pool_core.specs.History.{children_of, claims, files, issued_in, is_claimed_in, is_filed_in, first_stop, all_may_follow}
-use Rattle.pool_core.specs.Shadow.{entry_of, shadow}
-use Rattle.pool_core.specs.Law.{is_claim_of, is_filing_of, is_claimed, is_filed}
+use Rattle.pool_core.specs.Shadow.{history_entry, shadow}
+use Rattle.pool_core.specs.Law.{is_claim_of, is_filing_of, spot_is_claimed, spot_is_filed}
 use Rattle.pool_core.proofs.Lists.{slice_get-set_same, slice_get-set_other, slice_get_push_cases, stays_at_set, stays_at_append, count_by_push, list_any_push, or-false}
 use Rattle.pool_core.proofs.Histories.{all_follow_push, first_stop_push}
 
@@ -31,14 +31,14 @@ FiledAfter accepted = (k w t c : ℕ) → slice_get accepted k ≡ Some (File w 
 -- the events accepted so far are a legal history, which tells which tickets are issued, claimed and filed
 pub record Booked (limit : ℕ) (accepted : List Event) (spots : List Spot) (stop : Option StopCause) : Type 0 where
   pub within : length spots ≤ limit
-  pub claims : (t : ℕ) → count_by (is_claim_of t) accepted ≡ cond (is_claimed (slice_get spots t)) 1 0
-  pub filings : (t : ℕ) → count_by (is_filing_of t) accepted ≡ cond (is_filed (slice_get spots t)) 1 0
+  pub claims : (t : ℕ) → count_by (is_claim_of t) accepted ≡ cond (spot_is_claimed (slice_get spots t)) 1 0
+  pub filings : (t : ℕ) → count_by (is_filing_of t) accepted ≡ cond (spot_is_filed (slice_get spots t)) 1 0
   pub claimers : (w t : ℕ) → is_claimed_by w (slice_get spots t) ≡ true → Contains accepted (Claim w t)
   pub filed_after : FiledAfter accepted
   pub legal : all_may_follow [] (shadow accepted) ≡ true
   pub issued : issued_in (shadow accepted) ≡ length spots
-  pub claimed : (t : ℕ) → is_claimed_in (shadow accepted) t ≡ is_claimed (slice_get spots t)
-  pub filed : (t : ℕ) → is_filed_in (shadow accepted) t ≡ is_filed (slice_get spots t)
+  pub claimed : (t : ℕ) → is_claimed_in (shadow accepted) t ≡ spot_is_claimed (slice_get spots t)
+  pub filed : (t : ℕ) → is_filed_in (shadow accepted) t ≡ spot_is_filed (slice_get spots t)
   pub stopped : first_stop (shadow accepted) ≡ stop
 
 option_or_none : (o : Option StopCause) → option_or o None ≡ o
@@ -46,7 +46,7 @@ option_or_none None = refl
 option_or_none (Some x) = refl
 
 shadow_push : (accepted : List Event) (event : Event) → shadow (accepted ++ event ∷ []) ≡ shadow accepted ++ shadow (event ∷ [])
-shadow_push accepted event = filter_map-append entry_of accepted (event ∷ [])
+shadow_push accepted event = filter_map-append history_entry accepted (event ∷ [])
 
 filed_after_push : (accepted : List Event) (event : Event) → FiledAfter accepted → ((w t c : ℕ) → event ≡ File w t c → Contains accepted (Claim w t)) → FiledAfter (accepted ++ event ∷ [])
 filed_after_push accepted event old new k w t c h =
@@ -61,9 +61,9 @@ filed_after_push accepted event old new k w t c h =
 
 -- events that claim nothing, file nothing and stop nothing
 pub booked_quiet : (limit : ℕ) (accepted : List Event) (spots spots' : List Spot) (stop : Option StopCause) (event : Event) → Booked limit accepted spots stop
-    → entry_of event ≡ None → ((t : ℕ) → is_claim_of t event ≡ false) → ((t : ℕ) → is_filing_of t event ≡ false) → length spots' ≡ length spots
-    → ((t : ℕ) → is_claimed (slice_get spots' t) ≡ is_claimed (slice_get spots t))
-    → ((t : ℕ) → is_filed (slice_get spots' t) ≡ is_filed (slice_get spots t))
+    → history_entry event ≡ None → ((t : ℕ) → is_claim_of t event ≡ false) → ((t : ℕ) → is_filing_of t event ≡ false) → length spots' ≡ length spots
+    → ((t : ℕ) → spot_is_claimed (slice_get spots' t) ≡ spot_is_claimed (slice_get spots t))
+    → ((t : ℕ) → spot_is_filed (slice_get spots' t) ≡ spot_is_filed (slice_get spots t))
     → ((w t : ℕ) → is_claimed_by w (slice_get spots' t) ≡ is_claimed_by w (slice_get spots t))
     → Booked limit (accepted ++ event ∷ []) spots' stop
 booked_quiet limit accepted spots spots' stop event b none no_claim no_filing len claimed filed by =
@@ -84,7 +84,7 @@ booked_quiet limit accepted spots spots' stop event b none no_claim no_filing le
 
 -- a ticket whose spot is not claimed, nor filed
 pub booked_claim : (limit : ℕ) (accepted : List Event) (spots : List Spot) (w t : ℕ) → Booked limit accepted spots None → t < length spots
-    → is_claimed (slice_get spots t) ≡ false → is_filed (slice_get spots t) ≡ false
+    → spot_is_claimed (slice_get spots t) ≡ false → spot_is_filed (slice_get spots t) ≡ false
     → Booked limit (accepted ++ Claim w t ∷ []) (set spots t (Claimed w)) None
 booked_claim limit accepted spots w t b ht not_claimed not_filed =
     let event = Claim w t in
@@ -92,7 +92,7 @@ booked_claim limit accepted spots w t b ht not_claimed not_filed =
     let spots' = set spots t (Claimed w) in
     let at_t : slice_get spots' t ≡ Some (Claimed w) = slice_get-set_same spots t (Claimed w) ht in
     let other : (k : ℕ) → (k ≡ t → ⊥) → slice_get spots' k ≡ slice_get spots k = λ k ne. slice_get-set_other spots t k (Claimed w) ne in
-    let filed' : (k : ℕ) → is_filed (slice_get spots' k) ≡ is_filed (slice_get spots k) = stays_at_set is_filed spots t (Claimed w) ht not_filed in
+    let filed' : (k : ℕ) → spot_is_filed (slice_get spots' k) ≡ spot_is_filed (slice_get spots k) = stays_at_set spot_is_filed spots t (Claimed w) ht not_filed in
     record {
       within = omega (arith, b.within, length-set spots t (Claimed w));
       claims = λ k. count_by_push (is_claim_of k) accepted event ∙ ⊎_elim
@@ -129,13 +129,13 @@ booked_file limit accepted spots stop w t c b kept room =
     let mid = set spots t Filed in
     let spots' = mid ++ replicate c (Issued w) in
     let len : length spots' ≡ length spots + c = length-append mid (replicate c (Issued w)) ∙ rw (length-set, length-replicate) refl in
-    let claimed' : (k : ℕ) → is_claimed (slice_get spots' k) ≡ is_claimed (slice_get spots k) =
-    λ k. stays_at_append is_claimed mid c (Issued w) refl k ∙ stays_at_set is_claimed spots t Filed ht (ap is_claimed kept) k in
-    let filed' : (k : ℕ) → is_filed (slice_get spots' k) ≡ is_filed (slice_get mid k) = stays_at_append is_filed mid c (Issued w) refl in
+    let claimed' : (k : ℕ) → spot_is_claimed (slice_get spots' k) ≡ spot_is_claimed (slice_get spots k) =
+    λ k. stays_at_append spot_is_claimed mid c (Issued w) refl k ∙ stays_at_set spot_is_claimed spots t Filed ht (ap spot_is_claimed kept) k in
+    let filed' : (k : ℕ) → spot_is_filed (slice_get spots' k) ≡ spot_is_filed (slice_get mid k) = stays_at_append spot_is_filed mid c (Issued w) refl in
     let at_t : slice_get mid t ≡ Some Filed = slice_get-set_same spots t Filed ht in
     let other : (k : ℕ) → (k ≡ t → ⊥) → slice_get mid k ≡ slice_get spots k = λ k ne. slice_get-set_other spots t k Filed ne in
     let by : (v k : ℕ) → is_claimed_by v (slice_get spots' k) ≡ is_claimed_by v (slice_get mid k) = λ v. stays_at_append (is_claimed_by v) mid c (Issued w) refl in
-    let was : is_filed (slice_get spots t) ≡ false = ap is_filed kept in
+    let was : spot_is_filed (slice_get spots t) ≡ false = ap spot_is_filed kept in
     record {
       within = omega (arith, len, room);
       claims = λ k. count_by_push (is_claim_of k) accepted event ∙ rw (claimed' k) (omega (arith, b.claims k));
@@ -152,7 +152,7 @@ booked_file limit accepted spots stop w t c b kept room =
           let kt : t ≡ k = cc e in
           b.claimers v k (ap (λ x. is_claimed_by v (slice_get spots x)) (sym kt) ∙ ap (is_claimed_by v) kept ∙ eq-eqb w v vw));
       legal = ap (all_may_follow []) same ∙ all_follow_push [] (shadow accepted) (FileEntry t c) b.legal
-          (and_from _ _ (b.claimed t ∙ ap is_claimed kept) (ap not (b.filed t ∙ was)));
+          (and_from _ _ (b.claimed t ∙ ap spot_is_claimed kept) (ap not (b.filed t ∙ was)));
       issued = ap issued_in same ∙ ap (λ n. 1 + n) (sum_by_push children_of (shadow accepted) (FileEntry t c)) ∙ rw len (omega (arith, b.issued));
       claimed = λ k. ap (λ h. is_claimed_in h k) same ∙ list_any_push (claims k) (shadow accepted) (FileEntry t c) ∙ or-false _ ∙ b.claimed k ∙ sym (claimed' k);
       filed = λ k. ap (λ h. is_filed_in h k) same ∙ list_any_push (files k) (shadow accepted) (FileEntry t c) ∙ ⊎_elim

@@ -6,7 +6,7 @@ use Rattle.std.proofs.lemmas.List.{append-nil}
 use Rattle.std.proofs.lemmas.List.Sums.{sum_by_push}
 use Rattle.pool_core.specs.declared.entry.Entry.{Entry}
 use Rattle.pool_core.specs.declared.entry.Entry.TheVariants.{Claim, File, Stop}
-use Rattle.pool_core.specs.History.{children_of, claims, files, issued_in, is_claimed_in, is_filed_in, first_stop, may_follow, all_may_follow}
+use Rattle.pool_core.specs.History.{children_of, claims, files, issued_in, is_claimed_in, is_filed_in, first_stop, may_come_next, all_may_follow}
 use Rattle.pool_core.proofs.Lists.{list_any_push}
 
 -- an entry issues its children
@@ -34,10 +34,10 @@ pub filed_cases : (h : List Entry) (e : Entry) (t : ℕ) → is_filed_in (h ++ e
 filed_cases h e t k = or_parts _ _ (sym (filed_push h e t) ∙ k)
 
 -- a legal history stays so with an entry that may follow it
-pub all_follow_push : (before history : List Entry) (entry : Entry) → all_may_follow before history ≡ true → may_follow (before ++ history) entry ≡ true → all_may_follow before (history ++ entry ∷ []) ≡ true
+pub all_follow_push : (before history : List Entry) (entry : Entry) → all_may_follow before history ≡ true → may_come_next (before ++ history) entry ≡ true → all_may_follow before (history ++ entry ∷ []) ≡ true
 all_follow_push before [] entry h m = and_from _ _ (rw append-nil at m) refl
 all_follow_push before (e ∷ history) entry h m =
-    let p = and_parts (may_follow before e) (all_may_follow (before ++ e ∷ []) history) h in
+    let p = and_parts (may_come_next before e) (all_may_follow (before ++ e ∷ []) history) h in
     and_from _ _ p.0 (all_follow_push (before ++ e ∷ []) history entry p.1 (rw (append_assoc before (e ∷ []) history) m))
 
 -- the first stop of a history stays the first with an entry more

@@ -17,7 +17,7 @@ use Rattle.pool_core.specs.declared.fault.StepFault.{StepFault}
 use Rattle.pool_core.specs.declared.fault.StepFault.TheVariants.{TooMany}
 use Rattle.pool_core.specs.Refusals.{refusal, too_many}
 use Rattle.pool_core.specs.Steps.{first_held, spots_after, deques_after, deques_taken, stop_after, happens, after, run}
-use Rattle.pool_core.specs.Kept.{IsKept}
+use Rattle.pool_core.specs.Kept.{IsPoolAfter}
 use Rattle.pool_core.proofs.Queued.{at, first_waits}
 use Rattle.pool_core.proofs.Accepts.{accepts_push, accepts_pop, accepts_steal, accepts_file}
 use Rattle.pool_core.proofs.Sound.{Sound, sound_run}
@@ -40,9 +40,9 @@ held_new zero = refl
 held_new (suc n) = ap (λ (x : List (List ℕ)). [] ∷ x) (held_new n)
 
 -- the fields before the first event
-pub kept_new : (w l : ℕ) (es : List Event) (spots : List Spot) (queues : List (List ℕ)) → es ≡ [] → spots ≡ Issued 0 ∷ [] → queues ≡ replicate w [] → 1 ≤ l → IsKept (run w l es) w l es spots queues None
+pub kept_new : (w l : ℕ) (es : List Event) (spots : List Spot) (queues : List (List ℕ)) → es ≡ [] → spots ≡ Issued 0 ∷ [] → queues ≡ replicate w [] → 1 ≤ l → IsPoolAfter (run w l es) w l es spots queues None
 kept_new w l es spots queues e s q some =
-    subst (λ (p : Pool). IsKept p w l es spots queues None) (sym (ap (run w l) e ∙ run_none w l)) (record {
+    subst (λ (p : Pool). IsPoolAfter p w l es spots queues None) (sym (ap (run w l) e ∙ run_none w l)) (record {
       workers_are = refl;
       limit_is = refl;
       events_are = sym e;
@@ -74,9 +74,9 @@ resized spots len n c new e m =
 more_than : (l n c : ℕ) → n ≤ l → ltb (l - n) c ≡ ltb l (n + c)
 more_than l n c h = grind (arith, nat_tests)
 
-module _ (w l : ℕ) (es : List Event) (spots : List Spot) (queues : List (List ℕ)) (stop : Option StopCause) (pool : Pool) (view : run w l es ≡ pool) (kept : IsKept (run w l es) w l es spots queues stop) where
-  here : IsKept pool w l es spots queues stop
-  here = subst (λ (p : Pool). IsKept p w l es spots queues stop) view kept
+module _ (w l : ℕ) (es : List Event) (spots : List Spot) (queues : List (List ℕ)) (stop : Option StopCause) (pool : Pool) (view : run w l es ≡ pool) (kept : IsPoolAfter (run w l es) w l es spots queues stop) where
+  here : IsPoolAfter pool w l es spots queues stop
+  here = subst (λ (p : Pool). IsPoolAfter p w l es spots queues stop) view kept
 
   pub sound_here : Sound pool
   sound_here = subst Sound view (sound_run w l es kept.some_ticket)
@@ -127,12 +127,12 @@ module _ (w l : ℕ) (es : List Event) (spots : List Spot) (queues : List (List 
       ∙ ap (λ x. cond (ltb l (x + c)) (Some (TooMany x l)) None) n_is
       ∙ ap (λ x. cond (ltb x (length pool.spots + c)) (Some (TooMany (length pool.spots) x)) None) (sym here.limit_is)
 
-module _ (w l : ℕ) (es es' : List Event) (spots : List Spot) (queues : List (List ℕ)) (stop : Option StopCause) (pool : Pool) (view : run w l es ≡ pool) (kept : IsKept (run w l es) w l es spots queues stop) where
+module _ (w l : ℕ) (es es' : List Event) (spots : List Spot) (queues : List (List ℕ)) (stop : Option StopCause) (pool : Pool) (view : run w l es ≡ pool) (kept : IsPoolAfter (run w l es) w l es spots queues stop) where
   kept_more : (event : Event) (spots' : List Spot) (queues' : List (List ℕ)) (stop' : Option StopCause) → refusal pool event ≡ None → es' ≡ es ++ event ∷ []
       → spots_after pool event ≡ spots' → map held_in (deques_after pool event) ≡ queues' → stop_after pool event ≡ stop'
-      → IsKept (run w l es') w l es' spots' queues' stop'
+      → IsPoolAfter (run w l es') w l es' spots' queues' stop'
   kept_more event spots' queues' stop' ok more a b c =
-      subst (λ (p : Pool). IsKept p w l es' spots' queues' stop') (sym (run_more w l es es' pool event view ok more)) (record {
+      subst (λ (p : Pool). IsPoolAfter p w l es' spots' queues' stop') (sym (run_more w l es es' pool event view ok more)) (record {
         workers_are = (here w l es spots queues stop pool view kept).workers_are;
         limit_is = (here w l es spots queues stop pool view kept).limit_is;
         events_are = ap (λ x. x ++ event ∷ []) (here w l es spots queues stop pool view kept).events_are ∙ sym more;
@@ -143,7 +143,7 @@ module _ (w l : ℕ) (es es' : List Event) (spots : List Spot) (queues : List (L
       })
 
   pub kept_push : (worker t : ℕ) (queue : List ℕ) → refusal pool (Push worker t) ≡ None → es' ≡ es ++ Push worker t ∷ [] → queue ≡ get_or queues worker [] ++ t ∷ []
-      → IsKept (run w l es') w l es' (set spots t (Waiting worker)) (set queues worker queue) stop
+      → IsPoolAfter (run w l es') w l es' (set spots t (Waiting worker)) (set queues worker queue) stop
   kept_push worker t queue ok more q =
       kept_more (Push worker t) (set spots t (Waiting worker)) (set queues worker queue) stop ok more
       (ap (λ (s : List Spot). set s t (Waiting worker)) (here w l es spots queues stop pool view kept).spots_are)
@@ -164,22 +164,22 @@ module _ (w l : ℕ) (es es' : List Event) (spots : List Spot) (queues : List (L
 
   pub kept_pop : (worker : ℕ) (spots' : List Spot) (queues' : List (List ℕ)) → refusal pool (Pop worker) ≡ None → es' ≡ es ++ Pop worker ∷ []
       → spots' ≡ first_held spots worker (get_or queues worker []) → queues' ≡ set queues worker (drop 1 (get_or queues worker []))
-      → IsKept (run w l es') w l es' spots' queues' stop
+      → IsPoolAfter (run w l es') w l es' spots' queues' stop
   kept_pop worker spots' queues' ok more s q =
       kept_more (Pop worker) spots' queues' stop ok more (spots_taken worker worker ∙ sym s) (queues_taken worker worker ∙ sym q) (here w l es spots queues stop pool view kept).stop_is
 
   pub kept_steal : (worker from : ℕ) (spots' : List Spot) (queues' : List (List ℕ)) → refusal pool (Steal worker from) ≡ None → es' ≡ es ++ Steal worker from ∷ []
       → spots' ≡ first_held spots worker (get_or queues from []) → queues' ≡ set queues from (drop 1 (get_or queues from []))
-      → IsKept (run w l es') w l es' spots' queues' stop
+      → IsPoolAfter (run w l es') w l es' spots' queues' stop
   kept_steal worker from spots' queues' ok more s q =
       kept_more (Steal worker from) spots' queues' stop ok more (spots_taken worker from ∙ sym s) (queues_taken worker from ∙ sym q) (here w l es spots queues stop pool view kept).stop_is
 
-  pub kept_claim : (worker t : ℕ) → refusal pool (Claim worker t) ≡ None → es' ≡ es ++ Claim worker t ∷ [] → IsKept (run w l es') w l es' (set spots t (Claimed worker)) queues stop
+  pub kept_claim : (worker t : ℕ) → refusal pool (Claim worker t) ≡ None → es' ≡ es ++ Claim worker t ∷ [] → IsPoolAfter (run w l es') w l es' (set spots t (Claimed worker)) queues stop
   kept_claim worker t ok more =
       kept_more (Claim worker t) (set spots t (Claimed worker)) queues stop ok more (ap (λ (s : List Spot). set s t (Claimed worker)) (here w l es spots queues stop pool view kept).spots_are) (here w l es spots queues stop pool view kept).queues_are (here w l es spots queues stop pool view kept).stop_is
 
   pub kept_file : (worker t c : ℕ) (spots' : List Spot) → refusal pool (File worker t c) ≡ None → es' ≡ es ++ File worker t c ∷ []
-      → spots' ≡ spots ++ replicate c (Issued worker) → IsKept (run w l es') w l es' (set spots' t Filed) queues stop
+      → spots' ≡ spots ++ replicate c (Issued worker) → IsPoolAfter (run w l es') w l es' (set spots' t Filed) queues stop
   kept_file worker t c spots' ok more s =
       let within = file_within w l es spots queues stop pool view kept worker t c ok in
       kept_more (File worker t c) (set spots' t Filed) queues stop ok more
@@ -187,6 +187,6 @@ module _ (w l : ℕ) (es es' : List Event) (spots : List Spot) (queues : List (L
       ∙ sym (set-append_left spots (replicate c (Issued worker)) t Filed within.0) ∙ ap (λ (x : List Spot). set x t Filed) (sym s))
       (here w l es spots queues stop pool view kept).queues_are (here w l es spots queues stop pool view kept).stop_is
 
-  pub kept_stop : (cause : StopCause) (stop' : Option StopCause) → es' ≡ es ++ Stop cause ∷ [] → stop' ≡ option_or stop (Some cause) → IsKept (run w l es') w l es' spots queues stop'
+  pub kept_stop : (cause : StopCause) (stop' : Option StopCause) → es' ≡ es ++ Stop cause ∷ [] → stop' ≡ option_or stop (Some cause) → IsPoolAfter (run w l es') w l es' spots queues stop'
   kept_stop cause stop' more s =
       kept_more (Stop cause) spots queues stop' refl more (here w l es spots queues stop pool view kept).spots_are (here w l es spots queues stop pool view kept).queues_are (ap (λ (o : Option StopCause). option_or o (Some cause)) (here w l es spots queues stop pool view kept).stop_is ∙ sym s)

@@ -8,7 +8,7 @@ use Rattle.pool_core.specs.declared.event.Event.{Event}
 use Rattle.pool_core.specs.Pools.{Pool, new_pool, deque_of, spot_of}
 use Rattle.pool_core.specs.Refusals.{refusal}
 use Rattle.pool_core.specs.Steps.{happens, run}
-use Rattle.pool_core.specs.Law.{EachHasOneSpot, WaitsWhereItStands, StandsOnceAtMost, TakesInOrder, KeepsBalance, ClaimsOnce, FilesOnce, FilesAfterClaim, HasLegalShadow, ReplaysToItself, IsRunOfAccepted}
+use Rattle.pool_core.specs.Law.{EachHasOneSpot, WaitsWhereItStands, StandsOnceAtMost, TakesInOrder, HasBalancedDeques, ClaimsOnce, FilesOnce, FilesAfterClaim, HasLegalShadow, ReplaysToItself, IsRunOfAccepted}
 use Rattle.pool_core.proofs.Lists.{count_by-append}
 use Rattle.pool_core.proofs.Queued.{waits_in, waits_from_times}
 use Rattle.pool_core.proofs.Takers.{times_of_each}
@@ -36,7 +36,7 @@ module _ (pool : Pool) (s : Sound pool) where
   pub takes_in_order : TakesInOrder pool
   takes_in_order d = ((deque_of pool d).held, s.queued.splits d)
 
-  pub keeps_balance : KeepsBalance pool
+  pub keeps_balance : HasBalancedDeques pool
   keeps_balance d t =
       let deque = deque_of pool d in
       let whole = count_by-append (λ x. x == t) (taken_from deque) deque.held in
@@ -68,7 +68,7 @@ pub record Lawful (pool : Pool) : Type 0 where
   pub waits : WaitsWhereItStands pool
   pub no_twice : StandsOnceAtMost pool
   pub in_order : TakesInOrder pool
-  pub balance : KeepsBalance pool
+  pub balance : HasBalancedDeques pool
   pub claims : ClaimsOnce pool
   pub filings : FilesOnce pool
   pub after_claim : FilesAfterClaim pool

@@ -12,7 +12,7 @@ use Rattle.pool_core.specs.Deques.{new_deque, front_taken}
 use Rattle.pool_core.specs.Pools.{Pool, new_pool, deque_of}
 use Rattle.pool_core.specs.Refusals.{refusal}
 use Rattle.pool_core.specs.Steps.{first_held, deques_taken, happens, after, run}
-use Rattle.pool_core.specs.Law.{is_claimed, is_filed}
+use Rattle.pool_core.specs.Law.{spot_is_claimed, spot_is_filed}
 use Rattle.pool_core.proofs.Lists.{stays_at_set, stays_at_append}
 use Rattle.pool_core.proofs.Queued.{Queued, at, waits_in, queued_keep, queued_push, queued_take, first_waits}
 use Rattle.pool_core.proofs.Booked.{Booked, is_claimed_by, booked_quiet, booked_claim, booked_file, booked_stop}
@@ -47,14 +47,14 @@ sound_new workers limit some =
       };
       booked = record {
         within = some;
-        claims = λ t. rw (at_first is_claimed refl t) refl;
-        filings = λ t. rw (at_first is_filed refl t) refl;
+        claims = λ t. rw (at_first spot_is_claimed refl t) refl;
+        filings = λ t. rw (at_first spot_is_filed refl t) refl;
         claimers = λ w t h. absurd (let e = at_first (is_claimed_by w) refl t in cc (e, h));
         filed_after = λ k w t c h. absurd cc;
         legal = refl;
         issued = refl;
-        claimed = λ t. sym (at_first is_claimed refl t);
-        filed = λ t. sym (at_first is_filed refl t);
+        claimed = λ t. sym (at_first spot_is_claimed refl t);
+        filed = λ t. sym (at_first spot_is_filed refl t);
         stopped = refl;
       };
       replayed = refl;
@@ -66,8 +66,8 @@ take_queued pool w from q a =
     (sym a.held) (queued_take pool.workers pool.spots pool.deques w from a.first a.rest q a.worker a.deque a.held)
 
 take_booked : (pool : Pool) (w from : ℕ) (event : Event) → Sound pool → AcceptsTake pool w from → ((spots : List Spot) → length spots ≡ length pool.spots
-    → ((t : ℕ) → is_claimed (slice_get spots t) ≡ is_claimed (slice_get pool.spots t))
-    → ((t : ℕ) → is_filed (slice_get spots t) ≡ is_filed (slice_get pool.spots t))
+    → ((t : ℕ) → spot_is_claimed (slice_get spots t) ≡ spot_is_claimed (slice_get pool.spots t))
+    → ((t : ℕ) → spot_is_filed (slice_get spots t) ≡ spot_is_filed (slice_get pool.spots t))
     → ((v t : ℕ) → is_claimed_by v (slice_get spots t) ≡ is_claimed_by v (slice_get pool.spots t))
     → Booked pool.limit (pool.accepted ++ event ∷ []) spots pool.stop)
     → Booked pool.limit (pool.accepted ++ event ∷ []) (first_held pool.spots w (deque_of pool from).held) pool.stop
@@ -76,8 +76,8 @@ take_booked pool w from event s a quiet =
     let ht = slice_get_within pool.spots a.first (Waiting from) waits.0 in
     subst (λ (h : List ℕ). Booked pool.limit (pool.accepted ++ event ∷ []) (first_held pool.spots w h) pool.stop) (sym a.held)
     (quiet (set pool.spots a.first (Held w)) (length-set pool.spots a.first (Held w))
-    (stays_at_set is_claimed pool.spots a.first (Held w) ht (ap is_claimed waits.0))
-    (stays_at_set is_filed pool.spots a.first (Held w) ht (ap is_filed waits.0))
+    (stays_at_set spot_is_claimed pool.spots a.first (Held w) ht (ap spot_is_claimed waits.0))
+    (stays_at_set spot_is_filed pool.spots a.first (Held w) ht (ap spot_is_filed waits.0))
     (λ v. stays_at_set (is_claimed_by v) pool.spots a.first (Held w) ht (ap (is_claimed_by v) waits.0)))
 
 -- an accepted event leads on from the accepted events before it
@@ -96,8 +96,8 @@ sound_happens pool (Push w t) s h =
     record {
       queued = queued_push pool.workers pool.spots pool.deques w t s.queued a.worker a.ticket (λ d. ap (waits_in d) a.kept);
       booked = booked_quiet pool.limit pool.accepted pool.spots (set pool.spots t (Waiting w)) pool.stop (Push w t) s.booked refl (λ _. refl) (λ _. refl) (length-set pool.spots t (Waiting w))
-          (stays_at_set is_claimed pool.spots t (Waiting w) a.ticket (ap is_claimed a.kept))
-          (stays_at_set is_filed pool.spots t (Waiting w) a.ticket (ap is_filed a.kept))
+          (stays_at_set spot_is_claimed pool.spots t (Waiting w) a.ticket (ap spot_is_claimed a.kept))
+          (stays_at_set spot_is_filed pool.spots t (Waiting w) a.ticket (ap spot_is_filed a.kept))
           (λ v. stays_at_set (is_claimed_by v) pool.spots t (Waiting w) a.ticket (ap (is_claimed_by v) a.kept));
       replayed = replayed_more pool (Push w t) s h;
     }
@@ -121,7 +121,7 @@ sound_happens pool (Claim w t) s h =
     record {
       queued = queued_keep pool.workers pool.spots (set pool.spots t (Claimed w)) pool.deques (λ d. stays_at_set (waits_in d) pool.spots t (Claimed w) a.ticket (no (waits_in d) refl refl)) s.queued;
       booked = subst (λ o. Booked pool.limit (pool.accepted ++ Claim w t ∷ []) (set pool.spots t (Claimed w)) o) (sym a.going)
-          (booked_claim pool.limit pool.accepted pool.spots w t (subst (λ o. Booked pool.limit pool.accepted pool.spots o) a.going s.booked) a.ticket (no is_claimed refl refl) (no is_filed refl refl));
+          (booked_claim pool.limit pool.accepted pool.spots w t (subst (λ o. Booked pool.limit pool.accepted pool.spots o) a.going s.booked) a.ticket (no spot_is_claimed refl refl) (no spot_is_filed refl refl));
       replayed = replayed_more pool (Claim w t) s h;
     }
 sound_happens pool (File w t c) s h =

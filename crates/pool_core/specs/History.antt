@@ -39,16 +39,16 @@ first_stop (Stop cause ∷ history) = Some cause
 first_stop (entry ∷ history) = first_stop history
 
 -- the entry may come after this history: a claim of an issued ticket that wasn't claimed, before any stop; a filing of a ticket that was claimed and not filed; any stop
-abbrev pub may_follow : List Entry → Entry → Bool
-may_follow history (Claim ticket) =
+abbrev pub may_come_next : List Entry → Entry → Bool
+may_come_next history (Claim ticket) =
     nat_lt ticket (issued_in history) && not (is_claimed_in history ticket) && is_none (first_stop history)
-may_follow history (File ticket children) = is_claimed_in history ticket && not (is_filed_in history ticket)
-may_follow history (Stop cause) = true
+may_come_next history (File ticket children) = is_claimed_in history ticket && not (is_filed_in history ticket)
+may_come_next history (Stop cause) = true
 
 -- each of these entries may come after the history and those before it
 abbrev pub all_may_follow : List Entry → List Entry → Bool
 all_may_follow history [] = true
-all_may_follow history (entry ∷ entries) = may_follow history entry && all_may_follow (history ++ entry ∷ []) entries
+all_may_follow history (entry ∷ entries) = may_come_next history entry && all_may_follow (history ++ entry ∷ []) entries
 
 -- each entry may come after those before it, and the issued tickets are at most the limit
 abbrev pub is_legal : ℕ → List Entry → Bool

@@ -7,7 +7,7 @@ use Rattle.pool_core.specs.Deques.{Deque}
 use Rattle.pool_core.specs.Pools.{Pool}
 
 -- the fields are those of the pool, and the queues are what its deques hold
-pub record IsKept (pool : Pool) (workers limit : ℕ) (events : List Event) (spots : List Spot) (queues : List (List ℕ)) (stop : Option StopCause) : Type 0 where
+pub record IsPoolAfter (pool : Pool) (workers limit : ℕ) (events : List Event) (spots : List Spot) (queues : List (List ℕ)) (stop : Option StopCause) : Type 0 where
   pub workers_are : pool.workers ≡ workers
   pub limit_is : pool.limit ≡ limit
   pub events_are : pool.accepted ≡ events

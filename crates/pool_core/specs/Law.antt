@@ -38,8 +38,8 @@ abbrev pub TakesInOrder : Pool → Type 0
 TakesInOrder pool = (deque : ℕ) → IsPrefixOf (taken_from (deque_of pool deque)) (deque_of pool deque).pushed
 
 -- what was pushed on a deque is balanced by what it holds and what each worker took from it
-abbrev pub KeepsBalance : Pool → Type 0
-KeepsBalance pool =
+abbrev pub HasBalancedDeques : Pool → Type 0
+HasBalancedDeques pool =
     (deque : ℕ) → Balanced (deque_of pool deque).pushed (taken_by_each (deque_of pool deque) pool.workers) (deque_of pool deque).held
 
 -- the event claims the ticket
@@ -70,21 +70,21 @@ abbrev pub HasLegalShadow : Pool → Type 0
 HasLegalShadow pool = is_legal pool.limit (shadow pool.accepted) ≡ true
 
 -- a spot of a ticket that was claimed, and perhaps filed
-abbrev pub is_claimed : Option Spot → Bool
-is_claimed (Some (Claimed worker)) = true
-is_claimed (Some Filed) = true
-is_claimed spot = false
+abbrev pub spot_is_claimed : Option Spot → Bool
+spot_is_claimed (Some (Claimed worker)) = true
+spot_is_claimed (Some Filed) = true
+spot_is_claimed spot = false
 
 -- a spot of a ticket that was filed
-abbrev pub is_filed : Option Spot → Bool
-is_filed (Some Filed) = true
-is_filed spot = false
+abbrev pub spot_is_filed : Option Spot → Bool
+spot_is_filed (Some Filed) = true
+spot_is_filed spot = false
 
 -- that history replays to the same issued, claimed and filed tickets, and to the cause of the first stop
 pub record ReplaysToItself (pool : Pool) : Type 0 where
   pub issued : issued_in (shadow pool.accepted) ≡ issued pool
-  pub claimed : (ticket : ℕ) → is_claimed_in (shadow pool.accepted) ticket ≡ is_claimed (spot_of pool ticket)
-  pub filed : (ticket : ℕ) → is_filed_in (shadow pool.accepted) ticket ≡ is_filed (spot_of pool ticket)
+  pub claimed : (ticket : ℕ) → is_claimed_in (shadow pool.accepted) ticket ≡ spot_is_claimed (spot_of pool ticket)
+  pub filed : (ticket : ℕ) → is_filed_in (shadow pool.accepted) ticket ≡ spot_is_filed (spot_of pool ticket)
   pub stopped : first_stop (shadow pool.accepted) ≡ pool.stop
 
 -- the pool is the one after its accepted events alone

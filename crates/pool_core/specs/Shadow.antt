@@ -7,14 +7,14 @@ use Rattle.pool_core.specs.declared.entry.Entry.{Entry}
 use Rattle.pool_core.specs.declared.entry.Entry.TheVariants.{Claim as ClaimEntry, File as FileEntry, Stop as StopEntry}
 
 -- claims, filings and stops are entries, without their workers
-abbrev pub entry_of : Event → Option Entry
-entry_of (Push worker ticket) = None
-entry_of (Pop worker) = None
-entry_of (Steal worker from) = None
-entry_of (Claim worker ticket) = Some (ClaimEntry ticket)
-entry_of (File worker ticket children) = Some (FileEntry ticket children)
-entry_of (Stop cause) = Some (StopEntry cause)
+abbrev pub history_entry : Event → Option Entry
+history_entry (Push worker ticket) = None
+history_entry (Pop worker) = None
+history_entry (Steal worker from) = None
+history_entry (Claim worker ticket) = Some (ClaimEntry ticket)
+history_entry (File worker ticket children) = Some (FileEntry ticket children)
+history_entry (Stop cause) = Some (StopEntry cause)
 
 -- the entries of these events, in order
 abbrev pub shadow : List Event → List Entry
-shadow events = filter_map entry_of events
+shadow events = filter_map history_entry events

@@ -1,7 +1,7 @@
 //! What workers do.
 
 ghost use Rattle.std.specs.Prelude.{◌≡◌};
-ghost use Rattle.pool_core.specs.Shadow.{entry_of};
+ghost use Rattle.pool_core.specs.Shadow.{history_entry};
 
 use crate::entry::Entry;
 
@@ -51,7 +51,7 @@ pub enum Event {
 impl Event {
     /// The entry that the event makes in the history of the verdict book, or `None` where it makes none.
     pub fn entry(self) -> Option<Entry>
-        ensures { result ≡ entry_of self }
+        ensures { result ≡ history_entry self }
     {
         match self {
             Event::Claim { ticket, .. } => Some(Entry::Claim { ticket }),

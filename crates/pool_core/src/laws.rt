@@ -1,6 +1,6 @@
 //! The law of the pool, over every list of events.
 
-ghost use Rattle.pool_core.specs.Law.{AfterEveryRun, EachHasOneSpot, WaitsWhereItStands, StandsOnceAtMost, TakesInOrder, KeepsBalance, ClaimsOnce, FilesOnce, FilesAfterClaim, HasLegalShadow, ReplaysToItself, IsRunOfAccepted};
+ghost use Rattle.pool_core.specs.Law.{AfterEveryRun, EachHasOneSpot, WaitsWhereItStands, StandsOnceAtMost, TakesInOrder, HasBalancedDeques, ClaimsOnce, FilesOnce, FilesAfterClaim, HasLegalShadow, ReplaysToItself, IsRunOfAccepted};
 
 /// The pool law: what holds after every list of events, of which refused ones change nothing, for
 /// every number of workers and every limit.
@@ -14,7 +14,7 @@ pub fn pool_law()
 
     // What was taken from a deque is the beginning of what was pushed on it; with what is held it balances that.
     ensures in_order { AfterEveryRun TakesInOrder }
-    ensures balance { AfterEveryRun KeepsBalance }
+    ensures balance { AfterEveryRun HasBalancedDeques }
 
     // Each ticket is claimed at most once, and filed at most once, after its claim.
     ensures claims { AfterEveryRun ClaimsOnce }

@@ -4,7 +4,7 @@ ghost use Rattle.std.specs.Prelude.{◌≡◌, ◌≤◌, ◌↔◌, IsNone, OnO
 ghost use Rattle.pool_core.specs.Pools.{new_pool, issued, spot_of};
 ghost use Rattle.pool_core.specs.Refusals.{refusal, RefusesOr};
 ghost use Rattle.pool_core.specs.Steps.{happens};
-ghost use Rattle.pool_core.specs.Law.{EachHasOneSpot, WaitsWhereItStands, StandsOnceAtMost, TakesInOrder, KeepsBalance, ClaimsOnce, FilesOnce, FilesAfterClaim, HasLegalShadow, ReplaysToItself, IsRunOfAccepted};
+ghost use Rattle.pool_core.specs.Law.{EachHasOneSpot, WaitsWhereItStands, StandsOnceAtMost, TakesInOrder, HasBalancedDeques, ClaimsOnce, FilesOnce, FilesAfterClaim, HasLegalShadow, ReplaysToItself, IsRunOfAccepted};
 
 use crate::event::{Event, StopCause};
 use crate::fault::StepFault;
@@ -38,11 +38,11 @@ impl Model for Core {
     ghost Value = { Pool };
 
     ghost use Rattle.pool_core.specs.Steps.{run};
-    ghost use Rattle.pool_core.specs.Kept.{IsKept};
+    ghost use Rattle.pool_core.specs.Kept.{IsPoolAfter};
 
     ghost view = { λ core. run core.workers core.limit core.events.items };
 
-    ghost invariant = { λ core. IsKept (run core.workers core.limit core.events.items) core.workers core.limit core.events.items core.spots.items core.queues.items core.stop };
+    ghost invariant = { λ core. IsPoolAfter (run core.workers core.limit core.events.items) core.workers core.limit core.events.items core.spots.items core.queues.items core.stop };
 }
 
 impl Core {
@@ -58,7 +58,7 @@ impl Core {
         ensures waits { IfOk result WaitsWhereItStands }
         ensures no_twice { IfOk result StandsOnceAtMost }
         ensures in_order { IfOk result TakesInOrder }
-        ensures balance { IfOk result KeepsBalance }
+        ensures balance { IfOk result HasBalancedDeques }
         ensures claims { IfOk result ClaimsOnce }
         ensures filings { IfOk result FilesOnce }
         ensures after_claim { IfOk result FilesAfterClaim }
@@ -91,7 +91,7 @@ impl Core {
         ensures waits { WaitsWhereItStands self.new }
         ensures no_twice { StandsOnceAtMost self.new }
         ensures in_order { TakesInOrder self.new }
-        ensures balance { KeepsBalance self.new }
+        ensures balance { HasBalancedDeques self.new }
         ensures claims { ClaimsOnce self.new }
         ensures filings { FilesOnce self.new }
         ensures after_claim { FilesAfterClaim self.new }

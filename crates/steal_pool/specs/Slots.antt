@@ -28,8 +28,8 @@ IsFresh slot =
 
 -- the slot has its part of the accounts, as many judging calls as claims, and no more filings than claims; its claims are
 -- met, unless its worker ended by a stop, whose cause is right
-abbrev pub IsSettled : {A B C I : Type 0} → I → (I → List I) → ℕ → Slot A B C → Type 0
-IsSettled first children limit slot =
+abbrev pub IsSettledSlot : {A B C I : Type 0} → I → (I → List I) → ℕ → Slot A B C → Type 0
+IsSettledSlot first children limit slot =
     (slot.given.parts ≡ 1) × (slot.filed.parts ≡ 1) × (slot.share ≡ slot.given.amount)
     × (slot.filed.amount + slot.foreign ≤ slot.given.amount)
     × ClaimsMet slot.given.amount slot.filed.amount slot.foreign (stop_of slot.ended)

@@ -14,24 +14,24 @@ abbrev pub child_count : ℕ → ℕ → ℕ → ℕ
 child_count fan size i = min fan (size - (i * fan + 1))
 
 -- the children of an item
-abbrev pub children : ℕ → ℕ → ℕ → List ℕ
-children fan size i = range_with_len (i * fan + 1) (child_count fan size i)
+abbrev pub fan_children : ℕ → ℕ → ℕ → List ℕ
+fan_children fan size i = range_with_len (i * fan + 1) (child_count fan size i)
 
 -- a child says its parent and its place there
-child_is : (fan size i place item : ℕ) → slice_get (children fan size i) place ≡ Some item
+child_is : (fan size i place item : ℕ) → slice_get (fan_children fan size i) place ≡ Some item
     → (item ≡ (i * fan + place) + 1) × (place < fan)
 child_is fan size i place item at =
     let n = child_count fan size i in
-    let within = slice_get_within (children fan size i) place item at in
+    let within = slice_get_within (fan_children fan size i) place item at in
     let low : place < n = omega (arith, within, length-range_with_len (i * fan + 1) n) in
-    let is = sym (get_or_from_slice_get (children fan size i) place item 0 at) ∙ get_or-range_with_len (i * fan + 1) n place 0 low in
+    let is = sym (get_or_from_slice_get (fan_children fan size i) place item 0 at) ∙ get_or-range_with_len (i * fan + 1) n place 0 low in
     (shift (i * fan) place item is, omega (arith, low, min-le_left fan (size - (i * fan + 1))))
   where
     shift : (a place item : ℕ) → item ≡ (a + 1) + place → item ≡ (a + place) + 1
     shift a place item is = omega (arith, is)
 
 -- no item is a child twice, and 0 is a child of none
-pub tree_apart : (fan size : ℕ) → ParentsApart 0 (children fan size)
+pub tree_apart : (fan size : ℕ) → ParentsApart 0 (fan_children fan size)
 tree_apart fan size =
     record {
       one = λ parent other place place' item a b at at'.

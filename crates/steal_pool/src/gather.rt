@@ -4,7 +4,7 @@ ghost use Rattle.std.specs.Prelude.{◌≡◌, ◌+◌, ◌<◌, ◌^◌, All, v
 ghost use Rattle.pool_core.specs.History.{first_stop};
 ghost use Rattle.verdict_book.specs.Books.{claims_in, filings_in};
 ghost use Rattle.steal_pool.specs.Ends.{first_cause, stop_of};
-ghost use Rattle.steal_pool.specs.Slots.{IsSettled};
+ghost use Rattle.steal_pool.specs.Slots.{IsSettledSlot};
 ghost use Rattle.steal_pool.specs.Runs.{IsTally, IsGathered};
 
 use crate::locked::{Capped, LockedBook};
@@ -36,7 +36,7 @@ pub fn gather<W: Work, A: Capped, B: Ledger, C: Ledger>(
     mut filed: Share<C>,
 ) -> Gathered<W>
     requires limit { A.limit < 2 ^ 32 }
-    requires settled { All (IsSettled W.first_item W.children_of A.limit) slots.items }
+    requires settled { All (IsSettledSlot W.first_item W.children_of A.limit) slots.items }
     requires parts { (given.parts + vec_len slots ≡ B.parts) × (filed.parts + vec_len slots ≡ C.parts) }
     requires amounts { (given.amount ≡ 0) × (filed.amount ≡ 0) }
     ensures { IsGathered W.first_item W.children_of A.limit result }
@@ -62,7 +62,7 @@ fn add_slot<W: Work, A: Capped, B: Ledger, C: Ledger>(
     given: &mut Share<B>,
     filed: &mut Share<C>,
 )
-    requires settled { IsSettled W.first_item W.children_of A.limit slot }
+    requires settled { IsSettledSlot W.first_item W.children_of A.limit slot }
     requires tally { IsTally W.first_item W.children_of A.limit given.old.amount filed.old.amount tally.old }
     ensures parts { (given.new.parts ≡ given.old.parts + 1) × (filed.new.parts ≡ filed.old.parts + 1) }
     ensures tally { IsTally W.first_item W.children_of A.limit given.new.amount filed.new.amount tally.new }

@@ -1,7 +1,7 @@
 //! The slots of the workers, and their run.
 
 ghost use Rattle.std.specs.Prelude.{◌≡◌, ◌+◌, ◌≤◌, ◌<◌, All, IfOk, OnOk, length, vec_len};
-ghost use Rattle.steal_pool.specs.Slots.{IsFresh, IsSettled};
+ghost use Rattle.steal_pool.specs.Slots.{IsFresh, IsSettledSlot};
 
 use crate::laws::worker;
 use crate::locked::{Capped, LockedBook};
@@ -124,7 +124,7 @@ pub fn run_slots<
     requires some { 1 ≤ length slots.old }
     requires fresh { All IsFresh slots.old }
     ensures len { length slots.new ≡ length slots.old }
-    ensures settled { All (IsSettled W.first_item W.children_of A.limit) slots.new }
+    ensures settled { All (IsSettledSlot W.first_item W.children_of A.limit) slots.new }
 {
     if push_first(&mut slots[0]) {
         run_each(rt, alloc, slots, book, work, gate)
@@ -158,11 +158,11 @@ fn run_each<
     requires some { 1 ≤ length slots.old }
     requires fresh { All IsFresh slots.old }
     ensures len { length slots.new ≡ length slots.old }
-    ensures settled { All (IsSettled W.first_item W.children_of A.limit) slots.new }
+    ensures settled { All (IsSettledSlot W.first_item W.children_of A.limit) slots.new }
 {
     let each = |_place: usize, slot: &mut Slot<A, B, C>|
         requires { IsFresh slot.now }
-        ensures { IsSettled W.first_item W.children_of A.limit slot.exit.now }
+        ensures { IsSettledSlot W.first_item W.children_of A.limit slot.exit.now }
     { run_slot(rt, alloc, slot, book, work, gate) };
     let threads = slots.len();
     thread::for_each_mut(rt, slots, threads, &each);
@@ -178,7 +178,7 @@ fn run_slot<W: Work, A: Capped, B: Ledger, C: Ledger, G: Gate, R: Wait>(
     gate: &G,
 )
     requires fresh { IsFresh slot.old }
-    ensures settled { IsSettled W.first_item W.children_of A.limit slot.new }
+    ensures settled { IsSettledSlot W.first_item W.children_of A.limit slot.new }
 {
     worker(rt, alloc, slot, book, work, gate)
 }

@@ -3,7 +3,7 @@
 ghost use Rattle.std.specs.Prelude.{◌≡◌, ◌+◌, ◌/◌, ◌<◌, ◌^◌, IfOk};
 ghost use Rattle.std.specs.List.{range_with_len};
 ghost use Rattle.std.proofs.lemmas.Map.Lookups.{exact_unsigned};
-ghost use Rattle.steal_pool.specs.Trees.{children, tree_apart};
+ghost use Rattle.steal_pool.specs.Trees.{fan_children, tree_apart};
 
 use crate::{OwnRow, PoolCount, PoolFault, Taken, run_tree, run_tree_counted};
 use dns_data::{List, NoMemory};
@@ -30,7 +30,7 @@ impl<const FAN: u32, const SIZE: u32> Work for Tree<FAN, SIZE> {
 
     ghost first_item = { 0 };
 
-    ghost children_of = { children FAN SIZE };
+    ghost children_of = { fan_children FAN SIZE };
 
     ghost verdict_of = { λ item. item / 2 };
 

@@ -6,8 +6,8 @@ use Rattle.std.proofs.lemmas.List.{append-nil}
 use Rattle.std.proofs.lemmas.Bool.{eqb-true, eq-eqb, and_parts, ltb-true, not-true}
 use Rattle.pool_core.specs.declared.entry.Entry.{Entry}
 use Rattle.pool_core.specs.declared.entry.Entry.TheVariants.{Claim, File, Stop}
-use Rattle.pool_core.specs.History.{children_of, claims, files, issued_in, is_claimed_in, is_filed_in, first_stop, may_follow, all_may_follow, is_legal}
-use Rattle.verdict_book.specs.Items.{IsChildAt, IsChain, Reached, ParentsApart, item_step, items_from, items_of, CountsRight, AllCountRight, AreReached, FilesAllReached}
+use Rattle.pool_core.specs.History.{children_of, claims, files, issued_in, is_claimed_in, is_filed_in, first_stop, may_come_next, all_may_follow, is_legal}
+use Rattle.verdict_book.specs.Items.{IsChildAt, IsChain, Reached, ParentsApart, item_step, items_from, items_of, CountsRight, AllCountRight, AreReachedItems, FilesAllReached}
 use Rattle.verdict_book.proofs.Places.{get_left, get_right, get_cases, some_same, one_value}
 use Rattle.pool_core.proofs.Histories.{issued_push, filed_push, claimed_cases, filed_cases}
 
@@ -113,7 +113,7 @@ module _ {I : Type 0} (first : I) (children : I → List I) where
               (filed_cases h e u f);
         }
 
-    pub step : (h : List Entry) (e : Entry) (items : List I) → Known h items → may_follow h e ≡ true → CountsRight first children items e → Known (h ++ e ∷ []) (item_step first children items e)
+    pub step : (h : List Entry) (e : Entry) (items : List I) → Known h items → may_come_next h e ≡ true → CountsRight first children items e → Known (h ++ e ∷ []) (item_step first children items e)
     step h (Claim t) items k may count =
         let parts = and_parts (nat_lt t (issued_in h) && not (is_claimed_in h t)) (is_none (first_stop h)) may in
         let open_ticket = and_parts (nat_lt t (issued_in h)) (not (is_claimed_in h t)) parts.0 in
@@ -157,7 +157,7 @@ module _ {I : Type 0} (first : I) (children : I → List I) where
         let there = known.closed k from chain.0.0 next (all k (omega (arith, low, known.len))) at chain.0.1 in
         all_there h items known all next there.0 there.1 path item chain.1
 
-    pub are_reached : (limit : ℕ) (h : List Entry) → is_legal limit h ≡ true → AllCountRight first children (first ∷ []) h → ((t : ℕ) → t < issued_in h → is_filed_in h t ≡ true) → AreReached first children (items_of first children h)
+    pub are_reached : (limit : ℕ) (h : List Entry) → is_legal limit h ≡ true → AllCountRight first children (first ∷ []) h → ((t : ℕ) → t < issued_in h → is_filed_in h t ≡ true) → AreReachedItems first children (items_of first children h)
     are_reached limit h legal counts all =
         let known = walk [] h (first ∷ []) begins (and_parts _ _ legal).0 counts in
         record {

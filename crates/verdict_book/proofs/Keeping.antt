@@ -15,12 +15,12 @@ use Rattle.pool_core.specs.declared.entry.Entry.{Entry}
 use Rattle.pool_core.specs.declared.entry.Entry.TheVariants.{Claim, File, Stop}
 use Rattle.pool_core.specs.declared.event.StopCause.{StopCause}
 use Rattle.pool_core.specs.declared.event.StopCause.TheVariants.{Full}
-use Rattle.pool_core.specs.History.{issued_in, is_claimed_in, is_filed_in, first_stop, may_follow, all_may_follow}
+use Rattle.pool_core.specs.History.{issued_in, is_claimed_in, is_filed_in, first_stop, may_come_next, all_may_follow}
 use Rattle.pool_core.proofs.Lists.{slice_get-set_same, slice_get-set_other, count_by_push, count_by-append, count_by-cons, or-false}
 use Rattle.pool_core.proofs.Histories.{issued_push, claimed_push, filed_push, all_follow_push, first_stop_push}
-use Rattle.verdict_book.specs.Items.{Reached, ParentsApart, AreReached, ReachesExactly, ReachesMore, item_step, items_from, items_of, item_of, CountsRight, AllCountRight}
+use Rattle.verdict_book.specs.Items.{Reached, ParentsApart, AreReachedItems, ReachesExactly, ReachesMore, item_step, items_from, items_of, item_of, CountsRight, AllCountRight}
 use Rattle.verdict_book.specs.Books.{EachOnce, CountsTickets, Pages, kept_in, claims_in, unfiled_in, is_claim, is_filing, is_stop}
-use Rattle.verdict_book.specs.Keeping.{StateIs, IsKept, kept_state, kept_row, new_row, rows_filed, is_taken, is_filed}
+use Rattle.verdict_book.specs.Keeping.{StateIs, IsBookAfter, kept_state, kept_row, new_row, rows_filed, is_taken, is_filed}
 use Rattle.verdict_book.specs.declared.row.State.{State}
 use Rattle.verdict_book.specs.declared.row.State.TheVariants.{Issued, Claimed, Filed}
 use Rattle.verdict_book.specs.declared.row.Row.{Row}
@@ -135,7 +135,7 @@ module _ {I V : Type 0} (first : I) (children : I → List I) (verdict_of : I �
   counts_push items [] e all one = (one, tt)
   counts_push items (x ∷ h) e all one = (all.0, counts_push (item_step first children items x) h e all.1 one)
 
-  module _ (apart : ParentsApart first children) (limit : ℕ) (h : List Entry) (rows : List (Row I V)) (stopped : Option StopCause) (filed places : ℕ) (kept : IsKept first children verdict_of (pages_of limit h) rows stopped filed places) where
+  module _ (apart : ParentsApart first children) (limit : ℕ) (h : List Entry) (rows : List (Row I V)) (stopped : Option StopCause) (filed places : ℕ) (kept : IsBookAfter first children verdict_of (pages_of limit h) rows stopped filed places) where
     parts : (all_may_follow [] h ≡ true) × (nat_le (issued_in h) limit ≡ true)
     parts = and_parts (all_may_follow [] h) (nat_le (issued_in h) limit) kept.right.legal
 
@@ -175,9 +175,9 @@ module _ {I V : Type 0} (first : I) (children : I → List I) (verdict_of : I �
     claims_few = let le = count_by-le-length (λ (r : Row I V). is_taken r.state) rows in omega (arith, le, kept.claimed_rows, within)
 
     -- more room keeps the book
-    pub room_keeps : (h' : List Entry) (places' : ℕ) → h' ≡ h → places ≤ places' → IsKept first children verdict_of (pages_of limit h') rows stopped filed places'
+    pub room_keeps : (h' : List Entry) (places' : ℕ) → h' ≡ h → places ≤ places' → IsBookAfter first children verdict_of (pages_of limit h') rows stopped filed places'
     room_keeps h' places' same more =
-        subst (λ l. IsKept first children verdict_of (pages_of limit l) rows stopped filed places') (sym same)
+        subst (λ l. IsBookAfter first children verdict_of (pages_of limit l) rows stopped filed places') (sym same)
         (record {
           right = kept.right;
           items = kept.items;
@@ -191,7 +191,7 @@ module _ {I V : Type 0} (first : I) (children : I → List I) (verdict_of : I �
 
     -- a claim of an issued ticket keeps the book
     pub claim_keeps : (t : ℕ) (r : Row I V) (places' : ℕ) → stopped ≡ None → slice_get rows t ≡ Some r → kept_state r.state ≡ KeptIssued → length h + 2 ≤ places'
-        → IsKept first children verdict_of (pages_of limit (h ++ Claim t ∷ [])) (set rows t (row_in r.item Claimed)) stopped filed places'
+        → IsBookAfter first children verdict_of (pages_of limit (h ++ Claim t ∷ [])) (set rows t (row_in r.item Claimed)) stopped filed places'
     claim_keeps t r places' unstopped at issued room =
         let e = Claim t in
         let r' : Row I V = row_in r.item Claimed in
@@ -199,7 +199,7 @@ module _ {I V : Type 0} (first : I) (children : I → List I) (verdict_of : I �
         let state_is = issued_state r.state issued in
         let flags : (is_claimed_in h t ≡ false) × (is_filed_in h t ≡ false) = subst (λ s. StateIs verdict_of r.item s (is_claimed_in h t) (is_filed_in h t)) state_is (kept.states t r at) in
         let lower : t < issued_in h = omega (arith, here, rows_are) in
-        let may : may_follow h e ≡ true = rw (lt-ltb t (issued_in h) lower, flags.0, kept.stop_is, unstopped) refl in
+        let may : may_come_next h e ≡ true = rw (lt-ltb t (issued_in h) lower, flags.0, kept.stop_is, unstopped) refl in
         let same : issued_in (h ++ e ∷ []) ≡ issued_in h = omega (arith, issued_push h e) in
         let stop' : first_stop (h ++ e ∷ []) ≡ stopped = first_stop_push h e ∙ rw (kept.stop_is, unstopped) refl in
         let taken = count_set (λ (r : Row I V). is_taken r.state) rows t r r' at in
@@ -235,7 +235,7 @@ module _ {I V : Type 0} (first : I) (children : I → List I) (verdict_of : I �
 
     -- a filing of a claimed ticket with the verdict and the children of its item keeps the book
     pub file_keeps : (t : ℕ) (r : Row I V) (places' : ℕ) → slice_get rows t ≡ Some r → kept_state r.state ≡ KeptClaimed → issued_in h + length (children r.item) ≤ limit → length h + 2 ≤ places'
-        → IsKept first children verdict_of (pages_of limit (h ++ File t (length (children r.item)) ∷ [])) (set rows t (row_in r.item (Filed (verdict_of r.item))) ++ map new_row (children r.item)) stopped (filed + 1) places'
+        → IsBookAfter first children verdict_of (pages_of limit (h ++ File t (length (children r.item)) ∷ [])) (set rows t (row_in r.item (Filed (verdict_of r.item))) ++ map new_row (children r.item)) stopped (filed + 1) places'
     file_keeps t r places' at claimed few room =
         let cs = children r.item in
         let e = File t (length cs) in
@@ -245,7 +245,7 @@ module _ {I V : Type 0} (first : I) (children : I → List I) (verdict_of : I �
         let here = slice_get_within rows t r at in
         let state_is = claimed_state r.state claimed in
         let flags : (is_claimed_in h t ≡ true) × (is_filed_in h t ≡ false) = subst (λ s. StateIs verdict_of r.item s (is_claimed_in h t) (is_filed_in h t)) state_is (kept.states t r at) in
-        let may : may_follow h e ≡ true = rw (flags.0, flags.1) refl in
+        let may : may_come_next h e ≡ true = rw (flags.0, flags.1) refl in
         let more : issued_in (h ++ e ∷ []) ≡ issued_in h + length cs = issued_push h e in
         let item_is : slice_index_or (items_of first children h) t first ≡ r.item = get_or_from_slice_get (items_of first children h) t r.item first (item_at t r at) in
         let stop' : first_stop (h ++ e ∷ []) ≡ first_stop h = first_stop_push h e ∙ or_none (first_stop h) in
@@ -311,7 +311,7 @@ module _ {I V : Type 0} (first : I) (children : I → List I) (verdict_of : I �
         new_state (c ∷ cs) (suc k) s got = new_state cs k s got
 
     -- a first stop keeps the book
-    pub stop_keeps : (cause : StopCause) → stopped ≡ None → (cause ≡ Full → ReachesMore first children limit) → IsKept first children verdict_of (pages_of limit (h ++ Stop cause ∷ [])) rows (Some cause) filed places
+    pub stop_keeps : (cause : StopCause) → stopped ≡ None → (cause ≡ Full → ReachesMore first children limit) → IsBookAfter first children verdict_of (pages_of limit (h ++ Stop cause ∷ [])) rows (Some cause) filed places
     stop_keeps cause unstopped full =
         let e = Stop cause in
         let same : issued_in (h ++ e ∷ []) ≡ issued_in h = omega (arith, issued_push h e) in
@@ -378,7 +378,7 @@ module _ {I V : Type 0} (first : I) (children : I → List I) (verdict_of : I �
         (slice_get_cases rows t).1
 
     -- where nothing is unfiled, the items are the reached ones, each once
-    pub items_reached : unfiled_in h ≡ 0 → AreReached first children (items_of first children h)
+    pub items_reached : unfiled_in h ≡ 0 → AreReachedItems first children (items_of first children h)
     items_reached none =
         are_reached first children apart limit h kept.right.legal kept.right.counts (λ t low.
         let here = there_is t (omega (arith, low, rows_are)) in
@@ -402,7 +402,7 @@ module _ {I V : Type 0} (first : I) (children : I → List I) (verdict_of : I �
         → keeps_claim cmp first children h claim ≡ true → issued_in h + length kids ≤ limit → verdict ≡ verdict_of claim.item → kids ≡ children claim.item
         → before ≡ rows → IfSome (slice_get before claim.ticket) (λ row. after ≡ rows_filed before claim.ticket verdict kids row)
         → h' ≡ h ++ File claim.ticket (length kids) ∷ [] → length h + 2 ≤ places'
-        → IsKept first children verdict_of (pages_of limit h') after stopped (filed + 1) places'
+        → IsBookAfter first children verdict_of (pages_of limit h') after stopped (filed + 1) places'
     filing_keeps cmp same claim verdict kids before after h' places' keeps few verdict_is kids_are before_is after_is h'_is room =
         let there = claim_there cmp same claim keeps in
         let r = there.0 in
@@ -417,8 +417,8 @@ module _ {I V : Type 0} (first : I) (children : I → List I) (verdict_of : I �
         ∙ ap (λ l. rows_filed rows t (verdict_of r.item) l r) kids' in
         let h'' : h' ≡ h ++ File t (length (children r.item)) ∷ [] = h'_is ∙ ap (λ l. h ++ File t (length l) ∷ []) kids' in
         let base = file_keeps t r places' there.1 there.2 (subst (λ l. issued_in h + length l ≤ limit) kids' few) room in
-        subst (λ l. IsKept first children verdict_of (pages_of limit l) after stopped (filed + 1) places') (sym h'')
-        (subst (λ l. IsKept first children verdict_of (pages_of limit (h ++ File t (length (children r.item)) ∷ [])) l stopped (filed + 1) places') (sym rows'') base)
+        subst (λ l. IsBookAfter first children verdict_of (pages_of limit l) after stopped (filed + 1) places') (sym h'')
+        (subst (λ l. IsBookAfter first children verdict_of (pages_of limit (h ++ File t (length (children r.item)) ∷ [])) l stopped (filed + 1) places') (sym rows'') base)
 
     -- where a filing of a claim that is kept would issue more tickets than a limit, more items are reached than it
     pub overfull : (cmp : I → I → Ordering) (same : (x y : I) → cmp x y ≡ Equal → x ≡ y) (claim : ClaimedTicket I) (kids : List I) (most : ℕ)
@@ -432,7 +432,7 @@ module _ {I V : Type 0} (first : I) (children : I → List I) (verdict_of : I �
         let count : length kids ≡ length (children (slice_index_or items t first)) = ap (λ l. length l) (kids_are ∙ ap children (sym there.3 ∙ sym item_is)) in
         let state_is = claimed_state r.state there.2 in
         let flags : (is_claimed_in h t ≡ true) × (is_filed_in h t ≡ false) = subst (λ s. StateIs verdict_of r.item s (is_claimed_in h t) (is_filed_in h t)) state_is (kept.states t r there.1) in
-        let may : may_follow h (File t (length kids)) ≡ true = rw (flags.0, flags.1) refl in
+        let may : may_come_next h (File t (length kids)) ≡ true = rw (flags.0, flags.1) refl in
         let next = step first children apart h (File t (length kids)) items known may count in
         let issued : issued_in (h ++ File t (length kids) ∷ []) ≡ issued_in h + length kids = issued_push h (File t (length kids)) in
         let all = item_step first children items (File t (length kids)) in

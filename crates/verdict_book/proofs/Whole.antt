@@ -8,7 +8,7 @@ use Rattle.std.proofs.lemmas.Bool.{ne_eqb, cases_eq}
 use Rattle.std.proofs.lemmas.Option.{slice_get_within}
 use Rattle.std.proofs.lemmas.List.Sorted.{IsPermutation-map, IsPermutation-sym}
 use Rattle.std.proofs.lemmas.Map.Steps.{length-le_from_distinct_below}
-use Rattle.verdict_book.specs.Items.{NoneTwice, AreReached, ReachesMore}
+use Rattle.verdict_book.specs.Items.{NoneTwice, AreReachedItems, ReachesMore}
 use Rattle.verdict_book.specs.Lists.{Judges, JudgesState, IsWholeTree}
 use Rattle.verdict_book.specs.declared.filed.Filed.{Filed}
 use Rattle.verdict_book.specs.declared.row.Row.{Row}
@@ -36,18 +36,18 @@ module _ {X : Type 0} (P : X → Type 0) where
 
 module _ {W I V : Type 0} (cmp : I → I → Ordering) (first : I) (children : I → List I) (verdict_of : I → V) where
   -- rows whose items are the reached ones, sorted and listed, give the whole tree
-  pub whole_tree : (rows rows' : List (Row I V)) (list : List (Filed W I V)) → AreReached first children (map (λ (r : Row I V). r.item) rows) → IsPermutation rows rows' → IsSortedByKey (λ (r : Row I V). r.item) cmp rows'
+  pub whole_tree : (rows rows' : List (Row I V)) (list : List (Filed W I V)) → AreReachedItems first children (map (λ (r : Row I V). r.item) rows) → IsPermutation rows rows' → IsSortedByKey (λ (r : Row I V). r.item) cmp rows'
       → map (λ (f : Filed W I V). f.item) list ≡ map (λ (r : Row I V). r.item) rows' → All (Judges verdict_of) list → IsWholeTree cmp first children verdict_of list
   whole_tree rows rows' list are perm sorted items verdicts =
       let item = λ (r : Row I V). r.item in
       let moved = IsPermutation-map item rows rows' perm in
       let back = IsPermutation-sym (map item rows) (map item rows') moved in
-      let are' : AreReached first children (map item rows') = record {
+      let are' : AreReachedItems first children (map item rows') = record {
         each = λ i. ((λ r. items_permuted (map item rows) (map item rows') moved i ((are.each i).0 r)), λ p. (are.each i).1 (items_permuted (map item rows') (map item rows) back i p));
         once = none_twice_permuted (map item rows) (map item rows') moved are.once;
       } in
       record {
-        reached = subst (AreReached first children) (sym items) are';
+        reached = subst (AreReachedItems first children) (sym items) are';
         sorted = sorted_alike cmp item (λ (f : Filed W I V). f.item) rows' list (sym items) sorted;
         verdicts = verdicts;
       }
@@ -89,7 +89,7 @@ module _ {I : Type 0} (xs : List I) where
   )
 
   -- no more items are reached than a list has that is all of them
-  pub not_more : (first : I) (children : I → List I) (most : ℕ) → AreReached first children xs → length xs ≤ most → ReachesMore first children most → ⊥
+  pub not_more : (first : I) (children : I → List I) (most : ℕ) → AreReachedItems first children xs → length xs ≤ most → ReachesMore first children most → ⊥
   not_more first children most are few more =
       let at : (k : ℕ) (y : I) → slice_get more.items k ≡ Some y → Place y = λ k y h. (are.each y).0 (more.reached k y h) in
       let low = length-le_from_distinct_below (places more.items at) (length xs) (places_distinct more.items at more.once) (places_low more.items at) in

@@ -34,7 +34,7 @@ NoneTwice {I} items =
     → place ≡ place'
 
 -- the items are the reached ones, each once
-pub record AreReached {I : Type 0} (first : I) (children : I → List I) (items : List I) : Type 0 where
+pub record AreReachedItems {I : Type 0} (first : I) (children : I → List I) (items : List I) : Type 0 where
   pub each : (item : I) → Reached first children item ↔ ((place : ℕ) × (slice_get items place ≡ Some item))
   pub once : NoneTwice items
 
@@ -42,7 +42,7 @@ pub record AreReached {I : Type 0} (first : I) (children : I → List I) (items 
 pub record ReachesExactly {I : Type 0} (first : I) (children : I → List I) (count : ℕ) : Type 0 where
   pub items : List I
   pub len : length items ≡ count
-  pub reached : AreReached first children items
+  pub reached : AreReachedItems first children items
 
 -- more items than so many are reached
 pub record ReachesMore {I : Type 0} (first : I) (children : I → List I) (count : ℕ) : Type 0 where
@@ -87,4 +87,4 @@ FilesAllReached first children =
     (limit : ℕ) (history : List Entry) → is_legal limit history ≡ true
     → AllCountRight first children (first ∷ []) history
     → ((ticket : ℕ) → ticket < issued_in history → is_filed_in history ticket ≡ true)
-    → AreReached first children (items_of first children history)
+    → AreReachedItems first children (items_of first children history)

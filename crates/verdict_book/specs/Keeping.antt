@@ -50,7 +50,7 @@ StateIs verdict_of item (Filed verdict) claimed filed = (claimed ≡ true) × (f
 
 -- the rows are the tickets of the history, with their items, states and verdicts; the cause is that of the first stop,
 -- so many are filed, and an unstopped book has room for the entry of its stop
-pub record IsKept {I V : Type 0} (first : I) (children : I → List I) (verdict_of : I → V) (pages : Pages)
+pub record IsBookAfter {I V : Type 0} (first : I) (children : I → List I) (verdict_of : I → V) (pages : Pages)
     (rows : List (Row I V)) (stopped : Option StopCause) (filed places : ℕ) : Type 0 where
   pub right : IsBookOf first children pages
   pub items : map (λ (r : Row I V). r.item) rows ≡ items_of first children pages.history

@@ -2,7 +2,7 @@
 use Rattle.std.specs.Prelude.{◌≡◌, ◌≤◌, ℕ, [], List, All, map}
 use Rattle.std.specs.List.Sorted.{IsSortedByKey}
 use Rattle.std.specs.declared.cmp.Ordering.{Ordering}
-use Rattle.verdict_book.specs.Items.{AreReached, ReachesMore}
+use Rattle.verdict_book.specs.Items.{AreReachedItems, ReachesMore}
 use Rattle.verdict_book.specs.Books.{Pages}
 use Rattle.verdict_book.specs.declared.walk.WalkFault.{WalkFault}
 use Rattle.verdict_book.specs.declared.walk.WalkFault.TheVariants.{TooMany, NoMemory}
@@ -28,7 +28,7 @@ JudgesRow verdict_of row = JudgesState verdict_of row.item row.state
 -- the list has each reached item once, in order, with its verdict
 pub record IsWholeTree {W I V : Type 0} (cmp : I → I → Ordering) (first : I) (children : I → List I)
     (verdict_of : I → V) (list : List (Filed W I V)) : Type 0 where
-  pub reached : AreReached first children (map (λ (f : Filed W I V). f.item) list)
+  pub reached : AreReachedItems first children (map (λ (f : Filed W I V). f.item) list)
   pub sorted : IsSortedByKey (λ (f : Filed W I V). f.item) cmp list
   pub verdicts : All (Judges verdict_of) list
 

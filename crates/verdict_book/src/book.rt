@@ -5,7 +5,7 @@ ghost use Rattle.pool_core.specs.declared.event.StopCause.TheVariants.{Full};
 ghost use Rattle.pool_core.specs.declared.entry.Entry.TheVariants.{Claim as ClaimOf, File as FileOf};
 ghost use Rattle.pool_core.specs.History.{issued_in, first_stop};
 ghost use Rattle.pool_core.specs.Refusals.{RefusesOr};
-ghost use Rattle.verdict_book.specs.Items.{Reached, AreReached, ReachesExactly, ReachesMore, item_of, items_of};
+ghost use Rattle.verdict_book.specs.Items.{Reached, AreReachedItems, ReachesExactly, ReachesMore, item_of, items_of};
 ghost use Rattle.verdict_book.specs.Books.{claims_in, filings_in, unfiled_in, kept_in, IsBookOf, EachOnce, CountsTickets, history_stopped};
 ghost use Rattle.verdict_book.specs.Lists.{IsWholeTree};
 ghost use Rattle.verdict_book.specs.declared.claim.ClaimFault.TheVariants.{Stopped};
@@ -37,13 +37,13 @@ pub struct Book<W: Work> {
 impl<W: Work> Model for Book<W> {
     ghost use Rattle.std.specs.Prelude.{vec_capacity};
     ghost use Rattle.verdict_book.specs.Books.{Pages};
-    ghost use Rattle.verdict_book.specs.Keeping.{IsKept};
+    ghost use Rattle.verdict_book.specs.Keeping.{IsBookAfter};
 
     ghost Value = { Pages };
 
     ghost view = { λ book. record { limit = book.limit; history = book.history.items } };
 
-    ghost invariant = { λ book. IsKept W.first_item W.children_of W.verdict_of (record { limit = book.limit; history = book.history.items }) book.rows.items book.stopped book.filed (vec_capacity book.history) };
+    ghost invariant = { λ book. IsBookAfter W.first_item W.children_of W.verdict_of (record { limit = book.limit; history = book.history.items }) book.rows.items book.stopped book.filed (vec_capacity book.history) };
 }
 
 impl<W: Work> Book<W> {
@@ -285,7 +285,7 @@ impl<W: Work> Book<W> {
         requires { unfiled_in self.history ≡ 0 }
         ensures whole { IfOk result (IsWholeTree W.Item.cmp W.first_item W.children_of W.verdict_of) }
         ensures count { IfOk result (λ list. length list ≡ issued_in self.history) }
-        ensures reached { AreReached W.first_item W.children_of (items_of W.first_item W.children_of self.history) }
+        ensures reached { AreReachedItems W.first_item W.children_of (items_of W.first_item W.children_of self.history) }
         ensures once { EachOnce self.history }
         ensures few { OnOk result (issued_in self.history ≤ self.limit) }
     {

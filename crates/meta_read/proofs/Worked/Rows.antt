@@ -1,45 +1,45 @@
 -- Rows.
 use Rattle.std.specs.Prelude.{◌≡◌, refl, [], ◌∷◌, codes, replicate, true, Some, None, Ok, Err}
 use Rattle.serde_json.specs.Data.{null, boolean, string}
-use Rattle.meta_read.specs.Rows.{row_of, rows_of}
+use Rattle.meta_read.specs.Rows.{read_row, rows_of}
 use Rattle.meta_read.specs.declared.fault.MetaFault.TheVariants.{Shape, BadName, TooManyRows}
 use Rattle.meta_read.proofs.Worked.Words.{a, b, row, row_with, good, with_rows, meta}
 
 -- a row without an origin, with null, and with one
-without_origin : row_of 1 (good (codes "a.t")) ≡ Ok (record { file = codes "z"; server = a; origin = None })
+without_origin : read_row 1 (good (codes "a.t")) ≡ Ok (record { file = codes "z"; server = a; origin = None })
 without_origin = refl
 
-null_origin : row_of 1 (row_with (string (codes "z")) (string (codes "a.t")) null) ≡ Ok (record { file = codes "z"; server = a; origin = None })
+null_origin : read_row 1 (row_with (string (codes "z")) (string (codes "a.t")) null) ≡ Ok (record { file = codes "z"; server = a; origin = None })
 null_origin = refl
 
-an_origin : row_of 1 (row_with (string (codes "z")) (string (codes "a.t")) (string (codes "B.t."))) ≡ Ok (record { file = codes "z"; server = a; origin = Some b })
+an_origin : read_row 1 (row_with (string (codes "z")) (string (codes "a.t")) (string (codes "B.t."))) ≡ Ok (record { file = codes "z"; server = a; origin = Some b })
 an_origin = refl
 
 -- shapes of the second row: no object, no file, an empty file, a server that is no string, an origin that is neither
 no_row : rows_of (with_rows (good (codes "a.t") ∷ null ∷ [])) ≡ Err (Shape 2)
 no_row = refl
 
-no_file : row_of 2 (row null (string (codes "a.t"))) ≡ Err (Shape 2)
+no_file : read_row 2 (row null (string (codes "a.t"))) ≡ Err (Shape 2)
 no_file = refl
 
-an_empty_file : row_of 2 (row (string []) (string (codes "a.t"))) ≡ Err (Shape 2)
+an_empty_file : read_row 2 (row (string []) (string (codes "a.t"))) ≡ Err (Shape 2)
 an_empty_file = refl
 
-no_server : row_of 2 (row (string (codes "z")) null) ≡ Err (Shape 2)
+no_server : read_row 2 (row (string (codes "z")) null) ≡ Err (Shape 2)
 no_server = refl
 
-an_origin_of_another_kind : row_of 2 (row_with (string (codes "z")) (string (codes "a.t")) (boolean true)) ≡ Err (Shape 2)
+an_origin_of_another_kind : read_row 2 (row_with (string (codes "z")) (string (codes "a.t")) (boolean true)) ≡ Err (Shape 2)
 an_origin_of_another_kind = refl
 
 -- names of a row: the server, then the origin
-a_bad_server : row_of 2 (good (codes "a..t")) ≡ Err (BadName 2)
+a_bad_server : read_row 2 (good (codes "a..t")) ≡ Err (BadName 2)
 a_bad_server = refl
 
-an_empty_origin : row_of 2 (row_with (string (codes "z")) (string (codes "a.t")) (string [])) ≡ Err (BadName 2)
+an_empty_origin : read_row 2 (row_with (string (codes "z")) (string (codes "a.t")) (string [])) ≡ Err (BadName 2)
 an_empty_origin = refl
 
 -- the shape of a row comes before its names
-shape_before_name : row_of 2 (row_with (string (codes "z")) (string (codes "a..t")) (boolean true)) ≡ Err (Shape 2)
+shape_before_name : read_row 2 (row_with (string (codes "z")) (string (codes "a..t")) (boolean true)) ≡ Err (Shape 2)
 shape_before_name = refl
 
 -- and a row before the next

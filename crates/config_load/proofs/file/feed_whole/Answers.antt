@@ -2,7 +2,7 @@ use Rattle.std.proofs.Common.{◌≡◌, ◌+◌, List, ℕ, length, subst, sym,
 use Rattle.io_edges.specs.Files.{first_told}
 use Rattle.io_edges.proofs.Loops.{NoneFell-then}
 use Rattle.io_edges.proofs.Told.{StaysTold-then, first_told-long}
-use Rattle.master_read.specs.Reader.{StandsFor}
+use Rattle.master_read.specs.Reader.{IsReaderOf}
 use Rattle.config_load.proofs.Follows.{Follows-whole, Answers-too_long}
 use Rattle.config_load.proofs.file.feed_whole.Goals as goal
 
@@ -18,7 +18,7 @@ returns-then-count-eq0-clause-asked g c =
       octets = octets;
       whole = Follows-whole told name octets (c.in_ok-count.ensures.end c.if-count-eq0.true) (omega (arith, long, c.loop-at-test.true));
       ended = λ origin room includes ended before.
-          let fed : StandsFor c.feed_more.new.reader origin room includes ended octets = subst (λ (n : ℕ). StandsFor c.feed_more.new.reader origin room includes ended (first_told (told name) n)) none (c.in_ok-count.ensures.stands origin room includes ended (c.loop-at.invariant.stands origin room includes ended before)) in
+          let fed : IsReaderOf c.feed_more.new.reader origin room includes ended octets = subst (λ (n : ℕ). IsReaderOf c.feed_more.new.reader origin room includes ended (first_told (told name) n)) none (c.in_ok-count.ensures.stands origin room includes ended (c.loop-at.invariant.stands origin room includes ended before)) in
           (c.in_ok-end_file.ensures.asked origin room includes ended octets fed, c.in_ok-end_file.ensures.stands origin room includes ended octets fed);
     }
 

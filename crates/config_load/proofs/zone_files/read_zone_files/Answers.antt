@@ -2,7 +2,7 @@ use Rattle.std.proofs.Common.{[], List, ℕ, Result, inr, refl, subst, sym, ap, 
 use Rattle.dns_data.specs.Name.{Labels}
 use Rattle.io_edges.proofs.Loops.{NoneFell-then}
 use Rattle.io_edges.proofs.Told.{StaysTold-then}
-use Rattle.master_read.specs.Reader.{StandsFor}
+use Rattle.master_read.specs.Reader.{IsReaderOf}
 use Rattle.master_read.specs.declared.asked.Asked.{Asked}
 use Rattle.config_load.specs.Conf.{zone_files}
 use Rattle.config_load.specs.Fed.{HasFed, FailsToRead}
@@ -22,7 +22,7 @@ files-init g c =
     let left = c.args.left in
     let told = g.F.Files.told c.args.files.now in
     let reader = c.new-reader.result in
-    let stands = subst (λ (origin : Labels). StandsFor reader origin left.records left.includes [] []) c.in_ok-origin.ensures c.new-reader.ensures.stands in
+    let stands = subst (λ (origin : Labels). IsReaderOf reader origin left.records left.includes [] []) c.in_ok-origin.ensures c.new-reader.ensures.stands in
     record {
       opened = subst (λ (names : List (List ℕ)). HasOpened meta row left told names c.in_ok-name.name reader) (sym c.new-names.ensures) (HasOpened-first meta row left told c.in_ok-name.name reader (c.in_ok-name.ensures ∙ ap (joined meta) c.as_str.ensures) stands);
       still_open = c.new-reader.ensures.open;

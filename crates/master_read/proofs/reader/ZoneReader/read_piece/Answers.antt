@@ -1,7 +1,7 @@
 -- More was taken of the file that is open, and read.
 use Rattle.std.proofs.Common.{◌≡◌, ◌++◌, List, rules}
 use Rattle.std.specs.Prelude.{◌≢◌, Err}
-use Rattle.master_lex.specs.Lexer.{StandsFor}
+use Rattle.master_lex.specs.Lexer.{IsLexerOf}
 use Rattle.master_lex.specs.declared.entry.Entry.{Entry}
 use Rattle.master_read.specs.Reader.{IsSettled}
 use Rattle.master_read.specs.declared.fault.TextFault.TheVariants.{NoMemory}
@@ -12,7 +12,7 @@ pub returns-clause-read : goal.returns-clause-read
 returns-clause-read c origin ended text reading =
     let inside = c.self.inside in
     let r = rw (← c.self.view_is) at reading in
-    let all : (more : List Entry) × (c.take_all.new.entries.items ≡ inside.file.entries.items ++ more) × StandsFor c.take_all.new.lexer (text ++ c.args.piece.now) (r.0 ++ more)
+    let all : (more : List Entry) × (c.take_all.new.entries.items ≡ inside.file.entries.items ++ more) × IsLexerOf c.take_all.new.lexer (text ++ c.args.piece.now) (r.0 ++ more)
     = c.in_ok-take_all.ensures.stands (text ++ c.args.piece.now) r.0 (c.in_ok-feed.ensures.stands text r.0 r.1.0) in (
       r.0 ++ all.0,
       (
@@ -28,7 +28,7 @@ returns-in_err-read_ready-clause-fault c origin ended text reading =
     let inside = c.self.inside in
     let fault = c.in_err-read_ready.field-0.0 in
     let r = rw (← c.self.view_is) at reading in
-    let all : (more : List Entry) × (c.take_all.new.entries.items ≡ inside.file.entries.items ++ more) × StandsFor c.take_all.new.lexer (text ++ c.args.piece.now) (r.0 ++ more)
+    let all : (more : List Entry) × (c.take_all.new.entries.items ≡ inside.file.entries.items ++ more) × IsLexerOf c.take_all.new.lexer (text ++ c.args.piece.now) (r.0 ++ more)
     = c.in_ok-take_all.ensures.stands (text ++ c.args.piece.now) r.0 (c.in_ok-feed.ensures.stands text r.0 r.1.0) in
     let here : fault ≢ NoMemory → IsSettled fault c.args.self.now.limits origin ended (text ++ c.args.piece.now)
     = λ named. rw (← c.self.view_is) (settles inside.limits inside.file inside.around.items origin inside.records c.take_all.new.entries.items ended (r.0 ++ all.0) c.take_all.new.lexer

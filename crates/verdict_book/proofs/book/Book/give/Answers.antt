@@ -5,7 +5,7 @@ use Rattle.pool_core.specs.declared.entry.Entry.TheVariants.{Claim as ClaimOf}
 use Rattle.verdict_book.specs.Books.{Pages, claims_in}
 use Rattle.verdict_book.specs.Refusals.{claim_refusal}
 use Rattle.verdict_book.specs.Items.{Reached, items_of, item_of}
-use Rattle.verdict_book.specs.Keeping.{IsKept}
+use Rattle.verdict_book.specs.Keeping.{IsBookAfter}
 use Rattle.verdict_book.specs.declared.row.Row.{Row}
 use Rattle.verdict_book.specs.declared.row.State.TheVariants.{Claimed}
 use Rattle.verdict_book.proofs.Keeping.{open_there, claim_keeps, room_keeps, claims_few, reached_at, item_at, pages_of, row_in}
@@ -62,7 +62,7 @@ invariant_of-self-2 g c =
     let cap' = c.push_reserved.ensures.capacity in
     let room : length h + 2 ≤ vec_capacity c.push_reserved.new.self = omega (arith, len, more, len', cap') in
     let kept = claim_keeps first children verdicts apart _ h rows _ _ _ c.self.invariant t there.0 (vec_capacity c.push_reserved.new.self) there.3 there.1 there.2 room in
-    let K = IsKept first children verdicts in
+    let K = IsBookAfter first children verdicts in
     subst (λ l. K (pages_of c.self.inside.limit l) (set rows t (row_in c.index_mut.result.now.item Claimed)) c.self.inside.stopped c.self.inside.filed (vec_capacity c.push_reserved.new.self)) (sym now)
     (subst (λ (r : Row g.row.W-Item.Denot g.row.W-Verdict.Denot). K (pages_of c.self.inside.limit (h ++ ClaimOf t ∷ [])) (set rows t (row_in r.item Claimed)) c.self.inside.stopped c.self.inside.filed (vec_capacity c.push_reserved.new.self)) (sym row_is) kept)
 

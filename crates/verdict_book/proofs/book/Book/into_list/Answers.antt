@@ -4,7 +4,7 @@ use Rattle.std.proofs.lemmas.List.{length-map}
 use Rattle.std.proofs.lemmas.List.Sorted.{All-permutation, length_permutation}
 use Rattle.pool_core.specs.History.{issued_in}
 use Rattle.verdict_book.specs.Books.{Pages, EachOnce, unfiled_in}
-use Rattle.verdict_book.specs.Items.{AreReached, items_of}
+use Rattle.verdict_book.specs.Items.{AreReachedItems, items_of}
 use Rattle.verdict_book.specs.Lists.{Judges, JudgesRow, IsWholeTree}
 use Rattle.verdict_book.specs.declared.filed.Filed.{Filed}
 use Rattle.verdict_book.specs.declared.row.Row.{Row}
@@ -31,7 +31,7 @@ returns-clause-whole g c =
     let none = ap (λ (p : Pages). unfiled_in p.history) c.self.view_is ∙ c.requires in
     let cmp = g.W.Item.Ord.cmp in
     let rows' = c.sort_rows.new.rows.items in
-    let are = subst (AreReached first children) (sym c.self.invariant.items) (items_reached first children verdicts g.met.W.Work.parents_apart _ _ rows _ _ _ c.self.invariant none) in
+    let are = subst (AreReachedItems first children) (sym c.self.invariant.items) (items_reached first children verdicts g.met.W.Work.parents_apart _ _ rows _ _ _ c.self.invariant none) in
     both_ok c.list_rows.result
     (λ list. map (λ (f : Filed g.row.W.Denot g.row.W-Item.Denot g.row.W-Verdict.Denot). f.item) list ≡ map (λ (r : Row g.row.W-Item.Denot g.row.W-Verdict.Denot). r.item) rows')
     (All (Judges verdicts))
@@ -69,7 +69,7 @@ returns-clause-reached g c =
     let verdicts = g.W.Work.verdict_of in
     let rows = c.self.inside.rows.items in
     let none = ap (λ (p : Pages). unfiled_in p.history) c.self.view_is ∙ c.requires in
-    subst (λ (p : Pages). AreReached first children (items_of first children p.history)) c.self.view_is (items_reached first children verdicts g.met.W.Work.parents_apart _ _ rows _ _ _ c.self.invariant none)
+    subst (λ (p : Pages). AreReachedItems first children (items_of first children p.history)) c.self.view_is (items_reached first children verdicts g.met.W.Work.parents_apart _ _ rows _ _ _ c.self.invariant none)
 
 pub returns-clause-once : goal.returns-clause-once
 returns-clause-once g c =
