@@ -11,7 +11,7 @@ use Rattle.dns_data.specs.declared.rr_type.RrType.{RrType}
 use Rattle.dns_data.specs.declared.rr_type.RrType.TheVariants as types
 use Rattle.net_model.specs.declared.config.Zone.{Zone}
 use Rattle.net_model.specs.declared.found.Found.TheVariants.{NxDomain}
-use Rattle.net_model.specs.Lookup.{zone_cut, dname_owner, closest_encloser, source_of_synthesis, at_name, Deciding, ByRecords, ByNothing, synthesized, decided, deciding, answered, found}
+use Rattle.net_model.specs.Lookup.{zone_cut, dname_owner, closest_encloser, source_of_synthesis, at_name, Deciding, ByRecords, ByNothing, synthesized, shorter_decides, decided, deciding, answered, found}
 use Rattle.net_model.specs.Prefix.{prefixes}
 use Rattle.net_model.specs.Zone.{is_of, owns, exists_in}
 use Rattle.groot_run.proofs.FirstRecords.{IsFirstZone}
@@ -101,8 +101,8 @@ module _ (zone : Zone) (first : IsFirstZone zone) where
   -- so a name's own records decide, or nothing does
   pub deciding_first : (name : Labels) → deciding zone name ≡ (if exists_in zone name then ByRecords name else ByNothing)
   deciding_first name =
-      ap (λ (cut : Option Labels). decided zone name cut (dname_owner zone name)) (no_cut name)
-      ∙ ap (decided zone name None) (no_dname_owner name)
+      ap (λ (cut : Option Labels). decided zone name (shorter_decides zone cut (dname_owner zone name))) (no_cut name)
+      ∙ ap (λ (owner : Option Labels). decided zone name (shorter_decides zone None owner)) (no_dname_owner name)
       ∙ ap (λ (d : Deciding). if exists_in zone name then ByRecords name else d) (no_wildcard (closest_encloser zone name))
 
   -- and they give what is found

@@ -1,8 +1,7 @@
 -- A lookup that goes down a name label by label: which prefixes exist, and what the zone cut, the DNAME owner and the
 -- closest encloser of a name are by those of the name above it.
-use Rattle.std.proofs.Common.{◌≡◌, ℕ, ◌+◌, ◌<◌, ◌≤◌, Bool, true, false, cond, ◌&&◌, ◌||◌, List, [], ◌∷◌, ◌++◌, map, reverse, length, Contains, Option, Some, None, find, sym, refl, ap, ◌∙◌, subst, inl, inr, arith, append-nil, append_assoc, length-append, lt-ltb}
+use Rattle.std.proofs.Common.{◌≡◌, ℕ, Bool, true, false, cond, ◌&&◌, List, [], ◌∷◌, ◌++◌, reverse, length, Contains, Option, Some, None, find, sym, refl, ap, ◌∙◌, inl, inr, arith, append-nil, append_assoc, length-append, lt-ltb}
 use Rattle.std.specs.Prelude.{nat_lt, nat_le}
-use Rattle.std.specs.List.{list_any}
 use Rattle.std.specs.Option.{option_or}
 use Rattle.std.proofs.lemmas.Bool.{and_parts, and_from, or_cases, or_left, or_right, le-ltb}
 use Rattle.std.proofs.lemmas.List.{reverse-append}
@@ -10,12 +9,12 @@ use Rattle.std.proofs.lemmas.List.Folds.{find-append}
 use Rattle.dns_data.specs.Name.{Labels, name_eq, is_prefix}
 use Rattle.dns_data.specs.declared.rdata.Rr.{Rr}
 use Rattle.dns_data.specs.declared.rr_type.RrType.TheVariants as types
-use Rattle.dns_data.proofs.Membership.{first_or_later}
 use Rattle.dns_data.proofs.NameFronts.{Begins, is_prefix_tells, is_prefix_told}
 use Rattle.dns_data.proofs.Names.{name_eq_decides}
 use Rattle.dns_data.proofs.Searches.{from_any, any_has, find_same}
 use Rattle.net_model.specs.declared.config.Zone.{Zone}
 use Rattle.net_model.specs.Lookup.{zone_cut, dname_owner, closest_encloser}
+use Rattle.net_model.specs.OpenTail.{redirecting}
 use Rattle.net_model.specs.Prefix.{prefixes, shortest, longest}
 use Rattle.net_model.specs.Zone.{owns, exists_in}
 use Rattle.net_model.proofs.Prefixes.{from_prefixes, prefixes_below}
@@ -23,7 +22,7 @@ use Rattle.net_model.proofs.Prefixes.{from_prefixes, prefixes_below}
 -- ---- which prefixes exist
 
 -- a prefix of a prefix
-prefix_of_prefix : (above name whole : Labels) → Begins above name → Begins name whole → Begins above whole
+pub prefix_of_prefix : (above name whole : Labels) → Begins above name → Begins name whole → Begins above whole
 prefix_of_prefix above name whole (below, e) (rest, f) =
     (below ++ rest, sym (append_assoc above below rest) ∙ ap (λ (x : Labels). x ++ rest) e ∙ f)
 
@@ -94,18 +93,14 @@ closest_encloser_more zone above label = longest_more (exists_in zone) above lab
 
 -- ---- the DNAME owner
 
--- the name's prefix, the name allowed, that redirects the names below it
-abbrev pub redirecting : Zone → Labels → Option Labels
-redirecting zone name = shortest (λ above. nat_le (length zone.origin) (length above) && owns zone above types.Dname) name
-
 -- a number isn't less than itself
 not_less : (n : ℕ) → nat_lt n n ≡ false
 not_less n = le-ltb n n (omega arith)
 
 -- a shorter name passes a test of being so
-shorter : (a b c : Bool) → b ≡ true → (a && b && c) ≡ (a && c)
-shorter true b c e = ap (λ x. x && c) e
-shorter false b c e = refl
+pub shorter_passes : (a b c : Bool) → b ≡ true → (a && b && c) ≡ (a && c)
+shorter_passes true b c e = ap (λ x. x && c) e
+shorter_passes false b c e = refl
 
 -- an option or nothing is the option
 or_nothing : (o : Option Labels) → option_or o None ≡ o
@@ -131,7 +126,7 @@ module _ (zone : Zone) (above : Labels) (label : List ℕ) where
   -- and of the prefixes of the name above those that redirect
   agree : (name : Labels) → Begins name above → of_the_longer name ≡ (nat_le (length zone.origin) (length name) && owns zone name types.Dname)
   agree name (below, e) =
-      shorter (nat_le (length zone.origin) (length name)) (nat_lt (length name) (length (above ++ label ∷ []))) (owns zone name types.Dname)
+      shorter_passes (nat_le (length zone.origin) (length name)) (nat_lt (length name) (length (above ++ label ∷ []))) (owns zone name types.Dname)
       (lt-ltb (length name) (length (above ++ label ∷ [])) (omega (arith, ap length e, length-append name below, length-append above (label ∷ []))))
 
   -- the DNAME owner of a name with one label more is the prefix of the name above that redirects

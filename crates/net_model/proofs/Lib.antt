@@ -14,6 +14,7 @@ pub mod GivenSets
 pub mod Leads
 pub mod LearntSets
 pub mod Naming
+pub mod OpenTails
 pub mod Prefixes
 pub mod RoundsExist
 pub mod StepBounds

@@ -8,6 +8,7 @@ pub mod FaultOrder
 pub mod Learnt
 pub mod Lookup
 pub mod Nearest
+pub mod OpenTail
 pub mod Order
 pub mod Prefix
 pub mod Reading

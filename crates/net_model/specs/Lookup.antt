@@ -59,19 +59,22 @@ synthesized zone None = ByNothing
 synthesized zone (Some encloser) =
     if exists_in zone (source_of_synthesis encloser) then ByRecords (source_of_synthesis encloser) else ByNothing
 
--- Of the zone cut and the DNAME owner the shorter one decides, and the cut where they are one name. With neither,
--- the name's own records do, or those of its wildcard.
-abbrev pub decided : Zone → Labels → Option Labels → Option Labels → Deciding
-decided zone name (Some cut) None = ByCut cut
-decided zone name (Some cut) (Some owner) =
-    if nat_lt (length owner) (length cut) then by_dname zone owner else ByCut cut
-decided zone name None (Some owner) = by_dname zone owner
-decided zone name None None =
-    if exists_in zone name then ByRecords name else synthesized zone (closest_encloser zone name)
+-- of the zone cut and the DNAME owner the shorter one decides, and the cut where they are one name
+abbrev pub shorter_decides : Zone → Option Labels → Option Labels → Option Deciding
+shorter_decides zone (Some cut) None = Some (ByCut cut)
+shorter_decides zone (Some cut) (Some owner) =
+    Some (if nat_lt (length owner) (length cut) then by_dname zone owner else ByCut cut)
+shorter_decides zone None (Some owner) = Some (by_dname zone owner)
+shorter_decides zone None None = None
+
+-- with neither, the name's own records decide, or those of its wildcard
+abbrev pub decided : Zone → Labels → Option Deciding → Deciding
+decided zone name (Some above) = above
+decided zone name None = if exists_in zone name then ByRecords name else synthesized zone (closest_encloser zone name)
 
 -- what decides at the name in the zone
 abbrev pub deciding : Zone → Labels → Deciding
-deciding zone name = decided zone name (zone_cut zone name) (dname_owner zone name)
+deciding zone name = decided zone name (shorter_decides zone (zone_cut zone name) (dname_owner zone name))
 
 -- the data of a type, or that there are none
 abbrev pub answer_of : List Rdata → Found

@@ -8,7 +8,7 @@ use Rattle.dns_data.specs.Rdata.{has_type}
 use Rattle.dns_data.specs.declared.rr_type.RrType.{RrType}
 use Rattle.dns_data.specs.declared.rr_type.RrType.TheVariants as types
 use Rattle.net_model.specs.declared.config.Zone.{Zone}
-use Rattle.net_model.specs.Lookup.{zone_cut, dname_owner, closest_encloser, synthesized, decided, deciding, by_dname, ByCut, ByRecords}
+use Rattle.net_model.specs.Lookup.{zone_cut, dname_owner, closest_encloser, synthesized, shorter_decides, decided, deciding, by_dname, ByCut, ByRecords}
 use Rattle.net_model.specs.Prefix.{prefixes, shortest}
 use Rattle.net_model.specs.Zone.{exists_in, owns, is_of}
 use Rattle.dns_data.proofs.Membership.{from_map}
@@ -16,58 +16,15 @@ use Rattle.dns_data.proofs.NameFronts.{is_prefix_tells, is_prefix_told, begins_i
 use Rattle.dns_data.proofs.Names.{name_eq_decides}
 use Rattle.dns_data.proofs.Searches.{from_any}
 use Rattle.net_model.proofs.Prefixes.{longer, shortest_above, longest_above}
-use Rattle.net_model.proofs.Descent.{owner_below_exists, prefix_exists}
+use Rattle.net_model.proofs.OpenTails.{zone_cut_above, closest_encloser_above, dname_owner_within, missing_decided}
 use Rattle.zone_tree.proofs.Existing.{begins_along}
 use Rattle.zone_tree.proofs.Prefixes.{longest_itself, shortest_alone, shortest_next, found_beyond, found_above}
 
-module _ (zone : Zone) where
-  -- a name at or below the origin that owns a record exists
-  pub owner_exists : (name : Labels) (rtype : RrType) → is_prefix zone.origin name ≡ true → owns zone name rtype ≡ true → exists_in zone name ≡ true
-  owner_exists name rtype inside owner =
-      let found = from_any (is_of name rtype) zone.rrs owner in
-      let is : found.0.owner ≡ name =
-      (name_eq_decides found.0.owner name).0 (and_parts (name_eq found.0.owner name) (has_type rtype found.0.rdata) found.2).0 in
-      owner_below_exists zone name found.0 inside found.1 (subst (λ (x : Labels). is_prefix name x ≡ true) (sym is) (begins_itself name))
-
-  module _ (above : Labels) (label : List ℕ) (rest : Labels) (inside : is_prefix zone.origin above ≡ true)
-      (absent : exists_in zone (above ++ label ∷ []) ≡ false) where
-    further : (below : Labels) → Contains (longer (label ∷ rest)) below → (beneath : Labels) × (above ++ below ≡ (above ++ label ∷ []) ++ beneath)
-    further below has =
-        let found = from_map (λ (x : Labels). label ∷ x) (prefixes rest) below has in
-        (found.0, ap (λ (x : Labels). above ++ x) (sym found.2) ∙ sym (append_assoc above (label ∷ []) found.0))
-
-    inside_further : (beneath : Labels) → is_prefix zone.origin ((above ++ label ∷ []) ++ beneath) ≡ true
-    inside_further beneath =
-        is_prefix_told zone.origin ((above ++ label ∷ []) ++ beneath)
-        (begins_along zone.origin above ((above ++ label ∷ []) ++ beneath) (is_prefix_tells zone.origin above inside)
-        ((label ∷ []) ++ beneath, sym (append_assoc above (label ∷ []) beneath)))
-
-    -- no name further down exists
-    pub none_exists : (below : Labels) → Contains (longer (label ∷ rest)) below → exists_in zone (above ++ below) ≡ false
-    none_exists below has =
-        let way = further below has in
-        let inner : is_prefix zone.origin (above ++ label ∷ []) ≡ true =
-        is_prefix_told zone.origin (above ++ label ∷ []) (begins_along zone.origin above (above ++ label ∷ []) (is_prefix_tells zone.origin above inside) (label ∷ [], refl)) in
-        ap (exists_in zone) way.1 ∙ by way.0 (exists_in zone ((above ++ label ∷ []) ++ way.0)) refl inner
-      where
-        by : (beneath : Labels) (b : Bool) → exists_in zone ((above ++ label ∷ []) ++ beneath) ≡ b → is_prefix zone.origin (above ++ label ∷ []) ≡ true → b ≡ false
-        by beneath false e inner = refl
-        by beneath true e inner = absurd (true≢false (sym (prefix_exists zone (above ++ label ∷ []) beneath inner e) ∙ absent))
-
-    -- and none owns a record
-    pub none_owns : (rtype : RrType) (below : Labels) → Contains (longer (label ∷ rest)) below → owns zone (above ++ below) rtype ≡ false
-    none_owns rtype below has = by (owns zone (above ++ below) rtype) refl where
-      by : (b : Bool) → owns zone (above ++ below) rtype ≡ b → b ≡ false
-      by false e = refl
-      by true e =
-          let way = further below has in
-          absurd (true≢false (sym (owner_exists (above ++ below) rtype (subst (λ (x : Labels). is_prefix zone.origin x ≡ true) (sym way.1) (inside_further way.0)) e)
-          ∙ none_exists below has))
-
-    -- so the name above is the closest encloser, if it exists
-    pub encloses : exists_in zone above ≡ true → closest_encloser zone (above ++ label ∷ rest) ≡ Some above
-    encloses exists =
-        longest_above (exists_in zone) above (label ∷ rest) none_exists ∙ longest_itself (exists_in zone) above exists
+-- a name is the closest encloser of those below it, if it exists and the next label makes none that does
+pub encloses : (zone : Zone) (above : Labels) (label : List ℕ) (rest : Labels) → is_prefix zone.origin above ≡ true
+    → exists_in zone (above ++ label ∷ []) ≡ false → exists_in zone above ≡ true → closest_encloser zone (above ++ label ∷ rest) ≡ Some above
+encloses zone above label rest inside absent exists =
+    closest_encloser_above zone above label rest inside absent ∙ longest_itself (exists_in zone) above exists
 
 -- one label more of a name
 pub one_label_more : (name : Labels) (k : ℕ) → k < length name → take (k + 1) name ≡ take k name ++ get_or name k [] ∷ []
@@ -177,12 +134,12 @@ as_long zone above inside =
 by_redirection : (zone : Zone) (name owner rest : Labels) → owner ++ rest ≡ name → shortest (cuts zone) owner ≡ None
     → shortest (redirects zone name) owner ≡ Some owner → deciding zone name ≡ by_dname zone owner
 by_redirection zone name owner rest is no_cut first =
-    ap (decided zone name (zone_cut zone name)) in_name ∙ by (zone_cut zone name) refl
+    ap (λ (o : Option Labels). decided zone name (shorter_decides zone (zone_cut zone name) o)) in_name ∙ by (zone_cut zone name) refl
   where
     in_name : dname_owner zone name ≡ Some owner
     in_name = subst (λ (x : Labels). shortest (redirects zone name) x ≡ Some owner) is (found_above (redirects zone name) owner rest owner first)
 
-    by : (cut : Option Labels) → zone_cut zone name ≡ cut → decided zone name cut (Some owner) ≡ by_dname zone owner
+    by : (cut : Option Labels) → zone_cut zone name ≡ cut → decided zone name (shorter_decides zone cut (Some owner)) ≡ by_dname zone owner
     by None e = refl
     by (Some cut) e =
         let longer_cut : length owner < length cut =
@@ -193,9 +150,9 @@ by_redirection zone name owner rest is no_cut first =
 by_cut : (zone : Zone) (name above tail cut : Labels) → above ++ tail ≡ name → shortest (cuts zone) name ≡ Some cut
     → shortest (redirects zone name) above ≡ None → length cut ≤ length above + 1 → deciding zone name ≡ ByCut cut
 by_cut zone name above tail cut is first none short =
-    ap (λ (c : Option Labels). decided zone name c (dname_owner zone name)) first ∙ by (dname_owner zone name) refl
+    ap (λ (c : Option Labels). decided zone name (shorter_decides zone c (dname_owner zone name))) first ∙ by (dname_owner zone name) refl
   where
-    by : (owner : Option Labels) → dname_owner zone name ≡ owner → decided zone name (Some cut) owner ≡ ByCut cut
+    by : (owner : Option Labels) → dname_owner zone name ≡ owner → decided zone name (shorter_decides zone (Some cut) owner) ≡ ByCut cut
     by None e = refl
     by (Some owner) e =
         let beyond : length above < length owner = found_beyond (redirects zone name) above none tail owner (ap (shortest (redirects zone name)) is ∙ e) in
@@ -282,32 +239,18 @@ module _ (zone : Zone) (above : Labels) (label : List ℕ) (rest : Labels) (so_f
   -- where it doesn't exist the source of synthesis decides
   pub source_decides : exists_in zone next ≡ false → deciding zone name ≡ synthesized zone (Some above)
   source_decides absent =
-      let no_cut : zone_cut zone name ≡ None =
-      shortest_above (cuts zone) above (label ∷ rest)
-      (λ below has. and_right (nat_lt (length zone.origin) (length (above ++ below))) (owns zone (above ++ below) types.Ns)
-      (none_owns zone above label rest so_far.inside absent types.Ns below has))
-      ∙ so_far.no_cut in
-      let no_redirection : dname_owner zone name ≡ None =
-      shortest_above (redirects zone name) above (label ∷ rest)
-      (λ below has. and_right (nat_le (length zone.origin) (length (above ++ below)) && nat_lt (length (above ++ below)) (length name)) (owns zone (above ++ below) types.Dname)
-      (none_owns zone above label rest so_far.inside absent types.Dname below has))
-      ∙ so_far.no_redirection in
-      ap (λ (c : Option Labels). decided zone name c (dname_owner zone name)) no_cut
-      ∙ ap (λ (owner : Option Labels). decided zone name None owner) no_redirection
-      ∙ ap (λ (b : Bool). cond b (ByRecords name) (synthesized zone (closest_encloser zone name))) (missing (exists_in zone name) refl)
-      ∙ ap (synthesized zone) (encloses zone above label rest so_far.inside absent so_far.exists)
-    where
-      missing : (b : Bool) → exists_in zone name ≡ b → b ≡ false
-      missing false e = refl
-      missing true e =
-          let inner = is_prefix_told zone.origin next (begins_along zone.origin above next (is_prefix_tells zone.origin above so_far.inside) (label ∷ [], refl)) in
-          absurd (true≢false (sym (prefix_exists zone next rest inner (ap (exists_in zone) whole ∙ e)) ∙ absent))
+      ap (λ (c : Option Labels). decided zone name (shorter_decides zone c (dname_owner zone name)))
+      (zone_cut_above zone above label rest so_far.inside absent ∙ so_far.no_cut)
+      ∙ ap (λ (owner : Option Labels). decided zone name (shorter_decides zone None owner))
+      (dname_owner_within zone above label rest so_far.inside absent ∙ so_far.no_redirection)
+      ∙ missing_decided zone above label rest so_far.inside absent None
+      ∙ ap (synthesized zone) (longest_itself (exists_in zone) above so_far.exists)
 
 -- at its end the name's own records decide
 pub records_decide : (zone : Zone) (name : Labels) → Undecided zone name name → deciding zone name ≡ ByRecords name
 records_decide zone name so_far =
-    ap (λ (c : Option Labels). decided zone name c (dname_owner zone name)) so_far.no_cut
-    ∙ ap (λ (owner : Option Labels). decided zone name None owner) so_far.no_redirection
+    ap (λ (c : Option Labels). decided zone name (shorter_decides zone c (dname_owner zone name))) so_far.no_cut
+    ∙ ap (λ (owner : Option Labels). decided zone name (shorter_decides zone None owner)) so_far.no_redirection
     ∙ ap (λ (b : Bool). cond b (ByRecords name) (synthesized zone (closest_encloser zone name))) so_far.exists
 
 -- the same at a front of the name with so many labels
