@@ -1,7 +1,7 @@
 -- The walks from a state, followed through all their branches: each is a walk by its numbers, none is missing, and they
 -- stand in order.
-use Rattle.std.proofs.Common.{◌≡◌, ℕ, zero, suc, ◌+◌, ◌<◌, Bool, true, false, List, [], ◌∷◌, ◌++◌, map, length, get_or, Contains, AllPairs, Option, Some, None, Ordering, Less, Equal, Greater, sym, refl, ap, ◌∙◌, subst, inl, inr, arith, add-suc, zero-add}
-use Rattle.std.specs.Prelude.{◌⊎◌, ◌==◌, slice_get, option_map, option_and_then}
+use Rattle.std.proofs.Common.{◌≡◌, ℕ, zero, suc, ◌+◌, ◌<◌, Bool, true, false, List, [], ◌∷◌, ◌++◌, map, length, Contains, AllPairs, Option, Some, None, Ordering, Less, Equal, sym, refl, ap, ◌∙◌, subst, inl, inr, arith, zero-add}
+use Rattle.std.specs.Prelude.{◌==◌, slice_get, option_map, option_and_then}
 use Rattle.std.specs.List.{AllByRecursion, flat_map}
 use Rattle.std.proofs.lemmas.Bool.Decides.{nat_tests}
 use Rattle.std.proofs.lemmas.List.{map-append}
@@ -13,8 +13,6 @@ use Rattle.std.specs.Ordering.{nat_cmp, ordering_then}
 use Rattle.std.proofs.lemmas.Bool.{eqb-true}
 use Rattle.std.proofs.lemmas.List.Elements.{Contains-append_left, Contains-append_right, Contains-append_cases}
 use Rattle.dns_data.specs.declared.rr_type.RrType.{RrType}
-use Rattle.net_model.specs.declared.walk.Hop.{Hop}
-use Rattle.net_model.specs.declared.walk.Leaf.{Leaf}
 use Rattle.net_model.specs.declared.walk.State.{State}
 use Rattle.net_model.specs.declared.walk.Walk.{Walk}
 use Rattle.net_model.specs.Step.{Setting, Branch, Go, End, next, start}

@@ -1,5 +1,5 @@
 -- Below a name with a free label there is a label that is tried first among the free ones.
-use Rattle.std.proofs.Common.{◌≡◌, ℕ, zero, suc, ◌<◌, ◌≤◌, Bool, true, false, cond, not, ◌&&◌, ◌⊎◌, List, [], ◌∷◌, ◌++◌, map, flat_map, length, Contains, nat_eq, nat_lt, nat_le, Ordering, Less, Equal, Greater, nat_cmp, sym, refl, ap, ◌∙◌, subst, inl, inr, true≢false, arith, le_refl, le_trans, lt-ltb, le-leb, ltb-true, leb-true}
+use Rattle.std.proofs.Common.{◌≡◌, ℕ, zero, suc, ◌<◌, ◌≤◌, Bool, true, false, cond, not, ◌&&◌, ◌⊎◌, List, [], ◌∷◌, ◌++◌, map, flat_map, length, Contains, nat_eq, nat_lt, Ordering, Less, Equal, Greater, nat_cmp, sym, refl, ap, ◌∙◌, subst, inl, inr, true≢false, arith, le_refl, le_trans, lt-ltb, ltb-true}
 use Rattle.std.specs.List.{list_any, list_all}
 use Rattle.std.specs.Cmp.Lexicographic.{slice_cmp}
 use Rattle.std.specs.Ordering.{ordering_then}

@@ -120,7 +120,7 @@ next_known : (setting : Setting) (rtype : RrType) (state : State) → FollowsAll
 next_known setting rtype state all = next_in setting rtype state (nearest_of setting.config state.server state.name) all
 
 -- an item of a list is as all of them are
-item : {X : Type 0} (P : X → Type 0) (xs : List X) (number : ℕ) (x : X) → AllByRecursion P xs → slice_get xs number ≡ Some x → P x
+pub item : {X : Type 0} (P : X → Type 0) (xs : List X) (number : ℕ) (x : X) → AllByRecursion P xs → slice_get xs number ≡ Some x → P x
 item P [] number x all e = cc
 item P (first ∷ xs) zero x all e = let same : first ≡ x = cc in subst P same all.0
 item P (first ∷ xs) (suc number) x all e = item P xs number x all.1 e

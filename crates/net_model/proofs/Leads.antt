@@ -54,11 +54,12 @@ pub record PartsAt (setting : Setting) (rtype : RrType) (from : State) (numbers 
   pub before : List ℕ
   pub after : List ℕ
   pub numbers_are : numbers ≡ before ++ after
+  pub as_many : length before ≡ length front
   pub leads : Leads setting rtype from before (take (length front) walk.hops) state
   pub rest : walk_from setting rtype after state ≡ Some (record { states = state ∷ back; hops = drop (length front) walk.hops; leaf = walk.leaf })
 
 -- the first state of a walk is the one that it is from
-first_state : (setting : Setting) (rtype : RrType) (numbers : List ℕ) (from : State) (walk : Walk)
+pub first_state : (setting : Setting) (rtype : RrType) (numbers : List ℕ) (from : State) (walk : Walk)
     → walk_from setting rtype numbers from ≡ Some walk → (later : List State) × (walk.states ≡ from ∷ later)
 first_state setting rtype [] from walk e = cc
 first_state setting rtype (number ∷ numbers) from walk e =
@@ -79,6 +80,7 @@ parts_at_first setting rtype back numbers from state walk e states =
       before = [];
       after = numbers;
       numbers_are = refl;
+      as_many = refl;
       leads = same;
       rest = ap (walk_from setting rtype numbers) (sym same) ∙ e
           ∙ ap (λ (all : List State). Some (record { states = all; hops = walk.hops; leaf = walk.leaf })) states;
@@ -108,6 +110,7 @@ walk_leads setting rtype (first ∷ front) back (number ∷ numbers) from state 
           before = number ∷ parts.before;
           after = parts.after;
           numbers_are = ap (λ (ns : List ℕ). number ∷ ns) parts.numbers_are;
+          as_many = ap suc parts.as_many;
           leads = (to, is, parts.leads);
           rest = parts.rest;
         }

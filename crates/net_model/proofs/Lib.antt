@@ -3,9 +3,14 @@ mod Representatives
 mod Showing
 mod Words
 mod Worked
+pub mod AlikeSteps
+pub mod AlikeWalks
 pub mod AllWalks
+pub mod Branches
+pub mod ClassTails
 pub mod Counting
 pub mod Descent
+pub mod EndsSomewhere
 pub mod FaultOrder
 pub mod FirstLabel
 pub mod Followed
@@ -16,7 +21,10 @@ pub mod LearntSets
 pub mod Naming
 pub mod OpenTails
 pub mod Prefixes
+pub mod Returns
 pub mod RoundsExist
+pub mod Simulation
 pub mod StepBounds
 pub mod TrialOrder
+pub mod UnnamedTails
 pub mod WalkEnds

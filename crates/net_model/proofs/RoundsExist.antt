@@ -1,6 +1,6 @@
 -- Every round of learnt addresses has its list: the walks of a query are a list, so it is decided which addresses are learnt.
-use Rattle.std.proofs.Common.{◌≡◌, ℕ, zero, suc, ◌+◌, ◌-◌, ◌<◌, ◌≤◌, Bool, true, false, List, [], ◌∷◌, Contains, filter, refl, sym, ap, ◌∙◌, subst, inl, inr, arith}
-use Rattle.std.specs.Prelude.{◌⊎◌, ◌↔◌, ◌||◌, None, length, map}
+use Rattle.std.proofs.Common.{◌≡◌, ℕ, zero, suc, ◌+◌, ◌-◌, ◌<◌, ◌≤◌, Bool, true, false, List, [], ◌∷◌, filter, refl, ap, inl, inr, arith}
+use Rattle.std.specs.Prelude.{◌↔◌, ◌||◌, None, length, map}
 use Rattle.std.specs.List.{AllByRecursion, list_any}
 use Rattle.std.proofs.lemmas.Bool.{or_cases}
 use Rattle.dns_data.specs.Name.{Labels}
@@ -11,11 +11,9 @@ use Rattle.net_model.specs.declared.config.Config.{Config}
 use Rattle.net_model.specs.declared.walk.Hop.{Hop}
 use Rattle.net_model.specs.declared.walk.Hop.TheVariants.{Refer, Rewrite}
 use Rattle.net_model.specs.declared.walk.State.{State}
-use Rattle.net_model.specs.declared.walk.Walk.{Walk}
 use Rattle.net_model.specs.Learnt.{gives_address, LearnsBy, Learns, IsRound, AfterRounds}
 use Rattle.net_model.specs.Nearest.{server_names}
 use Rattle.net_model.specs.Step.{Setting, Branch, Go, End, next, start, arrived, following}
-use Rattle.net_model.specs.Walk.{walk_along}
 use Rattle.net_model.proofs.AllWalks.{Numbered, all_along, LeadsTo, Settled, all_along_are, none_missing_along}
 use Rattle.net_model.proofs.StepBounds.{IsNear, BranchStepsOn, StepsOn, next_steps}
 
@@ -67,7 +65,7 @@ module _ (setting : Setting) (rtype : RrType) where
   settles_by : (state : State) → IsNear setting state → ((hop : Hop) (to : State) → StepsOn setting state hop to → Settles to) → Settles state
   settles_by state near on =
       let all = branches_settle (next setting rtype state)
-          (each_settles state on (next setting rtype state) (next_steps setting state rtype near)) in
+      (each_settles state on (next setting rtype state) (next_steps setting state rtype near)) in
       (suc all.0, all.1)
 
   -- a state settles if those with fewer rewrites left do, by how much longer its zone cut may get

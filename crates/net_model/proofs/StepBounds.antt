@@ -1,6 +1,6 @@
 -- What each step to a state does: it uses a rewrite more, or the zone cut gets longer.
-use Rattle.std.proofs.Common.{◌≡◌, ℕ, ◌+◌, ◌-◌, ◌*◌, ◌<◌, ◌≤◌, Bool, true, false, cond, List, [], ◌∷◌, map, length, Contains, Option, Some, None, find, sym, refl, ap, ◌∙◌, subst, inl, inr, arith, length-append, nat_lt, nat_le}
-use Rattle.std.specs.Prelude.{◌⊎◌, ◌&&◌, not, is_some, if◌then◌else◌}
+use Rattle.std.proofs.Common.{◌≡◌, ℕ, ◌+◌, ◌-◌, ◌*◌, ◌<◌, ◌≤◌, Bool, true, false, cond, List, [], ◌∷◌, map, length, Option, Some, None, refl, ap, subst, arith, length-append, nat_lt, nat_le}
+use Rattle.std.specs.Prelude.{◌&&◌, not, if◌then◌else◌}
 use Rattle.std.specs.List.{AllByRecursion}
 use Rattle.std.proofs.lemmas.Bool.{and_parts, ltb-true}
 use Rattle.dns_data.specs.Name.{Labels, is_prefix, wire_octets, swap}
@@ -8,7 +8,6 @@ use Rattle.dns_data.specs.RrType.{type_eq}
 use Rattle.dns_data.specs.declared.rdata.Rdata.{Rdata}
 use Rattle.dns_data.specs.declared.rr_type.RrType.{RrType}
 use Rattle.dns_data.specs.declared.rr_type.RrType.TheVariants as types
-use Rattle.net_model.specs.declared.config.Config.{Config}
 use Rattle.net_model.specs.declared.config.Zone.{Zone}
 use Rattle.net_model.specs.declared.found.Found.{Found}
 use Rattle.net_model.specs.declared.found.Found.TheVariants as found_as
@@ -16,17 +15,15 @@ use Rattle.net_model.specs.declared.place.Cut.{Cut}
 use Rattle.net_model.specs.declared.place.Place.{Place}
 use Rattle.net_model.specs.declared.walk.Hop.{Hop}
 use Rattle.net_model.specs.declared.walk.Hop.TheVariants.{Refer, Rewrite}
-use Rattle.net_model.specs.declared.walk.Leaf.TheVariants.{Lame, Unhosted, NoAddress}
 use Rattle.net_model.specs.declared.walk.State.{State}
-use Rattle.net_model.specs.Lookup.{found, answered, deciding, decided, zone_cut, dname_owner, redirected, at_name, aliased, answer_of, synthesized, source_of_synthesis, closest_encloser, by_dname, first_name, Deciding, ByCut, ByRedirection, ByRecords, ByNothing}
+use Rattle.net_model.specs.Lookup.{found, answered, deciding, decided, shorter_decides, zone_cut, dname_owner, redirected, aliased, answer_of, synthesized, source_of_synthesis, closest_encloser, by_dname, first_name, Deciding, ByCut, ByRedirection, ByRecords, ByNothing}
 use Rattle.net_model.specs.Nearest.{nearest_of, is_configured}
 use Rattle.net_model.specs.Order.{in_order}
-use Rattle.net_model.specs.Prefix.{prefixes, shortest}
-use Rattle.net_model.specs.Step.{Setting, Branch, Go, End, arrived, delegated, referred, may_follow, rewritten, servers_after, after_lookup, in_zone, next}
+use Rattle.net_model.specs.Prefix.{prefixes}
+use Rattle.net_model.specs.Step.{Setting, Branch, Go, End, arrived, delegated, referred, may_follow, servers_after, after_lookup, in_zone, next}
 use Rattle.net_model.specs.Zone.{exists_in, owns, targets_at, data_at, data_cmp}
-use Rattle.dns_data.proofs.Membership.{has_first, has_later}
 use Rattle.dns_data.proofs.NameFronts.{Begins, is_prefix_tells}
-use Rattle.net_model.proofs.Prefixes.{from_prefixes}
+use Rattle.net_model.proofs.Prefixes.{found_there, from_prefixes}
 
 -- what bounds the states still to come: each next one uses a rewrite more or has a longer zone cut
 abbrev pub left_of : Setting → State → ℕ
@@ -42,17 +39,6 @@ cut_labels (Refer cut) = length cut.cut
 cut_labels (Rewrite place by_dname to) = 0
 
 -- ---- a referral's zone cut is below the origin
-
--- what a search finds passes, and is one of the names
-found_passes : (test : Labels → Bool) (names : List Labels) (name : Labels) → find test names ≡ Some name → (test name ≡ true) × Contains names name
-found_passes test [] name e = cc
-found_passes test (first ∷ names) name e = by (test first) refl e (found_passes test names name) where
-  by : (b : Bool) → test first ≡ b → cond b (Some first) (find test names) ≡ Some name
-      → (find test names ≡ Some name → (test name ≡ true) × Contains names name) → (test name ≡ true) × Contains (first ∷ names) name
-  by true is e rest =
-      let same : first ≡ name = cc in
-      (ap test (sym same) ∙ is, subst (Contains (first ∷ names)) same (has_first first names))
-  by false is e rest = let later = rest e in (later.0, has_later first names name later.1)
 
 module _ (zone : Zone) (name : Labels) (rtype : RrType) (cut : Labels) (names : List Labels) where
   answer_refers : (all : List Rdata) → answer_of all ≡ found_as.Referral cut names → ⊥
@@ -71,7 +57,7 @@ module _ (zone : Zone) (name : Labels) (rtype : RrType) (cut : Labels) (names : 
     by false e = cc
 
   -- only a zone cut answers a referral
-  cut_refers : (what : Deciding) → answered zone name rtype what ≡ found_as.Referral cut names → what ≡ ByCut cut
+  pub cut_refers : (what : Deciding) → answered zone name rtype what ≡ found_as.Referral cut names → what ≡ ByCut cut
   cut_refers (ByCut other) e = let same : other ≡ cut = cc in ap (λ (x : Labels). ByCut x) same
   cut_refers (ByRedirection owner target) e = absurd (redirection_refers owner target e)
   cut_refers (ByRecords owner) e = absurd (alias_refers owner (if type_eq rtype types.Cname then None else first_name (targets_at zone owner types.Cname)) e)
@@ -85,7 +71,7 @@ module _ (zone : Zone) (name : Labels) (rtype : RrType) (cut : Labels) (names : 
     by false e = cc
 
   -- and it is the name's zone cut that decides
-  is_the_cut : (found_cut owner : Option Labels) → decided zone name found_cut owner ≡ ByCut cut → found_cut ≡ Some cut
+  pub is_the_cut : (found_cut owner : Option Labels) → decided zone name (shorter_decides zone found_cut owner) ≡ ByCut cut → found_cut ≡ Some cut
   is_the_cut (Some other) None e = let same : other ≡ cut = cc in ap (λ (x : Labels). Some x) same
   is_the_cut (Some other) (Some owner) e = by (nat_lt (length owner) (length other)) e where
     by : (b : Bool) → cond b (by_dname zone owner) (ByCut other) ≡ ByCut cut → Some other ≡ Some cut
@@ -101,9 +87,9 @@ module _ (zone : Zone) (name : Labels) (rtype : RrType) (cut : Labels) (names : 
   refers_below : found zone name rtype ≡ found_as.Referral cut names → (length zone.origin < length cut) × Begins cut name
   refers_below e =
       let is : zone_cut zone name ≡ Some cut = is_the_cut (zone_cut zone name) (dname_owner zone name) (cut_refers (deciding zone name) e) in
-      let both = found_passes (λ (above : Labels). nat_lt (length zone.origin) (length above) && owns zone above types.Ns) (prefixes name) cut is in (
-        ltb-true (length zone.origin) (length cut) (and_parts (nat_lt (length zone.origin) (length cut)) (owns zone cut types.Ns) both.0).0,
-        from_prefixes name cut both.1,
+      let both = found_there (λ (above : Labels). nat_lt (length zone.origin) (length above) && owns zone above types.Ns) (prefixes name) cut is in (
+        ltb-true (length zone.origin) (length cut) (and_parts (nat_lt (length zone.origin) (length cut)) (owns zone cut types.Ns) both.1).0,
+        from_prefixes name cut both.0,
       )
 
 -- ---- one step

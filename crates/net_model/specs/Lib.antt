@@ -13,8 +13,10 @@ pub mod Order
 pub mod Prefix
 pub mod Reading
 pub mod Retail
+pub mod Returns
 pub mod Shown
 pub mod Step
+pub mod Tails
 pub mod Tree
 pub mod Walk
 pub mod Zone

@@ -57,7 +57,10 @@ AreWalks setting query rtype walks =
     (paths : List (List ℕ)) × ArePaths setting query rtype paths
     × (map (walk_along setting query rtype) paths ≡ map Some walks)
 
--- no walk of the query, with any type, ends in a name of more than 255 octets
+-- no walk of the query with the type ends in a name of more than 255 octets
+abbrev pub IsBoundedWith : Setting → Labels → RrType → Type 0
+IsBoundedWith setting query rtype = (walk : Walk) (place : Place) → IsWalk setting query rtype walk → walk.leaf ≢ Overlong place
+
+-- with any type
 abbrev pub IsBounded : Setting → Labels → Type 0
-IsBounded setting query =
-    (rtype : RrType) (walk : Walk) (place : Place) → IsWalk setting query rtype walk → walk.leaf ≢ Overlong place
+IsBounded setting query = (rtype : RrType) → IsBoundedWith setting query rtype
