@@ -1,13 +1,14 @@
 -- What is kept of the records before one, when one more stands before.
-use Rattle.std.proofs.Common.{◌≡◌, Bool, not, ◌||◌, ◌&&◌, List, [], ◌∷◌, ◌++◌, sym, ◌∙◌}
+use Rattle.std.proofs.Common.{◌≡◌, Bool, true, false, not, ◌||◌, ◌&&◌, List, [], ◌∷◌, ◌++◌, refl, ap, sym, ◌∙◌}
 use Rattle.std.proofs.Math.Bool.{or-false}
 use Rattle.std.proofs.lemmas.List.Folds.{list_any-append}
 use Rattle.std.specs.List.{list_any}
 use Rattle.dns_data.specs.Name.{Labels, name_eq}
 use Rattle.dns_data.specs.declared.rdata.Rr.{Rr}
 use Rattle.dns_data.specs.declared.rr_type.RrType.TheVariants as types
+use Rattle.dns_data.proofs.Names.{name_eq_decides}
 use Rattle.zone_rules.specs.Apex.{is_type}
-use Rattle.zone_rules.specs.Before.{has_name, StandsFor}
+use Rattle.zone_rules.specs.Before.{has_name, IsSummaryOf}
 use Rattle.zone_rules.specs.declared.rules.Before.{Before}
 
 -- a test of the records before, and of one more
@@ -15,23 +16,32 @@ any-more : (test : Rr → Bool) (before : List Rr) (rr : Rr) (old : Bool) → ol
 any-more test before rr old is =
     (λ j. is j || sym (or-false (test rr)) j) ∙ sym (list_any-append test before (rr ∷ []))
 
+-- an owner that may have a rival is the next one's where it may have one too
+put-rival : (may_have : Labels → Bool) (owner other : Labels) (b has_rival test : Bool) → name_eq owner other ≡ b → has_rival ≡ may_have other → may_have owner ≡ true → (b && (has_rival && test)) ≡ (b && test)
+put-rival may_have owner other true has_rival test e is may =
+    ap (λ rival. rival && test) (is ∙ (ap may_have (sym ((name_eq_decides owner other).0 e)) ∙ may))
+put-rival may_have owner other false has_rival test e is may = refl
+
 -- what is kept when the record was put stands for the records before and it
-pub put-stands :
-    (old new : Before) (before : List Rr) (rr : Rr) → StandsFor old before
-    → new.has_soa ≡ (old.has_soa || is_type types.Soa rr)
-    → ((query : Labels) → has_name new.cnames query ≡ (has_name old.cnames query || (name_eq query rr.owner && is_type types.Cname rr)))
-    → ((query : Labels) → has_name new.others query ≡ (has_name old.others query || (name_eq query rr.owner && not (is_type types.Cname rr))))
-    → ((query : Labels) → has_name new.dnames query ≡ (has_name old.dnames query || (name_eq query rr.owner && is_type types.Dname rr)))
-    → StandsFor new (before ++ rr ∷ [])
-put-stands old new before rr stands soa cnames others dnames = record {
-  has_soa = soa ∙ any-more (is_type types.Soa) before rr old.has_soa stands.has_soa;
-  cnames = λ owner.
-      cnames owner
-      ∙ any-more (λ other. name_eq owner other.owner && is_type types.Cname other) before rr (has_name old.cnames owner) (stands.cnames owner);
-  others = λ owner.
-      others owner
-      ∙ any-more (λ other. name_eq owner other.owner && not (is_type types.Cname other)) before rr (has_name old.others owner) (stands.others owner);
-  dnames = λ owner.
-      dnames owner
-      ∙ any-more (λ other. name_eq owner other.owner && is_type types.Dname other) before rr (has_name old.dnames owner) (stands.dnames owner);
-}
+module _ (may_have : Labels → Bool) (old new : Before) (before : List Rr) (rr : Rr) (has_rival : Bool) (is : has_rival ≡ may_have rr.owner) (stands : IsSummaryOf may_have old before) where
+  more-at : (test : Rr → Bool) (owner : Labels) (was now : Bool) → may_have owner ≡ true → now ≡ (was || (name_eq owner rr.owner && (has_rival && test rr))) → was ≡ list_any (λ other. name_eq owner other.owner && test other) before
+      → now ≡ list_any (λ other. name_eq owner other.owner && test other) (before ++ rr ∷ [])
+  more-at test owner was now may grown said =
+      grown
+      ∙ (ap (λ b. was || b) (put-rival may_have owner rr.owner (name_eq owner rr.owner) has_rival (test rr) refl is may)
+      ∙ any-more (λ other. name_eq owner other.owner && test other) before rr was said)
+
+  pub put-stands :
+      new.has_soa ≡ (old.has_soa || is_type types.Soa rr)
+      → ((query : Labels) → has_name new.cnames query ≡ (has_name old.cnames query || (name_eq query rr.owner && (has_rival && is_type types.Cname rr))))
+      → ((query : Labels) → has_name new.others query ≡ (has_name old.others query || (name_eq query rr.owner && (has_rival && not (is_type types.Cname rr)))))
+      → ((query : Labels) → has_name new.dnames query ≡ (has_name old.dnames query || (name_eq query rr.owner && is_type types.Dname rr)))
+      → IsSummaryOf may_have new (before ++ rr ∷ [])
+  put-stands soa cnames others dnames = record {
+    has_soa = soa ∙ any-more (is_type types.Soa) before rr old.has_soa stands.has_soa;
+    cnames = λ owner may. more-at (is_type types.Cname) owner (has_name old.cnames owner) (has_name new.cnames owner) may (cnames owner) (stands.cnames owner may);
+    others = λ owner may. more-at (λ other. not (is_type types.Cname other)) owner (has_name old.others owner) (has_name new.others owner) may (others owner) (stands.others owner may);
+    dnames = λ owner.
+        dnames owner
+        ∙ any-more (λ other. name_eq owner other.owner && is_type types.Dname other) before rr (has_name old.dnames owner) (stands.dnames owner);
+  }

@@ -1,4 +1,6 @@
 pub mod Sets
+pub mod Rivals
+pub mod SeenRecords
 pub mod Before
 pub mod FirstFaults
 pub mod Wildcards

@@ -2,6 +2,9 @@ pub use Rattle.dns_data.specs.Distinct
 pub use Rattle.dns_data.specs.Identical
 pub mod Apex
 pub mod Rules
+pub mod Buckets
+pub mod Fingerprint
+pub mod Seen
 pub mod Before
 pub mod ZoneOf
 pub mod KeptRules

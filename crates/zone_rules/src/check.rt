@@ -8,8 +8,9 @@ ghost use Rattle.zone_rules.specs.ZoneOf.{zone_of, within, checked};
 
 use crate::apex::{apex_of, is_wildcard};
 use crate::fault::{RuleCause, RuleFault};
+use crate::identical::first_of_identical;
 use crate::rules::check_rules;
-use dns_data::{List, Name, Rr, first_of_identical};
+use dns_data::{List, Name, Rr};
 use net_model::Zone;
 use std::alloc::Global;
 

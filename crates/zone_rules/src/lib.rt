@@ -5,13 +5,18 @@
 //! record, records outside are dropped, and the first of the others that breaks a rule is the fault. A zone that
 //! isn't refused keeps the rules of `KeepsRules` (`zones_keep_rules`).
 //!
-//! Costs: each record is put into an ordered set of records (`first_of_identical`), and its owner into one of owners, so that records of one
-//! owner, or all identical, take no longer than those of as many owners. No record is copied.
+//! Costs: records are gone through four times. They fall into buckets, eight for a record, by numbers that identical
+//! records share, and again by numbers of their owners; only a record that shares its bucket is put into an ordered set
+//! and looked for there. So a usual zone is passed over in a time that grows with its octets, and any zone, also one made
+//! so that all records share a bucket, takes as many searches in a set as it has records. No record is copied.
 #![tactic(auto)]
 
 mod apex;
+mod buckets;
 mod check;
 mod fault;
+mod fingerprint;
+mod identical;
 mod laws;
 mod rules;
 mod types;

@@ -1,21 +1,25 @@
 //! The rules of a zone.
 
-ghost use Rattle.std.specs.Prelude.{◌≡◌, ◌⊎◌, ◌++◌, ◌∷◌, [], ◌&&◌, ◌||◌, not, true, None, Err, List, OnOk, IfErr, if◌then◌else◌};
+ghost use Rattle.std.specs.Prelude.{◌≡◌, ◌⊎◌, ◌++◌, ◌∷◌, [], ◌&&◌, ◌||◌, not, map, true, Bool, None, Err, List, IfOk, OnOk, IfErr, if◌then◌else◌};
 ghost use Rattle.dns_data.specs.Name.{Labels, name_eq};
 ghost use Rattle.zone_rules.specs.Apex.{is_type};
-ghost use Rattle.zone_rules.specs.Before.{has_name, StandsFor, rule_in};
+ghost use Rattle.zone_rules.specs.Before.{has_name, IsSummaryOf, rule_in};
+ghost use Rattle.zone_rules.specs.Buckets.{Marked};
+ghost use Rattle.zone_rules.specs.Fingerprint.{owner_key};
 ghost use Rattle.zone_rules.specs.Rules.{had, first_fault, is_soa_elsewhere, is_star_record};
 ghost use Rattle.zone_rules.specs.ZoneOf.{checked};
 
 use crate::apex::is_wildcard;
+use crate::buckets::Buckets;
 use crate::fault::{RuleCause, RuleFault};
+use crate::fingerprint::owner_number;
 use crate::types::{is_cname, is_dname, is_ns, is_soa};
 use dns_data::{Name, NoMemory, Rr, RrType};
 use std::alloc::Global;
 use std::collections::BTreeSet;
 
-/// What rules ask of the records before one: whether an SOA record is there, and which owners have a CNAME record, one
-/// of another type, and a DNAME record.
+/// What rules ask of the records before one: whether an SOA record is there, which owners, of those at which a CNAME
+/// record may have a rival, have a CNAME record and one of another type, and which have a DNAME record.
 #[derive(Drop)]
 pub(crate) struct Before<'a> {
     has_soa: bool,
@@ -29,16 +33,18 @@ pub(crate) fn check_rules(alloc: Global, origin: &Name, rrs: &[Rr]) -> Result<()
     ensures ok { OnOk result ((first_fault origin.now rrs.now ≡ None) × (had RrType.Soa rrs.now ≡ true)) }
     ensures err { IfErr result (λ fault. (fault ≡ RuleFault.NoMemory) ⊎ (checked origin.now rrs.now ≡ Err fault)) }
 {
+    let buckets = owner_buckets(alloc, rrs)?;
     let mut before = Before::new(alloc);
     for rr in rrs {
-        if let Some(cause) = before.rule_at(origin, rr) {
+        let has_rival = buckets.has_rival(owner_number(&rr.owner));
+        if let Some(cause) = before.rule_at(origin, rr, has_rival) {
             return Err(RuleFault::At {
                 file: rr.file,
                 line: rr.line,
                 cause,
             });
         }
-        before.put(rr)?;
+        before.put(rr, has_rival)?;
     }
     if !before.has_soa {
         return Err(RuleFault::At {
@@ -50,10 +56,21 @@ pub(crate) fn check_rules(alloc: Global, origin: &Name, rrs: &[Rr]) -> Result<()
     Ok(())
 }
 
+/// The records by their owners' numbers. A CNAME record has to stand alone (RFC 1034 section 3.6.2).
+fn owner_buckets(alloc: Global, rrs: &[Rr]) -> Result<Buckets, NoMemory>
+    ensures { IfOk result (λ buckets. Marked buckets (map owner_key rrs.now)) }
+{
+    let mut buckets = Buckets::new(alloc, rrs.len())?;
+    for rr in rrs {
+        buckets.put(owner_number(&rr.owner), is_cname(rr));
+    }
+    Ok(buckets)
+}
+
 impl<'a> Before<'a> {
     /// No record stands before.
     fn new(alloc: Global) -> Before<'a>
-        ensures { StandsFor result [] }
+        ensures { (may_have : Labels → Bool) → IsSummaryOf may_have result [] }
     {
         Before {
             has_soa: false,
@@ -63,20 +80,20 @@ impl<'a> Before<'a> {
         }
     }
 
-    /// One record more stands before.
-    fn put(&mut self, rr: &'a Rr) -> Result<(), NoMemory>
-        ensures { (before : List Rr) → StandsFor self.old before → OnOk result (StandsFor self.new (before ++ rr.now ∷ [])) }
+    /// One record more stands before, which may have a rival at its owner or hasn't any.
+    fn put(&mut self, rr: &'a Rr, has_rival: bool) -> Result<(), NoMemory>
+        ensures { (may_have : Labels → Bool) (before : List Rr) → has_rival ≡ may_have rr.now.owner → IsSummaryOf may_have self.old before → OnOk result (IsSummaryOf may_have self.new (before ++ rr.now ∷ [])) }
     {
-        put_if(&mut self.cnames, &rr.owner, is_cname(rr))?;
-        put_if(&mut self.others, &rr.owner, !is_cname(rr))?;
-        put_if(&mut self.dnames, &rr.owner, is_dname(rr))?;
+        put_if(&mut self.cnames, &rr.owner, has_rival, is_cname(rr))?;
+        put_if(&mut self.others, &rr.owner, has_rival, !is_cname(rr))?;
+        put_if(&mut self.dnames, &rr.owner, true, is_dname(rr))?;
         self.has_soa = self.has_soa || is_soa(rr);
         Ok(())
     }
 
-    /// The first rule that the record breaks, if it breaks one.
-    fn rule_at(&self, origin: &Name, rr: &'a Rr) -> Option<RuleCause>
-        ensures { result ≡ rule_in self.now origin.now rr.now }
+    /// The first rule that the record breaks, if it breaks one. It may have a rival at its owner, or hasn't any.
+    fn rule_at(&self, origin: &Name, rr: &'a Rr, has_rival: bool) -> Option<RuleCause>
+        ensures { result ≡ rule_in self.now has_rival origin.now rr.now }
     {
         if is_soa_elsewhere(origin, rr) {
             Some(RuleCause::SoaElsewhere)
@@ -84,9 +101,9 @@ impl<'a> Before<'a> {
             Some(RuleCause::TwoSoas)
         } else if is_star_record(rr) {
             Some(RuleCause::StarRecord)
-        } else if is_cname(rr) && has_name(&self.cnames, &rr.owner) {
+        } else if has_rival && is_cname(rr) && has_name(&self.cnames, &rr.owner) {
             Some(RuleCause::TwoCnames)
-        } else if self.is_beside_cname(rr) {
+        } else if has_rival && self.is_beside_cname(rr) {
             Some(RuleCause::CnameAndOther)
         } else if is_dname(rr) && has_name(&self.dnames, &rr.owner) {
             Some(RuleCause::TwoDnames)
@@ -128,11 +145,16 @@ fn has_name<'a>(names: &BTreeSet<&'a Name>, name: &'a Name) -> bool
     names.contains(&name)
 }
 
-/// Puts the name among these, where the test holds.
-fn put_if<'a>(names: &mut BTreeSet<&'a Name>, name: &'a Name, holds: bool) -> Result<(), NoMemory>
-    ensures { OnOk result ((query : Labels) → has_name names.new query ≡ (has_name names.old query || (name_eq query name.now && holds))) }
+/// Puts the name among these, where both tests hold.
+fn put_if<'a>(
+    names: &mut BTreeSet<&'a Name>,
+    name: &'a Name,
+    first: bool,
+    second: bool,
+) -> Result<(), NoMemory>
+    ensures { OnOk result ((query : Labels) → has_name names.new query ≡ (has_name names.old query || (name_eq query name.now && (first && second)))) }
 {
-    if holds {
+    if first && second {
         names.insert(name)?;
     }
     Ok(())

@@ -1,0 +1,53 @@
+-- Buckets, into which items fall by their numbers: for the contracts of the code's searches alone.
+use Rattle.std.specs.Prelude.{◌≡◌, Bool, true, false, ◌||◌, ℕ, ◌%◌, List, length, slice_index_or}
+use Rattle.std.specs.List.{All, AllPairs}
+use Rattle.zone_rules.specs.declared.buckets.Bucket.{Bucket}
+use Rattle.zone_rules.specs.declared.buckets.Bucket.TheVariants.{Empty, Shared, Taken, Contested}
+
+-- what is in a bucket with one item more, which has to stand alone or may stand beside others
+abbrev pub bucket_with : Bucket → Bool → Bucket
+bucket_with Empty true = Taken
+bucket_with Empty false = Shared
+bucket_with Shared true = Contested
+bucket_with Shared false = Shared
+bucket_with Taken is_alone = Contested
+bucket_with Contested is_alone = Contested
+
+-- something fell into the bucket
+abbrev pub is_used : Bucket → Bool
+is_used Empty = false
+is_used Shared = true
+is_used Taken = true
+is_used Contested = true
+
+-- an item fell in that has to stand alone
+abbrev pub is_taken : Bucket → Bool
+is_taken Empty = false
+is_taken Shared = false
+is_taken Taken = true
+is_taken Contested = true
+
+-- such an item, and another one
+abbrev pub is_contested : Bucket → Bool
+is_contested Empty = false
+is_contested Shared = false
+is_contested Taken = false
+is_contested Contested = true
+
+-- where the bucket for this number stands
+abbrev pub place_of : List Bucket → ℕ → ℕ
+place_of buckets number = number % length buckets
+
+-- the bucket for this number
+abbrev pub bucket_of : List Bucket → ℕ → Bucket
+bucket_of buckets number = slice_index_or buckets (place_of buckets number) Empty
+
+-- an item with this number may have a rival
+abbrev pub has_rival : List Bucket → ℕ → Bool
+has_rival buckets number = is_contested (bucket_of buckets number)
+
+-- items with these numbers were put in, of which each has to stand alone or may stand beside others
+pub record Marked (buckets : List Bucket) (keys : List (ℕ × Bool)) : Type 0 where
+  pub used : All (λ key. is_used (bucket_of buckets key.0) ≡ true) keys
+  pub taken : All (λ key. key.1 ≡ true → is_taken (bucket_of buckets key.0) ≡ true) keys
+  pub contested : AllPairs (λ a b. a.0 ≡ b.0 → (a.1 || b.1) ≡ true → has_rival buckets b.0 ≡ true) keys
