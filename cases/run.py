@@ -6,6 +6,7 @@ examples alone whose subject is one of them, or whose name has one in it. For ea
 and at last the counts. It ends with status 1 where one is wrong, or where none was found. cases/README.md says how a
 case is written.
 """
+import copy
 import difflib
 import os
 import shlex
@@ -39,6 +40,7 @@ class Case:
         self.files = {"metadata.json": METADATA, "t.zone": HEAD}
         self.folder = None
         self.output = None
+        self.cuts = None
         self.wanted = {}
 
     def want(self, what, value):
@@ -82,6 +84,8 @@ def put(case, key, name, text):
         case.files[name] = made(text, name)
     elif key == "without":
         del case.files[name]
+    elif key == "cut":
+        case.cuts = (name, text)
     elif key == "args":
         case.words = shlex.split(name)
     elif key == "output":
@@ -108,7 +112,38 @@ def cases_of(path):
             first, _, text = part.partition("\n")
             key, _, name = first.partition(" ")
             put(case, key, name, text + "\n" if text else "")
+        yield from cut(case)
+
+
+def cut(case):
+    """The case, or one for each length to which it cuts a file off, from none to all of its octets."""
+    if not case.cuts:
         yield case
+        return
+    name, text = case.cuts
+    whole, length = case.files[name], 0
+    for line in text.splitlines():
+        lengths, _, said = line.partition(" ")
+        first, _, last = lengths.partition("-")
+        if int(first) != length:
+            raise SystemExit(f"{case.name}: nothing is said of {name} at {length} octets")
+        for length in range(length, int(last or first) + 1):
+            one = copy.deepcopy(case)
+            one.name += f" {length}"
+            one.files[name] = whole[:length]
+            one.want(*cut_off(said))
+            yield one
+        length += 1
+    if length != len(whole) + 1:
+        raise SystemExit(f"{case.name}: nothing is said of {name} at {length} octets")
+
+
+def cut_off(said):
+    """What a case wants of a file that was cut off: a report without faults with so many names, or a line on err."""
+    word, _, count = said.partition(" ")
+    if word != "names":
+        return "err", octets(said + "\n")
+    return "out", octets(f'{{"classes":{2 * int(count)},"faults":[],"names":{count},"rewrites":12}}\n')
 
 
 def example(name):
