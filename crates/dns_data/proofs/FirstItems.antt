@@ -1,8 +1,8 @@
--- Items that no earlier one equals, by a set of those that came before.
-use Rattle.std.proofs.Common.{◌≡◌, ℕ, ◌+◌, ◌<◌, ◌≤◌, Bool, not, ◌||◌, List, [], ◌∷◌, ◌++◌, length, map, take, drop, get_or, refl, ap, sym, ◌∙◌, add-one, append_assoc}
+-- Items that no earlier one equals, by those that came before.
+use Rattle.std.proofs.Common.{◌≡◌, ℕ, ◌+◌, ◌<◌, ◌≤◌, Bool, not, ◌||◌, List, [], ◌∷◌, ◌++◌, length, take, drop, get_or, refl, ap, sym, ◌∙◌, add-one, append_assoc}
 use Rattle.std.proofs.Math.Seq.{drop-cons}
 use Rattle.std.proofs.Math.ListN.{drop_of_length-le}
-use Rattle.std.proofs.lemmas.List.{append-nil, map-append, take_more}
+use Rattle.std.proofs.lemmas.List.{append-nil, take_more}
 use Rattle.std.proofs.lemmas.List.Folds.{list_any_more}
 use Rattle.std.specs.List.{list_any}
 use Rattle.dns_data.specs.First.{are_first_behind}
@@ -26,19 +26,6 @@ module _ {A : Type 0} (eq : A → A → Bool) (items : List A) (i : ℕ) (item :
 pub first-end : {A : Type 0} (eq : A → A → Bool) (items : List A) (i : ℕ) (firsts : List Bool) → length items ≤ i → firsts ++ are_first_behind eq (take i items) (drop i items) ≡ firsts
 first-end eq items i firsts past =
     ap (λ rest. firsts ++ are_first_behind eq (take i items) rest) (drop_of_length-le items past) ∙ append-nil firsts
-
-module _ {A B : Type 0} (view : A → B) (eq : A → A → Bool) (same : B → B → Bool) (agree : (x y : A) → eq x y ≡ same (view x) (view y)) where
-  -- whether an item equals one of the others, seen from what is seen of them
-  any-viewed : (item : A) (items : List A) → list_any (eq item) items ≡ list_any (same (view item)) (map view items)
-  any-viewed item [] = refl
-  any-viewed item (other ∷ items) = (λ j. agree item other j || any-viewed item items j)
-
-  -- the answers are those of what is seen of the items
-  pub first-viewed : (before items : List A) → are_first_behind eq before items ≡ are_first_behind same (map view before) (map view items)
-  first-viewed before [] = refl
-  first-viewed before (item ∷ items) =
-      (λ j. not (any-viewed item before j) ∷ first-viewed (before ++ item ∷ []) items j)
-      ∙ ap (λ front. not (list_any (same (view item)) (map view before)) ∷ are_first_behind same front (map view items)) (map-append view before (item ∷ []))
 
 -- a test of the items so far, and of the next
 pub any-next : {A : Type 0} (test : A → Bool) (items : List A) (i : ℕ) (item : A) (old : Bool) → i < length items → item ≡ get_or items i item → old ≡ list_any test (take i items) → (old || test item) ≡ list_any test (take (i + 1) items)

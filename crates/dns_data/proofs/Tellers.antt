@@ -1,17 +1,10 @@
--- What tells a record from others, as it is compared.
-use Rattle.std.proofs.Common.{◌≡◌, Bool, true, false, ◌&&◌, List, [], map, refl, ap, sym, ◌∙◌, ◌==◌}
+-- Data as they are compared.
+use Rattle.std.proofs.Common.{◌≡◌, Bool, true, false, ◌&&◌, refl, ◌==◌}
 use Rattle.dns_data.specs.Name.{name_eq}
 use Rattle.dns_data.specs.Rdata.{data_eq, octets_eq}
 use Rattle.dns_data.specs.contracts.rdata.RdataPartialEq.TheImpl as data_impl
 use Rattle.dns_data.specs.declared.rdata.Rdata.{Rdata}
 use Rattle.dns_data.specs.declared.rdata.Rdata.TheVariants.{A, Ns, Cname, Soa, Ptr, Hinfo, Mx, Txt, Aaaa, Srv, Dname, Caa, Other}
-use Rattle.dns_data.specs.declared.rdata.Rr.{Rr}
-use Rattle.dns_data.specs.First.{are_first, are_first_behind}
-use Rattle.dns_data.specs.Identical.{is_identical}
-use Rattle.dns_data.specs.Told.{Teller, told, teller}
-use Rattle.dns_data.specs.contracts.identical.IdentityPartialEq.TheImpl as identity_impl
-use Rattle.dns_data.specs.declared.identical.Identity.{Identity}
-use Rattle.dns_data.proofs.FirstItems.{first-viewed}
 
 -- tests in a row, grouped from the right and from the left
 three : (a b c : Bool) → (a && (b && c)) ≡ ((a && b) && c)
@@ -52,17 +45,3 @@ same_data (Dname a) (Dname b) = refl
 same_data (Caa flags tag value) (Caa flags' tag' value') = three (flags == flags') (octets_eq tag tag') (octets_eq value value')
 same_data (Other word tokens) (Other word' tokens') = refl
 same_data a b = refl
-
--- two tellers are equal
-abbrev same : Teller → Teller → Bool
-same a b = name_eq a.owner b.owner && data_eq a.rdata b.rdata
-
--- what is compared are owner and data
-same_identity : (x y : Identity) → (identity_impl.ghosts).eq x y ≡ same (told x) (told y)
-same_identity x y = ap (λ b. name_eq x.owner.now y.owner.now && b) (same_data x.rdata.now y.rdata.now)
-
--- the first of what tells records are those of the records
-pub first-told : (identities : List Identity) (rrs : List Rr) → map told identities ≡ map teller rrs → are_first (identity_impl.ghosts).eq identities ≡ are_first is_identical rrs
-first-told identities rrs are =
-    first-viewed told (identity_impl.ghosts).eq same same_identity [] identities
-    ∙ (ap (are_first_behind same []) are ∙ sym (first-viewed teller is_identical same (λ x y. refl) [] rrs))

@@ -1,4 +1,4 @@
--- Items that no earlier one equals: for the contracts of the search for identical records alone.
+-- Items that no earlier one equals: for the contracts of searches for equal items alone.
 use Rattle.std.specs.Prelude.{Bool, not, List, [], ◌∷◌, ◌++◌, if◌then◌else◌}
 use Rattle.std.specs.List.{list_any}
 

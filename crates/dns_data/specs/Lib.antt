@@ -16,4 +16,3 @@ pub mod Put
 pub mod TypeSet
 pub mod Storage
 pub mod First
-pub mod Told

@@ -3,8 +3,6 @@
 #![tactic(auto)]
 
 mod fault;
-mod first;
-mod identical;
 mod label;
 mod labels;
 mod laws;
@@ -22,7 +20,6 @@ mod type_set;
 mod words;
 
 pub use fault::{JoinFault, NameFault};
-pub use identical::first_of_identical;
 pub use label::Label;
 pub use labels::Labels;
 pub use laws::{identical_records, texts_tell_data};

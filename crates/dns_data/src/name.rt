@@ -62,8 +62,8 @@ impl Name {
         self.labels().front(count)
     }
 
-    /// The octets of the labels, each its length and its octets.
-    pub(crate) fn encoding(&self) -> &[u8]
+    /// The octets of the labels, the top one first, each its length and its octets.
+    pub fn encoding(&self) -> &[u8]
         ensures same { result.now ≡ encoded self.now }
         ensures name { IsName self.now }
     {

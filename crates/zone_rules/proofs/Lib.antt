@@ -5,4 +5,5 @@ pub mod Before
 pub mod FirstFaults
 pub mod Wildcards
 pub mod KeptRules
+pub mod OwnFaults
 mod Worked

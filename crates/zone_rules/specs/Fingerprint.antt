@@ -1,7 +1,8 @@
 -- Numbers that equal owners, and identical records, share: for the contracts of the code's searches alone.
-use Rattle.std.specs.Prelude.{ℕ, Bool, true, [], ◌∷◌}
+use Rattle.std.specs.Prelude.{ℕ, Bool, true}
 use Rattle.std.specs.Hash.FoldHasher.{initial, write, finish}
 use Rattle.std.specs.declared.hash.FoldHasher.{FoldHasher}
+use Rattle.dns_data.specs.Encoding.{encoded}
 use Rattle.dns_data.specs.Name.{Labels}
 use Rattle.dns_data.specs.declared.rdata.Rdata.{Rdata}
 use Rattle.dns_data.specs.declared.rdata.Rdata.TheVariants.{A, Ns, Cname, Soa, Ptr, Hinfo, Mx, Txt, Aaaa, Srv, Dname, Caa, Other}
@@ -9,10 +10,9 @@ use Rattle.dns_data.specs.declared.rdata.Rr.{Rr}
 use Rattle.dns_data.specs.declared.rr_type.RrType.TheVariants as types
 use Rattle.zone_rules.specs.Apex.{is_type}
 
--- a hasher that was fed the labels of a name, the top one first
+-- a hasher that was fed the labels of a name, the top one first, each its length and its octets
 abbrev pub fed_name : FoldHasher → Labels → FoldHasher
-fed_name hasher [] = hasher
-fed_name hasher (label ∷ labels) = fed_name (write hasher label) labels
+fed_name hasher name = write hasher (encoded name)
 
 -- a hasher that was fed the address or the name that data give, if they give one
 abbrev pub fed_data : FoldHasher → Rdata → FoldHasher

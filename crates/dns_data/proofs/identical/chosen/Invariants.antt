@@ -1,8 +1,0 @@
-use Rattle.std.proofs.Common.{◌≡◌, ◌++◌, drop}
-use Rattle.dns_data.specs.First.{chosen}
-use Rattle.dns_data.proofs.identical.chosen.Given as goal
-
--- the records that were chosen, and then those of the others
-abbrev pub invariant-loop-is_chosen : goal.invariant-loop-is_chosen
-invariant-loop-is_chosen l =
-    chosen l.initial.left.items l.are_chosen ≡ l.kept ++ chosen l.left.items (drop l.is_chosen-index l.are_chosen)
