@@ -3,3 +3,15 @@ pub mod Paths
 pub mod Pairs
 pub mod Taking
 pub mod Reached
+pub mod FirstPaths
+pub mod NoCircle
+pub mod EqualAnswers
+pub mod OpenBranches
+pub mod SearchStates
+pub mod TakenPaths
+pub mod EndHops
+pub mod ShownKinds
+pub mod Firsts
+pub mod WalksLed
+pub mod TwiceEqual
+pub mod ReachedNodes

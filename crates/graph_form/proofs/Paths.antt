@@ -19,7 +19,7 @@ use Rattle.graph_form.specs.declared.node.Node.{Node}
 use Rattle.graph_form.proofs.Places.{PairAt, pair_at, found_there}
 
 -- one node of a list at a place
-same_item : {A : Type 0} (found : Option A) (x y : A) → found ≡ Some x → found ≡ Some y → x ≡ y
+pub same_item : {A : Type 0} (found : Option A) (x y : A) → found ≡ Some x → found ≡ Some y → x ≡ y
 same_item found x y one other = cc
 
 module _ (setting : Setting) (query : Labels) (graph : PlainGraph) (rtype : RrType) (is : IsGraphOf setting query graph) where

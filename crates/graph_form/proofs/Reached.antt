@@ -28,7 +28,7 @@ use Rattle.graph_form.proofs.Paths.{path_is_walk}
 use Rattle.graph_form.proofs.Places.{found_there, item_there, place_of_item, pairs_in_row}
 
 -- each type is one of the twelve
-every_type : (rtype : RrType) → Contains types rtype
+pub every_type : (rtype : RrType) → Contains types rtype
 every_type rr.A = (0, omega arith, refl)
 every_type rr.Ns = (1, omega arith, refl)
 every_type rr.Cname = (2, omega arith, refl)
@@ -43,7 +43,7 @@ every_type rr.Dname = (10, omega arith, refl)
 every_type rr.Caa = (11, omega arith, refl)
 
 -- the pairs of a node are in the graph
-pair_there : (graph : PlainGraph) (at : ℕ) (node : Node) (arm : Arm) (rtype : RrType) → slice_get graph.nodes at ≡ Some node
+pub pair_there : (graph : PlainGraph) (at : ℕ) (node : Node) (arm : Arm) (rtype : RrType) → slice_get graph.nodes at ≡ Some node
     → Contains node.arms arm → has_bit arm.types rtype ≡ true → Contains (pairs_of graph) (node.state, rtype)
 pair_there graph at node arm rtype here has bit =
     flat_map_has node_pairs graph.nodes node (node.state, rtype) (item_there graph.nodes at node here)

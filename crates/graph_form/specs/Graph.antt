@@ -1,5 +1,5 @@
 -- Graphs: nodes and the nodes in which walks begin. A path takes one branch of each node, as a walk does of each state.
-use Rattle.std.specs.Prelude.{ℕ, ◌<◌, ◌^◌, Bool, List, [], ◌∷◌, length, map, slice_get, Option, Some, None, option_map, option_and_then, if◌then◌else◌, ◌==◌}
+use Rattle.std.specs.Prelude.{◌≡◌, ℕ, ◌<◌, ◌^◌, Bool, List, [], ◌∷◌, length, map, slice_get, Option, Some, None, option_map, option_and_then, if◌then◌else◌, ◌==◌}
 use Rattle.std.specs.List.{filter, find, flat_map}
 use Rattle.std.specs.Option.{option_map_or, option_to_list}
 use Rattle.dns_data.specs.RrType.{types}
@@ -46,6 +46,11 @@ arm_of node rtype = find (λ arm. has_bit arm.types rtype) node.arms
 -- the branches of a node for a type, in order
 abbrev pub branches_of : Node → RrType → List Branch
 branches_of node rtype = option_map_or (λ arm. arm.branches) (arm_of node rtype) []
+
+-- the branch with a number of the node with a number, for a type
+pub record HasBranch (graph : PlainGraph) (rtype : RrType) (at number : ℕ) (node : Node) (branch : Branch) : Type 0 where
+  pub here : slice_get graph.nodes at ≡ Some node
+  pub there : slice_get (branches_of node rtype) number ≡ Some branch
 
 -- the walk that a branch of a node gives: it ends, if no number of a branch is left; or it goes on
 abbrev pub by_branch : (ℕ → Option Walk) → State → Bool → Option Branch → Option Walk

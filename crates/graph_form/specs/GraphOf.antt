@@ -8,9 +8,11 @@ use Rattle.dns_data.specs.declared.rr_type.RrType.{RrType}
 use Rattle.net_model.specs.Step.{Setting, start, next}
 use Rattle.net_model.specs.Step as step
 use Rattle.net_model.specs.Tree.{IsReached}
+use Rattle.net_model.specs.Walk.{IsWalk}
 use Rattle.net_model.specs.declared.config.Config.{Config}
 use Rattle.net_model.specs.declared.walk.Hop.{Hop}
 use Rattle.net_model.specs.declared.walk.State.{State}
+use Rattle.net_model.specs.declared.walk.Walk.{Walk}
 use Rattle.graph_form.specs.Graph.{PlainGraph, arm_of, pairs_of}
 use Rattle.graph_form.specs.declared.node.Arm.{Arm}
 use Rattle.graph_form.specs.declared.node.Branch.{Branch}
@@ -49,6 +51,17 @@ pub record IsGraphOf (setting : Setting) (query : Labels) (graph : PlainGraph) :
   -- the arms of a node are apart in their types
   pub apart : (at : ℕ) (node : Node) → slice_get graph.nodes at ≡ Some node
       → AllPairs (λ a b. (rtype : RrType) → has_bit a.types rtype ≡ true → has_bit b.types rtype ≡ false) node.arms
+
+-- the state stands on a walk of the query with the type
+pub record StandsOn (setting : Setting) (query : Labels) (pair : State × RrType) : Type 0 where
+  pub walk : Walk
+  pub is_walk : IsWalk setting query pair.1 walk
+  pub stands : Contains walk.states pair.0
+
+-- no two nodes of the graph have equal states, and each pair of a node stands on a walk
+pub record IsExactIn (setting : Setting) (query : Labels) (graph : PlainGraph) : Type 0 where
+  pub one_node : AllPairs (λ a b. a.state ≢ b.state) graph.nodes
+  pub reached : (pair : State × RrType) → Contains (pairs_of graph) pair → StandsOn setting query pair
 
 -- the graph has the pairs of state and type that the query reaches: no two nodes have equal states, and each pair of a node
 -- is reached

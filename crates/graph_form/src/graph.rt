@@ -2,6 +2,7 @@
 
 ghost use Rattle.std.specs.Prelude.{◌≡◌, ◌<◌, ◌^◌, length, Some, slice_get};
 ghost use Rattle.std.specs.List.{filter};
+ghost use Rattle.std.specs.Option.{option_copied};
 ghost use Rattle.dns_data.specs.RrType.{types as types_in_order};
 ghost use Rattle.dns_data.specs.TypeSet.{has_bit};
 ghost use Rattle.graph_form.specs.Graph.{PlainGraph, node_pairs, pairs_of};
@@ -68,6 +69,13 @@ impl Graph {
         ensures { slice_get self.now.nodes i ≡ Some result.now }
     {
         &self.nodes.items()[i as usize]
+    }
+
+    /// The node with this number, or `None` where there is none.
+    pub(crate) fn find_node(&self, i: u32) -> Option<&Node>
+        ensures { option_copied result ≡ slice_get self.now.nodes i }
+    {
+        self.nodes.items().get(i as usize)
     }
 }
 

@@ -1,17 +1,29 @@
 //! Graphs of the walks of one query for all types at once, and reports, as plain values.
 //!
 //! The layer above may rest on this: the paths of a type in a graph whose branches tell the steps of its states are the
-//! walks of the query with this type, number by number (`paths_are_walks`).
+//! walks of the query with this type, number by number (`paths_are_walks`); and `trails` gives the first of them that
+//! shows a fault.
 //!
-//! Costs: the readers take no memory; `pairs` goes over the arms of all nodes.
+//! Costs: the readers take no memory; `pairs` goes over the arms of all nodes. `trails` passes over each node twice at most
+//! for each walk that it gives, and keeps two marks a node.
 #![tactic(auto)]
 
+mod first_path;
+mod first_walks;
 mod graph;
 mod laws;
 mod node;
+mod repeated;
 mod report;
+mod shows;
 
+pub use first_walks::trails;
 pub use graph::Graph;
 pub use laws::{pairs_are_reached, paths_are_walks, walks_and_zones_show};
 pub use node::{Arm, Branch, Node};
+pub use repeated::repeats;
 pub use report::{Report, ReportEntry, Seen};
+pub use shows::{is_authoritative, is_same_answer};
+
+#[cfg(test)]
+mod tests;

@@ -1,6 +1,11 @@
 //! Nodes of a graph.
 
-use dns_data::{List, TypeSet};
+ghost use Rattle.std.specs.Prelude.{◌≡◌};
+ghost use Rattle.std.specs.Option.{option_copied};
+ghost use Rattle.graph_form.specs.FirstPath.{node_behind};
+ghost use Rattle.graph_form.specs.Graph.{arm_of, branches_of};
+
+use dns_data::{List, RrType, TypeSet};
 use net_model::{Hop, Leaf, State};
 
 /// A state, and its branches for each type that comes to it.
@@ -22,4 +27,35 @@ pub struct Arm {
 pub enum Branch {
     Go { hop: Hop, to: u32 },
     End { hop: Option<Hop>, leaf: Leaf },
+}
+
+impl Node {
+    /// The branches for the type, in order. It takes no memory.
+    pub fn branches(&self, rtype: RrType) -> &[Branch]
+        ensures { result.now ≡ branches_of self.now rtype }
+    {
+        match self.arm(rtype) {
+            Some(arm) => arm.branches.items(),
+            None => &[],
+        }
+    }
+
+    /// The arm for the type, or `None` where no path comes to the node with it.
+    fn arm(&self, rtype: RrType) -> Option<&Arm>
+        ensures { option_copied result ≡ arm_of self.now rtype }
+    {
+        self.arms.items().iter().find(|arm| arm.types.has(rtype))
+    }
+}
+
+impl Branch {
+    /// The number of the node that the branch goes to, or `None` at an end.
+    pub(crate) fn node_behind(&self) -> Option<u32>
+        ensures { result ≡ node_behind self.now }
+    {
+        match self {
+            Branch::Go { to, .. } => Some(*to),
+            Branch::End { .. } => None,
+        }
+    }
 }

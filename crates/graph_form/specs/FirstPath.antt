@@ -1,0 +1,181 @@
+-- Which branches show a fault by themselves, and the first path that takes one: for the contracts of the search alone.
+use Rattle.std.specs.Prelude.{◌≡◌, ◌≢◌, ℕ, ◌+◌, ◌*◌, ◌<◌, ◌≤◌, Bool, true, false, ◌||◌, ◌&&◌, not, List, [], ◌∷◌, length, Option, Some, None, slice_get, if◌then◌else◌, ◌==◌}
+use Rattle.std.specs.List.{list_all}
+use Rattle.std.specs.Option.{option_map_or}
+use Rattle.std.specs.declared.cmp.Ordering.TheVariants.{Less}
+use lib.Pointwise.{pointwise}
+use Rattle.dns_data.specs.Name.{name_eq}
+use Rattle.dns_data.specs.Rdata.{data_eq}
+use Rattle.dns_data.specs.declared.rr_type.RrType.{RrType}
+use Rattle.net_model.specs.Shown.{is_authoritative}
+use Rattle.net_model.specs.Walk.{path_cmp}
+use Rattle.net_model.specs.declared.fault.Fault.{Fault}
+use Rattle.net_model.specs.declared.fault.Fault.TheVariants as faults
+use Rattle.net_model.specs.declared.place.Cut.{Cut}
+use Rattle.net_model.specs.declared.place.Place.{Place}
+use Rattle.net_model.specs.declared.walk.Hop.{Hop}
+use Rattle.net_model.specs.declared.walk.Hop.TheVariants.{Refer, Rewrite}
+use Rattle.net_model.specs.declared.walk.Leaf.{Leaf}
+use Rattle.net_model.specs.declared.walk.Leaf.TheVariants as leaves
+use Rattle.net_model.specs.declared.walk.State.{State}
+use Rattle.net_model.specs.declared.walk.Walk.{Walk}
+use Rattle.graph_form.specs.Graph.{HasBranch, PlainGraph, branches_of, path_along}
+use Rattle.graph_form.specs.declared.first_path.Onward.{Onward}
+use Rattle.graph_form.specs.declared.first_path.Turn.{Turn}
+use Rattle.graph_form.specs.declared.node.Branch.{Branch}
+use Rattle.graph_form.specs.declared.node.Branch.TheVariants.{Go, End}
+use Rattle.graph_form.specs.declared.node.Node.{Node}
+
+-- ---- which branches show a fault
+
+-- places are equal
+abbrev pub place_eq : Place → Place → Bool
+place_eq a b = name_eq a.server b.server && name_eq a.zone b.zone && name_eq a.owner b.owner
+
+-- name servers of delegations are equal
+abbrev pub cut_eq : Cut → Cut → Bool
+cut_eq a b = name_eq a.server b.server && name_eq a.zone b.zone && name_eq a.cut b.cut && name_eq a.ns b.ns
+
+-- leaves that tell what a zone has for the name are equal
+abbrev pub answer_eq : Leaf → Leaf → Bool
+answer_eq (leaves.Answer a) (leaves.Answer b) = pointwise data_eq a b
+answer_eq leaves.NoData leaves.NoData = true
+answer_eq leaves.NxDomain leaves.NxDomain = true
+answer_eq a b = false
+
+-- the hop is the referral to the name server
+abbrev pub is_referral : Cut → Hop → Bool
+is_referral cut (Refer other) = cut_eq cut other
+is_referral cut (Rewrite place by_dname to) = false
+
+-- an end with this hop is behind that referral
+abbrev pub is_behind : Cut → Option Hop → Bool
+is_behind cut hop = option_map_or (is_referral cut) hop false
+
+-- a branch that goes on by the hop shows the fault, whatever comes behind it
+abbrev pub hop_shows : Fault → Hop → Bool
+hop_shows (faults.Differs cut) hop = is_referral cut hop
+hop_shows (faults.NoGlue cut) hop = is_referral cut hop
+hop_shows (faults.GlueDiffers cut) hop = is_referral cut hop
+hop_shows (faults.Cyclic cut) hop = is_referral cut hop
+hop_shows fault hop = false
+
+-- a leaf is that of the fault
+abbrev pub leaf_shows : Fault → Leaf → Bool
+leaf_shows (faults.Lame cut) (leaves.Lame ns) = name_eq cut.ns ns
+leaf_shows (faults.Limit place) (leaves.Limit other) = place_eq place other
+leaf_shows (faults.Blackhole place) leaves.NxDomain = true
+leaf_shows (faults.Overlong place) (leaves.Overlong other) = place_eq place other
+leaf_shows (faults.NoAddress cut) (leaves.NoAddress ns) = name_eq cut.ns ns
+leaf_shows fault leaf = false
+
+-- an authoritative leaf in which none of the walks ends
+abbrev pub is_new_answer : List Walk → Leaf → Bool
+is_new_answer walks leaf = is_authoritative leaf && list_all (λ walk. not (answer_eq walk.leaf leaf)) walks
+
+-- A branch by which a state ends shows the fault. Of differing answers it shows one that none of the walks has.
+abbrev pub end_shows : Fault → List Walk → Option Place → Option Hop → Leaf → Bool
+end_shows (faults.Lame cut) walks last hop leaf = is_behind cut hop && leaf_shows (faults.Lame cut) leaf
+end_shows (faults.Differs cut) walks last hop leaf = is_behind cut hop
+end_shows (faults.NoGlue cut) walks last hop leaf = is_behind cut hop
+end_shows (faults.GlueDiffers cut) walks last hop leaf = is_behind cut hop
+end_shows (faults.Cyclic cut) walks last hop leaf = is_behind cut hop
+end_shows (faults.Limit place) walks last hop leaf = leaf_shows (faults.Limit place) leaf
+end_shows (faults.Blackhole place) walks last hop leaf =
+    option_map_or (place_eq place) last false && leaf_shows (faults.Blackhole place) leaf
+end_shows (faults.Answers class rtype) walks last hop leaf = is_new_answer walks leaf
+end_shows (faults.Overlong place) walks last hop leaf = leaf_shows (faults.Overlong place) leaf
+end_shows (faults.NoAddress cut) walks last hop leaf = is_behind cut hop && leaf_shows (faults.NoAddress cut) leaf
+
+-- the branch of a state shows the fault
+abbrev pub branch_shows : Fault → List Walk → State → Branch → Bool
+branch_shows fault walks state (Go hop to) = hop_shows fault hop
+branch_shows fault walks state (End hop leaf) = end_shows fault walks state.last hop leaf
+
+-- ---- paths that take such a branch
+
+-- the rest of a path by a branch: whether it is whole, and takes a branch that shows, unless one was taken before
+abbrev pub takes_by : (Bool → ℕ → Bool) → (State → Branch → Bool) → State → Bool → Bool → Option Branch → Bool
+takes_by rest shows state is_last taken None = false
+takes_by rest shows state is_last taken (Some (Go hop to)) = rest (taken || shows state (Go hop to)) to
+takes_by rest shows state is_last taken (Some (End hop leaf)) = is_last && (taken || shows state (End hop leaf))
+
+abbrev pub node_takes : (Bool → ℕ → Bool) → (State → Branch → Bool) → RrType → ℕ → Bool → Bool → Option Node → Bool
+node_takes rest shows rtype number is_last taken None = false
+node_takes rest shows rtype number is_last taken (Some node) =
+    takes_by rest shows node.state is_last taken (slice_get (branches_of node rtype) number)
+
+-- the path from a node
+abbrev pub takes_from : (State → Branch → Bool) → PlainGraph → RrType → List ℕ → Bool → ℕ → Bool
+takes_from shows graph rtype [] taken at = false
+takes_from shows graph rtype (number ∷ numbers) taken at =
+    node_takes (takes_from shows graph rtype numbers) shows rtype number (length numbers == 0) taken (slice_get graph.nodes at)
+
+-- the path from a start
+abbrev pub takes_along : (State → Branch → Bool) → PlainGraph → RrType → List ℕ → Bool
+takes_along shows graph rtype [] = false
+takes_along shows graph rtype (number ∷ numbers) =
+    option_map_or (takes_from shows graph rtype numbers false) (slice_get graph.starts number) false
+
+-- no path from the node takes such a branch
+abbrev pub IsBarren : (State → Branch → Bool) → PlainGraph → RrType → Bool → ℕ → Type 0
+IsBarren shows graph rtype taken at = (numbers : List ℕ) → takes_from shows graph rtype numbers taken at ≡ false
+
+-- the path from the node takes such a branch, and no other that does comes before it
+pub record IsFirstFrom (shows : State → Branch → Bool) (graph : PlainGraph) (rtype : RrType) (taken : Bool) (at : ℕ) (numbers : List ℕ) : Type 0 where
+  pub takes : takes_from shows graph rtype numbers taken at ≡ true
+  pub first : (others : List ℕ) → takes_from shows graph rtype others taken at ≡ true → path_cmp others numbers ≢ Less
+
+-- the same of a path from a start
+pub record IsFirstAlong (shows : State → Branch → Bool) (graph : PlainGraph) (rtype : RrType) (numbers : List ℕ) : Type 0 where
+  pub takes : takes_along shows graph rtype numbers ≡ true
+  pub first : (others : List ℕ) → takes_along shows graph rtype others ≡ true → path_cmp others numbers ≢ Less
+
+-- ---- the search
+
+-- where it is marked that a node was met, behind a branch that shows or not
+abbrev pub mark_of : ℕ → Bool → ℕ
+mark_of at taken = 2 * at + (if taken then 1 else 0)
+
+-- the branch is to be followed: it ends a path that shows, or goes to a node that wasn't met
+abbrev pub is_open : List Bool → Bool → Branch → Bool
+is_open met taken (Go hop to) = option_map_or not (slice_get met (mark_of to taken)) false
+is_open met taken (End hop leaf) = taken
+
+-- the node that a branch goes to
+abbrev pub node_behind : Branch → Option ℕ
+node_behind (Go hop to) = Some to
+node_behind (End hop leaf) = None
+
+-- the branch with this number is open
+pub record IsOpenAt (shows : State → Branch → Bool) (graph : PlainGraph) (rtype : RrType) (met : List Bool) (turn : Turn) (onward : Onward) : Type 0 where
+  pub node : Node
+  pub branch : Branch
+  pub has : HasBranch graph rtype turn.node onward.number node branch
+  pub taken : onward.taken ≡ (turn.taken || shows node.state branch)
+  pub leads : onward.to ≡ node_behind branch
+  pub is_open : is_open met onward.taken branch ≡ true
+  pub later : turn.number ≤ onward.number
+
+-- the number is before the branch, if there is one
+abbrev pub IsBefore : ℕ → Option Onward → Type 0
+IsBefore number None = Unit {0}
+IsBefore number (Some onward) = number < onward.number
+
+-- the branches from the turn's on are closed before the one that is found
+abbrev pub AreClosed : (State → Branch → Bool) → PlainGraph → RrType → List Bool → Turn → Option Onward → Type 0
+AreClosed shows graph rtype met turn found =
+    (number : ℕ) (node : Node) (branch : Branch) → turn.number ≤ number → IsBefore number found
+    → HasBranch graph rtype turn.node number node branch → is_open met (turn.taken || shows node.state branch) branch ≡ false
+
+-- the nodes that were met are barren
+abbrev pub AreBarren : (State → Branch → Bool) → PlainGraph → RrType → List Bool → Type 0
+AreBarren shows graph rtype met =
+    (at : ℕ) (taken : Bool) → slice_get met (mark_of at taken) ≡ Some true → IsBarren shows graph rtype taken at
+
+-- ---- its walk
+
+-- it is the walk of the first path
+abbrev pub IsFirstWalk : (State → Branch → Bool) → PlainGraph → RrType → Walk → Type 0
+IsFirstWalk shows graph rtype walk =
+    (numbers : List ℕ) × IsFirstAlong shows graph rtype numbers × (path_along graph rtype numbers ≡ Some walk)
