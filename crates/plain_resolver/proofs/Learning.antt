@@ -1,0 +1,163 @@
+-- What is learnt, by the list of all walks of a name, and in rounds.
+use Rattle.std.proofs.Common.{◌≡◌, ◌↔◌, ℕ, zero, suc, ◌+◌, ◌<◌, ◌≤◌, Bool, true, false, cond, List, [], ◌∷◌, ◌++◌, map, take, drop, length, get_or, filter, Contains, Option, Some, refl, sym, ap, ◌∙◌, subst, inl, inr, arith}
+use Rattle.std.specs.Prelude.{IsSome, is_some, if◌then◌else◌}
+use Rattle.std.specs.List.{list_any}
+use Rattle.std.proofs.lemmas.Bool.{cases_lt}
+use Rattle.std.proofs.lemmas.List.{take_more, drop_more, map-append, take-append-drop}
+use Rattle.std.proofs.lemmas.List.Elements.{filter-append, Contains-append_cases}
+use Rattle.dns_data.specs.Name.{Labels}
+use Rattle.dns_data.specs.declared.rr_type.RrType.{RrType}
+use Rattle.dns_data.proofs.Membership.{none_in_nil, first_or_later, map_has, from_map}
+use Rattle.dns_data.proofs.Searches.{from_any, any_has, same_truth}
+use Rattle.net_model.specs.declared.config.Config.{Config}
+use Rattle.net_model.specs.declared.config.Server.{Server}
+use Rattle.net_model.specs.declared.walk.Walk.{Walk}
+use Rattle.net_model.specs.Learnt.{gives_address, LearnsBy, Learns, IsRound, AfterRounds}
+use Rattle.net_model.specs.Step.{Setting, following}
+use Rattle.net_model.specs.Walk.{walk_along, AreWalks}
+use Rattle.net_model.proofs.LearntSets.{one_after_rounds}
+use Rattle.net_model.proofs.RoundsExist.{learns_decided}
+use Rattle.plain_resolver.specs.Passed.{HasTooMany, NoneHasTooMany, NoneInRounds, IsFirstToPass}
+
+module _ (setting : Setting) (name : Labels) (rtype : RrType) (walks : List Walk) (are : AreWalks setting name rtype walks) where
+  abbrev pub gives : Walk → Bool
+  gives walk = gives_address walk.leaf
+
+  -- each of all walks is one by its numbers
+  numbers_of : (walk : Walk) → Contains walks walk → (numbers : List ℕ) × (walk_along setting name rtype numbers ≡ Some walk)
+  numbers_of walk has =
+      let among = subst (λ (found : List (Option Walk)). Contains found (Some walk)) (sym are.2) (map_has (λ (w : Walk). Some w) walks walk has) in
+      let found = from_map (walk_along setting name rtype) are.0 (Some walk) among in
+      (found.0, found.2)
+
+  -- and each walk is among all
+  is_among : (numbers : List ℕ) (walk : Walk) → walk_along setting name rtype numbers ≡ Some walk → Contains walks walk
+  is_among numbers walk is =
+      let there = (are.1.all numbers).1 (ap is_some is) in
+      let among = subst (λ (found : List (Option Walk)). Contains found (Some walk)) are.2
+      (subst (Contains (map (walk_along setting name rtype) are.0)) is (map_has (walk_along setting name rtype) are.0 numbers there)) in
+      let found = from_map (λ (w : Walk). Some w) walks (Some walk) among in
+      let same : found.0 ≡ walk = cc in
+      subst (Contains walks) same found.1
+
+  -- so an address is learnt exactly where one of them gives one
+  pub learns_told : (test : Bool) → test ≡ list_any gives walks → (test ≡ true) ↔ LearnsBy setting name rtype
+  learns_told test is = (
+    λ some.
+        let found = from_any gives walks (sym is ∙ some) in
+        record { walk = found.0; is_walk = numbers_of found.0 found.1; ends = found.2 },
+    λ learns. is ∙ any_has gives walks learns.walk (is_among learns.is_walk.0 learns.walk learns.is_walk.1) learns.ends,
+  )
+
+-- whether an address of a name is learnt while some servers are followed
+pub test_while : Config → ℕ → List Labels → Labels → Bool
+test_while config rewrites followed name = (learns_decided (following config rewrites followed) name).0
+
+pub test_tells : (config : Config) (rewrites : ℕ) (followed : List Labels) (name : Labels)
+    → (test_while config rewrites followed name ≡ true) ↔ Learns (following config rewrites followed) name
+unfolding test_while
+test_tells config rewrites followed name = (learns_decided (following config rewrites followed) name).1
+
+pub test_is : (config : Config) (rewrites : ℕ) (followed : List Labels) (name : Labels) (test : Bool)
+    → (test ≡ true) ↔ Learns (following config rewrites followed) name → test_while config rewrites followed name ≡ test
+test_is config rewrites followed name test tells =
+    same_truth (test_while config rewrites followed name) test
+    (λ h. tells.1 ((test_tells config rewrites followed name).0 h))
+    (λ h. (test_tells config rewrites followed name).1 (tells.0 h))
+
+module _ (config : Config) (rewrites : ℕ) (begin learnt : List Labels) (same : IsRound config rewrites learnt learnt) where
+  -- a round that leads from a set to itself is every later round
+  pub stays : (rounds total : ℕ) → rounds ≤ total → AfterRounds config rewrites rounds begin learnt → AfterRounds config rewrites total begin learnt
+  stays rounds zero within after = subst (λ (n : ℕ). AfterRounds config rewrites n begin learnt) (let e : rounds ≡ zero = omega arith in e) after
+  stays rounds (suc total) within after =
+      elim (cases_lt rounds (suc total)) [
+        | inl less ↦ (learnt, stays rounds total (omega arith) after, same)
+        | inr equal ↦ subst (λ (n : ℕ). AfterRounds config rewrites n begin learnt) (let e : rounds ≡ suc total = omega arith in e) after
+      ]
+
+-- one set more in which no server has too many walks
+one_more : (config : Config) (rewrites most : ℕ) (begin followed : List Labels) (rounds : ℕ) → NoneInRounds config rewrites most begin rounds
+    → AfterRounds config rewrites rounds begin followed → NoneHasTooMany config rewrites most followed → NoneInRounds config rewrites most begin (suc rounds)
+one_more config rewrites most begin followed rounds none after few =
+    λ before other within is.
+    elim (cases_lt before rounds) [
+      | inl less ↦ none before other less is
+      | inr not_less ↦ (
+          let here : before ≡ rounds = omega arith in
+          let also = subst (λ (n : ℕ). AfterRounds config rewrites n begin other) here is in
+          subst (NoneHasTooMany config rewrites most) (one_after_rounds config rewrites rounds begin followed other after also) few)
+    ]
+
+-- the same with the numbers of the code
+pub next_few : (config : Config) (rewrites most : ℕ) (begin followed : List Labels) (rounds : ℕ) → NoneInRounds config rewrites most begin rounds
+    → AfterRounds config rewrites rounds begin followed → NoneHasTooMany config rewrites most followed → NoneInRounds config rewrites most begin (rounds + 1)
+next_few config rewrites most begin followed rounds none after few =
+    subst (NoneInRounds config rewrites most begin) (let e : suc rounds ≡ rounds + 1 = omega arith in e) (one_more config rewrites most begin followed rounds none after few)
+
+pub next_round : (config : Config) (rewrites : ℕ) (begin followed learnt : List Labels) (rounds : ℕ) → AfterRounds config rewrites rounds begin followed
+    → IsRound config rewrites followed learnt → AfterRounds config rewrites (rounds + 1) begin learnt
+next_round config rewrites begin followed learnt rounds after round =
+    subst (λ (n : ℕ). AfterRounds config rewrites n begin learnt) (let e : suc rounds ≡ rounds + 1 = omega arith in e) (followed, after, round)
+
+-- and every later one, where a round leads from the set to itself
+pub all_more : (config : Config) (rewrites most : ℕ) (begin followed : List Labels) (rounds total : ℕ) → NoneInRounds config rewrites most begin rounds
+    → AfterRounds config rewrites rounds begin followed → NoneHasTooMany config rewrites most followed → IsRound config rewrites followed followed
+    → NoneInRounds config rewrites most begin total
+all_more config rewrites most begin followed rounds total none after few same =
+    λ before other within is.
+    elim (cases_lt before rounds) [
+      | inl less ↦ none before other less is
+      | inr not_less ↦ (
+          let there = stays config rewrites begin followed same rounds before (omega arith) after in
+          subst (NoneHasTooMany config rewrites most) (one_after_rounds config rewrites before begin followed other there is) few)
+    ]
+
+-- ---- the servers of a round one by one
+
+module _ (config : Config) (rewrites most : ℕ) (followed : List Labels) (servers : List Server) (index : ℕ) (server : Server)
+    (within : index < length servers) (is : server ≡ get_or servers index server) where
+  -- the names up to this one
+  names_more : map (λ (s : Server). s.name) (take (index + 1) servers) ≡ map (λ (s : Server). s.name) (take index servers) ++ server.name ∷ []
+  names_more =
+      ap (map (λ (s : Server). s.name)) (take_more servers index server within ∙ ap (λ (s : Server). take index servers ++ s ∷ []) (sym is))
+      ∙ map-append (λ (s : Server). s.name) (take index servers) (server ∷ [])
+
+  -- one more is learnt, or isn't
+  pub learnt_more : (learnt new : List Labels) (test : Bool) → learnt ≡ filter (test_while config rewrites followed) (map (λ (s : Server). s.name) (take index servers))
+      → (test ≡ true) ↔ Learns (following config rewrites followed) server.name → new ≡ learnt ++ (if test then server.name ∷ [] else [])
+      → new ≡ filter (test_while config rewrites followed) (map (λ (s : Server). s.name) (take (index + 1) servers))
+  learnt_more learnt new test before tells put =
+      let f = test_while config rewrites followed in
+      put
+      ∙ ap (λ (b : Bool). learnt ++ cond b (server.name ∷ []) []) (sym (test_is config rewrites followed server.name test tells))
+      ∙ ap (λ (names : List Labels). names ++ cond (f server.name) (server.name ∷ []) []) before
+      ∙ sym (ap (filter f) names_more ∙ filter-append f (map (λ (s : Server). s.name) (take index servers)) (server.name ∷ []))
+
+  -- and it hasn't too many walks
+  pub few_more : ((name : Labels) → Contains (map (λ (s : Server). s.name) (take index servers)) name → HasTooMany config rewrites most followed name → ⊥)
+      → (HasTooMany config rewrites most followed server.name → ⊥)
+      → (name : Labels) → Contains (map (λ (s : Server). s.name) (take (index + 1) servers)) name → HasTooMany config rewrites most followed name → ⊥
+  few_more before here name among many =
+      elim (Contains-append_cases (map (λ (s : Server). s.name) (take index servers)) (server.name ∷ []) name (subst (λ (names : List Labels). Contains names name) names_more among)) [
+        | inl earlier ↦ before name earlier many
+        | inr last ↦ elim (first_or_later server.name [] name last) [
+          | inl same ↦ here (subst (HasTooMany config rewrites most followed) (sym same) many)
+          | inr none ↦ absurd (none_in_nil name none)
+        ]
+      ]
+
+  -- or it is the first that has
+  pub first_to_pass : servers ≡ config.servers → ((name : Labels) → Contains (map (λ (s : Server). s.name) (take index servers)) name → HasTooMany config rewrites most followed name → ⊥)
+      → HasTooMany config rewrites most followed server.name → IsFirstToPass config rewrites most followed server.name
+  first_to_pass are before many =
+      record {
+        earlier = map (λ (s : Server). s.name) (take index servers);
+        later = map (λ (s : Server). s.name) (drop (index + 1) servers);
+        splits =
+            ap (map (λ (s : Server). s.name)) (sym are ∙ sym (take-append-drop index servers)
+            ∙ ap (λ (rest : List Server). take index servers ++ rest)
+            (drop_more servers index server within ∙ ap (λ (s : Server). s ∷ drop (index + 1) servers) (sym is)))
+            ∙ map-append (λ (s : Server). s.name) (take index servers) (server ∷ drop (index + 1) servers);
+        none_has = before;
+        has = many;
+      }

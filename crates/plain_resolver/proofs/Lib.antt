@@ -1,0 +1,3 @@
+mod Learning
+mod Passing
+mod Resolved

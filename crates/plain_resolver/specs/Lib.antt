@@ -1,0 +1,6 @@
+pub use Rattle.net_model.specs.Learnt
+pub use Rattle.net_model.specs.Walk
+pub mod Asked
+pub mod Begun
+pub mod Passed
+pub mod Steps

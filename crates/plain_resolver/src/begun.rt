@@ -1,0 +1,113 @@
+//! Walks that have no end yet.
+
+ghost use Rattle.std.specs.Prelude.{◌≡◌, ◌++◌, ◌∷◌, [], IfOk, OnOk};
+ghost use Rattle.std.specs.Option.{option_to_list};
+
+use dns_data::{List, NoMemory};
+use net_model::{Hop, Leaf, State, Walk};
+use std::alloc::Global;
+use std::marker::Model;
+
+/// A begun walk: its states and hops so far.
+#[derive(Debug, Drop)]
+pub(crate) struct BegunWalk {
+    states: Vec<State>,
+    hops: Vec<Hop>,
+}
+
+impl Model for BegunWalk {
+    ghost use Rattle.plain_resolver.specs.Begun.{Begun};
+
+    ghost Value = { Begun };
+
+    ghost view = { λ begun. record { states = begun.states.items; hops = begun.hops.items } };
+}
+
+impl BegunWalk {
+    /// The walk before its first state.
+    pub fn new(alloc: Global) -> BegunWalk
+        ensures { result ≡ record { states = []; hops = [] } }
+    {
+        BegunWalk {
+            states: Vec::new(alloc),
+            hops: Vec::new(alloc),
+        }
+    }
+
+    /// Puts a state at the end.
+    pub fn enter(&mut self, state: State) -> Result<(), NoMemory>
+        ensures { OnOk result (self.new ≡ record { states = self.old.states ++ state ∷ []; hops = self.old.hops }) }
+    {
+        self.states.push(state)?;
+        Ok(())
+    }
+
+    /// Takes the last state off.
+    pub fn leave(&mut self)
+        ensures { (states : _) (state : _) → self.old.states ≡ states ++ state ∷ [] → self.new ≡ record { states = states; hops = self.old.hops } }
+    {
+        self.states.pop();
+    }
+
+    /// Puts a hop at the end.
+    pub fn go(&mut self, hop: Hop) -> Result<(), NoMemory>
+        ensures { OnOk result (self.new ≡ record { states = self.old.states; hops = self.old.hops ++ hop ∷ [] }) }
+    {
+        self.hops.push(hop)?;
+        Ok(())
+    }
+
+    /// Takes the last hop off.
+    pub fn back(&mut self)
+        ensures { (hops : _) (hop : _) → self.old.hops ≡ hops ++ hop ∷ [] → self.new ≡ record { states = self.old.states; hops = hops } }
+    {
+        self.hops.pop();
+    }
+
+    /// The walk with this end.
+    pub fn ended(&self, alloc: Global, hop: Option<Hop>, leaf: Leaf) -> Result<Walk, NoMemory>
+        ensures { IfOk result (λ walk. walk ≡ record { states = self.now.states; hops = self.now.hops ++ option_to_list hop; leaf = leaf }) }
+    {
+        Ok(Walk {
+            states: copied_states(alloc, self.states.as_slice())?,
+            hops: hops_to_end(alloc, self.hops.as_slice(), hop)?,
+            leaf,
+        })
+    }
+}
+
+/// Copies of hops, and the hop to the walk's end.
+fn hops_to_end(alloc: Global, hops: &[Hop], last: Option<Hop>) -> Result<List<Hop>, NoMemory>
+    ensures { IfOk result (λ all. all ≡ hops.now ++ option_to_list last) }
+{
+    let mut all = copied_hops(alloc, hops)?;
+    match last {
+        Some(hop) => {
+            all.push(hop)?;
+            Ok(all)
+        }
+        None => Ok(all),
+    }
+}
+
+/// Copies of states.
+fn copied_states(alloc: Global, states: &[State]) -> Result<List<State>, NoMemory>
+    ensures { IfOk result (λ copies. copies ≡ states.now) }
+{
+    let mut copies = List::new(alloc);
+    for state in states {
+        copies.push(state.copy(alloc)?)?;
+    }
+    Ok(copies)
+}
+
+/// Copies of hops.
+fn copied_hops(alloc: Global, hops: &[Hop]) -> Result<List<Hop>, NoMemory>
+    ensures { IfOk result (λ copies. copies ≡ hops.now) }
+{
+    let mut copies = List::new(alloc);
+    for hop in hops {
+        copies.push(hop.copy(alloc)?)?;
+    }
+    Ok(copies)
+}

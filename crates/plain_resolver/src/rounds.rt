@@ -1,0 +1,156 @@
+//! The servers whose addresses are learnt.
+
+ghost use Rattle.std.specs.Prelude.{◌≡◌, ◌↔◌, ◌++◌, ◌∷◌, [], length, true, IfOk, OnOk, IsErrOf, if◌then◌else◌};
+ghost use Rattle.std.specs.List.{list_any};
+ghost use Rattle.dns_data.specs.Name.{Labels};
+ghost use Rattle.net_model.specs.Learnt.{gives_address, LearnsBy, Learns, IsRound, AfterRounds};
+ghost use Rattle.net_model.specs.Step.{following};
+ghost use Rattle.plain_resolver.specs.Passed.{HasMoreWalks, HasTooMany, NoneHasTooMany, NoneInRounds, IsFirstToPass, IsFirstWithTooMany};
+
+use crate::fault::{LearntFault, ResolveFault};
+use crate::resolver::Resolver;
+use crate::walks::all_walks;
+use dns_data::{List, Name, NoMemory, RrType};
+use net_model::{Config, Leaf, Walk};
+use std::alloc::Global;
+use zone_lookup::Hosts;
+
+/// The names of the servers whose addresses are learnt after as many rounds as there are servers, begun with these. It
+/// is `WalksPassed` where for one of the sets from which a round starts some server's name has more than `most` walks of
+/// type A or of type AAAA, with the first such server of the first such set.
+pub fn learnt(
+    alloc: Global,
+    config: &Config,
+    rewrites: u32,
+    from: &[Name],
+    most: u32,
+) -> Result<List<Name>, LearntFault>
+    ensures rounds { IfOk result (λ learnt. AfterRounds config.now rewrites (length config.now.servers) from.now learnt) }
+    ensures few { OnOk result (NoneInRounds config.now rewrites most from.now (length config.now.servers)) }
+    ensures passed { (name : Labels) → IsErrOf result (LearntFault.WalksPassed name) → IsFirstWithTooMany config.now rewrites most from.now name }
+{
+    let hosts = Hosts::build(alloc, config)?;
+    let mut followed = copies(alloc, from)?;
+    for _round in 0..config.servers.items().len() {
+        let learnt = learnt_while(alloc, &hosts, rewrites, followed.items(), most)?;
+        if learnt == followed {
+            return Ok(followed);
+        }
+        followed = learnt;
+    }
+    Ok(followed)
+}
+
+/// Copies of names.
+fn copies(alloc: Global, names: &[Name]) -> Result<List<Name>, NoMemory>
+    ensures { IfOk result (λ copies. copies ≡ names.now) }
+{
+    let mut copies = List::new(alloc);
+    for name in names {
+        copies.push(name.copy(alloc)?)?;
+    }
+    Ok(copies)
+}
+
+/// The names of the servers whose addresses can be learnt while these are followed, in the order of the servers.
+fn learnt_while(
+    alloc: Global,
+    hosts: &Hosts<'_>,
+    rewrites: u32,
+    followed: &[Name],
+    most: u32,
+) -> Result<List<Name>, LearntFault>
+    ensures round { IfOk result (λ learnt. IsRound hosts.now rewrites followed.now learnt) }
+    ensures few { OnOk result (NoneHasTooMany hosts.now rewrites most followed.now) }
+    ensures passed { (name : Labels) → IsErrOf result (LearntFault.WalksPassed name) → IsFirstToPass hosts.now rewrites most followed.now name }
+{
+    let mut learnt = List::new(alloc);
+    for server in hosts.config().servers.items() {
+        let is_learnt = learns(alloc, hosts, rewrites, followed, &server.name, most)?;
+        put_if(alloc, &mut learnt, &server.name, is_learnt)?;
+    }
+    Ok(learnt)
+}
+
+/// Puts a copy of the name at the end, where it is to be put.
+fn put_if(alloc: Global, names: &mut List<Name>, name: &Name, is_put: bool) -> Result<(), NoMemory>
+    ensures { OnOk result (names.new ≡ names.old ++ (if is_put then name.now ∷ [] else [])) }
+{
+    if is_put {
+        names.push(name.copy(alloc)?)?;
+    }
+    Ok(())
+}
+
+/// Whether an address of the name can be learnt. It is `WalksPassed` with the name where it has more than `most` walks of
+/// type A or of type AAAA.
+fn learns(
+    alloc: Global,
+    hosts: &Hosts<'_>,
+    rewrites: u32,
+    followed: &[Name],
+    name: &Name,
+    most: u32,
+) -> Result<bool, LearntFault>
+    ensures learns { IfOk result (λ learns. (learns ≡ true) ↔ Learns (following hosts.now rewrites followed.now) name.now) }
+    ensures few { OnOk result (HasTooMany hosts.now rewrites most followed.now name.now → ⊥) }
+    ensures passed { (other : Labels) → IsErrOf result (LearntFault.WalksPassed other) → (name.now ≡ other) × HasTooMany hosts.now rewrites most followed.now name.now }
+{
+    match learns_by_either(alloc, hosts, rewrites, followed, name, most) {
+        Ok(learns) => Ok(learns),
+        Err(ResolveFault::WalksPassed) => Err(LearntFault::WalksPassed(name.copy(alloc)?)),
+        Err(ResolveFault::NoMemory) => Err(LearntFault::NoMemory),
+    }
+}
+
+/// Whether a walk of the name with type A or AAAA gives an address. It is `WalksPassed` where there are more than `most`
+/// of one type.
+fn learns_by_either(
+    alloc: Global,
+    hosts: &Hosts<'_>,
+    rewrites: u32,
+    followed: &[Name],
+    name: &Name,
+    most: u32,
+) -> Result<bool, ResolveFault>
+    ensures learns { IfOk result (λ learns. (learns ≡ true) ↔ Learns (following hosts.now rewrites followed.now) name.now) }
+    ensures few { OnOk result (HasTooMany hosts.now rewrites most followed.now name.now → ⊥) }
+    ensures passed { IsErrOf result ResolveFault.WalksPassed → HasTooMany hosts.now rewrites most followed.now name.now }
+{
+    let four = learns_by(alloc, hosts, rewrites, followed, name, RrType::A, most)?;
+    let six = learns_by(alloc, hosts, rewrites, followed, name, RrType::Aaaa, most)?;
+    Ok(four || six)
+}
+
+/// Whether a walk of the name with this type gives an address. It is `WalksPassed` where there are more than `most`.
+fn learns_by(
+    alloc: Global,
+    hosts: &Hosts<'_>,
+    rewrites: u32,
+    followed: &[Name],
+    name: &Name,
+    t: RrType,
+    most: u32,
+) -> Result<bool, ResolveFault>
+    ensures learns { IfOk result (λ learns. (learns ≡ true) ↔ LearnsBy (following hosts.now rewrites followed.now) name.now t) }
+    ensures few { OnOk result (HasMoreWalks (following hosts.now rewrites followed.now) name.now t most → ⊥) }
+    ensures passed { IsErrOf result ResolveFault.WalksPassed → HasMoreWalks (following hosts.now rewrites followed.now) name.now t most }
+{
+    let resolver = Resolver::new(hosts, rewrites, followed, t);
+    let walks = all_walks(alloc, &resolver, name, most)?;
+    Ok(some_gives(walks.as_slice()))
+}
+
+/// Whether one of the walks gives an address.
+fn some_gives(walks: &[Walk]) -> bool
+    ensures { result ≡ list_any (λ walk. gives_address walk.leaf) walks.now }
+{
+    walks.iter().any(|walk| gives_address(&walk.leaf))
+}
+
+/// Whether the end of a walk gives an address, or leads out of what is configured.
+fn gives_address(leaf: &Leaf) -> bool
+    ensures { result ≡ gives_address leaf.now }
+{
+    matches!(leaf, Leaf::Answer(_) | Leaf::Outside | Leaf::Unhosted(_))
+}
