@@ -1,5 +1,5 @@
 -- The names that fronts of origins and owners are, and those of a configuration's ground.
-use Rattle.std.proofs.Common.{◌≡◌, ◌∙◌, ℕ, ◌⊎◌, List, [], ◌∷◌, ◌++◌, length, take, drop, map, Contains, inl, inr, sym, refl, ap, subst, append_assoc, append-nil, arith}
+use Rattle.std.proofs.Common.{◌≡◌, ◌∙◌, ◌⊎◌, [], ◌∷◌, ◌++◌, length, take, drop, map, Contains, inl, inr, sym, refl, ap, subst, append_assoc, append-nil, arith}
 use Rattle.std.specs.Prelude.{◌↔◌}
 use Rattle.std.specs.List.{flat_map}
 use Rattle.std.proofs.lemmas.List.{take_at, take-append-drop, length-append}
@@ -16,7 +16,7 @@ use Rattle.net_model.specs.Prefix.{prefixes}
 use Rattle.net_model.specs.Reading.{Ground, Redirection, redirection_of, redirections_of, zones, records, origins_and_owners, ground_of}
 use Rattle.net_model.proofs.Prefixes.{prefixes_have, from_prefixes}
 use Rattle.dns_data.proofs.NameFronts.{Begins}
-use Rattle.label_graph.specs.Base.{IsInServer, IsInZone, server_redirections, zone_redirections}
+use Rattle.label_graph.specs.Base.{IsInServer, server_redirections, zone_redirections}
 use Rattle.label_graph.specs.Graphs.{SomeItem}
 use Rattle.label_graph.specs.LiveSet.{IsClosed}
 use Rattle.label_graph.specs.Pairs.{AreSame}

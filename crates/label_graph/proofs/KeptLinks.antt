@@ -1,6 +1,6 @@
 -- Links that were put at the end of others, and their rows.
-use Rattle.std.proofs.Common.{◌≡◌, ◌≢◌, ℕ, zero, suc, ◌<◌, ◌⊎◌, List, [], ◌∷◌, ◌++◌, length, get_or, replicate, Contains, AllPairs, inl, inr, sym, refl, ap, subst, ◌∙◌, append_assoc, append-nil, arith, true, false, nat_eq, eqb-true, true≢false}
-use Rattle.std.specs.Prelude.{slice_set}
+use Rattle.std.proofs.Common.{◌≡◌, ◌≢◌, ℕ, zero, suc, ◌<◌, ◌⊎◌, List, [], ◌∷◌, ◌++◌, length, get_or, replicate, Contains, AllPairs, inl, inr, sym, refl, ap, subst, ◌∙◌, append_assoc, append-nil, arith, Bool, true, nat_eq, eqb-true}
+use Rattle.std.specs.Prelude.{◌↔◌, IsTrue, slice_set}
 use Rattle.std.specs.List.{list_any}
 use Rattle.dns_data.proofs.Searches.{from_any, any_has}
 use Rattle.std.proofs.lemmas.Bool.Decides.{nat_tests}
@@ -153,11 +153,14 @@ tells_itself : (k : ℕ) → nat_eq k k ≡ true
 tells_itself k = grind (arith, nat_tests)
 
 -- a number that the test finds is in the row
-pub row_tells : (row : List ℕ) (k : ℕ) → list_any (λ y. nat_eq y k) row ≡ true → Contains row k
+row_tells : (row : List ℕ) (k : ℕ) → list_any (λ y. nat_eq y k) row ≡ true → Contains row k
 row_tells row k found =
     let (y, has, same) = from_any (λ (n : ℕ). nat_eq n k) row found in
     subst (Contains row) (eqb-true y k same) has
 
--- and one that it doesn't find isn't
-pub row_fails : (row : List ℕ) (k : ℕ) → list_any (λ y. nat_eq y k) row ≡ false → Contains row k → ⊥
-row_fails row k none has = true≢false (sym (any_has (λ (n : ℕ). nat_eq n k) row k has (tells_itself k)) ∙ none)
+-- and it finds each
+pub row_decides : (row : List ℕ) (k : ℕ) (found : Bool) → found ≡ list_any (λ y. nat_eq y k) row → IsTrue found ↔ Contains row k
+row_decides row k found is = (
+  λ yes. row_tells row k (sym is ∙ yes),
+  λ has. is ∙ any_has (λ (n : ℕ). nat_eq n k) row k has (tells_itself k),
+)

@@ -5,6 +5,7 @@ pub mod InOrder
 pub mod KeptLinks
 pub mod NamePlaces
 pub mod LiveNames
+pub mod LiveSets
 pub mod Passing
 pub mod Readings
 pub mod RowItems

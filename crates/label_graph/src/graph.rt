@@ -95,4 +95,11 @@ impl LabelGraph {
     {
         let _ = &self.table;
     }
+
+    /// Each name has a live set in the graph.
+    pub(crate) fn has_live_sets(&self)
+        ensures { (name : Labels) → (places : List ℕ) × IsLiveSet self.now name places }
+    {
+        let _ = &self.table;
+    }
 }

@@ -1,6 +1,8 @@
 //! Laws of graphs.
 
-ghost use Rattle.label_graph.specs.LiveSet.{IsClosed};
+ghost use Rattle.std.specs.Prelude.{ℕ, List};
+ghost use Rattle.dns_data.specs.Name.{Labels};
+ghost use Rattle.label_graph.specs.LiveSet.{IsClosed, IsLiveSet};
 
 use crate::graph::LabelGraph;
 
@@ -9,4 +11,11 @@ pub fn graph_is_closed(graph: &LabelGraph)
     ensures { IsClosed graph.now }
 {
     graph.is_closed();
+}
+
+/// Each name, named or not, has a live set in a graph.
+pub fn names_have_live_sets(graph: &LabelGraph)
+    ensures { (name : Labels) → (places : List ℕ) × IsLiveSet graph.now name places }
+{
+    graph.has_live_sets();
 }

@@ -1,6 +1,6 @@
 //! What is known while targets are followed.
 
-ghost use Rattle.std.specs.Prelude.{◌≡◌, ◌<◌, [], ◌∷◌, length, replicate, slice_index_or, IfOk, OnOk, Some, slice_get, All, ◌++◌};
+ghost use Rattle.std.specs.Prelude.{◌≡◌, ◌↔◌, ◌<◌, [], ◌∷◌, length, replicate, slice_index_or, IfOk, OnOk, IsTrue, Some, slice_get, Contains, All, ◌++◌};
 ghost use Rattle.label_graph.specs.LinkRows.{link, AreAdded, AreKept, with_front, with_base, read_from, read_by};
 
 use crate::rows::Rows;
@@ -79,18 +79,14 @@ impl Links {
         ensures fronts { IfOk result (λ links. length links.bases ≡ length self.bases) }
         ensures bases { IfOk result (λ links. length links.fronts ≡ length self.fronts) }
     {
+        if self.has(one) {
+            return Ok(self);
+        }
         let Links {
             mut list,
             mut bases,
             mut fronts,
         } = self;
-        if bases.at(one.front).contains(&one.base) {
-            return Ok(Links {
-                list,
-                bases,
-                fronts,
-            });
-        }
         list.push(one)?;
         bases.put(one.front, one.base)?;
         fronts.put(one.base, one.front)?;
@@ -99,6 +95,22 @@ impl Links {
             bases,
             fronts,
         })
+    }
+
+    /// Whether the link is known. The shorter of its two rows is searched, so that many owners of one target cost no
+    /// more than many targets of one owner.
+    fn has(&self, one: Link) -> bool
+        requires front { one.front < length self.now.bases }
+        requires base { one.base < length self.now.fronts }
+        ensures { IsTrue result ↔ Contains self.now.list one }
+    {
+        let bases = self.bases.at(one.front);
+        let fronts = self.fronts.at(one.base);
+        if bases.len() < fronts.len() {
+            bases.contains(&one.base)
+        } else {
+            fronts.contains(&one.front)
+        }
     }
 
     /// The front with each base name to which one of the targets is known to read on.

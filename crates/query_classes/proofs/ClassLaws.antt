@@ -1,19 +1,21 @@
 -- The partition of names into classes, and the names that stand for them.
-use Rattle.std.proofs.Common.{◌≡◌, ◌∙◌, ℕ, ◌<◌, ◌≤◌, List, [], ◌∷◌, ◌++◌, length, take, inl, inr, sym, refl, ap, subst, append_assoc, append-nil, arith}
+use Rattle.std.proofs.Common.{◌≡◌, ◌∙◌, ℕ, ◌<◌, ◌≤◌, List, [], ◌∷◌, ◌++◌, length, take, Contains, inl, inr, sym, refl, ap, subst, append_assoc, append-nil, arith}
 use Rattle.std.specs.List.{AllByRecursion}
 use Rattle.std.proofs.lemmas.Bool.{cases_lt}
 use Rattle.std.proofs.lemmas.List.{take_at, length-append}
 use Rattle.dns_data.specs.Label.{IsLabel}
 use Rattle.dns_data.specs.Name.{Labels, IsName, wire_octets}
+use Rattle.dns_data.proofs.Membership.{none_in_nil, has_first}
 use Rattle.dns_data.proofs.NameFronts.{two_fronts, octets_of_prefix, octets_with_label}
 use Rattle.dns_data.proofs.Names.{name_append}
 use Rattle.net_model.specs.declared.class.Class.{Class}
 use Rattle.net_model.specs.declared.class.Class.TheVariants.{Exact, Below}
 use Rattle.net_model.specs.Class.{IsClassOf, IsFirstUnnamed}
-use Rattle.net_model.specs.Reading.{Ground, IsNamed}
+use Rattle.net_model.specs.Reading.{Ground, IsNamed, ReadsOnTo}
 use Rattle.net_model.proofs.FirstLabel.{shorter_first}
-use Rattle.label_graph.specs.LiveSet.{IsClosed}
+use Rattle.label_graph.specs.LiveSet.{IsClosed, IsLiveSet, name_at}
 use Rattle.label_graph.proofs.LiveNames.{prefix_is_named}
+use Rattle.label_graph.proofs.TargetLinks.{place_among, among_place}
 use Rattle.query_classes.specs.Members.{IsEmptyClass, StandsFor}
 
 -- a name has one class
@@ -142,3 +144,17 @@ pub label_more : (name above rest after : Labels) (own octets : List ℕ) → na
     → name ≡ (above ++ own ∷ []) ++ after
 label_more name above rest after own octets passed first same =
     passed ∙ ap (λ (l : Labels). above ++ l) first ∙ ap (λ (l : List ℕ). above ++ l ∷ after) (sym same) ∙ sym (append_assoc above (own ∷ []) after)
+
+-- a name without a live base name isn't named
+pub not_named : (ground : Ground) (name : Labels) (live : List ℕ) → IsLiveSet ground name live → live ≡ [] → IsNamed ground name → ⊥
+not_named ground name live of none named =
+    let (place, below, is) = place_among ground.names named.base named.among in
+    none_in_nil place (subst (λ (l : List ℕ). Contains l place) none
+    ((of.live place below).1 (subst (λ (n : Labels). ReadsOnTo ground.redirections name n) (sym is) named.reads)))
+
+-- one with a live base name is
+pub live_named : (ground : Ground) (name : Labels) (live : List ℕ) → IsLiveSet ground name live → (live ≡ [] → ⊥) → IsNamed ground name
+live_named ground name [] of some = absurd (some refl)
+live_named ground name (place ∷ live) of some =
+    let below : place < length ground.names = of.within 0 0 (omega arith) in
+    record { base = name_at ground.names place; among = among_place ground.names place below; reads = (of.live place below).0 (has_first place live) }

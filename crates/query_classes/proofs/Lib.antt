@@ -2,6 +2,7 @@ pub mod ClassLaws
 pub mod FirstFree
 pub mod FreeLabels
 pub mod NamesBelow
+pub mod Partition
 pub mod SameGrounds
 pub mod TreeRows
 pub mod TreeWalk

@@ -1,5 +1,5 @@
 -- What a class has, and the name that stands for it.
-use Rattle.std.specs.Prelude.{◌≤◌}
+use Rattle.std.specs.Prelude.{◌≡◌, ◌≤◌}
 use Rattle.dns_data.specs.Name.{Labels, IsName, wire_octets}
 use Rattle.net_model.specs.declared.class.Class.{Class}
 use Rattle.net_model.specs.declared.class.Class.TheVariants.{Exact, Below}
@@ -21,3 +21,10 @@ pub record StandsFor (ground : Ground) (class : Class) (name : Labels) : Type 0 
   pub is_name : IsName name
   pub is_member : IsClassOf ground name class
   pub shortest : (member : Labels) → IsName member → IsClassOf ground member class → wire_octets name ≤ wire_octets member
+
+-- the name is in one class, and a name stands for that
+pub record IsInOneClass (ground : Ground) (query : Labels) : Type 0 where
+  pub class : Class
+  pub is : IsClassOf ground query class
+  pub one : (other : Class) → IsClassOf ground query other → other ≡ class
+  pub stands : (name : Labels) × StandsFor ground class name

@@ -14,6 +14,7 @@
 mod class;
 mod fault;
 mod free;
+pub mod laws;
 mod level;
 mod live_name;
 mod tree;

@@ -1,5 +1,4 @@
-use Rattle.std.proofs.Common.{◌≡◌, ◌∙◌, List, [], ◌∷◌, ◌++◌, map, take, Contains, inl, inr, sym, ap, subst}
-use Rattle.std.specs.Prelude.{◌↔◌}
+use Rattle.std.proofs.Common.{◌≡◌, ◌∙◌, List, ◌++◌, map, Contains, inl, inr, sym, ap}
 use Rattle.std.specs.List.{flat_map}
 use Rattle.std.specs.Cmp.Lexicographic.{nat_list_eq_equiv, lists_equiv, lists_ties, texts_ties}
 use Rattle.std.proofs.lemmas.List.{take_all}
@@ -7,8 +6,7 @@ use Rattle.dns_data.specs.Label.{label_cmp}
 use Rattle.dns_data.specs.Name.{Labels, name_cmp, name_eq}
 use Rattle.dns_data.proofs.NameOrder.{names_total}
 use Rattle.dns_data.proofs.Names.{name_eq_decides}
-use Rattle.net_model.specs.declared.config.Server.{Server}
-use Rattle.net_model.specs.Reading.{Redirection, redirections_of, ground_of}
+use Rattle.net_model.specs.Reading.{Redirection, ground_of}
 use Rattle.label_graph.specs.Base.{IsInServer, server_redirections}
 use Rattle.label_graph.specs.Pairs.{redirection}
 use Rattle.label_graph.proofs.BaseGround.{base_closed, base_names, base_redirections}

@@ -1,4 +1,4 @@
-use Rattle.std.proofs.Common.{◌≡◌, ◌⊎◌, ◌++◌, [], ◌∷◌, map, take, Contains}
+use Rattle.std.proofs.Common.{◌≡◌, ◌⊎◌, [], ◌∷◌, map, take, Contains}
 use Rattle.std.specs.Prelude.{◌↔◌}
 use Rattle.std.specs.List.{flat_map}
 use Rattle.dns_data.specs.Name.{Labels}

@@ -1,4 +1,4 @@
-use Rattle.std.proofs.Common.{◌≡◌, ◌∙◌, List, ◌++◌, map, take, append_assoc, inl, inr, sym, ap}
+use Rattle.std.proofs.Common.{◌∙◌, List, ◌++◌, map, take, append_assoc, inl, inr, sym, ap}
 use Rattle.std.specs.List.{flat_map}
 use Rattle.net_model.specs.Reading.{Redirection}
 use Rattle.label_graph.specs.Base.{IsInZone, zone_redirections}

@@ -1,6 +1,5 @@
-use Rattle.std.proofs.Common.{◌≡◌, ◌∙◌, List, ◌++◌, map, take, append_assoc, inl, inr, sym, ap}
+use Rattle.std.proofs.Common.{◌∙◌, List, ◌++◌, map, take, append_assoc, inl, inr, sym, ap}
 use Rattle.std.specs.List.{flat_map}
-use Rattle.dns_data.specs.Name.{Labels}
 use Rattle.dns_data.specs.declared.rdata.Rr.{Rr}
 use Rattle.net_model.specs.Reading.{Redirection, redirection_of}
 use Rattle.label_graph.specs.Pairs.{redirection}

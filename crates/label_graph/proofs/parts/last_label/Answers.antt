@@ -1,11 +1,7 @@
-use Rattle.std.proofs.Common.{◌≡◌, ◌∙◌, ℕ, Bool, true, false, List, [], ◌∷◌, ◌++◌, length, append_assoc, Bor, Option, Some, None, Ok, Err, sym, ap, refl}
-use Rattle.std.specs.Prelude.{MatchOption, ◌==◌, nat_lt, map, if◌then◌else◌}
-use Rattle.std.specs.List.{list_all}
-use Rattle.std.proofs.lemmas.Bool.{and_parts, not-true}
-use Rattle.dns_data.specs.Label.{IsLabel, is_label_octet, label_of}
+use Rattle.std.proofs.Common.{◌≡◌, ◌∙◌, ℕ, List, [], ◌∷◌, ◌++◌, append_assoc, Bor, Option, Some, None, sym, ap}
+use Rattle.std.specs.Prelude.{MatchOption}
+use Rattle.dns_data.specs.Label.{IsLabel}
 use Rattle.dns_data.specs.Name.{Labels}
-use Rattle.dns_data.specs.Octet.{folded, is_upper}
-use Rattle.dns_data.specs.declared.fault.NameFault.TheVariants.{EmptyLabel, LabelTooLong}
 use Rattle.label_graph.proofs.FoldedLabels.{told}
 use Rattle.label_graph.proofs.parts.last_label.Goals as goal
 

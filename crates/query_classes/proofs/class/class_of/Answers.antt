@@ -1,30 +1,14 @@
-use Rattle.std.proofs.Common.{◌≡◌, ◌∙◌, ℕ, ◌<◌, List, [], ◌∷◌, ◌++◌, length, Contains, sym, ap, refl, subst, true≢false, arith}
+use Rattle.std.proofs.Common.{◌≡◌, ◌∙◌, ℕ, List, [], ◌∷◌, ◌++◌, sym, ap, subst, true≢false}
 use Rattle.dns_data.specs.Name.{Labels, IsName}
-use Rattle.dns_data.proofs.Membership.{none_in_nil, has_first}
 use Rattle.net_model.specs.declared.class.Class.TheVariants.{Below}
 use Rattle.net_model.specs.Class.{IsClassOf}
-use Rattle.net_model.specs.Reading.{Ground, IsNamed, ReadsOnTo}
-use Rattle.label_graph.specs.LiveSet.{IsClosed, IsLiveSet, name_at}
+use Rattle.net_model.specs.Reading.{Ground, IsNamed}
+use Rattle.label_graph.specs.LiveSet.{IsClosed, IsLiveSet}
 use Rattle.label_graph.proofs.LiveNames.{prefix_is_named}
-use Rattle.label_graph.proofs.TargetLinks.{place_among, among_place}
 use Rattle.query_classes.specs.Members.{StandsFor}
-use Rattle.query_classes.proofs.ClassLaws.{one_class, in_below, below_stood, first_label_of, label_more}
+use Rattle.query_classes.proofs.ClassLaws.{one_class, in_below, below_stood, first_label_of, label_more, not_named, live_named}
 use Rattle.query_classes.proofs.FirstFree.{first_free}
 use Rattle.query_classes.proofs.class.class_of.Goals as goal
-
--- a name without a live base name isn't named
-not_named : (ground : Ground) (name : Labels) (live : List ℕ) → IsLiveSet ground name live → live ≡ [] → IsNamed ground name → ⊥
-not_named ground name live of none named =
-    let (place, below, is) = place_among ground.names named.base named.among in
-    none_in_nil place (subst (λ (l : List ℕ). Contains l place) none
-    ((of.live place below).1 (subst (λ (n : Labels). ReadsOnTo ground.redirections name n) (sym is) named.reads)))
-
--- one with a live base name is
-live_named : (ground : Ground) (name : Labels) (live : List ℕ) → IsLiveSet ground name live → (live ≡ [] → ⊥) → IsNamed ground name
-live_named ground name [] of some = absurd (some refl)
-live_named ground name (place ∷ live) of some =
-    let below : place < length ground.names = of.within 0 0 (omega arith) in
-    record { base = name_at ground.names place; among = among_place ground.names place below; reads = (of.live place below).0 (has_first place live) }
 
 -- what stands for the class below a name, where one of a name's labels is free
 stood : (ground : Ground) → IsClosed ground → (above rest : Labels) (own : List ℕ) (live : List ℕ) → IsLiveSet ground above live → IsNamed ground above
