@@ -1,5 +1,5 @@
 -- What contracts see of the two ends of a deque.
-use Rattle.std.specs.Prelude.{◌≡◌, ◌∷◌, [], ◌++◌}
+use Rattle.std.specs.Prelude.{◌≡◌, ℕ, ◌∷◌, [], ◌++◌}
 use Rattle.crossbeam_deque.specs.Handles.{worker_view, worker_deque, view, stealer_deque}
 use Rattle.steal_pool.specs.declared.rule.SeatView.{SeatView}
 use Rattle.steal_pool.specs.declared.row.OwnRow.{OwnRow}
@@ -27,6 +27,10 @@ IsSeatOf own other = stealer_deque other.deque ≡ worker_deque own.deque
 -- it is a seat at the same deque
 abbrev pub IsSameSeat : OtherRow → OtherRow → Type 0
 IsSameSeat old new = stealer_deque new.deque ≡ stealer_deque old.deque
+
+-- the seat took this ticket, and no other
+abbrev pub Took : SeatView → SeatView → ℕ → Type 0
+Took old new ticket = new.taken ≡ old.taken ++ ticket ∷ []
 
 -- the seat took the first ticket, or at one moment the deque held nothing, or nothing was done
 abbrev pub TakesOne : SeatView → SeatView → Taken → Type 0

@@ -1,9 +1,9 @@
 -- What a slot counts.
-use Rattle.std.specs.Prelude.{◌≡◌, ℕ, ◌+◌, ◌≤◌, List, length, sum_by, Option, Some, None}
+use Rattle.std.specs.Prelude.{◌≡◌, ◌⊎◌, ℕ, ◌+◌, ◌<◌, ◌≤◌, List, length, slice_index_or, sum_by, Option, Some, None}
 use Rattle.steal_pool.specs.declared.row.OwnRow.{OwnRow}
 use Rattle.steal_pool.specs.declared.row.OtherRow.{OtherRow}
 use Rattle.steal_pool.specs.declared.slot.Slot.{Slot}
-use Rattle.steal_pool.specs.Rows.{own_view, other_view}
+use Rattle.steal_pool.specs.Rows.{own_view, other_view, Took}
 use Rattle.steal_pool.specs.Ends.{IsRightCause, ClaimsMet, stop_of}
 
 -- how many tickets a seat took
@@ -13,6 +13,16 @@ taken_at other = length (other_view other).taken
 -- how many tickets all seats of a worker took
 abbrev pub taken_in : OwnRow → List OtherRow → ℕ
 taken_in own others = length (own_view own).taken + sum_by taken_at others
+
+-- one of these seats took the ticket
+abbrev pub TookAtOne : List OtherRow → List OtherRow → ℕ → Type 0
+TookAtOne others left ticket =
+    (place : ℕ) × (place < length others)
+    × ((d : OtherRow) → Took (other_view (slice_index_or others place d)) (other_view (slice_index_or left place d)) ticket)
+
+-- the ticket was taken at the own seat, or at one of the others
+abbrev pub TookNext : OwnRow → OwnRow → List OtherRow → List OtherRow → ℕ → Type 0
+TookNext own own_left others left ticket = Took (own_view own) (own_view own_left) ticket ⊎ TookAtOne others left ticket
 
 -- one where there is a ticket
 abbrev pub one_if : Option ℕ → ℕ

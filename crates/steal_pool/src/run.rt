@@ -57,8 +57,10 @@ pub fn run_tree_counted<W: Work + Sync, G: Gate + Sync, R: Threads + Wait + Sync
     ensures few { OnOk result (ReachesMore W.first_item W.children_of limit → ⊥) }
     ensures fault { IfErr result (IsPoolFault W.first_item W.children_of limit) }
 
-    // No more was filed than claimed, and no more claimed than the limit.
-    ensures filed { count.new.filed ≤ count.new.given }
+    // No more was filed, or refused as foreign, than claimed, and no more claimed than the limit. Where there is a list,
+    // each claim was one of the two.
+    ensures filed { count.new.filed + count.new.foreign ≤ count.new.given }
+    ensures met { OnOk result (count.new.given ≡ count.new.filed + count.new.foreign) }
     ensures given { count.new.given ≤ limit }
 
     // There were as many judging calls as claims.
@@ -139,7 +141,8 @@ fn answer<W: Work>(
     ensures whole { IfOk result (IsWholeTree W.Item.cmp W.first_item W.children_of W.verdict_of) }
     ensures few { OnOk result (ReachesMore W.first_item W.children_of limit → ⊥) }
     ensures fault { IfErr result (IsPoolFault W.first_item W.children_of limit) }
-    ensures filed { count.new.filed ≤ count.new.given }
+    ensures filed { count.new.filed + count.new.foreign ≤ count.new.given }
+    ensures met { OnOk result (count.new.given ≡ count.new.filed + count.new.foreign) }
     ensures given { count.new.given ≤ limit }
     ensures judged { count.new.judged ≡ count.new.given }
     ensures items { IfOk result (λ list. count.new.foreign ≡ 0 → (count.new.given ≡ length list) × (count.new.filed ≡ length list) × (count.new.judged ≡ length list)) }

@@ -1,7 +1,8 @@
 //! Which ticket a worker takes next.
 
-ghost use Rattle.std.specs.Prelude.{◌≡◌, ◌+◌, vec_len, sum_by, None, true};
-ghost use Rattle.steal_pool.specs.Slots.{taken_at, taken_in, one_if};
+ghost use Rattle.std.specs.Prelude.{◌≡◌, ◌+◌, ◌<◌, ◌++◌, vec_len, sum_by, None, IfSome, option_to_list, true};
+ghost use Rattle.steal_pool.specs.Rows.{other_view, Took};
+ghost use Rattle.steal_pool.specs.Slots.{taken_at, taken_in, one_if, TookAtOne, TookNext};
 
 use crate::row::{OtherRow, OwnRow, Taken};
 
@@ -15,6 +16,10 @@ pub fn next_ticket(
 ) -> Option<u32>
     ensures count { taken_in own.new others.new.items + vec_len kept.old ≡ taken_in own.old others.old.items + (vec_len kept.new + one_if result) }
     ensures none { result ≡ None → vec_len kept.new ≡ 0 }
+
+    // It is the last one that was kept, or else one that a seat took.
+    ensures kept { 0 < vec_len kept.old → kept.old.items ≡ kept.new.items ++ option_to_list result }
+    ensures taken { vec_len kept.old ≡ 0 → IfSome result (TookNext own.old own.new others.old.items others.new.items) }
     ensures stopped { stopped ≡ true → taken_in own.new others.new.items ≡ taken_in own.old others.old.items }
 {
     if let Some(ticket) = kept.pop() {
@@ -28,7 +33,8 @@ pub fn next_ticket(
 
 /// A ticket of the own deque first, and then of the others in their order.
 fn take_ticket(own: &mut OwnRow, others: &mut Vec<OtherRow>) -> Option<u32>
-    ensures { taken_in own.new others.new.items ≡ taken_in own.old others.old.items + one_if result }
+    ensures count { taken_in own.new others.new.items ≡ taken_in own.old others.old.items + one_if result }
+    ensures taken { IfSome result (TookNext own.old own.new others.old.items others.new.items) }
 {
     match own.pop() {
         Some(ticket) => Some(ticket),
@@ -38,7 +44,8 @@ fn take_ticket(own: &mut OwnRow, others: &mut Vec<OtherRow>) -> Option<u32>
 
 /// A ticket of the first of the other deques that gives one.
 fn steal_first(others: &mut [OtherRow]) -> Option<u32>
-    ensures { sum_by taken_at others.new ≡ sum_by taken_at others.old + one_if result }
+    ensures count { sum_by taken_at others.new ≡ sum_by taken_at others.old + one_if result }
+    ensures taken { IfSome result (TookAtOne others.old others.new) }
 {
     for place in 0..others.len() {
         if let Some(ticket) = steal_ticket(&mut others[place]) {
@@ -50,7 +57,8 @@ fn steal_first(others: &mut [OtherRow]) -> Option<u32>
 
 /// A ticket of another deque. A steal that may be tried again gives none.
 fn steal_ticket(other: &mut OtherRow) -> Option<u32>
-    ensures { taken_at other.new ≡ taken_at other.old + one_if result }
+    ensures count { taken_at other.new ≡ taken_at other.old + one_if result }
+    ensures taken { IfSome result (Took (other_view other.old) (other_view other.new)) }
 {
     match other.steal() {
         Taken::Ticket(ticket) => Some(ticket),
