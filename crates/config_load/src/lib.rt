@@ -17,7 +17,6 @@ mod code;
 mod fault;
 mod file;
 mod joined;
-mod laws;
 mod left;
 mod loading;
 mod refusal;
@@ -27,5 +26,4 @@ mod zone;
 mod zone_files;
 
 pub use fault::LoadFault;
-pub use laws::files_want_nothing;
 pub use loading::load;
