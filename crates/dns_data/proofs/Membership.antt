@@ -1,5 +1,5 @@
 -- Which items a list has, also after a map, a filter or several lists in a row; and what holds of each pair of them.
-use Rattle.std.proofs.Common.{◌≡◌, ℕ, suc, ◌<◌, Bool, zero, true, false, cond, ◌⊎◌, List, [], ◌∷◌, map, length, get_or, Contains, All, AllPairs, filter, flat_map, sym, refl, ap, ◌∙◌, subst, inl, inr, arith, true≢false}
+use Rattle.std.proofs.Common.{◌≡◌, ℕ, suc, ◌<◌, Bool, zero, true, false, cond, ◌⊎◌, List, [], ◌∷◌, ◌++◌, map, length, get_or, Contains, All, AllPairs, filter, flat_map, sym, refl, ap, ◌∙◌, subst, inl, inr, arith, true≢false}
 use Rattle.std.specs.List.{AllByRecursion}
 use Rattle.std.proofs.lemmas.List.{length-map, get_or-map}
 use Rattle.std.proofs.lemmas.List.Elements.{Contains-append_left, Contains-append_right, Contains-append_cases, Contains-get_or}
@@ -105,6 +105,22 @@ module _ {X : Type 0} (R : X → X → Type 0) where
   -- and so do the pairs behind it
   pub pairs_rest : (x : X) (xs : List X) → AllPairs R (x ∷ xs) → AllPairs R xs
   pairs_rest x xs pairs = λ i j d before within. pairs (suc i) (suc j) d (omega arith) (omega arith)
+
+  -- with one more item at the end each two stand so, if each of the others stands so to it
+  pub pairs_more : (xs : List X) (x : X) → AllPairs R xs → ((y : X) → Contains xs y → R y x) → AllPairs R (xs ++ x ∷ [])
+  pairs_more [] x pairs last i j d before within = absurd (omega arith)
+  pairs_more (y ∷ xs) x pairs last zero zero d before within = absurd (omega arith)
+  pairs_more (y ∷ xs) x pairs last zero (suc j) d before within =
+      elim (Contains-append_cases xs (x ∷ []) (get_or (xs ++ x ∷ []) j d) (Contains-get_or (xs ++ x ∷ []) j d (omega arith))) [
+        | inl old ↦ pairs_first y xs pairs (get_or (xs ++ x ∷ []) j d) old
+        | inr end ↦ elim (first_or_later x [] (get_or (xs ++ x ∷ []) j d) end) [
+          | inl is ↦ subst (R y) is (last y (has_first y xs))
+          | inr none ↦ absurd (none_in_nil (get_or (xs ++ x ∷ []) j d) none)
+        ]
+      ]
+  pairs_more (y ∷ xs) x pairs last (suc i) zero d before within = absurd (omega arith)
+  pairs_more (y ∷ xs) x pairs last (suc i) (suc j) d before within =
+      pairs_more xs x (pairs_rest y xs pairs) (λ z has. last z (has_later y xs z has)) i j d (omega arith) (omega arith)
 
 module _ {X Y : Type 0} (f : X → Y) where
   -- what holds of each item's image holds along the mapped list

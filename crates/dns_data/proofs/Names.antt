@@ -59,6 +59,11 @@ all_append P (x ∷ xs) ys h k = (h.0, all_append P xs ys h.1 k)
 pub all_push : {X : Type 0} (P : X → Type 0) (xs : List X) (x : X) → AllByRecursion P xs → P x → AllByRecursion P (xs ++ x ∷ [])
 all_push P xs x h k = all_append P xs (x ∷ []) h (k, tt)
 
+-- what follows for each item holds of all
+pub all_so : {X : Type 0} (P Q : X → Type 0) (xs : List X) → ((x : X) → P x → Q x) → AllByRecursion P xs → AllByRecursion Q xs
+all_so P Q [] so all = tt
+all_so P Q (x ∷ xs) so all = (so x all.0, all_so P Q xs so all.1)
+
 -- names keep being names
 pub name_append : (a b : Labels) → AllByRecursion IsLabel a → AllByRecursion IsLabel b → wire_octets (a ++ b) ≤ 255 → IsName (a ++ b)
 name_append a b h k short = record { labels = all_append IsLabel a b h k; short = short }

@@ -1,5 +1,5 @@
 -- What a search of a list by a test finds, and what a filter leaves; tests that agree on its items.
-use Rattle.std.proofs.Common.{◌≡◌, Bool, true, false, cond, List, [], ◌∷◌, length, Contains, filter, Option, Some, None, sym, refl, ap, ◌∙◌, inl, inr, arith, true≢false}
+use Rattle.std.proofs.Common.{◌≡◌, Bool, true, false, cond, List, [], ◌∷◌, length, Contains, filter, Option, Some, None, sym, refl, ap, subst, ◌∙◌, inl, inr, arith, true≢false}
 use Rattle.std.specs.List.{find, list_any, list_all, filter_map, cons_option}
 use Rattle.std.proofs.lemmas.Bool.{and_parts, or_cases, or_from, or_left, or_right, or_parts}
 use Rattle.dns_data.proofs.Membership.{none_in_nil, has_first, has_later, first_or_later}
@@ -64,6 +64,17 @@ module _ {A : Type 0} (test : A → Bool) where
           | inl same ↦ absurd (true≢false (sym pass ∙ ap test (sym same) ∙ e))
           | inr later ↦ rest later pass
         ]
+
+  -- and what a search finds is an item that passes
+  pub found_there : (xs : List A) (x : A) → find test xs ≡ Some x → Contains xs x × (test x ≡ true)
+  found_there [] x e = cc
+  found_there (first ∷ xs) x e = by (test first) refl e (found_there xs x) where
+    by : (b : Bool) → test first ≡ b → cond b (Some first) (find test xs) ≡ Some x → (find test xs ≡ Some x → Contains xs x × (test x ≡ true))
+        → Contains (first ∷ xs) x × (test x ≡ true)
+    by true passes is rest =
+        let same : first ≡ x = cc in
+        (subst (Contains (first ∷ xs)) same (has_first first xs), ap test (sym same) ∙ passes)
+    by false fails is rest = let later = rest is in (has_later first xs x later.0, later.1)
 
 -- two tests that hold together are one truth value
 pub same_truth : (a b : Bool) → (a ≡ true → b ≡ true) → (b ≡ true → a ≡ true) → a ≡ b

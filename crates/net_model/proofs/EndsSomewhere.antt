@@ -15,7 +15,7 @@ use Rattle.dns_data.specs.declared.rr_type.RrType.{RrType}
 use Rattle.dns_data.specs.declared.rr_type.RrType.TheVariants as types
 use Rattle.dns_data.proofs.Membership.{none_in_nil, filter_has, map_has}
 use Rattle.dns_data.proofs.NameFronts.{is_prefix_tells}
-use Rattle.dns_data.proofs.Searches.{from_any, filter_map_has}
+use Rattle.dns_data.proofs.Searches.{from_any, filter_map_has, found_there}
 use Rattle.net_model.specs.declared.config.Config.{Config}
 use Rattle.net_model.specs.declared.config.Zone.{Zone}
 use Rattle.net_model.specs.declared.found.Found.{Found}
@@ -34,7 +34,6 @@ use Rattle.net_model.specs.Walk.{led_on, branched, walk_from}
 use Rattle.net_model.specs.Zone.{is_of, owns, target_of, data_at, targets_at, ns_names}
 use Rattle.net_model.proofs.Branches.{LooksUp, IsDelegated, cut_at, place_in, each_branch}
 use Rattle.net_model.proofs.Followed.{item}
-use Rattle.net_model.proofs.Prefixes.{found_there}
 use Rattle.net_model.proofs.StepBounds.{cut_refers, is_the_cut}
 use Rattle.net_model.proofs.UnnamedTails.{nearest_tells}
 

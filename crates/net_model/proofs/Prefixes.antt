@@ -46,17 +46,6 @@ length-prefixes [] = refl
 length-prefixes (label ∷ name) =
     omega (arith, length-prefixes name, length-map (prefixes name) (λ (above : Labels). label ∷ above))
 
--- what a search finds is an item of the list, and passes its test
-pub found_there : {A : Type 0} (test : A → Bool) (xs : List A) (y : A) → find test xs ≡ Some y → Contains xs y × (test y ≡ true)
-found_there test [] y e = cc
-found_there test (x ∷ xs) y e = by (test x) refl e (found_there test xs y) where
-  by : (b : Bool) → test x ≡ b → cond b (Some x) (find test xs) ≡ Some y
-      → (find test xs ≡ Some y → Contains xs y × (test y ≡ true)) → Contains (x ∷ xs) y × (test y ≡ true)
-  by true passes e later =
-      let same : x ≡ y = cc in
-      subst (λ z. Contains (x ∷ xs) z × (test z ≡ true)) same (has_first x xs, passes)
-  by false passes e later = let there = later e in (has_later x xs y there.0, there.1)
-
 -- ---- labels below a name
 
 -- an option or nothing is the option

@@ -8,6 +8,7 @@ use Rattle.dns_data.specs.RrType.{type_eq}
 use Rattle.dns_data.specs.declared.rdata.Rdata.{Rdata}
 use Rattle.dns_data.specs.declared.rr_type.RrType.{RrType}
 use Rattle.dns_data.specs.declared.rr_type.RrType.TheVariants as types
+use Rattle.dns_data.proofs.Searches.{found_there}
 use Rattle.net_model.specs.declared.config.Zone.{Zone}
 use Rattle.net_model.specs.declared.found.Found.{Found}
 use Rattle.net_model.specs.declared.found.Found.TheVariants as found_as
@@ -23,7 +24,7 @@ use Rattle.net_model.specs.Prefix.{prefixes}
 use Rattle.net_model.specs.Step.{Setting, Branch, Go, End, arrived, delegated, referred, may_follow, servers_after, after_lookup, in_zone, next}
 use Rattle.net_model.specs.Zone.{exists_in, owns, targets_at, data_at, data_cmp}
 use Rattle.dns_data.proofs.NameFronts.{Begins, is_prefix_tells}
-use Rattle.net_model.proofs.Prefixes.{found_there, from_prefixes}
+use Rattle.net_model.proofs.Prefixes.{from_prefixes}
 
 -- what bounds the states still to come: each next one uses a rewrite more or has a longer zone cut
 abbrev pub left_of : Setting → State → ℕ

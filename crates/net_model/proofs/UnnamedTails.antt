@@ -14,7 +14,7 @@ use Rattle.dns_data.specs.declared.rr_type.RrType.TheVariants as types
 use Rattle.dns_data.proofs.Membership.{has_first, has_later, map_has, from_map, flat_map_has, from_filter}
 use Rattle.dns_data.proofs.NameFronts.{Begins, is_prefix_tells, is_prefix_told}
 use Rattle.dns_data.proofs.Names.{name_eq_decides}
-use Rattle.dns_data.proofs.Searches.{any_none, find_none, from_filter_map}
+use Rattle.dns_data.proofs.Searches.{any_none, find_none, from_filter_map, found_there}
 use Rattle.net_model.specs.declared.config.Config.{Config}
 use Rattle.net_model.specs.declared.config.Server.{Server}
 use Rattle.net_model.specs.declared.config.Zone.{Zone}
@@ -26,7 +26,7 @@ use Rattle.net_model.specs.Reading.{IsNamed, zones, records, redirection_of, red
 use Rattle.net_model.specs.Tails.{IsUnnamedTail}
 use Rattle.net_model.specs.Zone.{is_of, exists_in, target_of, data_at, targets_at}
 use Rattle.net_model.proofs.Naming.{among_named, one_reading_more}
-use Rattle.net_model.proofs.Prefixes.{found_there, prefixes_have, from_prefixes, longer, longest_above}
+use Rattle.net_model.proofs.Prefixes.{prefixes_have, from_prefixes, longer, longest_above}
 
 -- ---- names of a configuration
 

@@ -6,7 +6,9 @@ mod Existence
 mod Faults
 mod Wildcards
 mod Cuts
+mod OpenTails
 mod Redirections
 mod Aliases
 mod Rewrites
+mod StandardQueries
 mod Referrals
