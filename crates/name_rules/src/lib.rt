@@ -9,7 +9,7 @@
 mod substitution;
 mod sym_name;
 
-pub use substitution::{fits, substitute, substitute_sym};
+pub use substitution::{fits, substitute, substitute_sym, substitute_whole};
 pub use sym_name::SymName;
 
 #[cfg(test)]

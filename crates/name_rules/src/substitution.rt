@@ -42,13 +42,42 @@ pub fn substitute_sym(
     ensures ok { IfOk result (λ made. made ≡ swap_sym name.now owner.now target.now) }
     ensures too_long { IsErrOf result JoinFault.TooLong ↔ (255 < wire_octets (whole (swap_sym name.now owner.now target.now))) }
 {
-    let octets = swapped_octets(&name.known, owner, target) + tail_octets(&name.tail);
-    if octets > 255 {
+    if !fits_with_tail(name, owner, target) {
         return Err(JoinFault::TooLong);
     }
     let known = substitute(alloc, &name.known, owner, target)?;
     let tail = copy_tail(alloc, &name.tail)?;
     Ok(SymName { known, tail })
+}
+
+/// The name with its tail, the target's labels in the owner's place. It is `TooLong` where that name would have more than
+/// 255 octets. The owner may be the known name itself, which lies above a name with a tail.
+pub fn substitute_whole(
+    alloc: Global,
+    name: &SymName,
+    owner: &Name,
+    target: &Name,
+) -> Result<Name, JoinFault>
+    requires { is_prefix owner.now name.now.known ≡ true }
+    ensures ok { IfOk result (λ made. made ≡ swap (whole name.now) owner.now target.now) }
+    ensures too_long { IsErrOf result JoinFault.TooLong ↔ (255 < wire_octets (swap (whole name.now) owner.now target.now)) }
+{
+    if !fits_with_tail(name, owner, target) {
+        return Err(JoinFault::TooLong);
+    }
+    let mut made = substitute(alloc, &name.known, owner, target)?;
+    if let Some(label) = &name.tail {
+        made.push(alloc, label)?;
+    }
+    Ok(made)
+}
+
+/// Whether the name with its tail, the target's labels in the owner's place, has at most 255 octets.
+fn fits_with_tail(name: &SymName, owner: &Name, target: &Name) -> bool
+    requires { is_prefix owner.now name.now.known ≡ true }
+    ensures { IsTrue result ↔ (wire_octets (whole (swap_sym name.now owner.now target.now)) ≤ 255) }
+{
+    swapped_octets(&name.known, owner, target) + tail_octets(&name.tail) <= 255
 }
 
 /// How many octets the name with the target's labels in the owner's place has.

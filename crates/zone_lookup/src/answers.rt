@@ -16,7 +16,7 @@ use std::alloc::Global;
 use zone_tree::{NodeId, Tree};
 
 /// What a zone cut answers: its name servers (RFC 1034 section 4.3.2, step 3b).
-pub(crate) fn referral(alloc: Global, tree: &Tree<'_>, cut: NodeId) -> Result<Found, NoMemory>
+pub fn referral(alloc: Global, tree: &Tree<'_>, cut: NodeId) -> Result<Found, NoMemory>
     requires { IsNode tree.now cut }
     ensures { IfOk result (λ answer. answer ≡ found_as.Referral (name_of tree.now cut) (ns_names tree.now.zone (name_of tree.now cut))) }
 {
@@ -54,12 +54,7 @@ pub(crate) fn redirected(
 }
 
 /// What the records of an existing name answer (RFC 1034 sections 3.6.2 and 4.3.2, step 3a).
-pub(crate) fn at_name(
-    alloc: Global,
-    tree: &Tree<'_>,
-    owner: NodeId,
-    t: RrType,
-) -> Result<Found, NoMemory>
+pub fn at_name(alloc: Global, tree: &Tree<'_>, owner: NodeId, t: RrType) -> Result<Found, NoMemory>
     requires { IsNode tree.now owner }
     ensures { IfOk result (λ answer. answer ≡ at_name tree.now.zone (name_of tree.now owner) t) }
 {

@@ -125,7 +125,7 @@ redirects_none zone name above other = by (nat_lt (length above) (length name)) 
       (and_right (nat_le (length zone.origin) (length above)) (nat_lt (length above) (length name)) e)
 
 -- a name is at least as long as the origin that begins it
-as_long : (zone : Zone) (above : Labels) → is_prefix zone.origin above ≡ true → length zone.origin ≤ length above
+pub as_long : (zone : Zone) (above : Labels) → is_prefix zone.origin above ≡ true → length zone.origin ≤ length above
 as_long zone above inside =
     let begins = is_prefix_tells zone.origin above inside in
     omega (arith, ap (λ (x : Labels). length x) begins.1, length-append zone.origin begins.0)

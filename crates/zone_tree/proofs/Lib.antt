@@ -2,8 +2,9 @@ mod ByText
 mod Descents
 mod Existing
 mod NameData
+mod NamesBelow
 mod Pairs
 pub mod Prefixes
 mod SearchedNames
 pub mod SortedTree
-mod Types
+pub mod Types

@@ -6,7 +6,7 @@ use Rattle.std.proofs.lemmas.List.Folds.{find-append}
 use Rattle.dns_data.specs.Name.{Labels}
 use Rattle.net_model.specs.Prefix.{prefixes, shortest, longest}
 use Rattle.dns_data.proofs.Membership.{none_in_nil, has_first, has_later, first_or_later, from_map}
-use Rattle.dns_data.proofs.Searches.{find_none}
+use Rattle.dns_data.proofs.Searches.{find_none, found_there}
 use Rattle.net_model.proofs.Prefixes.{longer, prefixes_below}
 
 -- a name is its last prefix, and the others have fewer labels
@@ -25,14 +25,6 @@ last_prefix (label ∷ name) =
             subst (λ (x : Labels). length x < length (label ∷ name)) found.2 (omega arith))
       ],
     )
-
--- a search finds an item of the list
-found_in : (test : Labels → Bool) (names : List Labels) (name : Labels) → find test names ≡ Some name → Contains names name
-found_in test [] name e = cc
-found_in test (first ∷ names) name e = by (test first) e (found_in test names name) where
-  by : (b : Bool) → cond b (Some first) (find test names) ≡ Some name → (find test names ≡ Some name → Contains names name) → Contains (first ∷ names) name
-  by true e rest = let same : first ≡ name = cc in subst (Contains (first ∷ names)) same (has_first first names)
-  by false e rest = has_later first names name (rest e)
 
 module _ (test : Labels → Bool) where
   -- a name that passes is its longest prefix that does
@@ -71,7 +63,7 @@ module _ (test : Labels → Bool) where
       some_is_none e = cc
     found_beyond (label ∷ rest) found is =
         let beneath = λ (below : Labels). above ++ below in
-        let one = from_map beneath (longer (label ∷ rest)) found (found_in test (map beneath (longer (label ∷ rest))) found (sym (below_found (label ∷ rest)) ∙ is)) in
+        let one = from_map beneath (longer (label ∷ rest)) found (found_there test (map beneath (longer (label ∷ rest))) found (sym (below_found (label ∷ rest)) ∙ is)).0 in
         let two = from_map (λ (x : Labels). label ∷ x) (prefixes rest) one.0 one.1 in
         let long : length found ≡ length above + length (label ∷ two.0) =
         ap (λ (x : Labels). length x) (sym one.2) ∙ ap (λ (x : Labels). length (above ++ x)) (sym two.2) ∙ length-append above (label ∷ two.0) in

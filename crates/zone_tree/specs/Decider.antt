@@ -1,5 +1,9 @@
 -- What decides at a name, by the nodes of a tree.
-use Rattle.net_model.specs.Lookup.{Deciding, ByCut, ByRecords, ByNothing, by_dname}
+use Rattle.std.specs.Prelude.{◌≡◌, Bool, true, false, [], Some}
+use Rattle.dns_data.specs.Name.{Labels}
+use Rattle.net_model.specs.declared.config.Zone.{Zone}
+use Rattle.net_model.specs.Lookup.{Deciding, ByCut, ByRecords, ByNothing, by_dname, synthesized}
+use Rattle.net_model.specs.OpenTail.{IsOpenTail}
 use Rattle.zone_tree.specs.declared.decider.Decider.{Decider}
 use Rattle.zone_tree.specs.declared.decider.Decider.TheVariants.{Cut, Redirection, Records, Nothing}
 use Rattle.zone_tree.specs.Tree.{ZoneTree, IsNode, name_of}
@@ -17,3 +21,13 @@ IsOfTree tree (Cut node) = IsNode tree node
 IsOfTree tree (Redirection node) = IsNode tree node
 IsOfTree tree (Records node) = IsNode tree node
 IsOfTree tree Nothing = Unit {0}
+
+-- the labels stand below the name: none, or an open tail. The contracts of inner calls alone cite what follows.
+abbrev pub IsBelow : Zone → Labels → Bool → Labels → Type 0
+IsBelow zone name false below = below ≡ []
+IsBelow zone name true below = IsOpenTail zone name below
+
+-- what decides where nothing above does: an existing name's own records, or its source of synthesis below it
+abbrev pub at_end : Zone → Labels → Bool → Deciding
+at_end zone name false = ByRecords name
+at_end zone name true = synthesized zone (Some name)

@@ -2,7 +2,7 @@
 //!
 //! The layer above may rest on this: a tree has one node for each name that exists in its zone, empty non-terminals
 //! among them, and what a node tells of its name is what the definitions say of it in the zone. So is what decides at a
-//! name. No condition is put on the zone.
+//! name, and at a name with an open tail. No condition is put on the zone.
 //!
 //! Costs: a tree sorts references to the owners of its zone once, and copies the data of the twelve types into sets. A
 //! name is found among the existing ones in as many comparisons of names as the logarithm of their number; what decides
@@ -18,7 +18,7 @@ mod places;
 mod records;
 mod tree;
 
-pub use decider::{Decider, deciding};
+pub use decider::{Decider, deciding, open_deciding};
 pub use enclosers::{encloser, source};
 pub use node::NodeId;
 pub use tree::Tree;
