@@ -1,0 +1,4 @@
+mod AnswersOfTypes
+mod NoData
+mod Owners
+mod Tails
