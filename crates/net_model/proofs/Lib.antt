@@ -7,6 +7,7 @@ pub mod AlikeSteps
 pub mod AlikeWalks
 pub mod AllWalks
 pub mod Branches
+pub mod Carrying
 pub mod ClassTails
 pub mod Counting
 pub mod Descent

@@ -125,7 +125,8 @@ module _ (setting : Setting) (above own other : Labels) (tails : AreTails settin
   -- ---- their walks
 
   module _ (rtype : RrType) where
-    walks_kept : (numbers : List ℕ) (walk : Walk) → walk_along setting (above ++ own) rtype numbers ≡ Some walk → is_overlong walk.leaf ≡ false
+    -- a walk of the query that doesn't end overlong is, with the tail replaced, one of the other name
+    pub walks_kept : (numbers : List ℕ) (walk : Walk) → walk_along setting (above ++ own) rtype numbers ≡ Some walk → is_overlong walk.leaf ≡ false
         → walk_along setting (above ++ other) rtype numbers ≡ Some (changed walk)
     walks_kept numbers walk e good =
         let begun = begins_at setting (above ++ own) rtype numbers walk e in
@@ -167,9 +168,10 @@ module _ (setting : Setting) (above own other : Labels) (tails : AreTails settin
           ∙ ap (map (option_map changed)) listed ∙ some_images changed walks,
     )
 
-    overlong_kept : (walk : Walk) → IsWalk setting (above ++ own) rtype walk
+    -- a walk of the query is, with the tail replaced, the front of one of the other name
+    pub front_kept : (walk : Walk) → IsWalk setting (above ++ own) rtype walk
         → (whole : Walk) × IsWalk setting (above ++ other) rtype whole × IsFrontOf (changed walk) whole
-    overlong_kept walk (numbers, e) =
+    front_kept walk (numbers, e) =
         let begun = begins_at setting (above ++ own) rtype numbers walk e in
         let front =
         overlong_front setting rtype own other shorter (ends_somewhere setting rtype (has_tops begun.number begun.state begun.starts)) begun.rest begun.state walk
@@ -190,7 +192,7 @@ module _ (setting : Setting) (above own other : Labels) (tails : AreTails settin
           walks = walks_kept;
           bounded = bounded_alike;
           along = along_alike;
-          overlong = λ walk is long. overlong_kept walk is;
+          overlong = λ walk is long. front_kept walk is;
         }
 
     -- where the name with the other tail meets an overlong rewrite, so does the query
@@ -278,7 +280,7 @@ module _ (config : Config) (rewrites : ℕ) (above own other : Labels) (tails : 
 
   reached_kept : (pair : State × RrType) → IsReached config rewrites (above ++ own) pair → IsReached config rewrites (above ++ other) (changed_pair pair)
   reached_kept pair is =
-      let kept = overlong_kept every above own other tails pair.1 is.walk is.is_walk in
+      let kept = front_kept every above own other tails pair.1 is.walk is.is_walk in
       record {
         walk = kept.0;
         is_walk = kept.1;

@@ -11,4 +11,5 @@ mod Redirections
 mod Aliases
 mod Rewrites
 mod StandardQueries
+mod Tails
 mod Referrals

@@ -3,8 +3,10 @@
 ghost use Rattle.std.specs.Prelude.{◌≡◌, ◌≢◌, ℕ, ◌≤◌, true, List, [], ◌∷◌, ◌++◌, length};
 ghost use Rattle.dns_data.specs.Name.{Labels, IsName};
 ghost use Rattle.dns_data.specs.declared.rr_type.RrType.{RrType};
+ghost use Rattle.net_model.specs.declared.class.Class.{Class};
 ghost use Rattle.net_model.specs.declared.class.Class.TheVariants.{Below};
 ghost use Rattle.net_model.specs.declared.config.Config.{Config};
+ghost use Rattle.net_model.specs.declared.fault.Fault.{Fault};
 ghost use Rattle.net_model.specs.declared.fault.Fault.TheVariants as faults;
 ghost use Rattle.net_model.specs.declared.place.Place.{Place};
 ghost use Rattle.net_model.specs.declared.walk.Leaf.TheVariants.{NoAddress};
@@ -12,7 +14,7 @@ ghost use Rattle.net_model.specs.declared.walk.State.{State};
 ghost use Rattle.net_model.specs.declared.walk.Walk.{Walk};
 ghost use Rattle.net_model.specs.Class.{IsClassOf, IsRepresentative};
 ghost use Rattle.net_model.specs.Learnt.{IsInForce};
-ghost use Rattle.net_model.specs.Reading.{Ground, Covers};
+ghost use Rattle.net_model.specs.Reading.{Ground, Covers, ground_of};
 ghost use Rattle.net_model.specs.Returns.{ComesBack, hops_round, RewritesAt};
 ghost use Rattle.net_model.specs.Shown.{ShowsLimit, ShowsIn};
 ghost use Rattle.net_model.specs.Step.{Setting, following};
@@ -61,4 +63,17 @@ pub fn return_law()
         → (query : Labels) (rtype : RrType) (walk : Walk) → IsWalk (following config rewrites followed) query rtype walk
         → (back : ComesBack walk)
         → (place : Place) × RewritesAt (hops_round walk back) place × ShowsIn config rewrites query rtype (faults.Limit place) }
+{}
+
+/// Each fault that a query shows, the representative of its class shows, with the same type. So it is under every ground that
+/// covers the configuration, but for an overlong name, which is told of the representatives under its own ground alone.
+pub fn carrying()
+    ensures own { (config : Config) (rewrites : ℕ) (class : Class) (query representative : Labels) → IsName query
+        → IsClassOf (ground_of config) query class → IsRepresentative (ground_of config) class representative
+        → (rtype : RrType) (fault : Fault) → ShowsIn config rewrites query rtype fault → ShowsIn config rewrites representative rtype fault }
+    ensures covering { (config : Config) (rewrites : ℕ) (base : Ground) → Covers base config
+        → (class : Class) (query representative : Labels) → IsName query
+        → IsClassOf base query class → IsRepresentative base class representative
+        → (rtype : RrType) (fault : Fault) → ((place : Place) → fault ≢ faults.Overlong place)
+        → ShowsIn config rewrites query rtype fault → ShowsIn config rewrites representative rtype fault }
 {}

@@ -12,29 +12,12 @@ use Rattle.net_model.specs.declared.class.Class.{Class}
 use Rattle.net_model.specs.declared.class.Class.TheVariants.{Exact, Below}
 use Rattle.net_model.specs.Class.{IsClassOf, IsFirstUnnamed}
 use Rattle.net_model.specs.Reading.{Ground, IsNamed, ReadsOnTo}
+use Rattle.net_model.proofs.ClassTails.{label_of_name}
 use Rattle.net_model.proofs.FirstLabel.{shorter_first}
 use Rattle.label_graph.specs.LiveSet.{IsClosed, IsLiveSet, name_at}
 use Rattle.label_graph.proofs.LiveNames.{prefix_is_named}
 use Rattle.label_graph.proofs.TargetLinks.{place_among, among_place}
 use Rattle.query_classes.specs.Members.{IsEmptyClass, StandsFor}
-
--- a name has one class
-pub one_class : (ground : Ground) (name : Labels) (a b : Class) → IsClassOf ground name a → IsClassOf ground name b → b ≡ a
-one_class ground name (Exact a) (Exact b) one other = ap (λ (n : Labels). Exact n) (other.0 ∙ sym one.0)
-one_class ground name (Exact a) (Below b) one other = absurd (other.0 one.1)
-one_class ground name (Below a) (Exact b) one other = absurd (one.0 other.1)
-one_class ground name (Below a) (Below b) (unnamed, one) (also, other) =
-    let first : length b ≤ length a = one.longest b other.below other.prefix other.named in
-    let second : length a ≤ length b = other.longest a one.below one.prefix one.named in
-    let size : length b ≡ length a = omega arith in
-    let same : b ≡ a =
-    sym (take_at b other.below (length a) size) ∙ ap (take (length a)) (sym other.prefix ∙ one.prefix) ∙ take_at a one.below (length a) refl in
-    ap (λ (n : Labels). Below n) same
-
--- a label of a name
-label_of_name : (above : Labels) (label : List ℕ) (rest : Labels) → AllByRecursion IsLabel (above ++ label ∷ rest) → IsLabel label
-label_of_name [] label rest each = each.0
-label_of_name (x ∷ above) label rest each = label_of_name above label rest each.1
 
 -- the labels above
 labels_above : (above rest : Labels) → AllByRecursion IsLabel (above ++ rest) → AllByRecursion IsLabel above

@@ -8,7 +8,8 @@ use Rattle.net_model.specs.Reading.{Ground, IsNamed}
 use Rattle.label_graph.specs.LiveSet.{IsClosed, IsLiveSet}
 use Rattle.label_graph.specs.Pairs.{AreSame}
 use Rattle.query_classes.specs.Members.{StandsFor, IsInOneClass}
-use Rattle.query_classes.proofs.ClassLaws.{one_class, in_below, below_stood, stands_exact, first_label_of, not_named, live_named}
+use Rattle.net_model.proofs.ClassTails.{one_class}
+use Rattle.query_classes.proofs.ClassLaws.{in_below, below_stood, stands_exact, first_label_of, not_named, live_named}
 use Rattle.query_classes.proofs.FirstFree.{first_free}
 use Rattle.query_classes.proofs.SameGrounds.{class_same, stands_same}
 

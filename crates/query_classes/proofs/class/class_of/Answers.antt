@@ -6,7 +6,8 @@ use Rattle.net_model.specs.Reading.{Ground, IsNamed}
 use Rattle.label_graph.specs.LiveSet.{IsClosed, IsLiveSet}
 use Rattle.label_graph.proofs.LiveNames.{prefix_is_named}
 use Rattle.query_classes.specs.Members.{StandsFor}
-use Rattle.query_classes.proofs.ClassLaws.{one_class, in_below, below_stood, first_label_of, label_more, not_named, live_named}
+use Rattle.net_model.proofs.ClassTails.{one_class}
+use Rattle.query_classes.proofs.ClassLaws.{in_below, below_stood, first_label_of, label_more, not_named, live_named}
 use Rattle.query_classes.proofs.FirstFree.{first_free}
 use Rattle.query_classes.proofs.class.class_of.Goals as goal
 
