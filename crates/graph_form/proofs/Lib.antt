@@ -15,3 +15,4 @@ pub mod Firsts
 pub mod WalksLed
 pub mod TwiceEqual
 pub mod ReachedNodes
+pub mod FirstTypes

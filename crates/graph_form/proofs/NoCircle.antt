@@ -7,6 +7,7 @@ use Rattle.dns_data.specs.Name.{Labels}
 use Rattle.dns_data.specs.TypeSet.{has_bit}
 use Rattle.dns_data.specs.declared.rr_type.RrType.{RrType}
 use Rattle.dns_data.proofs.Membership.{none_in_nil, first_or_later, from_map}
+use Rattle.dns_data.proofs.Searches.{found_there}
 use Rattle.net_model.specs.Step.{Setting, arrived, start, next}
 use Rattle.net_model.specs.Step as step
 use Rattle.net_model.specs.declared.walk.Hop.{Hop}
@@ -22,7 +23,7 @@ use Rattle.graph_form.specs.declared.node.Branch.TheVariants.{Go}
 use Rattle.graph_form.specs.declared.node.Node.{Node}
 use Rattle.graph_form.proofs.FirstPaths.{LedTo}
 use Rattle.graph_form.proofs.Paths.{same_item}
-use Rattle.graph_form.proofs.Places.{PairAt, pair_at, found_there, item_there, place_of_item}
+use Rattle.graph_form.proofs.Places.{PairAt, pair_at, item_there, place_of_item}
 
 -- what all items of a list are, the one at a place is
 pub at_place : {A : Type 0} (P : A → Type 0) (xs : List A) (k : ℕ) (x : A) → AllByRecursion P xs → slice_get xs k ≡ Some x → P x

@@ -5,6 +5,7 @@ use Rattle.std.specs.Option.{option_map_or}
 use Rattle.dns_data.specs.Name.{Labels}
 use Rattle.dns_data.specs.TypeSet.{has_bit}
 use Rattle.dns_data.specs.declared.rr_type.RrType.{RrType}
+use Rattle.dns_data.proofs.Searches.{found_there}
 use Rattle.net_model.specs.Step.{Setting, start, next}
 use Rattle.net_model.specs.Step as step
 use Rattle.net_model.specs.Walk.{led_on, branched, walk_from, walk_along}
@@ -16,7 +17,7 @@ use Rattle.graph_form.specs.declared.node.Arm.{Arm}
 use Rattle.graph_form.specs.declared.node.Branch.{Branch}
 use Rattle.graph_form.specs.declared.node.Branch.TheVariants.{Go, End}
 use Rattle.graph_form.specs.declared.node.Node.{Node}
-use Rattle.graph_form.proofs.Places.{PairAt, pair_at, found_there}
+use Rattle.graph_form.proofs.Places.{PairAt, pair_at}
 
 -- one node of a list at a place
 pub same_item : {A : Type 0} (found : Option A) (x y : A) → found ≡ Some x → found ≡ Some y → x ≡ y

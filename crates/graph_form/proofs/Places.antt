@@ -1,9 +1,10 @@
 -- Items of lists by their places, and what a search finds.
-use Rattle.std.proofs.Common.{◌≡◌, ℕ, zero, suc, ◌+◌, ◌<◌, length, drop, get_or, drop-cons, length-append, ap, sym, ◌∙◌, arith, Bool, true, false, cond, List, [], ◌∷◌, ◌++◌, refl, subst, Some, None, inl, inr}
+use Rattle.std.proofs.Common.{◌≡◌, ℕ, zero, suc, ◌+◌, ◌<◌, length, drop, get_or, drop-cons, length-append, ap, sym, ◌∙◌, arith, List, [], ◌∷◌, ◌++◌, refl, subst, Some, None, inl, inr}
 use Rattle.std.specs.Prelude.{◌⊎◌, AllPairs, Contains, slice_get}
 use Rattle.std.proofs.lemmas.List.Elements.{Contains-append_cases}
 use Rattle.std.proofs.lemmas.List.Kept.{AllPairs-cons}
-use Rattle.std.specs.List.{AllZip, find, flat_map}
+use Rattle.std.specs.List.{AllZip, flat_map}
+pub use Rattle.dns_data.proofs.Searches.{found_there}
 use Rattle.dns_data.proofs.Membership.{none_in_nil, has_first, has_later, first_or_later, all_from_contains, from_flat_map, pairs_first, pairs_rest}
 
 -- two lists have an item at a place, or neither has; and those that both have are a pair
@@ -27,17 +28,6 @@ pair_at R (x ∷ xs) (y ∷ ys) all (suc k) = by (pair_at R xs ys all.1 k) where
       → ((slice_get xs k ≡ None) × (slice_get ys k ≡ None)) ⊎ PairAt R (x ∷ xs) (y ∷ ys) (suc k)
   by (inl none) = inl none
   by (inr found) = inr (record { one = found.one; other = found.other; at_one = found.at_one; at_other = found.at_other; paired = found.paired; has = has_later x xs found.one found.has })
-
--- what a search finds is an item of the list, and passes its test
-pub found_there : {A : Type 0} (test : A → Bool) (xs : List A) (y : A) → find test xs ≡ Some y → Contains xs y × (test y ≡ true)
-found_there test [] y e = cc
-found_there test (x ∷ xs) y e = by (test x) refl e (found_there test xs y) where
-  by : (b : Bool) → test x ≡ b → cond b (Some x) (find test xs) ≡ Some y
-      → (find test xs ≡ Some y → Contains xs y × (test y ≡ true)) → Contains (x ∷ xs) y × (test y ≡ true)
-  by true passes e later =
-      let same : x ≡ y = cc in
-      subst (λ z. Contains (x ∷ xs) z × (test z ≡ true)) same (has_first x xs, passes)
-  by false passes e later = let there = later e in (has_later x xs y there.0, there.1)
 
 -- as many items in a row from a place on as of the item there and from the next place on
 pub count_next : {A B : Type 0} (f : A → List B) (xs : List A) (i : ℕ) (x : A) → i < length xs → x ≡ get_or xs i x

@@ -10,6 +10,7 @@ use Rattle.dns_data.specs.TypeSet.{has_bit, place_of}
 use Rattle.dns_data.specs.declared.rr_type.RrType.{RrType}
 use Rattle.dns_data.specs.declared.rr_type.RrType.TheVariants as rr
 use Rattle.dns_data.proofs.Membership.{none_in_nil, first_or_later, filter_has, from_filter, map_has, from_map, flat_map_has, from_flat_map, pairs_of_images}
+use Rattle.dns_data.proofs.Searches.{found_there}
 use Rattle.net_model.specs.Nearest.{server_names}
 use Rattle.net_model.specs.Step.{Setting, following}
 use Rattle.net_model.specs.Tree.{AreReached}
@@ -25,7 +26,7 @@ use Rattle.graph_form.specs.declared.node.Branch.{Branch}
 use Rattle.graph_form.specs.declared.node.Branch.TheVariants.{Go, End}
 use Rattle.graph_form.specs.declared.node.Node.{Node}
 use Rattle.graph_form.proofs.Paths.{path_is_walk}
-use Rattle.graph_form.proofs.Places.{found_there, item_there, place_of_item, pairs_in_row}
+use Rattle.graph_form.proofs.Places.{item_there, place_of_item, pairs_in_row}
 
 -- each type is one of the twelve
 pub every_type : (rtype : RrType) → Contains types rtype

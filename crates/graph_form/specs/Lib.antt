@@ -5,3 +5,4 @@ pub mod GraphOf
 pub mod Repeated
 pub mod Report
 pub mod Trails
+pub mod Verdict

@@ -16,6 +16,7 @@ mod node;
 mod repeated;
 mod report;
 mod shows;
+mod verdict;
 
 pub use first_walks::trails;
 pub use graph::Graph;
@@ -24,6 +25,7 @@ pub use node::{Arm, Branch, Node};
 pub use repeated::repeats;
 pub use report::{Report, ReportEntry, Seen};
 pub use shows::{is_authoritative, is_same_answer};
+pub use verdict::first_types;
 
 #[cfg(test)]
 mod tests;

@@ -1,0 +1,178 @@
+-- The ends of a graph of a query show their faults, and each fault of an end is shown by one.
+use Rattle.std.proofs.Common.{◌≡◌, ℕ, ◌≤◌, Bool, true, false, List, [], ◌∷◌, ◌++◌, refl, sym, ap, ◌∙◌, subst, Some, None, true≢false}
+use Rattle.std.specs.Prelude.{Contains, Option, option_map, if◌then◌else◌}
+use Rattle.std.specs.List.{AllByRecursion, find, flat_map}
+use Rattle.dns_data.specs.Name.{Labels}
+use Rattle.dns_data.specs.RrType.{number_of, types}
+use Rattle.dns_data.specs.TypeSet.{has_bit}
+use Rattle.dns_data.specs.declared.rr_type.RrType.{RrType}
+use Rattle.dns_data.proofs.Sets.{first_least, first_none}
+use Rattle.dns_data.proofs.Searches.{found_there}
+use Rattle.graph_form.specs.Graph.{HasBranch, PlainGraph}
+use Rattle.graph_form.specs.declared.node.Branch.{Branch}
+use Rattle.graph_form.specs.declared.node.Branch.TheVariants.{Go, End}
+use Rattle.graph_form.specs.declared.node.Node.{Node}
+use Rattle.graph_form.specs.declared.report.Seen.{Seen}
+use Rattle.graph_form.proofs.NoCircle.{OfArm, of_arm}
+use Rattle.graph_form.proofs.Places.{item_there}
+use Rattle.graph_form.proofs.ReachedNodes.{EndOf, WalkBy, end_of_walk, walk_by}
+use Rattle.net_model.specs.Class.{IsRepresentative}
+use Rattle.net_model.specs.Reading.{ground_of}
+use Rattle.net_model.specs.Shown.{MayShow, Shows, WalksShow, with_sets}
+use Rattle.net_model.specs.Step.{Setting}
+use Rattle.net_model.specs.Walk.{IsWalk}
+use Rattle.net_model.specs.declared.class.Class.{Class}
+use Rattle.net_model.specs.declared.fault.Fault.{Fault}
+use Rattle.net_model.specs.declared.fault.Fault.TheVariants as faults
+use Rattle.net_model.specs.declared.place.Place.{Place}
+use Rattle.net_model.specs.declared.walk.Hop.{Hop}
+use Rattle.net_model.specs.declared.walk.Leaf.{Leaf}
+use Rattle.net_model.specs.declared.walk.Leaf.TheVariants as leaves
+use Rattle.net_model.specs.declared.walk.State.{State}
+use Rattle.net_model.specs.declared.walk.Walk.{Walk}
+use Rattle.rewrite_checks.specs.Ends.{end_fault, leaf_fault, node_faults, with_type}
+use Rattle.rewrite_checks.specs.Rewrites.{IsGraphFor}
+use Rattle.rewrite_checks.proofs.Candidates.{branch_for, from_candidates, is_candidate, one_arm}
+
+-- a list that ends isn't empty
+none_is_more : {A : Type 0} (xs : List A) (x : A) → [] ≡ xs ++ x ∷ [] → ⊥
+none_is_more [] x e = cc
+none_is_more (y ∷ xs) x e = cc
+
+-- two ways to say the last of a list
+pub one_last : {A : Type 0} (xs ys : List A) (x y : A) → xs ++ x ∷ [] ≡ ys ++ y ∷ [] → x ≡ y
+one_last [] [] x y e = cc
+one_last [] (z ∷ ys) x y e = let none : [] ≡ ys ++ y ∷ [] = cc in absurd (none_is_more ys y none)
+one_last (z ∷ xs) [] x y e = let none : [] ≡ xs ++ x ∷ [] = cc in absurd (none_is_more xs x none)
+one_last (w ∷ xs) (z ∷ ys) x y e = let rest : xs ++ x ∷ [] ≡ ys ++ y ∷ [] = cc in one_last xs ys x y rest
+
+-- the fault is told by one end
+abbrev pub OfEnd : Fault → Type 0
+OfEnd (faults.Limit place) = Unit {0}
+OfEnd (faults.Blackhole place) = Unit {0}
+OfEnd (faults.Overlong place) = Unit {0}
+OfEnd fault = ⊥
+
+module _ (setting : Setting) (query : Labels) (class : Class) (represents : Bool) (graph : PlainGraph) (for : IsGraphFor setting query class represents graph) where
+  -- the query shows the fault with the type
+  abbrev Shown : RrType → Fault → Type 0
+  Shown rtype fault = Shows (with_sets setting) query rtype fault
+
+  -- ---- what an end shows
+
+  by_walk : (rtype : RrType) (walk : Walk) (fault : Fault) → IsWalk setting query rtype walk → MayShow setting.config query rtype fault
+      → WalksShow (with_sets setting) (walk ∷ []) fault → Shown rtype fault
+  by_walk rtype walk fault is may show = record { may = may; walks = walk ∷ []; are_walks = (is, tt); show = show }
+
+  by_leaf : (rtype : RrType) (node : Node) (hop : Option Hop) (leaf : Leaf) (fault : Fault)
+      → WalkBy graph rtype setting query for.is_graph for.exact node hop leaf → leaf_fault represents node.state.last leaf ≡ Some fault → Shown rtype fault
+  by_leaf rtype node hop (leaves.Limit place) fault by is =
+      let same : faults.Limit place ≡ fault = cc in
+      subst (Shown rtype) same (by_walk rtype by.walk (faults.Limit place) by.is_walk tt by.leaf_is)
+  by_leaf rtype node hop leaves.NxDomain fault by is = of_last node.state.last refl is where
+    of_last : (last : Option Place) → node.state.last ≡ last → option_map faults.Blackhole last ≡ Some fault → Shown rtype fault
+    of_last None is_last e = cc
+    of_last (Some place) is_last e =
+        let same : faults.Blackhole place ≡ fault = cc in
+        subst (Shown rtype) same
+        (by_walk rtype by.walk (faults.Blackhole place) by.is_walk tt
+        (record { rewritten = record { before = by.before; last = node.state; states = by.states_are; at_place = is_last }; ends = by.leaf_is }))
+  by_leaf rtype node hop (leaves.Overlong place) fault by is = of_flag represents refl is where
+    of_flag : (b : Bool) → represents ≡ b → (if b then Some (faults.Overlong place) else None) ≡ Some fault → Shown rtype fault
+    of_flag false flag e = cc
+    of_flag true flag e =
+        let same : faults.Overlong place ≡ fault = cc in
+        subst (Shown rtype) same
+        (by_walk rtype by.walk (faults.Overlong place) by.is_walk (class, for.of_class, for.represents_it.0 flag) by.leaf_is)
+  by_leaf rtype node hop leaf fault by is = cc
+
+  by_branch : (rtype : RrType) (at number : ℕ) (node : Node) (branch : Branch) (fault : Fault) → HasBranch graph rtype at number node branch
+      → end_fault represents node.state branch ≡ Some fault → Shown rtype fault
+  by_branch rtype at number node (Go hop to) fault has is = cc
+  by_branch rtype at number node (End hop leaf) fault has is =
+      by_leaf rtype node hop leaf fault (walk_by graph rtype setting query for.is_graph for.exact at number node hop leaf has) is
+
+  -- a fault that was collected is shown with its type
+  pub candidate_shown : (seen : Seen) → Contains (flat_map (node_faults represents) graph.nodes) seen → Shown seen.rtype seen.fault
+  candidate_shown seen has =
+      let of = from_candidates represents graph seen has in
+      let typed : has_bit of.arm.types seen.rtype ≡ true = (found_there (has_bit of.arm.types) types seen.rtype of.first).1 in
+      let arm = one_arm of.node of.arm seen.rtype (for.is_graph.apart of.at of.node of.here) of.has_arm typed in
+      let branch = branch_for graph of.at of.node of.arm of.branch seen.rtype of.here arm of.has_branch in
+      by_branch seen.rtype of.at branch.0 of.node of.branch seen.fault branch.1 of.fault_is
+
+  -- its kind
+  by_kind : (represents : Bool) (last : Option Place) (leaf : Leaf) (fault : Fault) → leaf_fault represents last leaf ≡ Some fault → OfEnd fault
+  by_kind represents last (leaves.Limit place) fault is = let same : faults.Limit place ≡ fault = cc in subst OfEnd same tt
+  by_kind represents None leaves.NxDomain fault is = cc
+  by_kind represents (Some place) leaves.NxDomain fault is = let same : faults.Blackhole place ≡ fault = cc in subst OfEnd same tt
+  by_kind true last (leaves.Overlong place) fault is = let same : faults.Overlong place ≡ fault = cc in subst OfEnd same tt
+  by_kind false last (leaves.Overlong place) fault is = cc
+  by_kind represents last leaf fault is = cc
+
+  of_branch : (state : State) (branch : Branch) (fault : Fault) → end_fault represents state branch ≡ Some fault → OfEnd fault
+  of_branch state (Go hop to) fault is = cc
+  of_branch state (End hop leaf) fault is = by_kind represents state.last leaf fault is
+
+  pub candidate_of_end : (seen : Seen) → Contains (flat_map (node_faults represents) graph.nodes) seen → OfEnd seen.fault
+  candidate_of_end seen has =
+      let of = from_candidates represents graph seen has in
+      of_branch of.node.state of.branch seen.fault of.fault_is
+
+  -- ---- what is shown is the fault of an end
+
+  -- it was collected, with this type or one with a lower number
+  pub record IsCollected (rtype : RrType) (fault : Fault) : Type 0 where
+    pub first : RrType
+    pub has : Contains (flat_map (node_faults represents) graph.nodes) (with_type first fault)
+    pub not_later : number_of first ≤ number_of rtype
+
+  by_end : (rtype : RrType) (fault : Fault) (walk : Walk) (end : EndOf graph rtype walk) → leaf_fault represents end.node.state.last end.leaf ≡ Some fault
+      → IsCollected rtype fault
+  by_end rtype fault walk end is =
+      let of = of_arm setting query graph rtype for.is_graph end.at end.number end.node (End end.hop end.leaf) end.has in
+      by of (find (has_bit of.arm.types) types) refl
+    where
+      by : (of : OfArm setting query graph rtype for.is_graph end.at end.node end.number (End end.hop end.leaf)) (first : Option RrType)
+          → find (has_bit of.arm.types) types ≡ first → IsCollected rtype fault
+      by of None none = absurd (true≢false (sym of.typed ∙ (first_none (has_bit of.arm.types) None (sym none)).0 refl rtype))
+      by of (Some first) found =
+          record {
+            first = first;
+            has = is_candidate represents graph end.at end.node of.arm (End end.hop end.leaf) first fault of.in_graph.is_node of.in_graph.has_arm found
+                (item_there of.arm.branches end.number (End end.hop end.leaf) of.there) is;
+            not_later = first_least (has_bit of.arm.types) (Some first) (sym found) rtype of.typed;
+          }
+
+  no_two : (fault : Fault) (one other : Walk) → OfEnd fault → WalksShow (with_sets setting) (one ∷ other ∷ []) fault → ⊥
+  no_two (faults.Answers other_class t) one other of show = of
+  no_two fault one other of show = show
+
+  -- the walk that shows it
+  one_walk : (fault : Fault) → OfEnd fault → (walks : List Walk) → WalksShow (with_sets setting) walks fault
+      → (walk : Walk) × (walks ≡ walk ∷ []) × WalksShow (with_sets setting) (walk ∷ []) fault
+  one_walk fault of [] show = absurd show
+  one_walk fault of (walk ∷ []) show = (walk, refl, show)
+  one_walk fault of (one ∷ other ∷ []) show = absurd (no_two fault one other of show)
+  one_walk fault of (one ∷ other ∷ third ∷ walks) show = absurd show
+
+  leaf_of : (rtype : RrType) (fault : Fault) → OfEnd fault → (walk : Walk) (end : EndOf graph rtype walk) → MayShow setting.config query rtype fault
+      → WalksShow (with_sets setting) (walk ∷ []) fault → leaf_fault represents end.node.state.last end.leaf ≡ Some fault
+  leaf_of rtype (faults.Limit place) of walk end may show = ap (leaf_fault represents end.node.state.last) (sym end.leaf_is ∙ show)
+  leaf_of rtype (faults.Blackhole place) of walk end may show =
+      let last : show.rewritten.last ≡ end.node.state = one_last show.rewritten.before end.before show.rewritten.last end.node.state (sym show.rewritten.states ∙ end.states_are) in
+      let is : end.node.state.last ≡ Some place = ap (λ (s : State). s.last) (sym last) ∙ show.rewritten.at_place in
+      ap (leaf_fault represents end.node.state.last) (sym end.leaf_is ∙ show.ends) ∙ ap (option_map faults.Blackhole) is
+  leaf_of rtype (faults.Overlong place) of walk end (other, is_class, stands) show =
+      let same : other ≡ class = for.of_no_other other is_class in
+      let flag : represents ≡ true = for.represents_it.1 (subst (λ c. IsRepresentative (ground_of setting.config) c query) same stands) in
+      ap (leaf_fault represents end.node.state.last) (sym end.leaf_is ∙ show)
+      ∙ ap (λ (b : Bool). if b then Some (faults.Overlong place) else None) flag
+  leaf_of rtype fault of walk end may show = absurd of
+
+  pub shown_collected : (rtype : RrType) (fault : Fault) → OfEnd fault → Shown rtype fault → IsCollected rtype fault
+  shown_collected rtype fault of shows =
+      let one = one_walk fault of shows.walks shows.show in
+      let is : IsWalk setting query rtype one.0 = (subst (AllByRecursion (IsWalk setting query rtype)) one.1 shows.are_walks).0 in
+      let end = end_of_walk graph rtype setting query for.is_graph for.exact one.0 is in
+      by_end rtype fault one.0 end (leaf_of rtype fault of one.0 end shows.may one.2)

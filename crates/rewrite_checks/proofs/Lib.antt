@@ -1,0 +1,5 @@
+pub mod Putting
+pub mod Candidates
+pub mod EndsShown
+pub mod AnswersShown
+pub mod Wholly

@@ -1,0 +1,179 @@
+-- What was collected, each with its first type, are the faults that the query shows.
+use Rattle.std.proofs.Common.{◌≡◌, ◌≤◌, Bool, true, List, [], ◌∷◌, ◌++◌, map, refl, sym, ap, ◌∙◌, subst, inl, inr, arith}
+use Rattle.std.specs.Prelude.{◌⊎◌, AllPairs, Contains}
+use Rattle.std.specs.List.{AllByRecursion, flat_map}
+use Rattle.std.specs.declared.cmp.Ordering.TheVariants.{Less, Equal}
+use Rattle.std.proofs.lemmas.List.Elements.{Contains-append_cases, Contains-append_left, Contains-append_right}
+use Rattle.dns_data.specs.Name.{Labels}
+use Rattle.dns_data.specs.RrType.{number_of, types}
+use Rattle.dns_data.specs.declared.rr_type.RrType.{RrType}
+use Rattle.dns_data.proofs.Membership.{none_in_nil, has_first, has_later, first_or_later, map_has, pairs_first, pairs_rest}
+use Rattle.graph_form.specs.Graph.{PlainGraph}
+use Rattle.graph_form.specs.Verdict.{AreFirstTypes, AreShownOf, IsCovered}
+use Rattle.graph_form.specs.declared.report.Seen.{Seen}
+use Rattle.graph_form.proofs.FirstTypes.{fault_itself}
+use Rattle.graph_form.proofs.Reached.{every_type}
+use Rattle.net_model.specs.FaultOrder.{fault_cmp}
+use Rattle.net_model.specs.Shown.{Shows, with_sets}
+use Rattle.net_model.specs.Step.{Setting}
+use Rattle.net_model.specs.declared.class.Class.{Class}
+use Rattle.net_model.specs.declared.fault.Fault.{Fault}
+use Rattle.net_model.specs.declared.fault.Fault.TheVariants as faults
+use Rattle.rewrite_checks.specs.Answers.{Differ, PutsAnswers, answers_of}
+use Rattle.rewrite_checks.specs.Ends.{node_faults, with_type}
+use Rattle.rewrite_checks.specs.Rewrites.{IsGraphFor, is_of_rewrites}
+use Rattle.rewrite_checks.proofs.AnswersShown.{differ_shown, shown_differ}
+use Rattle.rewrite_checks.proofs.EndsShown.{OfEnd, candidate_of_end, candidate_shown, shown_collected}
+
+-- what holds of each item holds along the list
+along : {X : Type 0} (P : X → Type 0) (xs : List X) → ((x : X) → Contains xs x → P x) → AllByRecursion P xs
+along P [] each = tt
+along P (x ∷ xs) each = (each x (has_first x xs), along P xs (λ y has. each y (has_later x xs y has)))
+
+-- ---- one entry a fault
+
+-- the fault comes before the other's
+abbrev Rises : Seen → Seen → Type 0
+Rises a b = fault_cmp a.fault b.fault ≡ Less
+
+-- two entries with one fault are one, where faults rise
+one_entry : (shown : List Seen) → AllPairs (λ a b. fault_cmp a.fault b.fault ≡ Less) shown → (a b : Seen) → Contains shown a → Contains shown b
+    → a.fault ≡ b.fault → a ≡ b
+one_entry [] ordered a b has_a has_b same = absurd (none_in_nil a has_a)
+one_entry (x ∷ xs) ordered a b has_a has_b same = by (first_or_later x xs a has_a) (first_or_later x xs b has_b) (λ c d has_c has_d equal. one_entry xs (pairs_rest Rises x xs ordered) c d has_c has_d equal) where
+  never : (c : Seen) → Contains xs c → x.fault ≡ c.fault → ⊥
+  never c has equal =
+      let less : fault_cmp x.fault c.fault ≡ Less = pairs_first Rises x xs ordered c has in
+      let tie : fault_cmp x.fault c.fault ≡ Equal = ap (fault_cmp x.fault) (sym equal) ∙ fault_itself x.fault in
+      cc
+
+  by : (x ≡ a) ⊎ Contains xs a → (x ≡ b) ⊎ Contains xs b → ((c d : Seen) → Contains xs c → Contains xs d → c.fault ≡ d.fault → c ≡ d) → a ≡ b
+  by (inl is_a) (inl is_b) rest = sym is_a ∙ is_b
+  by (inl is_a) (inr later) rest = absurd (never b later (ap (λ (s : Seen). s.fault) is_a ∙ same))
+  by (inr later) (inl is_b) rest = absurd (never a later (ap (λ (s : Seen). s.fault) is_b ∙ sym same))
+  by (inr later) (inr also) rest = rest a b later also same
+
+module _ (setting : Setting) (query : Labels) (class : Class) (represents : Bool) (graph : PlainGraph) (for : IsGraphFor setting query class represents graph)
+    (seen shown : List Seen) (puts : PutsAnswers class graph types (flat_map (node_faults represents) graph.nodes) seen) (firsts : AreFirstTypes seen shown) where
+  Shown : RrType → Fault → Type 0
+  Shown rtype fault = Shows (with_sets setting) query rtype fault
+
+  of_rewrites : (fault : Fault) → OfEnd fault → is_of_rewrites fault ≡ true
+  of_rewrites (faults.Limit place) of = refl
+  of_rewrites (faults.Blackhole place) of = refl
+  of_rewrites (faults.Overlong place) of = refl
+  of_rewrites fault of = absurd of
+
+  -- each that was collected is of these kinds, and shown
+  record IsRight (entry : Seen) : Type 0 where
+    pub kind : is_of_rewrites entry.fault ≡ true
+    pub shows : Shows (with_sets setting) query entry.rtype entry.fault
+
+  right : (entry : Seen) → Contains seen entry → IsRight entry
+  right entry has = by (puts.from entry has) where
+    by : Contains (flat_map (node_faults represents) graph.nodes) entry ⊎ ((entry ≡ answers_of class entry.rtype) × Differ graph entry.rtype) → IsRight entry
+    by (inl ends) =
+        record {
+          kind = of_rewrites entry.fault (candidate_of_end setting query class represents graph for entry ends);
+          shows = candidate_shown setting query class represents graph for entry ends;
+        }
+    by (inr (is, differ)) =
+        let fault : entry.fault ≡ faults.Answers class entry.rtype = ap (λ (s : Seen). s.fault) is in
+        record {
+          kind = ap is_of_rewrites fault;
+          shows = subst (Shows (with_sets setting) query entry.rtype) (sym fault) (differ_shown setting query class represents graph for entry.rtype differ);
+        }
+
+  -- each that is shown was collected
+  collected_end : (rtype : RrType) (fault : Fault) → OfEnd fault → Shows (with_sets setting) query rtype fault → IsCovered seen (record { fault = fault; rtype = rtype })
+  collected_end rtype fault of shows =
+      let is = shown_collected setting query class represents graph for rtype fault of shows in
+      record { by = with_type is.first fault; has = puts.kept (with_type is.first fault) is.has; fault_is = refl; not_later = is.not_later }
+
+  collected : (rtype : RrType) (fault : Fault) → is_of_rewrites fault ≡ true → Shows (with_sets setting) query rtype fault
+      → IsCovered seen (record { fault = fault; rtype = rtype })
+  collected rtype (faults.Limit place) kind shows = collected_end rtype (faults.Limit place) tt shows
+  collected rtype (faults.Blackhole place) kind shows = collected_end rtype (faults.Blackhole place) tt shows
+  collected rtype (faults.Overlong place) kind shows = collected_end rtype (faults.Overlong place) tt shows
+  collected rtype (faults.Answers other t) kind shows =
+      let of = shown_differ setting query class represents graph for rtype other t shows in
+      record {
+        by = answers_of class rtype;
+        has = puts.all rtype (every_type rtype) of.differ;
+        fault_is = ap (λ c. faults.Answers c rtype) (sym of.class_is) ∙ ap (faults.Answers other) (sym of.type_is);
+        not_later = omega arith;
+      }
+  collected rtype fault kind shows = cc
+
+  -- so one entry covers it
+  covered : (rtype : RrType) (fault : Fault) → is_of_rewrites fault ≡ true → Shows (with_sets setting) query rtype fault
+      → IsCovered shown (record { fault = fault; rtype = rtype })
+  covered rtype fault kind shows =
+      let one = collected rtype fault kind shows in
+      let by = firsts.covers one.by one.has in
+      record { by = by.by; has = by.has; fault_is = by.fault_is ∙ one.fault_is; not_later = omega (arith, by.not_later, one.not_later) }
+
+  first : (entry : Seen) → Contains shown entry → (rtype : RrType) → Shows (with_sets setting) query rtype entry.fault → number_of entry.rtype ≤ number_of rtype
+  first entry has rtype shows =
+      let kind = (right entry (firsts.from entry has)).kind in
+      let one = covered rtype entry.fault kind shows in
+      let same : one.by ≡ entry = one_entry shown firsts.ordered one.by entry one.has has one.fault_is in
+      subst (λ (s : Seen). number_of s.rtype ≤ number_of rtype) same one.not_later
+
+  -- these are the faults
+  pub are_shown : AreShownOf (with_sets setting) query is_of_rewrites shown
+  are_shown =
+      record {
+        ordered = firsts.ordered;
+        kinds = along (λ (s : Seen). is_of_rewrites s.fault ≡ true) shown (λ entry has. (right entry (firsts.from entry has)).kind);
+        each_shown = along (λ (s : Seen). Shows (with_sets setting) query s.rtype s.fault) shown (λ entry has. (right entry (firsts.from entry has)).shows);
+        first_type = along (λ (s : Seen). (rtype : RrType) → Shows (with_sets setting) query rtype s.fault → number_of s.rtype ≤ number_of rtype) shown first;
+        all_shown = λ fault rtype kind shows.
+            let one = covered rtype fault kind shows in
+            subst (Contains (map (λ (s : Seen). s.fault) shown)) one.fault_is (map_has (λ (s : Seen). s.fault) shown one.by one.has);
+      }
+
+-- ---- the faults of types, put one after the other
+
+module _ (class : Class) (graph : PlainGraph) where
+  pub none_put : (old : List Seen) → PutsAnswers class graph [] old old
+  none_put old = record { kept = λ s has. has; from = λ s has. inl has; all = λ t none differ. absurd (none_in_nil t none) }
+
+  pub more_put : (ts : List RrType) (t : RrType) (old mid new : List Seen) → PutsAnswers class graph ts old mid → PutsAnswers class graph (t ∷ []) mid new
+      → PutsAnswers class graph (ts ++ t ∷ []) old new
+  more_put ts t old mid new one other =
+      record {
+        kept = λ s has. other.kept s (one.kept s has);
+        from = λ s has. elim (other.from s has) [
+          | inl before ↦ one.from s before
+          | inr put ↦ inr put
+        ];
+        all = λ r has differ. elim (Contains-append_cases ts (t ∷ []) r has) [
+          | inl early ↦ other.kept (answers_of class r) (one.all r early differ)
+          | inr late ↦ other.all r late differ
+        ];
+      }
+
+  -- of one type: the fault is put, or answers don't differ
+  pub one_put : (t : RrType) (old new : List Seen) → new ≡ old ++ answers_of class t ∷ [] → Differ graph t → PutsAnswers class graph (t ∷ []) old new
+  one_put t old new is differ =
+      subst (PutsAnswers class graph (t ∷ []) old) (sym is)
+      (record {
+        kept = λ s has. Contains-append_left old (answers_of class t ∷ []) s has;
+        from = λ s has. elim (Contains-append_cases old (answers_of class t ∷ []) s has) [
+          | inl before ↦ inl before
+          | inr put ↦ (
+              let same : answers_of class t ≡ s = elim (first_or_later (answers_of class t) [] s put) [ inl is_it ↦ is_it | inr none ↦ absurd (none_in_nil s none) ] in
+              inr (subst (λ (s : Seen). (s ≡ answers_of class s.rtype) × Differ graph s.rtype) same (refl, differ)))
+        ];
+        all = λ r has shown. Contains-append_right old (answers_of class t ∷ []) (answers_of class r)
+            (elim (first_or_later t [] r has) [ inl same ↦ subst (λ q. Contains (answers_of class t ∷ []) (answers_of class q)) same (has_first (answers_of class t) []) | inr none ↦ absurd (none_in_nil r none) ]);
+      })
+
+  pub not_put : (t : RrType) (old : List Seen) → (Differ graph t → ⊥) → PutsAnswers class graph (t ∷ []) old old
+  not_put t old same =
+      record {
+        kept = λ s has. has;
+        from = λ s has. inl has;
+        all = λ r has differ. absurd (elim (first_or_later t [] r has) [ inl is ↦ same (subst (Differ graph) (sym is) differ) | inr none ↦ absurd (none_in_nil r none) ]);
+      }
