@@ -8,7 +8,7 @@ ghost use Rattle.plain_resolver.specs.Steps.{branch_of};
 
 use crate::resolver::Resolver;
 use dns_data::{Name, NoMemory};
-use net_model::{Cut, Found, Hop, Leaf, Place, State, may_follow};
+use net_model::{Cut, Found, Hop, Leaf, Place, State};
 use std::alloc::Global;
 use zone_lookup::find;
 
@@ -131,7 +131,7 @@ fn referred(
     let Some(host) = resolver.hosts().host(&cut.ns) else {
         return Ok(Step::End(Some(Hop::Refer(cut)), Leaf::Unhosted(ns)));
     };
-    if !may_follow(resolver.config(), &cut, resolver.followed()) {
+    if !resolver.hosts().may_follow(&cut, resolver.followed()) {
         return Ok(Step::End(Some(Hop::Refer(cut)), Leaf::NoAddress(ns)));
     }
     match host.nearest(&state.name) {

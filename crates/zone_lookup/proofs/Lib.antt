@@ -1,1 +1,3 @@
+mod FirstsByName
+mod Glue
 pub mod NearestZones

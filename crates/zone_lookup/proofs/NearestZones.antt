@@ -60,7 +60,7 @@ module _ (test : Labels → Bool) (name : Labels) where
       ap test (sym (front_is_take above begins.0 name begins.1)) ∙ fails (length above) (omega arith))
 
 -- what a search finds passes
-found_passes : (test : Zone → Bool) (zones : List Zone) (zone : Zone) → find test zones ≡ Some zone → test zone ≡ true
+pub found_passes : (test : Zone → Bool) (zones : List Zone) (zone : Zone) → find test zones ≡ Some zone → test zone ≡ true
 found_passes test [] zone e = cc
 found_passes test (first ∷ zones) zone e = by (test first) refl e (found_passes test zones zone) where
   by : (b : Bool) → test first ≡ b → cond b (Some first) (find test zones) ≡ Some zone → (find test zones ≡ Some zone → test zone ≡ true) → test zone ≡ true

@@ -2,14 +2,17 @@
 
 ghost use Rattle.std.specs.Prelude.{◌≡◌, true, map, IfOk, IfSome};
 ghost use Rattle.std.specs.List.{find};
+ghost use Rattle.std.specs.List.Sorted.{IsStrictlySortedBy};
 ghost use Rattle.std.specs.Option.{option_map};
-ghost use Rattle.dns_data.specs.Name.{name_eq, is_prefix};
+ghost use Rattle.dns_data.specs.Name.{name_eq, name_cmp, is_prefix};
 ghost use Rattle.net_model.specs.Nearest.{server_named, zone_with_origin, held_zone, nearest, nearest_of};
+ghost use Rattle.zone_lookup.specs.Hosts.{AreTreesOf, FindsTrees, AreHostsOf, FindsHosts};
 
 use dns_data::{Labels, Name, NoMemory};
 use net_model::{Config, Server, Zone};
 use std::alloc::Global;
 use std::cmp::Ordering;
+use std::collections::BTreeMap;
 use std::marker::Model;
 use zone_tree::Tree;
 
@@ -21,14 +24,14 @@ pub struct Hosts<'a> {
 }
 
 impl<'a> Model for Hosts<'a> {
-    ghost use Rattle.std.specs.Prelude.{◌≡◌};
     ghost use Rattle.net_model.specs.declared.config.Config.{Config};
+    ghost use Rattle.zone_lookup.specs.Hosts.{AreHostsOf};
 
     ghost Value = { Config };
 
     ghost view = { λ hosts. hosts.config.now };
 
-    ghost invariant = { λ hosts. hosts.hosts.items ≡ hosts.config.now.servers };
+    ghost invariant = { λ hosts. AreHostsOf hosts.config.now.servers hosts.hosts.items };
 }
 
 impl<'a> Hosts<'a> {
@@ -36,7 +39,7 @@ impl<'a> Hosts<'a> {
     pub fn build(alloc: Global, config: &'a Config) -> Result<Hosts<'a>, NoMemory>
         ensures { IfOk result (λ hosts. hosts ≡ config.now) }
     {
-        let hosts = hosts_of(alloc, config)?;
+        let hosts = hosts_of(alloc, config.servers.items())?;
         Ok(Hosts { config, hosts })
     }
 
@@ -93,7 +96,7 @@ impl<'a> Model for Host<'a> {
 
     ghost view = { λ host. host.server.now };
 
-    ghost invariant = { λ host. AreTreesOf host.server.now host.trees.items };
+    ghost invariant = { λ host. AreTreesOf host.server.now.zones host.trees.items };
 }
 
 impl<'a> Host<'a> {
@@ -120,7 +123,7 @@ impl<'a> Host<'a> {
         let mut count = name.len() as usize + 1;
         while count > 0 {
             count -= 1;
-            if let Some(tree) = tree_with_origin(self.trees.as_slice(), &name.front(count)) {
+            if let Some(tree) = self.tree_of(&name.front(count)) {
                 return Some(tree);
             }
         }
@@ -131,60 +134,121 @@ impl<'a> Host<'a> {
     pub fn zone_with_origin(&self, origin: &Name) -> Option<&Tree<'a>>
         ensures { option_map (λ tree. tree.now.zone) result ≡ zone_with_origin self.now origin.now }
     {
-        tree_with_origin(self.trees.as_slice(), &origin.labels())
+        self.tree_of(&origin.labels())
+    }
+
+    /// The tree of the server's zone whose origin has these labels, the first of several.
+    fn tree_of(&self, origin: &Labels<'_>) -> Option<&Tree<'a>>
+        ensures { option_map (λ tree. tree.now.zone) result ≡ zone_with_origin self.now origin.now }
+    {
+        tree_with_origin(self.trees.as_slice(), origin)
     }
 }
 
-/// The tree of the zone with this origin, the first of several.
+/// The tree whose zone has this origin, among trees in the order of their origins.
 fn tree_with_origin<'t, 'a>(trees: &'t [Tree<'a>], origin: &Labels<'_>) -> Option<&'t Tree<'a>>
-    ensures { option_map (λ tree. tree.now.zone) result ≡ find (λ zone. name_eq zone.origin origin.now) (map (λ tree. tree.zone) trees.now) }
+    requires { IsStrictlySortedBy name_cmp (map (λ tree. tree.zone.origin) trees.now) }
+    ensures { option_map (λ tree. tree.now) result ≡ find (λ tree. name_eq tree.zone.origin origin.now) trees.now }
 {
-    for tree in trees {
-        if has_labels(&tree.zone().origin, origin) {
-            return Some(tree);
-        }
+    let found = trees.binary_search_by(
+        |tree: &Tree<'_>| -> Ordering
+            ensures { result ≡ name_cmp tree.now.zone.origin origin.entry.now }
+        { tree.zone().origin.labels().compare(origin) },
+    );
+    match found {
+        Ok(place) => Some(&trees[place]),
+        Err(_) => None,
     }
-    None
 }
 
-/// Whether the name has these labels.
-fn has_labels(name: &Name, labels: &Labels<'_>) -> bool
-    ensures { result ≡ name_eq name.now labels.now }
+/// The server of this name, among servers in the order of their names.
+fn host_named<'h, 'a>(hosts: &'h [Host<'a>], name: &Name) -> Option<&'h Host<'a>>
+    requires { IsStrictlySortedBy name_cmp (map (λ host. host.name) hosts.now) }
+    ensures { option_map (λ host. host.now) result ≡ find (λ server. name_eq server.name name.now) hosts.now }
 {
-    name.labels().compare(labels) == Ordering::Equal
+    let found = hosts.binary_search_by(
+        |host: &Host<'_>| -> Ordering
+            ensures { result ≡ name_cmp host.now.name name.entry.now }
+        { host.name().compare(name) },
+    );
+    match found {
+        Ok(place) => Some(&hosts[place]),
+        Err(_) => None,
+    }
 }
 
-/// The trees of zones.
+/// The trees of zones in the order of their origins. Of several zones with one origin the first counts.
 fn trees_of<'a>(alloc: Global, zones: &'a [Zone]) -> Result<Vec<Tree<'a>>, NoMemory>
-    ensures { IfOk result (λ trees. map (λ tree. tree.zone) trees.items ≡ zones.now) }
+    ensures { IfOk result (λ trees. AreTreesOf zones.now trees.items) }
 {
-    let mut trees = Vec::with_capacity(alloc, zones.len())?;
-    for zone in zones {
-        trees.push(Tree::build(alloc, zone)?)?;
+    let trees = trees_by_origin(alloc, zones)?;
+    let _ = trees.len();
+    tree_values(alloc, trees)
+}
+
+/// The trees of a map, in its order.
+fn tree_values<'a>(
+    alloc: Global,
+    trees: BTreeMap<&'a Name, Tree<'a>>,
+) -> Result<Vec<Tree<'a>>, NoMemory>
+    ensures { IfOk result (λ values. values.items ≡ map (λ entry. entry.1) trees.entry.entries) }
+{
+    Ok(trees.into_values().collect(alloc)?)
+}
+
+/// The trees of zones by their origins. The last zones are looked at first, and the first of one origin stays.
+fn trees_by_origin<'a>(
+    alloc: Global,
+    zones: &'a [Zone],
+) -> Result<BTreeMap<&'a Name, Tree<'a>>, NoMemory>
+    ensures { IfOk result (λ trees. FindsTrees zones.now trees) }
+{
+    let mut trees = BTreeMap::new(alloc);
+    let mut left = zones.len();
+    while left > 0 {
+        left -= 1;
+        let zone = &zones[left];
+        let tree = Tree::build(alloc, zone)?;
+        trees.insert(&zone.origin, tree)?;
     }
     Ok(trees)
 }
 
-/// The servers of a configuration with the trees of their zones.
-fn hosts_of<'a>(alloc: Global, config: &'a Config) -> Result<Vec<Host<'a>>, NoMemory>
-    ensures { IfOk result (λ hosts. hosts.items ≡ config.now.servers) }
+/// The servers with the trees of their zones, in the order of their names. Of several servers with one name the first
+/// counts.
+fn hosts_of<'a>(alloc: Global, servers: &'a [Server]) -> Result<Vec<Host<'a>>, NoMemory>
+    ensures { IfOk result (λ hosts. AreHostsOf servers.now hosts.items) }
 {
-    let servers = config.servers.items();
-    let mut hosts = Vec::with_capacity(alloc, servers.len())?;
-    for server in servers {
-        hosts.push(Host::build(alloc, server)?)?;
-    }
-    Ok(hosts)
+    let hosts = hosts_by_name(alloc, servers)?;
+    let _ = hosts.len();
+    host_values(alloc, hosts)
 }
 
-/// The server of this name, the first of several.
-fn host_named<'h, 'a>(hosts: &'h [Host<'a>], name: &Name) -> Option<&'h Host<'a>>
-    ensures { option_map (λ host. host.now) result ≡ find (λ server. name_eq server.name name.now) hosts.now }
+/// The servers of a map, in its order.
+fn host_values<'a>(
+    alloc: Global,
+    hosts: BTreeMap<&'a Name, Host<'a>>,
+) -> Result<Vec<Host<'a>>, NoMemory>
+    ensures { IfOk result (λ values. values.items ≡ map (λ entry. entry.1) hosts.entry.entries) }
 {
-    for host in hosts {
-        if host.name() == name {
-            return Some(host);
-        }
+    Ok(hosts.into_values().collect(alloc)?)
+}
+
+/// The servers with the trees of their zones by their names. The last servers are looked at first, and the first of one
+/// name stays.
+fn hosts_by_name<'a>(
+    alloc: Global,
+    servers: &'a [Server],
+) -> Result<BTreeMap<&'a Name, Host<'a>>, NoMemory>
+    ensures { IfOk result (λ hosts. FindsHosts servers.now hosts) }
+{
+    let mut hosts = BTreeMap::new(alloc);
+    let mut left = servers.len();
+    while left > 0 {
+        left -= 1;
+        let server = &servers[left];
+        let host = Host::build(alloc, server)?;
+        hosts.insert(&server.name, host)?;
     }
-    None
+    Ok(hosts)
 }

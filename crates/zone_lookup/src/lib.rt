@@ -8,6 +8,7 @@
 #![tactic(auto)]
 
 mod answers;
+mod follow;
 mod hosts;
 mod lookup;
 

@@ -14,11 +14,8 @@ returns-in-Some-clause-zone c =
     let name = c.args.name.now in
     let inv = c.loop-count.invariant in
     let k = c.loop-count.count - 1 in
-    let zones : map (λ (tree : ZoneTree). tree.zone) c.as_slice.result.now ≡ server.zones =
-    ap (map (λ (tree : ZoneTree). tree.zone)) c.as_slice.ensures.value ∙ c.self.invariant ∙ ap (λ (s : Server). s.zones) c.self.view_is in
     let at : zone_with_origin server (take k name) ≡ Some c.in-Some.tree.now.zone =
-    ap (zone_with_origin server) (sym c.front.ensures)
-    ∙ ap (λ (zs : List Zone). find (λ (z : Zone). name_eq z.origin c.front.result) zs) (sym zones) ∙ sym c.in-Some.ensures in
+    ap (zone_with_origin server) (sym c.front.ensures) ∙ sym c.in-Some.ensures in
     sym (nearest_at server name k c.in-Some.tree.now.zone (omega (arith, inv.within)) at (λ j more within. inv.none j (omega (arith, more)) within))
 
 pub returns-in-Some-clause-inside : goal.returns-in-Some-clause-inside
@@ -26,11 +23,8 @@ returns-in-Some-clause-inside c =
     let server = c.args.self.now in
     let name = c.args.name.now in
     let k = c.loop-count.count - 1 in
-    let zones : map (λ (tree : ZoneTree). tree.zone) c.as_slice.result.now ≡ server.zones =
-    ap (map (λ (tree : ZoneTree). tree.zone)) c.as_slice.ensures.value ∙ c.self.invariant ∙ ap (λ (s : Server). s.zones) c.self.view_is in
     let at : zone_with_origin server (take k name) ≡ Some c.in-Some.tree.now.zone =
-    ap (zone_with_origin server) (sym c.front.ensures)
-    ∙ ap (λ (zs : List Zone). find (λ (z : Zone). name_eq z.origin c.front.result) zs) (sym zones) ∙ sym c.in-Some.ensures in
+    ap (zone_with_origin server) (sym c.front.ensures) ∙ sym c.in-Some.ensures in
     nearest_has server name k c.in-Some.tree.now.zone at
 
 pub returns-clause-zone : goal.returns-clause-zone

@@ -1,0 +1,64 @@
+//! Which name servers may be followed.
+
+ghost use Rattle.std.specs.Prelude.{◌≡◌, true};
+ghost use Rattle.std.specs.List.{list_any};
+ghost use Rattle.dns_data.specs.Name.{name_eq, is_prefix};
+ghost use Rattle.net_model.specs.Step.{has_glue, may_follow};
+ghost use Rattle.net_model.specs.Zone.{has_address};
+
+use crate::hosts::Hosts;
+use dns_data::{Name, RrType};
+use net_model::{Cut, may_follow};
+use zone_tree::Tree;
+
+impl<'a> Hosts<'a> {
+    /// Whether the address of the cut's name server is known: it is a top server, it has glue in that referral, or it is
+    /// among the followed ones. It passes over the top servers and the followed ones, and over no records where the zone
+    /// cut is at or below the referring zone's origin (RFC 1034 section 4.2.1).
+    pub fn may_follow(&self, cut: &Cut, followed: &[Name]) -> bool
+        ensures { result ≡ may_follow self.now cut.now followed.now }
+    {
+        if !cut.zone.is_prefix_of(&cut.cut) {
+            return may_follow(self.config(), cut, followed);
+        }
+        is_among(self.config().tops.items(), &cut.ns)
+            || self.has_glue(cut)
+            || is_among(followed, &cut.ns)
+    }
+
+    /// Whether the name server has glue in the referral: it is at or below the zone cut, and the referring zone holds an
+    /// address of it.
+    fn has_glue(&self, cut: &Cut) -> bool
+        requires { is_prefix cut.now.zone cut.now.cut ≡ true }
+        ensures { result ≡ has_glue self.now cut.now }
+    {
+        if !cut.cut.is_prefix_of(&cut.ns) {
+            return false;
+        }
+        match self.held_zone(&cut.server, &cut.zone) {
+            Some(tree) => has_address(tree, &cut.ns),
+            None => false,
+        }
+    }
+}
+
+/// Whether the name is among these.
+fn is_among(names: &[Name], name: &Name) -> bool
+    ensures { result ≡ list_any (name_eq name.now) names.now }
+{
+    names.iter().any(|other| *name == *other)
+}
+
+/// Whether the name, which is at or below the origin, owns an address record.
+fn has_address(tree: &Tree<'_>, name: &Name) -> bool
+    requires { is_prefix tree.now.zone.origin name.now ≡ true }
+    ensures { result ≡ has_address tree.now.zone name.now }
+{
+    match tree.node_at(name) {
+        Some(node) => {
+            let types = tree.types(node);
+            types.has(RrType::A) || types.has(RrType::Aaaa)
+        }
+        None => false,
+    }
+}
