@@ -131,17 +131,17 @@ module _ {X : Type 0} (key : X → Labels) (name : Labels) where
   has_name x = name_eq (key x) name
 
   -- of items in the order of names, one with the name is what a search finds
-  found_there : (xs : List X) (place : ℕ) (d : X) → IsStrictlySortedBy name_cmp (map key xs) → place < length xs → key (get_or xs place d) ≡ name
+  found_in_order : (xs : List X) (place : ℕ) (d : X) → IsStrictlySortedBy name_cmp (map key xs) → place < length xs → key (get_or xs place d) ≡ name
       → find has_name xs ≡ Some (get_or xs place d)
-  found_there [] place d sorted below is = absurd (omega arith)
-  found_there (x ∷ xs) zero d sorted below is = ap (λ (b : Bool). cond b (Some x) (find has_name xs)) ((name_eq_decides (key x) name).1 is)
-  found_there (x ∷ xs) (suc place) d sorted below is =
+  found_in_order [] place d sorted below is = absurd (omega arith)
+  found_in_order (x ∷ xs) zero d sorted below is = ap (λ (b : Bool). cond b (Some x) (find has_name xs)) ((name_eq_decides (key x) name).1 is)
+  found_in_order (x ∷ xs) (suc place) d sorted below is =
       let within : place < length xs = omega arith in
       let names : get_or (map key xs) place [] ≡ key (get_or xs place d) = get_or-map key xs place d [] within in
       let less : name_cmp (key x) name ≡ Less =
       ap (name_cmp (key x)) (sym is ∙ sym names) ∙ All-after_first name_cmp (key x) (map key xs) sorted place [] (omega (arith, length-map xs key)) in
       ap (λ (b : Bool). cond b (Some x) (find has_name xs)) (before_differs (key x) name less)
-      ∙ found_there xs place d (sorted_tail name_cmp (key x) (map key xs) sorted) within is
+      ∙ found_in_order xs place d (sorted_tail name_cmp (key x) (map key xs) sorted) within is
 
   rises : (xs : List X) → IsStrictlySortedBy name_cmp (map key xs) → IsSortedBy (λ a b. is_lt (name_cmp (key a) (key b))) xs
   rises xs sorted = λ k d low high.
@@ -157,7 +157,7 @@ module _ {X : Type 0} (key : X → Labels) (name : Labels) where
       → IsBinarySearchResult (λ (x : X). name_cmp (key x) name) xs r
       → MatchResult r (λ place. (d : X) → find has_name xs ≡ Some (get_or xs place d)) (λ _. find has_name xs ≡ None)
   found_by xs (Ok place) sorted below holds =
-      λ d. found_there xs place d sorted below (same_names (key (get_or xs place d)) name (holds d))
+      λ d. found_in_order xs place d sorted below (same_names (key (get_or xs place d)) name (holds d))
   found_by xs (Err place) sorted within holds =
       let parts = holds (searchable_from_sorted names_total key xs name (rises xs sorted)) in
       find_none has_name xs

@@ -6,13 +6,13 @@ use Rattle.dns_data.specs.declared.rr_type.RrType.{RrType}
 use Rattle.dns_data.specs.declared.rr_type.RrType.TheVariants as types
 use Rattle.dns_data.proofs.NameFronts.{is_prefix_tells, is_prefix_told}
 use Rattle.dns_data.proofs.Names.{name_eq_decides}
+use Rattle.dns_data.proofs.Searches.{found_there}
 use Rattle.net_model.specs.declared.config.Config.{Config}
 use Rattle.net_model.specs.declared.config.Server.{Server}
 use Rattle.net_model.specs.declared.config.Zone.{Zone}
 use Rattle.net_model.specs.Nearest.{server_named, zone_with_origin, held_zone}
 use Rattle.net_model.specs.Zone.{exists_in, owns, has_address}
 use Rattle.net_model.proofs.OpenTails.{owner_exists}
-use Rattle.zone_lookup.proofs.NearestZones.{found_passes}
 
 -- a name at or below one that is at or below another
 pub further_below : (a b c : Labels) → is_prefix a b ≡ true → is_prefix b c ≡ true → is_prefix a c ≡ true
@@ -27,7 +27,7 @@ pub held_origin : (config : Config) (server origin : Labels) (zone : Zone) → h
 held_origin config server origin zone e = by (server_named config server) e where
   by : (holder : Option Server) → option_and_then (λ holder. zone_with_origin holder origin) holder ≡ Some zone → zone.origin ≡ origin
   by None e = cc
-  by (Some holder) e = (name_eq_decides zone.origin origin).0 (found_passes (λ (z : Zone). name_eq z.origin origin) holder.zones zone e)
+  by (Some holder) e = (name_eq_decides zone.origin origin).0 (found_there (λ (z : Zone). name_eq z.origin origin) holder.zones zone e).1
 
 -- a name that doesn't exist owns nothing
 missing_owns : (zone : Zone) (name : Labels) (rtype : RrType) → is_prefix zone.origin name ≡ true → exists_in zone name ≡ false

@@ -11,7 +11,7 @@ use Rattle.net_model.specs.Prefix.{prefixes, longest}
 use Rattle.dns_data.proofs.Membership.{none_in_nil, from_map}
 use Rattle.dns_data.proofs.NameFronts.{Begins, is_prefix_told}
 use Rattle.dns_data.proofs.Names.{name_eq_decides}
-use Rattle.dns_data.proofs.Searches.{find_none}
+use Rattle.dns_data.proofs.Searches.{find_none, found_there}
 use Rattle.net_model.proofs.Prefixes.{longer, longest_above, from_prefixes}
 use Rattle.zone_tree.proofs.Prefixes.{longest_itself}
 
@@ -59,14 +59,6 @@ module _ (test : Labels → Bool) (name : Labels) where
       let long : length above + length begins.0 ≡ length name = sym (length-append above begins.0) ∙ ap (λ (x : Labels). length x) begins.1 in
       ap test (sym (front_is_take above begins.0 name begins.1)) ∙ fails (length above) (omega arith))
 
--- what a search finds passes
-pub found_passes : (test : Zone → Bool) (zones : List Zone) (zone : Zone) → find test zones ≡ Some zone → test zone ≡ true
-found_passes test [] zone e = cc
-found_passes test (first ∷ zones) zone e = by (test first) refl e (found_passes test zones zone) where
-  by : (b : Bool) → test first ≡ b → cond b (Some first) (find test zones) ≡ Some zone → (find test zones ≡ Some zone → test zone ≡ true) → test zone ≡ true
-  by true is e rest = let same : first ≡ zone = cc in ap test (sym same) ∙ is
-  by false is e rest = rest e
-
 module _ (server : Server) (name : Labels) where
   abbrev holds : Labels → Bool
   holds above = is_some (zone_with_origin server above)
@@ -81,7 +73,7 @@ module _ (server : Server) (name : Labels) where
   pub nearest_has : (k : ℕ) (zone : Zone) → zone_with_origin server (take k name) ≡ Some zone → is_prefix zone.origin name ≡ true
   nearest_has k zone is =
       let origin : zone.origin ≡ take k name =
-      (name_eq_decides zone.origin (take k name)).0 (found_passes (λ (z : Zone). name_eq z.origin (take k name)) server.zones zone is) in
+      (name_eq_decides zone.origin (take k name)).0 (found_there (λ (z : Zone). name_eq z.origin (take k name)) server.zones zone is).1 in
       is_prefix_told zone.origin name (drop k name, ap (λ (x : Labels). x ++ drop k name) origin ∙ take-append-drop k name)
 
   -- and there is none, where no front is an origin
