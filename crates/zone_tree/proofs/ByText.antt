@@ -17,23 +17,23 @@ use Rattle.dns_data.proofs.NameOrder.{same_labels}
 use Rattle.net_model.specs.Zone.{data_cmp}
 
 abbrev pub Entry : Type 0
-Entry = List ℕ × Bor Rdata
+Entry = List ℕ × Rdata
 
 -- an entry's key is the text of its data
 abbrev pub IsKeyed : Entry → Type 0
-IsKeyed entry = entry.0 ≡ data_text entry.1.now
+IsKeyed entry = entry.0 ≡ data_text entry.1
 
 abbrev pub now_of : Bor Labels → Labels
 now_of name = name.now
 
 abbrev pub data_at_entry : Entry → Rdata
-data_at_entry entry = entry.1.now
+data_at_entry entry = entry.1
 
-module _ (rdata : Bor Rdata) (text : List ℕ) (is : text ≡ data_text rdata.now) where
+module _ (rdata : Rdata) (text : List ℕ) (is : text ≡ data_text rdata) where
   -- how the text stands to a key
-  stands : (entry : Entry) → IsKeyed entry → slice_cmp nat_cmp text entry.0 ≡ data_cmp rdata.now entry.1.now
+  stands : (entry : Entry) → IsKeyed entry → slice_cmp nat_cmp text entry.0 ≡ data_cmp rdata entry.1
   stands entry keyed =
-      ap (λ (x : List ℕ). slice_cmp nat_cmp x entry.0) is ∙ ap (slice_cmp nat_cmp (data_text rdata.now)) keyed
+      ap (λ (x : List ℕ). slice_cmp nat_cmp x entry.0) is ∙ ap (slice_cmp nat_cmp (data_text rdata)) keyed
 
   -- whether a key is the text
   abbrev is_text : List ℕ → Bool
@@ -41,41 +41,41 @@ module _ (rdata : Bor Rdata) (text : List ℕ) (is : text ≡ data_text rdata.no
 
   -- where no key is the text, the data get their place
   pub put_absent : (es : List Entry) → AllByRecursion IsKeyed es → lookup is_text es ≡ None
-      → map data_at_entry (insert_entry (slice_cmp nat_cmp) es text rdata) ≡ put_in_order data_cmp rdata.now (map data_at_entry es)
+      → map data_at_entry (insert_entry (slice_cmp nat_cmp) es text rdata) ≡ put_in_order data_cmp rdata (map data_at_entry es)
   put_absent [] keyed none = refl
   put_absent (e ∷ es) keyed none =
       by (slice_cmp nat_cmp text e.0) refl (put_absent es keyed.1)
-      ∙ ap (beside rdata.now e.1.now (map data_at_entry es) (put_in_order data_cmp rdata.now (map data_at_entry es))) (stands e keyed.0)
+      ∙ ap (beside rdata e.1 (map data_at_entry es) (put_in_order data_cmp rdata (map data_at_entry es))) (stands e keyed.0)
     where
       by : (o : Ordering) → slice_cmp nat_cmp text e.0 ≡ o
-          → (lookup is_text es ≡ None → map data_at_entry (insert_entry (slice_cmp nat_cmp) es text rdata) ≡ put_in_order data_cmp rdata.now (map data_at_entry es))
+          → (lookup is_text es ≡ None → map data_at_entry (insert_entry (slice_cmp nat_cmp) es text rdata) ≡ put_in_order data_cmp rdata (map data_at_entry es))
           → map data_at_entry (match_ordering o ((text, rdata) ∷ e ∷ es) ((e.0, rdata) ∷ es) (e ∷ insert_entry (slice_cmp nat_cmp) es text rdata))
-          ≡ beside rdata.now e.1.now (map data_at_entry es) (put_in_order data_cmp rdata.now (map data_at_entry es)) o
+          ≡ beside rdata e.1 (map data_at_entry es) (put_in_order data_cmp rdata (map data_at_entry es)) o
       by Less is rest = refl
       by Equal is rest = absurd (some_is_none (sym (lookup_head is_text e es (ap is_eq is)) ∙ none)) where
         some_is_none : Some e.1 ≡ None → ⊥
         some_is_none h = cc
-      by Greater is rest = ap (λ (xs : List Rdata). e.1.now ∷ xs) (rest (sym (lookup_tail is_text e es (ap is_eq is)) ∙ none))
+      by Greater is rest = ap (λ (xs : List Rdata). e.1 ∷ xs) (rest (sym (lookup_tail is_text e es (ap is_eq is)) ∙ none))
 
   -- where one is, nothing changes
   pub put_present : (es : List Entry) → AllByRecursion IsKeyed es → IsStrictlySortedBy (slice_cmp nat_cmp) (keys_of es)
-      → (found : Bor Rdata) → lookup is_text es ≡ Some found
-      → map data_at_entry es ≡ put_in_order data_cmp rdata.now (map data_at_entry es)
+      → (found : Rdata) → lookup is_text es ≡ Some found
+      → map data_at_entry es ≡ put_in_order data_cmp rdata (map data_at_entry es)
   unfolding IsStrictlySortedBy
   put_present [] keyed sorted found some = cc
   put_present (e ∷ es) keyed sorted found some =
       by (slice_cmp nat_cmp text e.0) refl (put_present es keyed.1 sorted.1 found)
-      ∙ ap (beside rdata.now e.1.now (map data_at_entry es) (put_in_order data_cmp rdata.now (map data_at_entry es))) (stands e keyed.0)
+      ∙ ap (beside rdata e.1 (map data_at_entry es) (put_in_order data_cmp rdata (map data_at_entry es))) (stands e keyed.0)
     where
       by : (o : Ordering) → slice_cmp nat_cmp text e.0 ≡ o
-          → (lookup is_text es ≡ Some found → map data_at_entry es ≡ put_in_order data_cmp rdata.now (map data_at_entry es))
+          → (lookup is_text es ≡ Some found → map data_at_entry es ≡ put_in_order data_cmp rdata (map data_at_entry es))
           → map data_at_entry (e ∷ es)
-          ≡ beside rdata.now e.1.now (map data_at_entry es) (put_in_order data_cmp rdata.now (map data_at_entry es)) o
+          ≡ beside rdata e.1 (map data_at_entry es) (put_in_order data_cmp rdata (map data_at_entry es)) o
       by Less is rest = absurd (some_is_none (sym some ∙ lookup-none is_text (e ∷ es) (none_below_head nat_list_cmp_total text e es sorted is))) where
         some_is_none : Some found ≡ None → ⊥
         some_is_none h = cc
       by Equal is rest = refl
-      by Greater is rest = ap (λ (xs : List Rdata). e.1.now ∷ xs) (rest (sym (lookup_tail is_text e es (ap is_eq is)) ∙ some))
+      by Greater is rest = ap (λ (xs : List Rdata). e.1 ∷ xs) (rest (sym (lookup_tail is_text e es (ap is_eq is)) ∙ some))
 
   -- and each key stays its data's text
   pub keyed_put : (es : List Entry) → AllByRecursion IsKeyed es → AllByRecursion IsKeyed (insert_entry (slice_cmp nat_cmp) es text rdata)

@@ -1,21 +1,16 @@
 -- The way down the labels of a name: what exists on it, and what decides.
-use Rattle.std.proofs.Common.{◌≡◌, ℕ, zero, suc, ◌+◌, ◌<◌, ◌≤◌, Bool, true, false, cond, ◌&&◌, List, [], ◌∷◌, ◌++◌, length, get_or, take, drop, ◌-◌, Contains, Option, Some, None, nat_lt, nat_le, sym, refl, ap, ◌∙◌, subst, true≢false, arith, append_assoc, length-append}
+use Rattle.std.proofs.Common.{◌≡◌, ℕ, zero, suc, ◌+◌, ◌<◌, ◌≤◌, Bool, true, false, cond, ◌&&◌, List, [], ◌∷◌, ◌++◌, length, get_or, take, drop, ◌-◌, Option, Some, None, nat_lt, nat_le, sym, refl, ap, ◌∙◌, subst, arith, append_assoc, length-append}
 use Rattle.std.proofs.lemmas.List.{take_more, drop_more, take-append-drop, take-append-le, take_all}
 use Rattle.std.proofs.lemmas.Bool.Decides.{nat_tests}
-use Rattle.std.proofs.lemmas.Bool.{ltb-true, and_parts, and_from, and_left, and_right, or_left}
+use Rattle.std.proofs.lemmas.Bool.{ltb-true, and_from, and_left, and_right, or_left}
 use Rattle.dns_data.specs.Name.{Labels, name_eq, is_prefix}
-use Rattle.dns_data.specs.Rdata.{has_type}
-use Rattle.dns_data.specs.declared.rr_type.RrType.{RrType}
 use Rattle.dns_data.specs.declared.rr_type.RrType.TheVariants as types
 use Rattle.net_model.specs.declared.config.Zone.{Zone}
 use Rattle.net_model.specs.Lookup.{zone_cut, dname_owner, closest_encloser, synthesized, shorter_decides, decided, deciding, by_dname, ByCut, ByRecords}
-use Rattle.net_model.specs.Prefix.{prefixes, shortest}
-use Rattle.net_model.specs.Zone.{exists_in, owns, is_of}
-use Rattle.dns_data.proofs.Membership.{from_map}
+use Rattle.net_model.specs.Prefix.{shortest}
+use Rattle.net_model.specs.Zone.{exists_in, owns}
 use Rattle.dns_data.proofs.NameFronts.{is_prefix_tells, is_prefix_told, begins_itself}
 use Rattle.dns_data.proofs.Names.{name_eq_decides}
-use Rattle.dns_data.proofs.Searches.{from_any}
-use Rattle.net_model.proofs.Prefixes.{longer, shortest_above, longest_above}
 use Rattle.net_model.proofs.OpenTails.{zone_cut_above, closest_encloser_above, dname_owner_within, missing_decided}
 use Rattle.zone_tree.proofs.Existing.{begins_along}
 use Rattle.zone_tree.proofs.Prefixes.{longest_itself, shortest_alone, shortest_next, found_beyond, found_above}

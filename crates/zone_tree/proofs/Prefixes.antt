@@ -5,7 +5,7 @@ use Rattle.std.proofs.lemmas.List.{map-append, reverse-append}
 use Rattle.std.proofs.lemmas.List.Folds.{find-append}
 use Rattle.dns_data.specs.Name.{Labels}
 use Rattle.net_model.specs.Prefix.{prefixes, shortest, longest}
-use Rattle.dns_data.proofs.Membership.{none_in_nil, has_first, has_later, first_or_later, from_map}
+use Rattle.dns_data.proofs.Membership.{none_in_nil, first_or_later, from_map}
 use Rattle.dns_data.proofs.Searches.{find_none, found_there}
 use Rattle.net_model.proofs.Prefixes.{longer, prefixes_below}
 

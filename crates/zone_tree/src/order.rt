@@ -53,38 +53,16 @@ pub(crate) fn set_in_order(
     ensures { IfOk result (λ set. set ≡ in_order data_cmp (filter (has_type rtype) (map (λ rdata. rdata.now) all.now))) }
 {
     let set = text_map(alloc, all, rtype)?;
-    let ordered = in_text_order(alloc, set)?;
-    copies(alloc, ordered.as_slice())
-}
-
-/// The data of a map in the order of their texts.
-fn in_text_order<'a>(
-    alloc: Global,
-    set: BTreeMap<Octets, &'a Rdata>,
-) -> Result<Vec<&'a Rdata>, NoMemory>
-    ensures { IfOk result (λ ordered. ordered.items ≡ map (λ pair. pair.1) set.entry.entries) }
-{
-    Ok(set.into_values().collect(alloc)?)
-}
-
-/// Copies of data.
-fn copies(alloc: Global, items: &[&Rdata]) -> Result<List<Rdata>, NoMemory>
-    ensures { IfOk result (λ copies. copies ≡ map (λ rdata. rdata.now) items.now) }
-{
-    let mut copies = List::new(alloc);
-    for rdata in items {
-        copies.push(rdata.copy(alloc)?)?;
-    }
-    Ok(copies)
+    Ok(List::from_vec(set.into_values().collect(alloc)?))
 }
 
 /// The data of a type by their texts. The last data are looked at first, and stay where others have their text.
-fn text_map<'a>(
+fn text_map(
     alloc: Global,
-    all: &[&'a Rdata],
+    all: &[&Rdata],
     rtype: RrType,
-) -> Result<BTreeMap<Octets, &'a Rdata>, NoMemory>
-    ensures { IfOk result (λ set. map (λ entry. entry.1.now) set.entries ≡ in_order data_cmp (filter (has_type rtype) (map (λ rdata. rdata.now) all.now))) }
+) -> Result<BTreeMap<Octets, Rdata>, NoMemory>
+    ensures { IfOk result (λ set. map (λ entry. entry.1) set.entries ≡ in_order data_cmp (filter (has_type rtype) (map (λ rdata. rdata.now) all.now))) }
 {
     let mut set = BTreeMap::new(alloc);
     let mut left = all.len();
@@ -98,20 +76,21 @@ fn text_map<'a>(
     Ok(set)
 }
 
-/// Puts data in their place, unless others have their text.
-fn put_by_text<'a>(
+/// Puts equal data in their place, unless others have their text.
+fn put_by_text(
     alloc: Global,
-    set: &mut BTreeMap<Octets, &'a Rdata>,
-    rdata: &'a Rdata,
+    set: &mut BTreeMap<Octets, Rdata>,
+    rdata: &Rdata,
 ) -> Result<(), NoMemory>
-    requires { AllByRecursion (λ entry. entry.0 ≡ data_text entry.1.now) set.old.entries }
-    ensures keyed { OnOk result (AllByRecursion (λ entry. entry.0 ≡ data_text entry.1.now) set.new.entries) }
-    ensures put { OnOk result (map (λ entry. entry.1.now) set.new.entries ≡ put_in_order data_cmp rdata.now (map (λ entry. entry.1.now) set.old.entries)) }
+    requires { AllByRecursion (λ entry. entry.0 ≡ data_text entry.1) set.old.entries }
+    ensures keyed { OnOk result (AllByRecursion (λ entry. entry.0 ≡ data_text entry.1) set.new.entries) }
+    ensures put { OnOk result (map (λ entry. entry.1) set.new.entries ≡ put_in_order data_cmp rdata.now (map (λ entry. entry.1) set.old.entries)) }
 {
     let _ = set.len();
     let text = text_of(alloc, rdata)?;
     if !set.contains_key(&text) {
-        set.insert(text, rdata)?;
+        let copy = rdata.copy(alloc)?;
+        set.insert(text, copy)?;
     }
     Ok(())
 }

@@ -1,4 +1,4 @@
-use Rattle.std.proofs.Common.{◌≡◌, ◌++◌, [], sym, refl, ap, ◌∙◌, append-nil}
+use Rattle.std.proofs.Common.{[], sym, refl, ap, ◌∙◌, append-nil}
 use Rattle.net_model.specs.Lookup.{deciding}
 use Rattle.zone_tree.proofs.decider.deciding.Goals as goal
 

@@ -10,8 +10,8 @@ use Rattle.zone_tree.proofs.order.text_map.Given as goal
 abbrev pub invariant-loop-left : goal.invariant-loop-left
 invariant-loop-left l = record {
   within : l.left ≤ length l.all;
-  keyed : AllByRecursion (λ entry. entry.0 ≡ data_text entry.1.now) l.set.entries;
-  items : map (λ entry. entry.1.now) l.set.entries
+  keyed : AllByRecursion (λ entry. entry.0 ≡ data_text entry.1) l.set.entries;
+  items : map (λ entry. entry.1) l.set.entries
       ≡ in_order data_cmp (filter (has_type l.rtype) (map (λ rdata. rdata.now) (drop l.left l.all)));
 }
 
