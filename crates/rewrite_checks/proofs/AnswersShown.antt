@@ -12,6 +12,8 @@ use Rattle.graph_form.specs.declared.node.Branch.{Branch}
 use Rattle.graph_form.specs.declared.node.Branch.TheVariants.{End}
 use Rattle.graph_form.proofs.EqualAnswers.{same_answers, answer_itself}
 use Rattle.graph_form.proofs.ReachedNodes.{end_of_walk, walk_by}
+use Rattle.net_model.proofs.ClassTails.{one_class}
+use Rattle.net_model.specs.Reading.{ground_of}
 use Rattle.net_model.specs.Shown.{Shows, ShowsAnswers, WalksShow, is_authoritative, with_sets}
 use Rattle.net_model.specs.Step.{Setting}
 use Rattle.net_model.specs.Walk.{IsWalk}
@@ -80,7 +82,7 @@ module _ (setting : Setting) (query : Labels) (class : Class) (represents : Bool
       let two = two_walks other_class t shows.walks shows.show in
       let are = subst (AllByRecursion (IsWalk setting query rtype)) two.walks_are shows.are_walks in
       record {
-        class_is = for.of_no_other other_class shows.may.1;
+        class_is = one_class (ground_of setting.config) query class other_class for.of_class shows.may.1;
         type_is = shows.may.0;
         differ = record {
           one = two.one.leaf;

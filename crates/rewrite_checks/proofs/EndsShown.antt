@@ -18,6 +18,7 @@ use Rattle.graph_form.proofs.Places.{item_there}
 use Rattle.graph_form.proofs.ReachedNodes.{EndOf, WalkBy, end_of_walk, walk_by}
 use Rattle.net_model.specs.Class.{IsRepresentative}
 use Rattle.net_model.specs.Reading.{ground_of}
+use Rattle.net_model.proofs.ClassTails.{one_class}
 use Rattle.net_model.specs.Shown.{MayShow, Shows, WalksShow, with_sets}
 use Rattle.net_model.specs.Step.{Setting}
 use Rattle.net_model.specs.Walk.{IsWalk}
@@ -164,7 +165,7 @@ module _ (setting : Setting) (query : Labels) (class : Class) (represents : Bool
       let is : end.node.state.last ≡ Some place = ap (λ (s : State). s.last) (sym last) ∙ show.rewritten.at_place in
       ap (leaf_fault represents end.node.state.last) (sym end.leaf_is ∙ show.ends) ∙ ap (option_map faults.Blackhole) is
   leaf_of rtype (faults.Overlong place) of walk end (other, is_class, stands) show =
-      let same : other ≡ class = for.of_no_other other is_class in
+      let same : other ≡ class = one_class (ground_of setting.config) query class other for.of_class is_class in
       let flag : represents ≡ true = for.represents_it.1 (subst (λ c. IsRepresentative (ground_of setting.config) c query) same stands) in
       ap (leaf_fault represents end.node.state.last) (sym end.leaf_is ∙ show)
       ∙ ap (λ (b : Bool). if b then Some (faults.Overlong place) else None) flag

@@ -177,3 +177,14 @@ module _ (class : Class) (graph : PlainGraph) where
         from = λ s has. inl has;
         all = λ r has differ. absurd (elim (first_or_later t [] r has) [ inl is ↦ same (subst (Differ graph) (sym is) differ) | inr none ↦ absurd (none_in_nil r none) ]);
       }
+
+-- ---- the whole
+
+-- the ends, then the answers, then the first types
+pub wholly : (class : Class) (represents : Bool) (graph : PlainGraph) (none ends seen shown : List Seen) → none ≡ []
+    → ends ≡ none ++ flat_map (node_faults represents) graph.nodes → PutsAnswers class graph types ends seen → AreFirstTypes seen shown
+    → (setting : Setting) (query : Labels) → IsGraphFor setting query class represents graph → AreShownOf (with_sets setting) query is_of_rewrites shown
+wholly class represents graph none ends seen shown is_none put puts firsts setting query for =
+    let all : List Seen = flat_map (node_faults represents) graph.nodes in
+    let first : ends ≡ all = put ∙ ap (λ (xs : List Seen). xs ++ all) is_none in
+    are_shown setting query class represents graph for seen shown (subst (λ (xs : List Seen). PutsAnswers class graph types xs seen) first puts) firsts

@@ -18,10 +18,9 @@ is_of_rewrites (Answers class rtype) = true
 is_of_rewrites (Overlong place) = true
 is_of_rewrites fault = false
 
--- the graph is that of the query, which is of this class alone, and maybe its representative
+-- the graph is that of the query, which is of this class, and maybe its representative
 pub record IsGraphFor (setting : Setting) (query : Labels) (class : Class) (represents : Bool) (graph : PlainGraph) : Type 0 where
   pub is_graph : IsGraphOf setting query graph
   pub exact : IsExactIn setting query graph
   pub of_class : IsClassOf (ground_of setting.config) query class
-  pub of_no_other : (other : Class) → IsClassOf (ground_of setting.config) query other → other ≡ class
   pub represents_it : (represents ≡ true) ↔ IsRepresentative (ground_of setting.config) class query

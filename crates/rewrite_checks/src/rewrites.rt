@@ -1,10 +1,20 @@
 //! The faults of the rewrite kinds that a query shows.
 
-ghost use Rattle.std.specs.Prelude.{IfOk};
-ghost use Rattle.dns_data.specs.Name.{Labels};
+ghost use Rattle.std.specs.Prelude.{◌≡◌, Contains, IfOk, map, true};
+ghost use Rattle.dns_data.specs.Name.{IsName, Labels};
+ghost use Rattle.dns_data.specs.declared.rr_type.RrType.{RrType};
 ghost use Rattle.graph_form.specs.Verdict.{AreShownOf};
+ghost use Rattle.graph_form.specs.declared.report.Seen.{Seen};
+ghost use Rattle.net_model.specs.Class.{IsClassOf};
+ghost use Rattle.net_model.specs.Reading.{ground_of};
+ghost use Rattle.net_model.specs.Returns.{ComesBack, RewritesAt, hops_round};
 ghost use Rattle.net_model.specs.Shown.{with_sets};
 ghost use Rattle.net_model.specs.Step.{Setting};
+ghost use Rattle.net_model.specs.Tails.{is_overlong};
+ghost use Rattle.net_model.specs.Walk.{IsWalk};
+ghost use Rattle.net_model.specs.declared.fault.Fault.TheVariants.{Limit, Overlong};
+ghost use Rattle.net_model.specs.declared.place.Place.{Place};
+ghost use Rattle.net_model.specs.declared.walk.Walk.{Walk};
 ghost use Rattle.rewrite_checks.specs.Rewrites.{IsGraphFor, is_of_rewrites};
 
 use crate::answers::put_answers;
@@ -16,15 +26,23 @@ use std::alloc::Global;
 
 /// The rewrite limits, blackholes, differing answers and overlong rewrites that the query of a graph shows, each once and
 /// with its first type, in fault order. The class is that of the query, and `represents` tells whether the query is its
-/// representative.
+/// representative. Where an overlong rewrite is told, each member of the class meets one with that type; and where a walk
+/// comes back to a server and a name, the rewrite limit is told at a rewrite that it makes in between.
 pub fn rewrite_faults(
     alloc: Global,
     class: &Class,
     represents: bool,
     graph: &Graph,
 ) -> Result<List<Seen>, NoMemory>
-    ensures { IfOk result (λ shown. (setting : Setting) (query : Labels) → IsGraphFor setting query class.now represents graph.now
+    ensures shown { IfOk result (λ shown. (setting : Setting) (query : Labels) → IsGraphFor setting query class.now represents graph.now
         → AreShownOf (with_sets setting) query is_of_rewrites shown) }
+    ensures overlong { IfOk result (λ shown. (setting : Setting) (query : Labels) → IsGraphFor setting query class.now represents graph.now
+        → (seen : Seen) (place : Place) → Contains shown seen → seen.fault ≡ Overlong place
+        → (member : Labels) → IsName member → IsClassOf (ground_of setting.config) member class.now
+        → (walk : Walk) × IsWalk setting member seen.rtype walk × (is_overlong walk.leaf ≡ true)) }
+    ensures returns { IfOk result (λ shown. (setting : Setting) (query : Labels) → IsGraphFor setting query class.now represents graph.now
+        → (rtype : RrType) (walk : Walk) → IsWalk setting query rtype walk → (back : ComesBack walk)
+        → (place : Place) × RewritesAt (hops_round walk back) place × Contains (map (λ seen. seen.fault) shown) (Limit place)) }
 {
     let mut seen = List::new(alloc);
     put_ends(alloc, represents, graph, &mut seen)?;
