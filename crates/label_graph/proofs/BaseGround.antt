@@ -20,15 +20,15 @@ use Rattle.label_graph.specs.Base.{IsInServer, server_redirections, zone_redirec
 use Rattle.label_graph.specs.Graphs.{SomeItem}
 use Rattle.label_graph.specs.LiveSet.{IsClosed}
 use Rattle.label_graph.specs.Pairs.{AreSame}
-use Rattle.label_graph.specs.Targets.{IsFrontFrom}
+use Rattle.label_graph.specs.Targets.{IsPrefixFrom}
 
 -- a front begins the name
-front_begins : (name front : Labels) → IsFrontFrom 0 name front → Begins front name
+front_begins : (name front : Labels) → IsPrefixFrom 0 name front → Begins front name
 front_begins name front (count, low, high, is) =
     (drop count name, ap (λ (n : Labels). n ++ drop count name) is ∙ take-append-drop count name)
 
 -- and what begins it is one
-begins_front : (name front : Labels) → Begins front name → IsFrontFrom 0 name front
+begins_front : (name front : Labels) → Begins front name → IsPrefixFrom 0 name front
 begins_front name front (below, e) = (
   length front,
   omega arith,
@@ -38,7 +38,7 @@ begins_front name front (below, e) = (
 
 module _ (config : Config) (name : Labels) where
   -- a front of an origin or an owner is a base name
-  of_owner : (owner : Labels) → Contains (origins_and_owners config) owner → IsFrontFrom 0 owner name → Contains (ground_of config).names name
+  of_owner : (owner : Labels) → Contains (origins_and_owners config) owner → IsPrefixFrom 0 owner name → Contains (ground_of config).names name
   of_owner owner among front =
       has_later [] (flat_map prefixes (origins_and_owners config)) name
       (flat_map_has prefixes (origins_and_owners config) owner name among (prefixes_have owner name (front_begins owner name front)))
@@ -68,12 +68,12 @@ module _ (config : Config) (name : Labels) where
               | inl origin ↦ (
                   let (zone, has_zone, is) = from_map (λ (z : Zone). z.origin) (zones config) owner origin in
                   let (server, has_server, inside) = from_flat_map (λ (s : Server). s.zones) config.servers zone has_zone in
-                  inr (server, has_server, (zone, inside, inl (subst (λ (n : Labels). IsFrontFrom 0 n name) (sym is) front))))
+                  inr (server, has_server, (zone, inside, inl (subst (λ (n : Labels). IsPrefixFrom 0 n name) (sym is) front))))
               | inr own ↦ (
                   let (rr, has_rr, is) = from_map (λ (r : Rr). r.owner) (records config) owner own in
                   let (zone, has_zone, within) = from_flat_map (λ (z : Zone). z.rrs) (zones config) rr has_rr in
                   let (server, has_server, inside) = from_flat_map (λ (s : Server). s.zones) config.servers zone has_zone in
-                  inr (server, has_server, (zone, inside, inr (rr, within, subst (λ (n : Labels). IsFrontFrom 0 n name) (sym is) front))))
+                  inr (server, has_server, (zone, inside, inr (rr, within, subst (λ (n : Labels). IsPrefixFrom 0 n name) (sym is) front))))
             ])
       ]
 
@@ -117,7 +117,8 @@ from_owner owner (Dname target) redirection has =
     ]
 from_owner owner rdata redirection has = absurd (none_in_nil redirection has)
 
-nothing_above : (above below : Labels) → above ++ below ≡ [] → above ≡ []
+-- only the root begins the root
+pub nothing_above : (above below : Labels) → above ++ below ≡ [] → above ≡ []
 nothing_above [] below e = refl
 nothing_above (label ∷ above) below e = absurd (omega (arith, ap (λ (n : Labels). length n) e))
 

@@ -6,6 +6,7 @@ pub mod KeptLinks
 pub mod NamePlaces
 pub mod LiveNames
 pub mod LiveSets
+pub mod NewFronts
 pub mod Passing
 pub mod Readings
 pub mod RowItems

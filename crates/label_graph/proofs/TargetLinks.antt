@@ -11,7 +11,7 @@ use Rattle.label_graph.specs.declared.pair.Pair.{Pair}
 use Rattle.label_graph.specs.LinkRows.{LinkRows, link, AreAdded}
 use Rattle.label_graph.specs.LiveSet.{AreInOrder, HavePrefixes, IsClosed, name_at}
 use Rattle.label_graph.specs.Pairs.{redirection, ground_with, AreSame}
-use Rattle.label_graph.specs.Targets.{IsFrontFrom, IsLinkOf, linked, ground_in}
+use Rattle.label_graph.specs.Targets.{IsPrefixFrom, IsLinkOf, linked, ground_in}
 use Rattle.label_graph.proofs.NamePlaces.{one_place}
 
 -- a name that is among names has a place there
@@ -48,7 +48,7 @@ module _ (names fronts : List Labels) (order : AreInOrder names) (fronts_order :
           (subst (λ (k : ℕ). Contains (link target owner ∷ []) (link k owner)) front (has_first (link target owner) [])))
 
 -- a front of a front is a front
-pub front_above : (name above below : Labels) → IsFrontFrom 0 name (above ++ below) → IsFrontFrom 0 name above
+pub front_above : (name above below : Labels) → IsPrefixFrom 0 name (above ++ below) → IsPrefixFrom 0 name above
 front_above name above below (count, low, high, is) =
     let whole : above ++ (below ++ drop count name) ≡ name =
     sym (append_assoc above below (drop count name)) ∙ ap (λ (n : Labels). n ++ drop count name) is ∙ take-append-drop count name in
@@ -56,12 +56,12 @@ front_above name above below (count, low, high, is) =
     (length above, omega arith, size, sym (take_at above (below ++ drop count name) (length above) refl) ∙ ap (take (length above)) whole)
 
 -- a name is a front of itself
-pub front_itself : (name : Labels) → IsFrontFrom 0 name name
+pub front_itself : (name : Labels) → IsPrefixFrom 0 name name
 front_itself name = (length name, omega arith, omega arith, sym (take_all (length name) name (omega arith)))
 
 -- the root and all fronts of targets have their prefixes
 pub fronts_have_prefixes : (dnames : List Pair) (fronts : List Labels)
-    → ((front : Labels) → Contains fronts front ↔ ((front ≡ []) ⊎ ((pair : Pair) × Contains dnames pair × IsFrontFrom 0 pair.to front)))
+    → ((front : Labels) → Contains fronts front ↔ ((front ≡ []) ⊎ ((pair : Pair) × Contains dnames pair × IsPrefixFrom 0 pair.to front)))
     → HavePrefixes fronts
 fronts_have_prefixes dnames fronts are =
     record {

@@ -6,11 +6,11 @@ use Rattle.net_model.specs.declared.config.Server.{Server}
 use Rattle.net_model.specs.declared.config.Zone.{Zone}
 use Rattle.net_model.specs.Reading.{Redirection, redirection_of}
 use Rattle.label_graph.specs.Graphs.{SomeItem}
-use Rattle.label_graph.specs.Targets.{IsFrontFrom}
+use Rattle.label_graph.specs.Targets.{IsPrefixFrom}
 
 -- the name is a front of the zone's origin or of the owner of one of its records
 abbrev pub IsInZone : Labels → Zone → Type 0
-IsInZone name zone = IsFrontFrom 0 zone.origin name ⊎ SomeItem (λ rr. IsFrontFrom 0 rr.owner name) zone.rrs
+IsInZone name zone = IsPrefixFrom 0 zone.origin name ⊎ SomeItem (λ rr. IsPrefixFrom 0 rr.owner name) zone.rrs
 
 -- the same of a zone of the server
 abbrev pub IsInServer : Labels → Server → Type 0

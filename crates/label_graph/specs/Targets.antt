@@ -8,8 +8,8 @@ use Rattle.label_graph.specs.LinkRows.{LinkRows, AreKept}
 use Rattle.label_graph.specs.LiveSet.{AreInOrder, HavePrefixes, IsClosed, name_at}
 
 -- the name is a front of the other: its first so many labels, of at least this many
-abbrev pub IsFrontFrom : ℕ → Labels → Labels → Type 0
-IsFrontFrom from name front = (count : ℕ) × (from ≤ count) × (count ≤ length name) × (front ≡ take count name)
+abbrev pub IsPrefixFrom : ℕ → Labels → Labels → Type 0
+IsPrefixFrom from name front = (count : ℕ) × (from ≤ count) × (count ≤ length name) × (front ≡ take count name)
 
 -- base names, fronts of targets, and links from base names to targets
 pub record Targets : Type 0 where

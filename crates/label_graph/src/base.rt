@@ -5,12 +5,12 @@ ghost use Rattle.std.specs.List.{flat_map};
 ghost use Rattle.dns_data.specs.Name.{Labels};
 ghost use Rattle.net_model.specs.Reading.{redirection_of, ground_of};
 ghost use Rattle.label_graph.specs.Base.{IsInServer, IsInZone, server_redirections, zone_redirections};
-ghost use Rattle.label_graph.specs.LiveSet.{AreInOrder, IsClosed};
+ghost use Rattle.label_graph.specs.LiveSet.{AreInOrder, HavePrefixes, IsClosed};
 ghost use Rattle.label_graph.specs.Pairs.{redirection, ground_with, AreSame};
-ghost use Rattle.label_graph.specs.Targets.{IsFrontFrom};
+ghost use Rattle.label_graph.specs.Targets.{IsPrefixFrom};
 
 use crate::pair::Pair;
-use crate::parts::put_fronts;
+use crate::parts::put_new_fronts;
 use crate::sorting::in_order;
 use dns_data::{List, Name, NoMemory, Rdata, Rr};
 use net_model::{Config, Server, Zone};
@@ -50,6 +50,8 @@ fn put_server(
     names: &mut Vec<Name>,
     dnames: &mut Vec<Pair>,
 ) -> Result<(), NoMemory>
+    requires { HavePrefixes names.old.items }
+    ensures prefixes { OnOk result (HavePrefixes names.new.items) }
     ensures names { OnOk result ((name : Labels) → Contains names.new.items name ↔ (Contains names.old.items name ⊎ IsInServer name server.now)) }
     ensures pairs { OnOk result (map redirection dnames.new.items ≡ map redirection dnames.old.items ++ server_redirections server.now) }
 {
@@ -66,10 +68,12 @@ fn put_zone(
     names: &mut Vec<Name>,
     dnames: &mut Vec<Pair>,
 ) -> Result<(), NoMemory>
+    requires { HavePrefixes names.old.items }
+    ensures prefixes { OnOk result (HavePrefixes names.new.items) }
     ensures names { OnOk result ((name : Labels) → Contains names.new.items name ↔ (Contains names.old.items name ⊎ IsInZone name zone.now)) }
     ensures pairs { OnOk result (map redirection dnames.new.items ≡ map redirection dnames.old.items ++ zone_redirections zone.now) }
 {
-    put_fronts(alloc, names, &zone.origin, 0)?;
+    put_new_fronts(alloc, names, &zone.origin)?;
     for rr in zone.rrs.items() {
         put_record(alloc, rr, names, dnames)?;
     }
@@ -83,10 +87,12 @@ fn put_record(
     names: &mut Vec<Name>,
     dnames: &mut Vec<Pair>,
 ) -> Result<(), NoMemory>
-    ensures names { OnOk result ((name : Labels) → Contains names.new.items name ↔ (Contains names.old.items name ⊎ IsFrontFrom 0 rr.now.owner name)) }
+    requires { HavePrefixes names.old.items }
+    ensures prefixes { OnOk result (HavePrefixes names.new.items) }
+    ensures names { OnOk result ((name : Labels) → Contains names.new.items name ↔ (Contains names.old.items name ⊎ IsPrefixFrom 0 rr.now.owner name)) }
     ensures pairs { OnOk result (map redirection dnames.new.items ≡ map redirection dnames.old.items ++ redirection_of rr.now.owner rr.now.rdata) }
 {
-    put_fronts(alloc, names, &rr.owner, 0)?;
+    put_new_fronts(alloc, names, &rr.owner)?;
     match &rr.rdata {
         Rdata::Dname(target) => {
             let from = rr.owner.copy(alloc)?;

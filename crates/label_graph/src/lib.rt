@@ -4,8 +4,8 @@
 //! The layer above may rest on this: `start` and `advance` give the live set of a name in a graph, and
 //! `next_labels` and `has_next` the labels that make a named name below a name with that live set.
 //!
-//! Costs: building sorts the names and the fronts of targets, and looks once at each pair of a front and a base name
-//! to which it reads on. A live set is a sorted list of places, with one place where no DNAME record plays a part;
+//! Costs: the base names of a configuration are made once for the records with one owner in a row. Building sorts the
+//! names and the fronts of targets, and looks once at each pair of a front and a base name to which it reads on. A live set is a sorted list of places, with one place where no DNAME record plays a part;
 //! a label more costs a binary search for each place. The labels below a live set are listed without a search.
 #![tactic(auto)]
 

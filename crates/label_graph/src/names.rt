@@ -91,14 +91,39 @@ impl NameTree {
         ensures { IfOk result (λ found. MatchOption found (Contains self.now (name_at self.now place ++ label.now ∷ []) → ⊥)
             (λ other. (other < length self.now) × (name_at self.now other ≡ name_at self.now place ++ label.now ∷ []))) }
     {
+        if self.below(place).is_empty() {
+            return Ok(None);
+        }
         let mut name = self.names[place].copy(alloc)?;
         match name.push(alloc, label) {
-            Ok(()) => Ok(self.place_of(&name)),
+            Ok(()) => Ok(self.place_below(place, &name)),
             Err(JoinFault::TooLong) => Ok(None),
             Err(JoinFault::NoMemory) => Err(NoMemory),
         }
     }
+
+    /// The place of a name one label below the one at this place, or `None` where it isn't among the names. A few names
+    /// below are looked at one by one.
+    fn place_below(&self, place: usize, name: &Name) -> Option<usize>
+        requires place { place < length self.now }
+        requires below { (label : List ℕ) × (name.now ≡ name_at self.now place ++ label ∷ []) }
+        ensures { MatchOption result (Contains self.now name.now → ⊥) (λ other. (other < length self.now) × (name_at self.now other ≡ name.now)) }
+    {
+        let below = self.below(place);
+        if below.len() > FEW {
+            return self.place_of(name);
+        }
+        for other in below {
+            if self.names[*other] == *name {
+                return Some(*other);
+            }
+        }
+        None
+    }
 }
+
+/// How many names one label below another are looked at one by one.
+const FEW: usize = 8;
 
 /// The place of a name among names in order, or `None` where it isn't there.
 fn place_in(names: &[Name], name: &Name) -> Option<usize>

@@ -6,7 +6,7 @@ ghost use Rattle.label_graph.specs.declared.links.Link.{Link as LinkValue};
 ghost use Rattle.label_graph.specs.declared.pair.Pair.{Pair as PairValue};
 ghost use Rattle.label_graph.specs.LiveSet.{IsClosed};
 ghost use Rattle.label_graph.specs.Pairs.{ground_with, AreSame};
-ghost use Rattle.label_graph.specs.Targets.{AreTargets, IsFrontFrom, IsLinkOf, ground_in};
+ghost use Rattle.label_graph.specs.Targets.{AreTargets, IsPrefixFrom, IsLinkOf, ground_in};
 
 use crate::links::{Link, Links};
 use crate::names::NameTree;
@@ -69,7 +69,7 @@ fn copies(alloc: Global, names: &[Name]) -> Result<Vec<Name>, NoMemory>
 /// The root and all fronts of the targets.
 fn fronts_of(alloc: Global, dnames: &[Pair]) -> Result<Vec<Name>, NoMemory>
     ensures { IfOk result (λ fronts. (front : Labels) → Contains fronts.items front
-        ↔ ((front ≡ []) ⊎ ((pair : PairValue) × Contains dnames.now pair × IsFrontFrom 0 pair.to front))) }
+        ↔ ((front ≡ []) ⊎ ((pair : PairValue) × Contains dnames.now pair × IsPrefixFrom 0 pair.to front))) }
 {
     let mut fronts = Vec::new(alloc);
     fronts.push(Name::root())?;

@@ -1,14 +1,13 @@
 -- The partition of names into classes, and the names that stand for them.
-use Rattle.std.proofs.Common.{◌≡◌, ◌∙◌, ℕ, ◌<◌, ◌≤◌, List, [], ◌∷◌, ◌++◌, length, take, Contains, inl, inr, sym, refl, ap, subst, append_assoc, append-nil, arith}
+use Rattle.std.proofs.Common.{◌≡◌, ◌∙◌, ℕ, ◌<◌, ◌≤◌, List, [], ◌∷◌, ◌++◌, length, Contains, inl, inr, sym, refl, ap, subst, append_assoc, append-nil, arith}
 use Rattle.std.specs.List.{AllByRecursion}
 use Rattle.std.proofs.lemmas.Bool.{cases_lt}
-use Rattle.std.proofs.lemmas.List.{take_at, length-append}
+use Rattle.std.proofs.lemmas.List.{length-append}
 use Rattle.dns_data.specs.Label.{IsLabel}
 use Rattle.dns_data.specs.Name.{Labels, IsName, wire_octets}
 use Rattle.dns_data.proofs.Membership.{none_in_nil, has_first}
 use Rattle.dns_data.proofs.NameFronts.{two_fronts, octets_of_prefix, octets_with_label}
 use Rattle.dns_data.proofs.Names.{name_append}
-use Rattle.net_model.specs.declared.class.Class.{Class}
 use Rattle.net_model.specs.declared.class.Class.TheVariants.{Exact, Below}
 use Rattle.net_model.specs.Class.{IsClassOf, IsFirstUnnamed}
 use Rattle.net_model.specs.Reading.{Ground, IsNamed, ReadsOnTo}
@@ -17,7 +16,7 @@ use Rattle.net_model.proofs.FirstLabel.{shorter_first}
 use Rattle.label_graph.specs.LiveSet.{IsClosed, IsLiveSet, name_at}
 use Rattle.label_graph.proofs.LiveNames.{prefix_is_named}
 use Rattle.label_graph.proofs.TargetLinks.{place_among, among_place}
-use Rattle.query_classes.specs.Members.{IsEmptyClass, StandsFor}
+use Rattle.query_classes.specs.Members.{IsEmptyClass, RepresentsClass}
 
 -- the labels above
 labels_above : (above rest : Labels) → AllByRecursion IsLabel (above ++ rest) → AllByRecursion IsLabel above
@@ -73,7 +72,7 @@ module _ (ground : Ground) (closed : IsClosed ground) where
 
   -- the name with the first free label stands for the class below, where it isn't too long
   pub stands_below : (above : Labels) (label : List ℕ) → IsNamed ground above → AllByRecursion IsLabel above → IsFirstUnnamed ground above label
-      → wire_octets (above ++ label ∷ []) ≤ 255 → StandsFor ground (Below above) (above ++ label ∷ [])
+      → wire_octets (above ++ label ∷ []) ≤ 255 → RepresentsClass ground (Below above) (above ++ label ∷ [])
   stands_below above label named labels first short =
       record {
         represents = record { label = label; first = first; extends = refl; is_name = name_append above (label ∷ []) labels (first.is_label, tt) short };
@@ -100,7 +99,7 @@ module _ (ground : Ground) (closed : IsClosed ground) where
         omega (arith, length-append above (own ∷ []))
 
   -- a named name stands for its own class
-  pub stands_exact : (name : Labels) → IsNamed ground name → IsName name → StandsFor ground (Exact name) name
+  pub stands_exact : (name : Labels) → IsNamed ground name → IsName name → RepresentsClass ground (Exact name) name
   stands_exact name named is =
       record {
         represents = refl;
@@ -111,7 +110,7 @@ module _ (ground : Ground) (closed : IsClosed ground) where
 
   -- a member of the class below a name shows that it has one that stands for it
   pub below_stood : (above : Labels) (label own : List ℕ) (rest : Labels) → IsNamed ground above → (IsNamed ground (above ++ own ∷ []) → ⊥)
-      → IsName (above ++ own ∷ rest) → IsFirstUnnamed ground above label → StandsFor ground (Below above) (above ++ label ∷ [])
+      → IsName (above ++ own ∷ rest) → IsFirstUnnamed ground above label → RepresentsClass ground (Below above) (above ++ label ∷ [])
   below_stood above label own rest named unnamed is first =
       let size : wire_octets (above ++ label ∷ []) ≤ wire_octets (above ++ own ∷ rest) =
       not_shorter above label first (above ++ own ∷ rest) is (in_below above own rest named unnamed) in

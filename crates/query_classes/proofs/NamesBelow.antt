@@ -10,7 +10,7 @@ use Rattle.dns_data.specs.Name.{Labels, IsName, name_cmp, wire_octets}
 use Rattle.dns_data.proofs.Membership.{map_has, from_map, filter_has, from_filter, pairs_of_images}
 use Rattle.dns_data.proofs.NameOrder.{under_label}
 use Rattle.net_model.specs.Reading.{Ground, IsNamed}
-use Rattle.query_classes.specs.Children.{AreChildren, IsInTree, IsOneBelow, fitting}
+use Rattle.query_classes.specs.Children.{AreChildren, IsInTree, IsOneBelow, of_name_length}
 
 -- labels in order make names in order
 below_order : (above : Labels) (a b : List ℕ) → label_cmp a b ≡ Less → name_cmp (above ++ a ∷ []) (above ++ b ∷ []) ≡ Less
@@ -19,8 +19,8 @@ below_order (label ∷ above) a b less = under_label label (above ++ a ∷ []) (
 
 -- the names with labels that make named ones
 pub children_are : (ground : Ground) (above : Labels) (labels : List (List ℕ)) → AllPairs (λ a b. label_cmp a b ≡ Less) labels
-    → ((label : List ℕ) → Contains labels label ↔ IsNamed ground (above ++ label ∷ [])) → All IsName (fitting above labels)
-    → AreChildren ground above (fitting above labels)
+    → ((label : List ℕ) → Contains labels label ↔ IsNamed ground (above ++ label ∷ [])) → All IsName (of_name_length above labels)
+    → AreChildren ground above (of_name_length above labels)
 children_are ground above labels order named names =
     record {
       ordered =
@@ -30,13 +30,13 @@ children_are ground above labels order named names =
       all = λ name. (there name, back name);
     }
   where
-    there : (name : Labels) → Contains (fitting above labels) name → IsInTree ground name × IsOneBelow above name
+    there : (name : Labels) → Contains (of_name_length above labels) name → IsInTree ground name × IsOneBelow above name
     there name has =
         let found = from_filter (λ (n : Labels). nat_le (wire_octets n) 255) (map (λ (label : List ℕ). above ++ label ∷ []) labels) name has in
         let (label, among, is) = from_map (λ (l : List ℕ). above ++ l ∷ []) labels name found.0 in
-        ((subst (IsNamed ground) is ((named label).0 among), All-contains IsName (fitting above labels) name names has), (label, sym is))
+        ((subst (IsNamed ground) is ((named label).0 among), All-contains IsName (of_name_length above labels) name names has), (label, sym is))
 
-    back : (name : Labels) → IsInTree ground name × IsOneBelow above name → Contains (fitting above labels) name
+    back : (name : Labels) → IsInTree ground name × IsOneBelow above name → Contains (of_name_length above labels) name
     back name (in_tree, one) =
         let is : IsName name = in_tree.1 in
         filter_has (λ (n : Labels). nat_le (wire_octets n) 255) (map (λ (label : List ℕ). above ++ label ∷ []) labels) name

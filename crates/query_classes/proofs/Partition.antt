@@ -7,7 +7,7 @@ use Rattle.net_model.specs.Class.{IsClassOf}
 use Rattle.net_model.specs.Reading.{Ground, IsNamed}
 use Rattle.label_graph.specs.LiveSet.{IsClosed, IsLiveSet}
 use Rattle.label_graph.specs.Pairs.{AreSame}
-use Rattle.query_classes.specs.Members.{StandsFor, IsInOneClass}
+use Rattle.query_classes.specs.Members.{RepresentsClass, IsInOneClass}
 use Rattle.net_model.proofs.ClassTails.{one_class}
 use Rattle.query_classes.proofs.ClassLaws.{in_below, below_stood, stands_exact, first_label_of, not_named, live_named}
 use Rattle.query_classes.proofs.FirstFree.{first_free}
@@ -23,7 +23,7 @@ module _ (ground : Ground) (closed : IsClosed ground) (live : (name : Labels) �
 
   -- a name at or below a named one
   class_from : (above rest : Labels) → IsNamed ground above → IsName (above ++ rest)
-      → (class : Class) × IsClassOf ground (above ++ rest) class × ((name : Labels) × StandsFor ground class name)
+      → (class : Class) × IsClassOf ground (above ++ rest) class × ((name : Labels) × RepresentsClass ground class name)
   class_from above [] named is =
       let whole : above ++ [] ≡ above = append-nil above in (
         Exact (above ++ []),

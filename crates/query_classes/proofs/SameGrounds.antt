@@ -11,7 +11,7 @@ use Rattle.net_model.specs.Tree.{IsClassTree, AreBelowClasses, HasMoreThan}
 use Rattle.label_graph.specs.LiveSet.{IsClosed}
 use Rattle.label_graph.specs.Pairs.{AreSame}
 use Rattle.query_classes.specs.Children.{IsInTree, IsBelow}
-use Rattle.query_classes.specs.Members.{IsEmptyClass, StandsFor}
+use Rattle.query_classes.specs.Members.{IsEmptyClass, RepresentsClass}
 
 -- the other way round
 pub same_back : (one other : Ground) → AreSame one other → AreSame other one
@@ -94,7 +94,7 @@ pub empty_same : (one other : Ground) → AreSame one other → (class : Class) 
 empty_same one other same class empty member is of = empty member is (class_same other one (same_back one other same) member class of)
 
 -- the name that stands for a class
-pub stands_same : (one other : Ground) → AreSame one other → (class : Class) (name : Labels) → StandsFor one class name → StandsFor other class name
+pub stands_same : (one other : Ground) → AreSame one other → (class : Class) (name : Labels) → RepresentsClass one class name → RepresentsClass other class name
 stands_same one other same class name stands =
     record {
       represents = represents_same one other same class name stands.represents;

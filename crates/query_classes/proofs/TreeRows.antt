@@ -11,7 +11,7 @@ use Rattle.net_model.specs.Reading.{Ground}
 use Rattle.net_model.specs.Tree.{IsClassTree, AreBelowClasses}
 use Rattle.label_graph.specs.LiveSet.{IsClosed}
 use Rattle.query_classes.specs.Children.{AreChildren, IsInTree, IsBelow}
-use Rattle.query_classes.specs.Members.{StandsFor}
+use Rattle.query_classes.specs.Members.{RepresentsClass}
 use Rattle.query_classes.specs.Rows.{tree_names, below_names, if_some}
 use Rattle.query_classes.specs.declared.live_name.LiveName.{LiveName}
 use Rattle.query_classes.specs.declared.tree.ClassRow.{ClassRow}
@@ -59,7 +59,7 @@ module _ (ground : Ground) (closed : IsClosed ground) (rows : List ClassRow) (tr
     there above has =
         let (row, among, inner) = from_flat_map (λ (r : ClassRow). if_some r.name r.below) rows above has in
         let (same, (below, is)) = from_if_some row.name row.below above inner in
-        let stands : StandsFor ground (Below row.name) below = subst (IsBelow ground row.name) is (below_of row among) in
+        let stands : RepresentsClass ground (Below row.name) below = subst (IsBelow ground row.name) is (below_of row among) in
         subst (λ (n : Labels). Contains (tree_names rows) n × ((name : Labels) × IsRepresentative ground (Below n) name)) same
         (map_has (λ (r : ClassRow). r.name) rows row among, (below, stands.represents))
 

@@ -5,7 +5,7 @@ use Rattle.dns_data.specs.Name.{Labels, IsName, wire_octets}
 use Rattle.net_model.specs.declared.class.Class.TheVariants.{Below}
 use Rattle.net_model.specs.Reading.{Ground, IsNamed}
 use Rattle.label_graph.specs.LiveSet.{AreInOrder}
-use Rattle.query_classes.specs.Members.{IsEmptyClass, StandsFor}
+use Rattle.query_classes.specs.Members.{IsEmptyClass, RepresentsClass}
 
 -- the name is one label below the other
 abbrev pub IsOneBelow : Labels → Labels → Type 0
@@ -21,9 +21,9 @@ pub record AreChildren (ground : Ground) (above : Labels) (names : List Labels) 
   pub all : (name : Labels) → Contains names name ↔ (IsInTree ground name × IsOneBelow above name)
 
 -- the name with each of the labels below, where that has at most 255 octets
-abbrev pub fitting : Labels → List (List ℕ) → List Labels
-fitting above labels = filter (λ name. nat_le (wire_octets name) 255) (map (λ label. above ++ label ∷ []) labels)
+abbrev pub of_name_length : Labels → List (List ℕ) → List Labels
+of_name_length above labels = filter (λ name. nat_le (wire_octets name) 255) (map (λ label. above ++ label ∷ []) labels)
 
 -- what stands for the class below the name: its representative, or nothing where the class is empty
 abbrev pub IsBelow : Ground → Labels → Option Labels → Type 0
-IsBelow ground name found = MatchOption found (IsEmptyClass ground (Below name)) (StandsFor ground (Below name))
+IsBelow ground name found = MatchOption found (IsEmptyClass ground (Below name)) (RepresentsClass ground (Below name))

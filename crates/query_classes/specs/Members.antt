@@ -16,7 +16,7 @@ abbrev pub IsEmptyClass : Ground → Class → Type 0
 IsEmptyClass ground class = (member : Labels) → IsName member → IsClassOf ground member class → ⊥
 
 -- the name stands for the class: it is its representative and in it, and no name of the class has fewer octets
-pub record StandsFor (ground : Ground) (class : Class) (name : Labels) : Type 0 where
+pub record RepresentsClass (ground : Ground) (class : Class) (name : Labels) : Type 0 where
   pub represents : IsRepresentative ground class name
   pub is_name : IsName name
   pub is_member : IsClassOf ground name class
@@ -27,4 +27,4 @@ pub record IsInOneClass (ground : Ground) (query : Labels) : Type 0 where
   pub class : Class
   pub is : IsClassOf ground query class
   pub one : (other : Class) → IsClassOf ground query other → other ≡ class
-  pub stands : (name : Labels) × StandsFor ground class name
+  pub stands : (name : Labels) × RepresentsClass ground class name

@@ -5,7 +5,7 @@ ghost use Rattle.dns_data.specs.Name.{IsName, Labels};
 ghost use Rattle.net_model.specs.declared.class.Class.{Class as ClassValue};
 ghost use Rattle.net_model.specs.Class.{IsClassOf};
 ghost use Rattle.net_model.specs.Reading.{IsNamed};
-ghost use Rattle.query_classes.specs.Members.{class_name, IsEmptyClass, StandsFor};
+ghost use Rattle.query_classes.specs.Members.{class_name, IsEmptyClass, RepresentsClass};
 
 use crate::free::label_with;
 use crate::live_name::LiveName;
@@ -20,7 +20,7 @@ use std::alloc::Global;
 pub fn class_of(alloc: Global, graph: &LabelGraph, q: &Name) -> Result<Class, NoMemory>
     ensures class { IfOk result (IsClassOf graph.now q.now) }
     ensures one { IfOk result (λ class. (other : ClassValue) → IsClassOf graph.now q.now other → other ≡ class) }
-    ensures represented { IfOk result (λ class. (name : Labels) × StandsFor graph.now class name) }
+    ensures represented { IfOk result (λ class. (name : Labels) × RepresentsClass graph.now class name) }
     ensures prefixes { IfOk result (λ _. (above below : Labels) → IsNamed graph.now (above ++ below) → IsNamed graph.now above) }
 {
     graph_is_closed(graph);
@@ -46,7 +46,7 @@ pub fn representative(
     class: &Class,
 ) -> Result<Option<Name>, NoMemory>
     requires { IsNamed graph.now (class_name class.now) }
-    ensures { IfOk result (λ found. MatchOption found (IsEmptyClass graph.now class.now) (StandsFor graph.now class.now)) }
+    ensures { IfOk result (λ found. MatchOption found (IsEmptyClass graph.now class.now) (RepresentsClass graph.now class.now)) }
 {
     match class {
         Class::Exact(name) => Ok(Some(alone(alloc, name)?)),

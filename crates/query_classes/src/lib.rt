@@ -25,3 +25,6 @@ pub use fault::TreeFault;
 pub use level::children;
 pub use live_name::LiveName;
 pub use tree::{ClassRow, class_tree};
+
+#[cfg(test)]
+mod tests;

@@ -4,7 +4,7 @@ ghost use Rattle.std.specs.Prelude.{◌≡◌, [], ◌∷◌, ◌++◌, map, All
 ghost use Rattle.dns_data.specs.Name.{IsName};
 ghost use Rattle.label_graph.specs.LiveSet.{IsLiveSet};
 ghost use Rattle.net_model.specs.Reading.{IsNamed};
-ghost use Rattle.query_classes.specs.Children.{AreChildren, IsBelow, fitting};
+ghost use Rattle.query_classes.specs.Children.{AreChildren, IsBelow, of_name_length};
 
 use crate::free::{free_label, label_with};
 use dns_data::{JoinFault, Label, List, Name, NoMemory};
@@ -83,7 +83,7 @@ impl LiveName {
         labels: &[Label],
     ) -> Result<Vec<LiveName>, NoMemory>
         requires { IsLiveSet graph.now self.now.name self.now.live }
-        ensures fitting { IfOk result (λ names. map (λ below. below.name) names.items ≡ fitting self.now.name labels.now) }
+        ensures of_name_length { IfOk result (λ names. map (λ below. below.name) names.items ≡ of_name_length self.now.name labels.now) }
         ensures names { IfOk result (λ names. All (λ below. IsName below.name) names.items) }
         ensures live { IfOk result (λ names. All (λ below. IsLiveSet graph.now below.name below.live) names.items) }
     {
@@ -105,7 +105,7 @@ impl LiveName {
         requires live { IsLiveSet graph.now self.now.name self.now.live }
         requires names { All (λ below. IsName below.name) names.old.items }
         requires all_live { All (λ below. IsLiveSet graph.now below.name below.live) names.old.items }
-        ensures fitting { OnOk result (map (λ below. below.name) names.new.items ≡ map (λ below. below.name) names.old.items ++ fitting self.now.name (label.now ∷ [])) }
+        ensures of_name_length { OnOk result (map (λ below. below.name) names.new.items ≡ map (λ below. below.name) names.old.items ++ of_name_length self.now.name (label.now ∷ [])) }
         ensures names { OnOk result (All (λ below. IsName below.name) names.new.items) }
         ensures live { OnOk result (All (λ below. IsLiveSet graph.now below.name below.live) names.new.items) }
     {

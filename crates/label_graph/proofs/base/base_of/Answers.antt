@@ -1,22 +1,46 @@
-use Rattle.std.proofs.Common.{◌≡◌, ◌∙◌, List, ◌++◌, map, Contains, inl, inr, sym, ap}
+use Rattle.std.proofs.Common.{◌≡◌, ◌∙◌, List, [], ◌∷◌, ◌++◌, map, Contains, inl, inr, sym, ap, subst}
 use Rattle.std.specs.List.{flat_map}
 use Rattle.std.specs.Cmp.Lexicographic.{nat_list_eq_equiv, lists_equiv, lists_ties, texts_ties}
 use Rattle.std.proofs.lemmas.List.{take_all}
 use Rattle.dns_data.specs.Label.{label_cmp}
 use Rattle.dns_data.specs.Name.{Labels, name_cmp, name_eq}
+use Rattle.dns_data.proofs.Membership.{none_in_nil, has_first, first_or_later}
 use Rattle.dns_data.proofs.NameOrder.{names_total}
 use Rattle.dns_data.proofs.Names.{name_eq_decides}
 use Rattle.net_model.specs.Reading.{Redirection, ground_of}
 use Rattle.label_graph.specs.Base.{IsInServer, server_redirections}
+use Rattle.label_graph.specs.LiveSet.{HavePrefixes}
 use Rattle.label_graph.specs.Pairs.{redirection}
-use Rattle.label_graph.proofs.BaseGround.{base_closed, base_names, base_redirections}
+use Rattle.label_graph.proofs.BaseGround.{base_closed, base_names, base_redirections, nothing_above}
 use Rattle.label_graph.proofs.InOrder.{once_in_order, in_order_has, from_in_order}
-use Rattle.label_graph.proofs.Passing.{more_iff, some_all, all_some, flat_more}
+use Rattle.label_graph.proofs.Passing.{more_iff, some_all, all_some, flat_more, start_iff}
 use Rattle.label_graph.proofs.base.base_of.Goals as goal
+
+-- the root alone has its prefixes
+root_alone : HavePrefixes ([] ∷ [])
+root_alone =
+    record {
+      root = has_first [] [];
+      prefixes = λ above below has. elim (first_or_later [] [] (above ++ below) has) [
+        | inl same ↦ subst (Contains ([] ∷ [])) (sym (nothing_above above below (sym same))) (has_first [] [])
+        | inr none ↦ absurd (none_in_nil (above ++ below) none)
+      ];
+    }
+
+pub loop-server-init : goal.loop-server-init
+loop-server-init c =
+    let first : c.push.new.self.items ≡ [] ∷ [] =
+    c.in_ok-push.ensures.items ∙ ap (λ (l : List Labels). l ++ c.root.result ∷ []) c.new-names.ensures.items ∙ ap (λ (n : Labels). n ∷ []) c.root.ensures in
+    record {
+      prefixes = subst HavePrefixes (sym first) root_alone;
+      names = λ name. rw first (start_iff (IsInServer name) (Contains ([] ∷ []) name));
+      pairs = ap (map redirection) c.new-dnames.ensures.items;
+    }
 
 pub loop-server-preserved : goal.loop-server-preserved
 loop-server-preserved c =
     record {
+      prefixes = c.in_ok-put_server.ensures.prefixes;
       names = λ name. more_iff (IsInServer name) c.items-server-items.result.now c.loop-server.server-index c.server-item.result c.loop-server-test.true c.server-item.is
           _ _ _ (c.loop-server.invariant.names name) (c.in_ok-put_server.ensures.names name);
       pairs =

@@ -4,12 +4,14 @@ use Rattle.std.specs.List.{flat_map}
 use Rattle.dns_data.specs.Name.{Labels}
 use Rattle.label_graph.specs.Base.{IsInServer, server_redirections}
 use Rattle.label_graph.specs.Graphs.{SomeItem}
+use Rattle.label_graph.specs.LiveSet.{HavePrefixes}
 use Rattle.label_graph.specs.Pairs.{redirection}
 use Rattle.label_graph.proofs.base.base_of.Given as goal
 
 -- the servers passed
 abbrev pub invariant-loop-server : goal.invariant-loop-server
 invariant-loop-server l = record {
+  prefixes : HavePrefixes l.names.items;
   names : (name : Labels) → Contains l.names.items name ↔ (Contains ([] ∷ []) name ⊎ SomeItem (IsInServer name) (take l.server-index l.server-items));
   pairs : map redirection l.dnames.items ≡ flat_map server_redirections (take l.server-index l.server-items);
 }

@@ -9,6 +9,7 @@ use Rattle.label_graph.proofs.base.put_server.Goals as goal
 pub loop-zone-preserved : goal.loop-zone-preserved
 loop-zone-preserved c =
     record {
+      prefixes = c.in_ok-put_zone.ensures.prefixes;
       names = λ name. more_iff (IsInZone name) c.items-zone-items.result.now c.loop-zone.zone-index c.zone-item.result c.loop-zone-test.true c.zone-item.is
           _ _ _ (c.loop-zone.invariant.names name) (c.in_ok-put_zone.ensures.names name);
       pairs =

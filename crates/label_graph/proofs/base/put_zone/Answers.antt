@@ -3,14 +3,15 @@ use Rattle.std.specs.List.{flat_map}
 use Rattle.dns_data.specs.declared.rdata.Rr.{Rr}
 use Rattle.net_model.specs.Reading.{Redirection, redirection_of}
 use Rattle.label_graph.specs.Pairs.{redirection}
-use Rattle.label_graph.specs.Targets.{IsFrontFrom}
+use Rattle.label_graph.specs.Targets.{IsPrefixFrom}
 use Rattle.label_graph.proofs.Passing.{more_iff, some_all, all_some, flat_more}
 use Rattle.label_graph.proofs.base.put_zone.Goals as goal
 
 pub loop-rr-preserved : goal.loop-rr-preserved
 loop-rr-preserved c =
     record {
-      names = λ name. more_iff (λ (rr : Rr). IsFrontFrom 0 rr.owner name) c.items-rr-items.result.now c.loop-rr.rr-index c.rr-item.result c.loop-rr-test.true c.rr-item.is
+      prefixes = c.in_ok-put_record.ensures.prefixes;
+      names = λ name. more_iff (λ (rr : Rr). IsPrefixFrom 0 rr.owner name) c.items-rr-items.result.now c.loop-rr.rr-index c.rr-item.result c.loop-rr-test.true c.rr-item.is
           _ _ _ (c.loop-rr.invariant.names name) (c.in_ok-put_record.ensures.names name);
       pairs =
           c.in_ok-put_record.ensures.pairs
@@ -23,14 +24,14 @@ loop-rr-preserved c =
 pub returns-clause-names : goal.returns-clause-names
 returns-clause-names c name = rw (← c.items-rr-items.ensures) (
   λ has. elim ((c.loop-rr.invariant.names name).0 has) [
-    | inl was ↦ elim ((c.in_ok-put_fronts.ensures name).0 was) [ inl old ↦ inl old | inr front ↦ inr (inl front) ]
-    | inr some ↦ inr (inr (some_all (λ (rr : Rr). IsFrontFrom 0 rr.owner name) c.items-rr-items.result.now c.loop-rr.rr-index c.loop-rr-test.false some))
+    | inl was ↦ elim ((c.in_ok-put_new_fronts.ensures.fronts name).0 was) [ inl old ↦ inl old | inr front ↦ inr (inl front) ]
+    | inr some ↦ inr (inr (some_all (λ (rr : Rr). IsPrefixFrom 0 rr.owner name) c.items-rr-items.result.now c.loop-rr.rr-index c.loop-rr-test.false some))
   ],
   λ either. elim either [
-    | inl old ↦ (c.loop-rr.invariant.names name).1 (inl ((c.in_ok-put_fronts.ensures name).1 (inl old)))
+    | inl old ↦ (c.loop-rr.invariant.names name).1 (inl ((c.in_ok-put_new_fronts.ensures.fronts name).1 (inl old)))
     | inr in_zone ↦ elim in_zone [
-      | inl front ↦ (c.loop-rr.invariant.names name).1 (inl ((c.in_ok-put_fronts.ensures name).1 (inr front)))
-      | inr some ↦ (c.loop-rr.invariant.names name).1 (inr (all_some (λ (rr : Rr). IsFrontFrom 0 rr.owner name) c.items-rr-items.result.now c.loop-rr.rr-index c.loop-rr-test.false some))
+      | inl front ↦ (c.loop-rr.invariant.names name).1 (inl ((c.in_ok-put_new_fronts.ensures.fronts name).1 (inr front)))
+      | inr some ↦ (c.loop-rr.invariant.names name).1 (inr (all_some (λ (rr : Rr). IsPrefixFrom 0 rr.owner name) c.items-rr-items.result.now c.loop-rr.rr-index c.loop-rr-test.false some))
     ]
   ],
 )

@@ -4,18 +4,18 @@ use Rattle.std.proofs.lemmas.Bool.{cases_lt}
 use Rattle.std.proofs.lemmas.List.Elements.{Contains-append_left, Contains-append_right, Contains-append_cases}
 use Rattle.dns_data.specs.Name.{Labels}
 use Rattle.dns_data.proofs.Membership.{none_in_nil, has_first, first_or_later}
-use Rattle.label_graph.specs.Targets.{IsFrontFrom}
+use Rattle.label_graph.specs.Targets.{IsPrefixFrom}
 use Rattle.label_graph.proofs.parts.put_fronts.Goals as goal
 
 abbrev AreCounted : Labels → ℕ → ℕ → List Labels → List Labels → Type 0
 AreCounted name from count before names =
-    (front : Labels) → Contains names front ↔ (Contains before front ⊎ ((front_is : IsFrontFrom from name front) × (front_is.0 < count)))
+    (front : Labels) → Contains names front ↔ (Contains before front ⊎ ((front_is : IsPrefixFrom from name front) × (front_is.0 < count)))
 
 -- one front more
 counted_more : (name : Labels) (from count : ℕ) (before names : List Labels) (front : Labels) → from ≤ count → count < length name + 1
     → front ≡ take count name → AreCounted name from count before names → AreCounted name from (count + 1) before (names ++ front ∷ [])
 counted_more name from count before names front low high is counted other = (there, back) where
-  there : Contains (names ++ front ∷ []) other → Contains before other ⊎ ((front_is : IsFrontFrom from name other) × (front_is.0 < count + 1))
+  there : Contains (names ++ front ∷ []) other → Contains before other ⊎ ((front_is : IsPrefixFrom from name other) × (front_is.0 < count + 1))
   there has =
       elim (Contains-append_cases names (front ∷ []) other has) [
         | inl old ↦ elim ((counted other).0 old) [
@@ -28,7 +28,7 @@ counted_more name from count before names front low high is counted other = (the
         ]
       ]
 
-  back : Contains before other ⊎ ((front_is : IsFrontFrom from name other) × (front_is.0 < count + 1)) → Contains (names ++ front ∷ []) other
+  back : Contains before other ⊎ ((front_is : IsPrefixFrom from name other) × (front_is.0 < count + 1)) → Contains (names ++ front ∷ []) other
   back (inl was) = Contains-append_left names (front ∷ []) other ((counted other).1 (inl was))
   back (inr (front_is, below)) =
       elim (cases_lt front_is.0 count) [

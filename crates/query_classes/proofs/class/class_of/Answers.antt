@@ -5,7 +5,7 @@ use Rattle.net_model.specs.Class.{IsClassOf}
 use Rattle.net_model.specs.Reading.{Ground, IsNamed}
 use Rattle.label_graph.specs.LiveSet.{IsClosed, IsLiveSet}
 use Rattle.label_graph.proofs.LiveNames.{prefix_is_named}
-use Rattle.query_classes.specs.Members.{StandsFor}
+use Rattle.query_classes.specs.Members.{RepresentsClass}
 use Rattle.net_model.proofs.ClassTails.{one_class}
 use Rattle.query_classes.proofs.ClassLaws.{in_below, below_stood, first_label_of, label_more, not_named, live_named}
 use Rattle.query_classes.proofs.FirstFree.{first_free}
@@ -13,7 +13,7 @@ use Rattle.query_classes.proofs.class.class_of.Goals as goal
 
 -- what stands for the class below a name, where one of a name's labels is free
 stood : (ground : Ground) → IsClosed ground → (above rest : Labels) (own : List ℕ) (live : List ℕ) → IsLiveSet ground above live → IsNamed ground above
-    → (IsNamed ground (above ++ own ∷ []) → ⊥) → IsName (above ++ own ∷ rest) → (name : Labels) × StandsFor ground (Below above) name
+    → (IsNamed ground (above ++ own ∷ []) → ⊥) → IsName (above ++ own ∷ rest) → (name : Labels) × RepresentsClass ground (Below above) name
 stood ground closed above rest own live of named unnamed is =
     let (label, first) = first_free ground closed above live of own (first_label_of above own rest is) unnamed in
     (above ++ label ∷ [], below_stood ground closed above label own rest named unnamed is first)

@@ -2,7 +2,7 @@ use Rattle.std.proofs.Common.{◌≡◌, ◌⊎◌, List, [], Contains, inr}
 use Rattle.std.specs.Prelude.{◌↔◌}
 use Rattle.dns_data.specs.Name.{Labels}
 use Rattle.label_graph.specs.declared.pair.Pair.{Pair}
-use Rattle.label_graph.specs.Targets.{IsFrontFrom}
+use Rattle.label_graph.specs.Targets.{IsPrefixFrom}
 use Rattle.label_graph.proofs.TargetLinks.{fronts_have_prefixes, front_itself, has_owner, same_ground, closed_ground}
 use Rattle.label_graph.proofs.targets.TargetTable.build.Goals as goal
 
@@ -11,7 +11,7 @@ build-requires-2 c = fronts_have_prefixes c.args.dnames.now c.in_ok-fronts_of.fi
 
 -- the fronts of the tree are the fronts put into it
 targets_there : (dnames : List Pair) (made fronts : List Labels)
-    → ((front : Labels) → Contains made front ↔ ((front ≡ []) ⊎ ((pair : Pair) × Contains dnames pair × IsFrontFrom 0 pair.to front)))
+    → ((front : Labels) → Contains made front ↔ ((front ≡ []) ⊎ ((pair : Pair) × Contains dnames pair × IsPrefixFrom 0 pair.to front)))
     → ((front : Labels) → Contains fronts front ↔ Contains made front)
     → (pair : Pair) → Contains dnames pair → Contains fronts pair.to
 targets_there dnames made fronts are same pair among = (same pair.to).1 ((are pair.to).1 (inr (pair, among, front_itself pair.to)))

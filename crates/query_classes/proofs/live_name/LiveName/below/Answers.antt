@@ -1,7 +1,7 @@
 use Rattle.std.proofs.Common.{◌≡◌, ◌∙◌, Err, ℕ, ◌<◌, ◌≤◌, [], ◌∷◌, ◌++◌, sym, ap, subst}
 use Rattle.dns_data.specs.Name.{Labels, wire_octets}
 use Rattle.net_model.specs.declared.class.Class.TheVariants.{Below}
-use Rattle.query_classes.specs.Members.{StandsFor}
+use Rattle.query_classes.specs.Members.{RepresentsClass}
 use Rattle.query_classes.proofs.ClassLaws.{stands_below, empty_long, empty_full}
 use Rattle.query_classes.proofs.live_name.LiveName.below.Goals as goal
 
@@ -16,7 +16,7 @@ returns-in-Ok c =
     let name : c.push.new.self ≡ c.args.self.now.name ++ c.in-Some.label ∷ [] =
     c.in-Ok.ensures.ok ∙ ap (λ (n : Labels). n ++ c.in-Some.label ∷ []) c.in_ok-name.ensures in
     let short : wire_octets c.push.new.self ≤ 255 = subst (λ (n : ℕ). n ≤ 255) c.octets.ensures.value c.octets.ensures.within in
-    subst (StandsFor c.args.graph.now (Below c.args.self.now.name)) (sym name)
+    subst (RepresentsClass c.args.graph.now (Below c.args.self.now.name)) (sym name)
     (stands_below c.args.graph.now c.graph_is_closed.ensures c.args.self.now.name c.in-Some.label c.requires.named c.labels.ensures.name.labels first
     (subst (λ (n : Labels). wire_octets n ≤ 255) name short))
 

@@ -2,7 +2,7 @@ use Rattle.std.proofs.Common.{◌≡◌, ◌∙◌, List, map, All, sym, ap, sub
 use Rattle.std.proofs.lemmas.List.Elements.{All-contains}
 use Rattle.dns_data.specs.Name.{Labels, IsName}
 use Rattle.dns_data.proofs.Membership.{from_map, all_from_contains}
-use Rattle.query_classes.specs.Children.{AreChildren, fitting}
+use Rattle.query_classes.specs.Children.{AreChildren, of_name_length}
 use Rattle.query_classes.specs.declared.live_name.LiveName.{LiveName}
 use Rattle.query_classes.proofs.NamesBelow.{children_are}
 use Rattle.query_classes.proofs.live_name.LiveName.children.Goals as goal
@@ -17,8 +17,8 @@ pub returns-clause-names : goal.returns-clause-names
 returns-clause-names c =
     let above : Labels = c.args.self.now.name in
     let found : List LiveName = c.in_ok-names.names.items in
-    let same : map (λ (one : LiveName). one.name) found ≡ fitting above c.in_ok-labels.labels =
-    c.in_ok-names.ensures.fitting ∙ ap (fitting above) c.items.ensures in
+    let same : map (λ (one : LiveName). one.name) found ≡ of_name_length above c.in_ok-labels.labels =
+    c.in_ok-names.ensures.of_name_length ∙ ap (of_name_length above) c.items.ensures in
     subst (λ (l : List LiveName). AreChildren c.args.graph.now above (map (λ (one : LiveName). one.name) l)) (sym c.from_vec.ensures)
     (subst (AreChildren c.args.graph.now above) (sym same)
     (children_are c.args.graph.now above c.in_ok-labels.labels c.in_ok-labels.ensures.order
