@@ -1,0 +1,2 @@
+pub use Rattle.io_edges.specs.MemoryFiles
+pub mod Drill
