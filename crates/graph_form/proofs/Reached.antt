@@ -148,7 +148,7 @@ types_differ i j d lt within same =
     let places : i ≡ j = sym one ∙ (ap place_of same ∙ other) in
     omega (arith, places, lt)
 
-arm_differs : (state : State) (arm : Arm) → AllPairs Differ (arm_pairs state arm)
+pub arm_differs : (state : State) (arm : Arm) → AllPairs Differ (arm_pairs state arm)
 arm_differs state arm =
     let pair : RrType → State × RrType = λ t. (state, t) in
     pairs_of_images pair Differ (types_of arm)
@@ -174,7 +174,7 @@ of_arm state arm pair has =
     }
 
 -- the pairs of a node differ, where its arms are apart
-node_differs : (state : State) (arms : List Arm)
+pub node_differs : (state : State) (arms : List Arm)
     → AllPairs (λ a b. (rtype : RrType) → has_bit a.types rtype ≡ true → has_bit b.types rtype ≡ false) arms
     → AllPairs Differ (flat_map (arm_pairs state) arms)
 node_differs state arms apart =

@@ -91,8 +91,8 @@ fn node_pairs(node: &Node) -> u32
     count
 }
 
-/// How many types a set has.
-fn type_count(types: TypeSet) -> u32
+/// How many types a set has. It takes no memory.
+pub fn type_count(types: TypeSet) -> u32
     ensures { result ≡ length (filter (has_bit types) types_in_order) }
 {
     RrType::ALL

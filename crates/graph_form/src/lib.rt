@@ -19,7 +19,7 @@ mod shows;
 mod verdict;
 
 pub use first_walks::trails;
-pub use graph::Graph;
+pub use graph::{Graph, type_count};
 pub use laws::{pairs_are_reached, paths_are_walks, walks_and_zones_show};
 pub use node::{Arm, Branch, Node};
 pub use repeated::repeats;

@@ -1,0 +1,75 @@
+-- The states in which a query begins, one after another.
+use Rattle.std.proofs.Common.{◌≡◌, ℕ, true, List, [], ◌∷◌, ◌++◌, Bool, Some, length, refl, sym, ap, ◌∙◌, subst, append_assoc}
+use Rattle.std.specs.Prelude.{Contains, slice_get}
+use Rattle.std.specs.List.{AllZip}
+use Rattle.std.proofs.lemmas.List.{append-nil}
+use Rattle.std.proofs.lemmas.List.Elements.{Contains-append_right}
+use Rattle.dns_data.specs.TypeSet.{has_bit}
+use Rattle.dns_data.specs.declared.rr_type.RrType.{RrType}
+use Rattle.dns_data.proofs.Membership.{has_first}
+use Rattle.net_model.specs.Step.{Setting}
+use Rattle.net_model.specs.declared.walk.State.{State}
+use Rattle.interp_graph.specs.Drafts.{Awaits, Comes, AreDrafts}
+use Rattle.interp_graph.specs.Work.{IsSound, Advances, ComesTo, HasMoreComing, AwaitAll}
+use Rattle.interp_graph.specs.declared.work.Work.{Work}
+use Rattle.interp_graph.proofs.Arming.{advances_not, advances_twice}
+use Rattle.interp_graph.proofs.Drafts.{awaits_grow}
+use Rattle.interp_graph.proofs.ItemsByNumber.{beside_pushed, number_of_item, side_by_side}
+
+-- a state in which the query begins comes from there
+pub begins : (setting : Setting) (states : List State) (state : State) (rtype : RrType) → Contains states state → Comes setting states rtype state
+begins setting states state rtype has =
+    let at = number_of_item states state has in
+    record { number = at.0; first = state; is_first = at.1; numbers = []; hops = []; leads = refl }
+
+-- so far: all types come to the nodes of the states that aren't left
+pub record BegunSoFar (before now : Work) (set_of : List Bool) (all left : List State) (starts : List ℕ) : Type 0 where
+  pub sound : IsSound now
+  pub advances : Advances before now
+  pub done : List State
+  pub parts : done ++ left ≡ all
+  pub await : AllZip (Awaits now.drafts.items set_of) starts done
+  pub drafts : (setting : Setting) → AreDrafts setting all before.drafts.items → AreDrafts setting all now.drafts.items
+
+pub begun_first : (before : Work) (set_of : List Bool) (all : List State) → IsSound before → BegunSoFar before before set_of all all []
+begun_first before set_of all sound =
+    record { sound = sound; advances = advances_not before; done = []; parts = refl; await = tt; drafts = λ setting are. are }
+
+module _ (before now : Work) (set_of : List Bool) (all left : List State) (starts : List ℕ) (state : State)
+    (so : BegunSoFar before now set_of all (state ∷ left) starts) where
+  comes : (setting : Setting) → ComesTo setting all set_of state
+  comes setting rtype typed =
+      begins setting all state rtype
+      (subst (λ (states : List State). Contains states state) so.parts (Contains-append_right so.done (state ∷ left) state (has_first state left)))
+
+  pub begun_passed : ((setting : Setting) (begin : List State) → AreDrafts setting begin now.drafts.items → ComesTo setting begin set_of state
+      → HasMoreComing setting begin now.limit)
+      → (setting : Setting) → AreDrafts setting all before.drafts.items → HasMoreComing setting all before.limit
+  begun_passed passed setting are =
+      subst (HasMoreComing setting all) so.advances.limit (passed setting all (so.drafts setting are) (comes setting))
+
+  pub begun_more : (after : Work) (at : ℕ) → IsSound after → Advances now after → Awaits after.drafts.items set_of at state
+      → ((setting : Setting) (begin : List State) → AreDrafts setting begin now.drafts.items → ComesTo setting begin set_of state
+      → AreDrafts setting begin after.drafts.items)
+      → BegunSoFar before after set_of all left (starts ++ at ∷ [])
+  begun_more after at sound advances awaits drafts =
+      record {
+        sound = sound;
+        advances = advances_twice before now after so.advances advances;
+        done = so.done ++ state ∷ [];
+        parts = append_assoc so.done (state ∷ []) left ∙ so.parts;
+        await = beside_pushed (Awaits after.drafts.items set_of) starts so.done at state
+            (side_by_side (Awaits now.drafts.items set_of) (Awaits after.drafts.items set_of) starts so.done
+            (λ k s old. awaits_grow now.drafts.items after.drafts.items advances.grows set_of k s old) so.await) awaits;
+        drafts = λ setting are. drafts setting all (so.drafts setting are) (comes setting);
+      }
+
+pub begun_all : (before now : Work) (set_of : List Bool) (all left : List State) (starts : List ℕ) → BegunSoFar before now set_of all left starts → left ≡ []
+    → ((rtype : RrType) → has_bit set_of rtype ≡ true) → AwaitAll now.drafts.items starts all
+begun_all before now set_of all left starts so none every =
+    record {
+      all = set_of;
+      every = every;
+      await = subst (AllZip (Awaits now.drafts.items set_of) starts)
+          (sym (append-nil so.done) ∙ (ap (λ (l : List State). so.done ++ l) (sym none) ∙ so.parts)) so.await;
+    }

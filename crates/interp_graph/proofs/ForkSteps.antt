@@ -1,0 +1,207 @@
+-- The forks of a state one after another, and their steps.
+use Rattle.std.proofs.Common.{◌≡◌, ◌≢◌, ℕ, ◌<◌, ◌≤◌, Bool, true, false, List, [], ◌∷◌, ◌++◌, map, length, Some, refl, sym, ap, ◌∙◌, subst, inl, inr, true≢false, arith, append_assoc}
+use Rattle.std.specs.Prelude.{◌⊎◌, Contains, AllPairs, slice_get}
+use Rattle.std.specs.List.{AllZip}
+use Rattle.std.proofs.lemmas.List.{append-nil, map-append}
+use Rattle.std.proofs.lemmas.List.Elements.{Contains-append_right, Contains-append_left}
+use Rattle.std.proofs.lemmas.Option.{slice_get_within}
+use Rattle.dns_data.specs.TypeSet.{has_bit}
+use Rattle.dns_data.specs.declared.rr_type.RrType.{RrType}
+use Rattle.dns_data.proofs.Membership.{none_in_nil, has_first, has_later, first_or_later, map_has, pairs_first, pairs_rest}
+use Rattle.net_model.specs.Step as step
+use Rattle.net_model.specs.Step.{Setting}
+use Rattle.net_model.specs.declared.walk.Hop.{Hop}
+use Rattle.net_model.specs.declared.walk.State.{State}
+use Rattle.graph_form.specs.declared.node.Branch.{Branch}
+use Rattle.interp_graph.specs.Drafts.{Tells, AreDrafts, Grows}
+use Rattle.interp_graph.specs.Steps.{branch_of, IsFork, IsApart, AreSplit}
+use Rattle.interp_graph.specs.Work.{IsSound, Waits, StillWaits, Advances, ComeOn, HasMoreComing, IsForkAt, AreForksAt, SplitWaiting}
+use Rattle.interp_graph.specs.declared.draft.Draft.{Draft}
+use Rattle.interp_graph.specs.declared.step.Fork.{Fork}
+use Rattle.interp_graph.specs.declared.step.Step.{Step}
+use Rattle.interp_graph.specs.declared.work.Work.{Work}
+use Rattle.interp_graph.proofs.Arming.{advances_not, advances_twice}
+use Rattle.interp_graph.proofs.Drafts.{zip_grows}
+use Rattle.interp_graph.proofs.ItemsByNumber.{beside_pushed, item_below}
+use Rattle.interp_graph.proofs.Working.{one_there}
+
+-- ---- the steps of a fork
+
+-- so far: the branches tell the steps that aren't left
+pub record BranchesSoFar (before now : Work) (set_of : List Bool) (all left : List Step) (branches : List Branch) : Type 0 where
+  pub sound : IsSound now
+  pub advances : Advances before now
+  pub still : StillWaits before now
+  pub done : List Step
+  pub parts : done ++ left ≡ all
+  pub told : AllZip (Tells now.drafts.items set_of) branches (map branch_of done)
+  pub drafts : (setting : Setting) (begin : List State) → AreDrafts setting begin before.drafts.items → ComeOn setting begin set_of (map branch_of all)
+      → AreDrafts setting begin now.drafts.items
+
+pub branches_begin : (before : Work) (set_of : List Bool) (all : List Step) → IsSound before → BranchesSoFar before before set_of all all []
+branches_begin before set_of all sound =
+    record {
+      sound = sound;
+      advances = advances_not before;
+      still = λ at rtype waits. waits;
+      done = [];
+      parts = refl;
+      told = tt;
+      drafts = λ setting begin are come. are;
+    }
+
+module _ (before now : Work) (set_of : List Bool) (all left : List Step) (branches : List Branch) where
+  -- what comes on by all steps does so by one that is left
+  one_comes : (one : Step) → BranchesSoFar before now set_of all (one ∷ left) branches → (setting : Setting) (begin : List State)
+      → ComeOn setting begin set_of (map branch_of all) → ComeOn setting begin set_of (branch_of one ∷ [])
+  one_comes one so setting begin come hop to has =
+      come hop to
+      (subst (Contains (map branch_of all))
+      (by (first_or_later (branch_of one) [] (step.Go hop to) has))
+      (map_has branch_of all one
+      (subst (λ (steps : List Step). Contains steps one) so.parts (Contains-append_right so.done (one ∷ left) one (has_first one left)))))
+    where
+      by : (branch_of one ≡ step.Go hop to) ⊎ Contains [] (step.Go hop to) → branch_of one ≡ step.Go hop to
+      by (inl same) = same
+      by (inr none) = absurd (none_in_nil (step.Go hop to) none)
+
+  pub branches_passed : (one : Step) → BranchesSoFar before now set_of all (one ∷ left) branches
+      → ((setting : Setting) (begin : List State) → AreDrafts setting begin now.drafts.items → ComeOn setting begin set_of (branch_of one ∷ [])
+      → HasMoreComing setting begin now.limit)
+      → (setting : Setting) (begin : List State) → AreDrafts setting begin before.drafts.items → ComeOn setting begin set_of (map branch_of all)
+      → HasMoreComing setting begin before.limit
+  branches_passed one so passed setting begin are come =
+      subst (HasMoreComing setting begin) so.advances.limit
+      (passed setting begin (so.drafts setting begin are come) (one_comes one so setting begin come))
+
+  pub branches_more : (one : Step) → BranchesSoFar before now set_of all (one ∷ left) branches → (after : Work) (branch : Branch)
+      → IsSound after → Advances now after → StillWaits now after → Tells after.drafts.items set_of branch (branch_of one)
+      → ((setting : Setting) (begin : List State) → AreDrafts setting begin now.drafts.items → ComeOn setting begin set_of (branch_of one ∷ [])
+      → AreDrafts setting begin after.drafts.items)
+      → BranchesSoFar before after set_of all left (branches ++ branch ∷ [])
+  branches_more one so after branch sound advances still tells drafts =
+      record {
+        sound = sound;
+        advances = advances_twice before now after so.advances advances;
+        still = λ at rtype waits. still at rtype (so.still at rtype waits);
+        done = so.done ++ one ∷ [];
+        parts = append_assoc so.done (one ∷ []) left ∙ so.parts;
+        told = subst (AllZip (Tells after.drafts.items set_of) (branches ++ branch ∷ [])) (sym (map-append branch_of so.done (one ∷ [])))
+            (beside_pushed (Tells after.drafts.items set_of) branches (map branch_of so.done) branch (branch_of one)
+            (zip_grows now.drafts.items after.drafts.items advances.grows set_of branches (map branch_of so.done) so.told) tells);
+        drafts = λ setting begin are come. drafts setting begin (so.drafts setting begin are come) (one_comes one so setting begin come);
+      }
+
+pub branches_end : (before now : Work) (set_of : List Bool) (all left : List Step) (branches : List Branch) → BranchesSoFar before now set_of all left branches
+    → left ≡ [] → AllZip (Tells now.drafts.items set_of) branches (map branch_of all)
+branches_end before now set_of all left branches so none =
+    subst (λ (steps : List Step). AllZip (Tells now.drafts.items set_of) branches (map branch_of steps))
+    (sym (append-nil so.done) ∙ (ap (λ (l : List Step). so.done ++ l) (sym none) ∙ so.parts)) so.told
+
+-- ---- the forks of a state
+
+-- a fork stays one of the state
+pub fork_stays : (setting : Setting) (before after : List Draft) (at : ℕ) (fork : Fork) → Grows before after → at < length before
+    → IsForkAt setting before at fork → IsForkAt setting after at fork
+fork_stays setting before after at fork grows below is draft there =
+    let was = item_below before at below in
+    let later = grows at was.0 was.1 in
+    subst (λ (s : State). IsFork setting s fork)
+    (sym later.has_state ∙ ap (λ (d : Draft). d.state) (one_there after at later.draft draft later.is_draft there)) (is was.0 was.1)
+
+-- a list of drafts that grows has each number that it had
+pub still_below : (before after : List Draft) (at : ℕ) → Grows before after → at < length before → at < length after
+still_below before after at grows below =
+    let was = item_below before at below in
+    let later = grows at was.0 was.1 in
+    slice_get_within after at later.draft later.is_draft
+
+-- so far: the types of the forks that are left wait, and of those that wait each is in one of them or came since
+pub record ForksSoFar (before now : Work) (at : ℕ) (all left : List Fork) : Type 0 where
+  pub sound : IsSound now
+  pub advances : Advances before now
+  pub was_below : at < length before.drafts.items
+  pub apart : AllPairs (λ a b. IsApart a.types b.types) left
+  pub waits : (fork : Fork) → Contains left fork → (rtype : RrType) → has_bit fork.types rtype ≡ true → Waits now.drafts.items at rtype
+  pub rid : (rtype : RrType) → Waits now.drafts.items at rtype
+      → ((fork : Fork) × Contains left fork × (has_bit fork.types rtype ≡ true)) ⊎ Contains now.stack.items at
+  pub among : (fork : Fork) → Contains left fork → Contains all fork
+  pub drafts : (setting : Setting) (begin : List State) → AreDrafts setting begin before.drafts.items → AreForksAt setting before.drafts.items at all
+      → AreDrafts setting begin now.drafts.items
+
+pub forks_begin : (before : Work) (at : ℕ) (all : List Fork) → IsSound before → at < length before.drafts.items → SplitWaiting before.drafts.items at all
+    → ForksSoFar before before at all all
+forks_begin before at all sound below split =
+    let was = item_below before.drafts.items at below in
+    let parts : AreSplit was.0.waiting all = split was.0 was.1 in
+    record {
+      sound = sound;
+      advances = advances_not before;
+      was_below = below;
+      apart = parts.apart;
+      waits = λ fork has rtype typed. record { draft = was.0; is_draft = was.1; waits = parts.within fork has rtype typed };
+      rid = λ rtype waits. inl (parts.each rtype
+          (ap (λ (d : Draft). has_bit d.waiting rtype) (one_there before.drafts.items at was.0 waits.draft was.1 waits.is_draft) ∙ waits.waits));
+      among = λ fork has. has;
+      drafts = λ setting begin are forks. are;
+    }
+
+module _ (before now : Work) (at : ℕ) (all left : List Fork) (fork : Fork) (so : ForksSoFar before now at all (fork ∷ left)) where
+  pub now_below : at < length now.drafts.items
+  now_below = still_below before.drafts.items now.drafts.items at so.advances.grows so.was_below
+
+  is_fork : (setting : Setting) → AreForksAt setting before.drafts.items at all → IsForkAt setting now.drafts.items at fork
+  is_fork setting forks =
+      fork_stays setting before.drafts.items now.drafts.items at fork so.advances.grows so.was_below (forks fork (so.among fork (has_first fork left)))
+
+  pub forks_passed : ((setting : Setting) (begin : List State) → AreDrafts setting begin now.drafts.items → IsForkAt setting now.drafts.items at fork
+      → HasMoreComing setting begin now.limit)
+      → (setting : Setting) (begin : List State) → AreDrafts setting begin before.drafts.items → AreForksAt setting before.drafts.items at all
+      → HasMoreComing setting begin before.limit
+  forks_passed passed setting begin are forks =
+      subst (HasMoreComing setting begin) so.advances.limit (passed setting begin (so.drafts setting begin are forks) (is_fork setting forks))
+
+  pub forks_more : (after : Work) → IsSound after → Advances now after
+      → ((rtype : RrType) → has_bit fork.types rtype ≡ true → Waits after.drafts.items at rtype → ⊥)
+      → ((rtype : RrType) → has_bit fork.types rtype ≡ false → Waits now.drafts.items at rtype → Waits after.drafts.items at rtype)
+      → ((setting : Setting) (begin : List State) → AreDrafts setting begin now.drafts.items → IsForkAt setting now.drafts.items at fork
+      → AreDrafts setting begin after.drafts.items)
+      → ForksSoFar before after at all left
+  forks_more after sound advances done others drafts =
+      record {
+        sound = sound;
+        advances = advances_twice before now after so.advances advances;
+        was_below = so.was_below;
+        apart = pairs_rest (λ (a b : Fork). IsApart a.types b.types) fork left so.apart;
+        waits = λ other has rtype typed. others rtype
+            (not_in rtype other typed (pairs_first (λ (a b : Fork). IsApart a.types b.types) fork left so.apart other has))
+            (so.waits other (has_later fork left other has) rtype typed);
+        rid = λ rtype waits. elim (advances.listed at rtype waits) [
+          | inl old ↦ by rtype waits (so.rid rtype old)
+          | inr has ↦ inr has
+        ];
+        among = λ other has. so.among other (has_later fork left other has);
+        drafts = λ setting begin are forks. drafts setting begin (so.drafts setting begin are forks) (is_fork setting forks);
+      }
+    where
+      not_in : (rtype : RrType) (other : Fork) → has_bit other.types rtype ≡ true → IsApart fork.types other.types → has_bit fork.types rtype ≡ false
+      not_in rtype other typed apart = of (has_bit fork.types rtype) refl where
+        of : (b : Bool) → has_bit fork.types rtype ≡ b → b ≡ false
+        of true is = absurd (true≢false (sym typed ∙ apart rtype is))
+        of false is = refl
+
+      by : (rtype : RrType) → Waits after.drafts.items at rtype
+          → ((one : Fork) × Contains (fork ∷ left) one × (has_bit one.types rtype ≡ true)) ⊎ Contains now.stack.items at
+          → ((one : Fork) × Contains left one × (has_bit one.types rtype ≡ true)) ⊎ Contains after.stack.items at
+      by rtype waits (inr has) = inr (advances.stays at has)
+      by rtype waits (inl (one, has, typed)) = elim (first_or_later fork left one has) [
+        | inl same ↦ absurd (done rtype (ap (λ (f : Fork). has_bit f.types rtype) same ∙ typed) waits)
+        | inr behind ↦ inl (one, behind, typed)
+      ]
+
+pub forks_end : (before now : Work) (at : ℕ) (all left : List Fork) → ForksSoFar before now at all left → left ≡ []
+    → (rtype : RrType) → Waits now.drafts.items at rtype → Contains now.stack.items at
+forks_end before now at all left so none rtype waits = elim (so.rid rtype waits) [
+  | inl fork ↦ absurd (none_in_nil fork.0 (subst (λ (forks : List Fork). Contains forks fork.0) none fork.1))
+  | inr has ↦ has
+]

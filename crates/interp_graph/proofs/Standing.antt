@@ -1,0 +1,46 @@
+-- What comes from where a query begins stands on a walk of it.
+use Rattle.std.proofs.Common.{◌≡◌, ◌≢◌, ℕ, List, [], ◌∷◌, ◌++◌, map, length, Some, None, true, refl, sym, ap, ◌∙◌, subst, inl, inr, ◌==◌}
+use Rattle.std.specs.Prelude.{◌⊎◌, Contains, slice_get, option_and_then}
+use Rattle.std.proofs.lemmas.List.Elements.{Contains-append_right}
+use Rattle.dns_data.specs.Name.{Labels}
+use Rattle.dns_data.specs.declared.rr_type.RrType.{RrType}
+use Rattle.dns_data.proofs.Membership.{has_first}
+use Rattle.net_model.specs.Step.{Setting, arrived, start, next}
+use Rattle.net_model.specs.Walk.{walk_from, walk_along}
+use Rattle.net_model.specs.declared.walk.State.{State}
+use Rattle.net_model.specs.declared.walk.Walk.{Walk}
+use Rattle.net_model.proofs.EndsSomewhere.{ends_somewhere}
+use Rattle.net_model.proofs.Leads.{GoesOn, EndsBy, branch_taken, leads_walk}
+use Rattle.graph_form.specs.GraphOf.{StandsOn}
+use Rattle.interp_graph.specs.Drafts.{Comes}
+
+-- a walk from a state has it as its first
+begins_with : (setting : Setting) (rtype : RrType) (numbers : List ℕ) (state : State) (walk : Walk)
+    → walk_from setting rtype numbers state ≡ Some walk → Contains walk.states state
+begins_with setting rtype [] state walk e = cc
+begins_with setting rtype (number ∷ numbers) state walk e =
+    elim (branch_taken state (length numbers == 0) (walk_from setting rtype numbers) (slice_get (next setting rtype state) number) walk e) [
+      | inl goes ↦ subst (λ (w : Walk). Contains w.states state) goes.made (has_first state goes.later.states)
+      | inr ends ↦ subst (λ (w : Walk). Contains w.states state) ends.made (has_first state [])
+    ]
+
+-- where a query begins somewhere, there are top servers
+has_tops : (setting : Setting) (query : Labels) (number : ℕ) (first : State) → slice_get (start setting.config query) number ≡ Some first
+    → setting.config.tops ≢ []
+has_tops setting query number first is none =
+    by (sym (ap (λ (tops : List Labels). slice_get (map (arrived setting.config query true 0 None) tops) number) none) ∙ is)
+  where
+    by : None ≡ Some first → ⊥
+    by e = cc
+
+pub comes_stand : (setting : Setting) (query : Labels) (rtype : RrType) (state : State) → Comes setting (start setting.config query) rtype state
+    → StandsOn setting query (state, rtype)
+comes_stand setting query rtype state comes =
+    let ends = ends_somewhere setting rtype (has_tops setting query comes.number comes.first comes.is_first) state in
+    let led = leads_walk setting rtype comes.numbers ends.0 comes.hops comes.first state ends.1 comes.leads ends.2 in
+    record {
+      walk = led.walk;
+      is_walk = (comes.number ∷ (comes.numbers ++ ends.0), ap (option_and_then (walk_from setting rtype (comes.numbers ++ ends.0))) comes.is_first ∙ led.is_walk);
+      stands = subst (λ (states : List State). Contains states state) (sym led.states)
+          (Contains-append_right led.front ends.1.states state (begins_with setting rtype ends.0 state ends.1 ends.2));
+    }

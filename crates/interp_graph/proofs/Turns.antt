@@ -1,0 +1,74 @@
+-- The nodes at which types wait, one after another.
+use Rattle.std.proofs.Common.{◌≡◌, ℕ, ◌+◌, ◌-◌, ◌<◌, ◌≤◌, List, [], ◌∷◌, ◌++◌, length, refl, sym, ap, ◌∙◌, subst, inl, inr, arith, length-append}
+use Rattle.std.specs.Prelude.{◌⊎◌, Contains}
+use Rattle.std.proofs.lemmas.List.Elements.{Contains-append_cases, Contains-append_right}
+use Rattle.dns_data.specs.declared.rr_type.RrType.{RrType}
+use Rattle.dns_data.proofs.Membership.{none_in_nil, has_first, first_or_later}
+use Rattle.net_model.specs.Step.{Setting}
+use Rattle.net_model.specs.declared.walk.State.{State}
+use Rattle.interp_graph.specs.Drafts.{AreDrafts, Grows}
+use Rattle.interp_graph.specs.Work.{IsSound, IsListed, IsRid, Waits, Advances, HasMoreComing}
+use Rattle.interp_graph.specs.declared.draft.Draft.{Draft}
+use Rattle.interp_graph.specs.declared.work.Work.{Work}
+use Rattle.interp_graph.proofs.Drafts.{grows_not, grows_twice}
+
+-- so far, in walks that are read so
+pub record TurnsSoFar (IsSo : Setting → List State → Type 0) (before now : Work) : Type 0 where
+  pub sound : IsSound now
+  pub limit : now.limit ≡ before.limit
+  pub listed : IsListed now
+  pub grows : Grows before.drafts.items now.drafts.items
+  pub drafts : (setting : Setting) (begin : List State) → IsSo setting begin → AreDrafts setting begin before.drafts.items → AreDrafts setting begin now.drafts.items
+
+module _ (IsSo : Setting → List State → Type 0) where
+  pub turns_begin : (before : Work) → IsSound before → IsListed before → TurnsSoFar IsSo before before
+  turns_begin before sound listed =
+      record { sound = sound; limit = refl; listed = listed; grows = grows_not before.drafts.items; drafts = λ setting begin so are. are }
+
+  -- a node is taken
+  module _ (before now taken : Work) (at : ℕ) (so : TurnsSoFar IsSo before now) (stack : now.stack.items ≡ taken.stack.items ++ at ∷ [])
+      (drafts_same : taken.drafts.items ≡ now.drafts.items) (limit_same : taken.limit ≡ now.limit) (pairs_same : taken.pairs ≡ now.pairs) where
+    pub turns_passed : ((setting : Setting) (begin : List State) → IsSo setting begin → AreDrafts setting begin taken.drafts.items → HasMoreComing setting begin taken.limit)
+        → (setting : Setting) (begin : List State) → IsSo setting begin → AreDrafts setting begin before.drafts.items → HasMoreComing setting begin before.limit
+    turns_passed passed setting begin is are =
+        subst (HasMoreComing setting begin) (limit_same ∙ so.limit)
+        (passed setting begin is (subst (AreDrafts setting begin) (sym drafts_same) (so.drafts setting begin is are)))
+
+    module _ (after : Work) (sound : IsSound after) (advances : Advances taken after) (rid : IsRid after at) where
+      pub turns_more : ((setting : Setting) (begin : List State) → IsSo setting begin → AreDrafts setting begin taken.drafts.items → AreDrafts setting begin after.drafts.items)
+          → TurnsSoFar IsSo before after
+      turns_more drafts =
+          record {
+            sound = sound;
+            limit = advances.limit ∙ (limit_same ∙ so.limit);
+            listed = λ k rtype waits. elim (advances.listed k rtype waits) [
+              | inl old ↦ by k rtype waits (Contains-append_cases taken.stack.items (at ∷ []) k
+                  (subst (λ (ks : List ℕ). Contains ks k) stack (so.listed k rtype (subst (λ (ds : List Draft). Waits ds k rtype) drafts_same old))))
+              | inr has ↦ has
+            ];
+            grows = grows_twice before.drafts.items taken.drafts.items after.drafts.items
+                (subst (Grows before.drafts.items) (sym drafts_same) so.grows) advances.grows;
+            drafts = λ setting begin is are. drafts setting begin is (subst (AreDrafts setting begin) (sym drafts_same) (so.drafts setting begin is are));
+          }
+        where
+          by : (k : ℕ) (rtype : RrType) → Waits after.drafts.items k rtype → Contains taken.stack.items k ⊎ Contains (at ∷ []) k → Contains after.stack.items k
+          by k rtype waits (inl front) = advances.stays k front
+          by k rtype waits (inr last) = elim (first_or_later at [] k last) [
+            | inl same ↦ subst (Contains after.stack.items) same (rid rtype (subst (λ (n : ℕ). Waits after.drafts.items n rtype) (sym same) waits))
+            | inr none ↦ absurd (none_in_nil k none)
+          ]
+
+      -- then less is left to do
+      pub less_left : after.limit + length after.stack.items - after.pairs < now.limit + length now.stack.items - now.pairs
+      less_left =
+          of after.limit now.limit after.pairs now.pairs taken.pairs (length after.stack.items) (length taken.stack.items) (length now.stack.items)
+          (advances.limit ∙ limit_same) pairs_same advances.paid
+          (ap (λ (ks : List ℕ). length ks) stack ∙ length-append taken.stack.items (at ∷ [])) sound.within.few so.sound.within.few
+        where
+          of : (a b p q r s t u : ℕ) → a ≡ b → r ≡ q → s + r ≤ t + p → u ≡ t + 1 → p ≤ a → q ≤ b → a + s - p < b + u - q
+          of a b p q r s t u limits pairs paid one few was = omega (arith, limits, pairs, paid, one, few, was)
+
+  -- at the end nothing waits
+  pub none_wait : (before now : Work) → TurnsSoFar IsSo before now → now.stack.items ≡ [] → (at : ℕ) (rtype : RrType) → Waits now.drafts.items at rtype → ⊥
+  none_wait before now so none at rtype waits =
+      none_in_nil at (subst (λ (ks : List ℕ). Contains ks at) none (so.listed at rtype waits))

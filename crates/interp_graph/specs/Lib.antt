@@ -1,0 +1,13 @@
+pub use Rattle.name_rules.specs.SymName
+pub use Rattle.net_model.specs.Nearest
+pub use Rattle.net_model.specs.Step
+pub use Rattle.net_model.specs.Tails
+pub use Rattle.net_model.specs.Tree
+pub use Rattle.graph_form.specs.Graph
+pub use Rattle.graph_form.specs.GraphOf
+pub mod Asked
+pub mod Steps
+pub mod Drafts
+pub mod StateKey
+pub mod Work
+pub mod Restricted

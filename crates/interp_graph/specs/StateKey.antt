@@ -1,0 +1,102 @@
+-- Equality of states. The contracts of inner calls alone cite it.
+use Rattle.std.specs.Prelude.{◌≡◌, ℕ, Bool, true, false, ◌&&◌, ◌==◌, List, ◌++◌, Option, Some, None, IsTrue}
+use Rattle.std.proofs.Common.{refl, sym, ap, subst, true≢false}
+use Rattle.std.specs.Hash as fed
+use mathlib.Core.Bool.{beq}
+use Rattle.std.specs.Bool.{Decides}
+use Rattle.std.specs.Cmp.{IsEquivalence, decided, unsigned_Decides, booleans_Decides}
+use Rattle.std.proofs.lemmas.Bool.{and_parts, and_from}
+use Rattle.dns_data.specs.Name.{Labels, name_eq}
+use Rattle.dns_data.proofs.Names.{name_eq_decides}
+use Rattle.net_model.specs.declared.place.Place.{Place}
+use Rattle.net_model.specs.declared.walk.State.{State}
+
+-- two places are one
+abbrev pub place_eq : Place → Place → Bool
+place_eq a b = name_eq a.server b.server && (name_eq a.zone b.zone && name_eq a.owner b.owner)
+
+-- both are there and are one, or neither is there
+abbrev pub maybe_eq : {X : Type 0} → (X → X → Bool) → Option X → Option X → Bool
+maybe_eq eq None None = true
+maybe_eq eq (Some a) (Some b) = eq a b
+maybe_eq eq a b = false
+
+-- two states are one
+abbrev pub state_eq : State → State → Bool
+state_eq a b =
+    name_eq a.name b.name && (name_eq a.server b.server && (beq a.carried b.carried && ((a.cut == b.cut) && ((a.used == b.used)
+    && (maybe_eq place_eq a.last b.last && maybe_eq name_eq a.zone b.zone)))))
+
+-- ---- which decides
+
+place_decides : (a b : Place) → Decides (place_eq a b) (a ≡ b)
+place_decides a b = (
+  λ e. let one = and_parts (name_eq a.server b.server) (name_eq a.zone b.zone && name_eq a.owner b.owner) e in
+      let two = and_parts (name_eq a.zone b.zone) (name_eq a.owner b.owner) one.1 in
+      same ((name_eq_decides a.server b.server).0 one.0) ((name_eq_decides a.zone b.zone).0 two.0) ((name_eq_decides a.owner b.owner).0 two.1),
+  λ e. subst (λ (c : Place). place_eq a c ≡ true) e
+      (and_from (name_eq a.server a.server) (name_eq a.zone a.zone && name_eq a.owner a.owner) ((name_eq_decides a.server a.server).1 refl)
+      (and_from (name_eq a.zone a.zone) (name_eq a.owner a.owner) ((name_eq_decides a.zone a.zone).1 refl) ((name_eq_decides a.owner a.owner).1 refl))),
+)
+  where
+    same : a.server ≡ b.server → a.zone ≡ b.zone → a.owner ≡ b.owner → a ≡ b
+    same p q r = λ i. record { server = p i; zone = q i; owner = r i }
+
+maybe_decides : {X : Type 0} (eq : X → X → Bool) → ((a b : X) → Decides (eq a b) (a ≡ b)) → (a b : Option X) → Decides (maybe_eq eq a b) (a ≡ b)
+maybe_decides eq decides None None = ((λ e. refl), (λ e. refl))
+maybe_decides eq decides (Some a) (Some b) =
+    ((λ e. ap Some ((decides a b).0 e)), (λ e. (decides a b).1 (let one : a ≡ b = cc in one)))
+maybe_decides eq decides None (Some b) = ((λ e. absurd (true≢false (sym e))), (λ e. cc))
+maybe_decides eq decides (Some a) None = ((λ e. absurd (true≢false (sym e))), (λ e. cc))
+
+-- what is left to compare behind the first fields
+abbrev rest5 : State → State → Bool
+rest5 a b = maybe_eq place_eq a.last b.last && maybe_eq name_eq a.zone b.zone
+
+abbrev rest4 : State → State → Bool
+rest4 a b = (a.used == b.used) && rest5 a b
+
+abbrev rest3 : State → State → Bool
+rest3 a b = (a.cut == b.cut) && rest4 a b
+
+abbrev rest2 : State → State → Bool
+rest2 a b = beq a.carried b.carried && rest3 a b
+
+abbrev rest1 : State → State → Bool
+rest1 a b = name_eq a.server b.server && rest2 a b
+
+pub state_decides : (a b : State) → Decides (state_eq a b) (a ≡ b)
+state_decides a b = (
+  λ e. let one = and_parts (name_eq a.name b.name) (rest1 a b) e in
+      let two = and_parts (name_eq a.server b.server) (rest2 a b) one.1 in
+      let three = and_parts (beq a.carried b.carried) (rest3 a b) two.1 in
+      let four = and_parts (a.cut == b.cut) (rest4 a b) three.1 in
+      let five = and_parts (a.used == b.used) (rest5 a b) four.1 in
+      let six = and_parts (maybe_eq place_eq a.last b.last) (maybe_eq name_eq a.zone b.zone) five.1 in
+      same ((name_eq_decides a.name b.name).0 one.0) ((name_eq_decides a.server b.server).0 two.0)
+      ((booleans_Decides a.carried b.carried).0 three.0) ((unsigned_Decides a.cut b.cut).0 four.0) ((unsigned_Decides a.used b.used).0 five.0)
+      ((maybe_decides place_eq place_decides a.last b.last).0 six.0) ((maybe_decides name_eq name_eq_decides a.zone b.zone).0 six.1),
+  λ e. subst (λ (c : State). state_eq a c ≡ true) e
+      (and_from (name_eq a.name a.name) (rest1 a a) ((name_eq_decides a.name a.name).1 refl)
+      (and_from (name_eq a.server a.server) (rest2 a a) ((name_eq_decides a.server a.server).1 refl)
+      (and_from (beq a.carried a.carried) (rest3 a a) ((booleans_Decides a.carried a.carried).1 refl)
+      (and_from (a.cut == a.cut) (rest4 a a) ((unsigned_Decides a.cut a.cut).1 refl)
+      (and_from (a.used == a.used) (rest5 a a) ((unsigned_Decides a.used a.used).1 refl)
+      (and_from (maybe_eq place_eq a.last a.last) (maybe_eq name_eq a.zone a.zone)
+      ((maybe_decides place_eq place_decides a.last a.last).1 refl) ((maybe_decides name_eq name_eq_decides a.zone a.zone).1 refl))))))),
+)
+  where
+    same : a.name ≡ b.name → a.server ≡ b.server → a.carried ≡ b.carried → a.cut ≡ b.cut → a.used ≡ b.used → a.last ≡ b.last → a.zone ≡ b.zone → a ≡ b
+    same n s c k u l z = λ i. record { server = s i; name = n i; carried = c i; cut = k i; used = u i; last = l i; zone = z i }
+
+pub state_equivalence : IsEquivalence state_eq
+state_equivalence = decided state_eq state_decides
+
+-- ---- what is hashed of a state: the labels of its server and its name, and the rewrites used
+
+abbrev pub state_writes : State → List (List ℕ)
+state_writes state = state.server ++ (state.name ++ fed.u32 state.used)
+
+-- one state makes the same writes
+pub equal_writes : (a b : State) → IsTrue (state_eq a b) → state_writes a ≡ state_writes b
+equal_writes a b e = ap state_writes ((state_decides a b).0 e)

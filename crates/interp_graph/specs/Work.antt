@@ -1,0 +1,169 @@
+-- How the list of what is to be followed changes. The contracts of inner calls alone cite it.
+use Rattle.std.specs.Prelude.{◌≡◌, ◌≢◌, ◌⊎◌, ℕ, ◌+◌, ◌^◌, ◌<◌, ◌≤◌, Bool, true, false, not, ◌&&◌, ◌||◌, List, [], ◌∷◌, ◌++◌, length, Some, slice_get, set, Contains, AllPairs}
+use Rattle.std.specs.List.{AllZip}
+use Rattle.dns_data.specs.TypeSet.{has_bit}
+use Rattle.dns_data.specs.declared.rr_type.RrType.{RrType}
+use Rattle.net_model.specs.Step as step
+use Rattle.net_model.specs.Step.{Setting}
+use Rattle.net_model.specs.Tree.{HasMoreThan}
+use Rattle.net_model.specs.declared.walk.Hop.{Hop}
+use Rattle.net_model.specs.declared.walk.State.{State}
+use Rattle.graph_form.specs.declared.node.Arm.{Arm}
+use Rattle.interp_graph.specs.Drafts.{Awaits, Comes, Grows, states_of, size_of, pair_count}
+use Rattle.interp_graph.specs.declared.draft.Draft.{Draft}
+use Rattle.interp_graph.specs.declared.step.Fork.{Fork}
+use Rattle.interp_graph.specs.declared.work.Work.{Work}
+use Rattle.interp_graph.specs.Steps.{IsFork, AreSplit}
+
+-- no type comes to the draft yet
+pub record IsFresh (draft : Draft) : Type 0 where
+  pub no_arms : draft.arms ≡ []
+  pub none_wanted : (rtype : RrType) → has_bit draft.wanted rtype ≡ false
+  pub none_waiting : (rtype : RrType) → has_bit draft.waiting rtype ≡ false
+
+-- types come to a draft; of them the new ones wait
+pub record TakesTypes (before after : Draft) (newly : List Bool) : Type 0 where
+  pub same_state : after.state ≡ before.state
+  pub same_arms : after.arms ≡ before.arms
+  pub wanted : (rtype : RrType) → has_bit after.wanted rtype ≡ (has_bit before.wanted rtype || has_bit newly rtype)
+  pub waiting : (rtype : RrType) → has_bit after.waiting rtype ≡ (has_bit before.waiting rtype || has_bit newly rtype)
+  pub new : (rtype : RrType) → has_bit newly rtype ≡ true → has_bit before.wanted rtype ≡ false
+
+-- a draft gets an arm
+pub record HasArm (before after : Draft) (arm : Arm) : Type 0 where
+  pub same_state : after.state ≡ before.state
+  pub same_wanted : after.wanted ≡ before.wanted
+  pub arms : after.arms ≡ before.arms ++ arm ∷ []
+  pub waiting : (rtype : RrType) → has_bit after.waiting rtype ≡ (has_bit before.waiting rtype && not (has_bit arm.types rtype))
+
+-- ---- the list
+
+-- the pairs are counted, and are no more than are allowed
+pub record IsWithin (work : Work) : Type 0 where
+  pub counted : pair_count work.drafts.items ≡ work.pairs
+  pub few : work.pairs ≤ work.limit
+  pub fits : work.limit < 2 ^ 32
+
+-- the drafts are numbered by their states, there are no more of them than pairs, and what is to be followed is among them
+pub record IsSound (work : Work) : Type 0 where
+  pub keyed : work.keys.keys ≡ states_of work.drafts.items
+  pub once : AllPairs (λ a b. a ≢ b) (states_of work.drafts.items)
+  pub within : IsWithin work
+  pub some_each : length work.drafts.items ≤ work.pairs
+  pub among : (at : ℕ) → Contains work.stack.items at → at < length work.drafts.items
+
+-- a type waits at the draft with this number
+pub record Waits (drafts : List Draft) (at : ℕ) (rtype : RrType) : Type 0 where
+  pub draft : Draft
+  pub is_draft : slice_get drafts at ≡ Some draft
+  pub waits : has_bit draft.waiting rtype ≡ true
+
+-- each draft at which a type waits is to be followed
+abbrev pub IsListed : Work → Type 0
+IsListed work = (at : ℕ) (rtype : RrType) → Waits work.drafts.items at rtype → Contains work.stack.items at
+
+-- what waits still does
+abbrev pub StillWaits : Work → Work → Type 0
+StillWaits before after = (at : ℕ) (rtype : RrType) → Waits before.drafts.items at rtype → Waits after.drafts.items at rtype
+
+-- Drafts only grow, what is to be followed stays so, and so does what newly waits. For each draft that is listed there is
+-- at least one pair more.
+pub record Advances (before after : Work) : Type 0 where
+  pub grows : Grows before.drafts.items after.drafts.items
+  pub limit : after.limit ≡ before.limit
+  pub stays : (at : ℕ) → Contains before.stack.items at → Contains after.stack.items at
+  pub listed : (at : ℕ) (rtype : RrType) → Waits after.drafts.items at rtype
+      → Waits before.drafts.items at rtype ⊎ Contains after.stack.items at
+  pub paid : length after.stack.items + before.pairs ≤ length before.stack.items + after.pairs
+
+-- the state comes from where the query begins, with each of these types
+abbrev pub ComesTo : Setting → List State → List Bool → State → Type 0
+ComesTo setting begin set state = (rtype : RrType) → has_bit set rtype ≡ true → Comes setting begin rtype state
+
+-- so does each state to which one of the steps goes on
+abbrev pub ComeOn : Setting → List State → List Bool → List step.Branch → Type 0
+ComeOn setting begin set steps = (hop : Hop) (to : State) → Contains steps (step.Go hop to) → ComesTo setting begin set to
+
+-- more than so many pairs come from where the query begins
+abbrev pub HasMoreComing : Setting → List State → ℕ → Type 0
+HasMoreComing setting begin limit = HasMoreThan (λ (pair : State × RrType). Comes setting begin pair.1 pair.0) limit
+
+-- a fork is one of the state of the draft with this number
+abbrev pub IsForkAt : Setting → List Draft → ℕ → Fork → Type 0
+IsForkAt setting drafts at fork = (draft : Draft) → slice_get drafts at ≡ Some draft → IsFork setting draft.state fork
+
+abbrev pub AreForksAt : Setting → List Draft → ℕ → List Fork → Type 0
+AreForksAt setting drafts at forks = (fork : Fork) → Contains forks fork → IsForkAt setting drafts at fork
+
+-- forks are apart and have together the types that wait at the draft with this number
+abbrev pub SplitWaiting : List Draft → ℕ → List Fork → Type 0
+SplitWaiting drafts at forks = (draft : Draft) → slice_get drafts at ≡ Some draft → AreSplit draft.waiting forks
+
+-- where a type waits at the draft with this number, it is to be followed
+abbrev pub IsRid : Work → ℕ → Type 0
+IsRid work at = (rtype : RrType) → Waits work.drafts.items at rtype → Contains work.stack.items at
+
+-- all types come to the drafts of the states
+pub record AwaitAll (drafts : List Draft) (starts : List ℕ) (states : List State) : Type 0 where
+  pub all : List Bool
+  pub every : (rtype : RrType) → has_bit all rtype ≡ true
+  pub await : AllZip (Awaits drafts all) starts states
+
+-- ---- single changes
+
+-- the number is that of the state's draft, which is one of the drafts or a new one behind them
+abbrev pub Numbered : List Draft → List Draft → State → ℕ → Type 0
+Numbered before after state at =
+    ((draft : Draft) × (after ≡ before) × (slice_get before at ≡ Some draft) × (draft.state ≡ state))
+    ⊎ ((draft : Draft) × (after ≡ before ++ draft ∷ []) × (at ≡ length before) × IsFresh draft × (draft.state ≡ state))
+
+-- types come to the draft with this number, and there is one pair more for each that is new
+pub record Changes (before after : Work) (at : ℕ) (types : List Bool) : Type 0 where
+  pub old : Draft
+  pub new : Draft
+  pub newly : List Bool
+  pub is_old : slice_get before.drafts.items at ≡ Some old
+  pub takes : TakesTypes old new newly
+  pub all_come : (rtype : RrType) → has_bit types rtype ≡ true → has_bit new.wanted rtype ≡ true
+  pub only : (rtype : RrType) → has_bit newly rtype ≡ true → has_bit types rtype ≡ true
+  pub drafts : after.drafts.items ≡ set before.drafts.items at new
+  pub stack : after.stack.items ≡ before.stack.items ++ at ∷ []
+  pub pairs : after.pairs ≡ before.pairs + size_of newly
+  pub some : 0 < size_of newly
+  pub few : after.pairs ≤ after.limit
+
+-- or all of them came before
+pub record Stays (before after : Work) (at : ℕ) (types : List Bool) : Type 0 where
+  pub draft : Draft
+  pub is_draft : slice_get before.drafts.items at ≡ Some draft
+  pub came : (rtype : RrType) → has_bit types rtype ≡ true → has_bit draft.wanted rtype ≡ true
+  pub drafts : after.drafts.items ≡ before.drafts.items
+  pub stack : after.stack.items ≡ before.stack.items
+  pub pairs : after.pairs ≡ before.pairs
+
+pub record Took (before after : Work) (at : ℕ) (types : List Bool) : Type 0 where
+  pub keys : after.keys ≡ before.keys
+  pub limit : after.limit ≡ before.limit
+  pub change : Stays before after at types ⊎ Changes before after at types
+
+-- with the types there would be more pairs than are allowed
+pub record TooMany (work : Work) (at : ℕ) (types : List Bool) : Type 0 where
+  pub old : Draft
+  pub new : Draft
+  pub newly : List Bool
+  pub is_old : slice_get work.drafts.items at ≡ Some old
+  pub takes : TakesTypes old new newly
+  pub only : (rtype : RrType) → has_bit newly rtype ≡ true → has_bit types rtype ≡ true
+  pub more : work.limit < work.pairs + size_of newly
+
+-- the draft with this number gets an arm
+pub record PutArm (before after : Work) (at : ℕ) (arm : Arm) : Type 0 where
+  pub old : Draft
+  pub new : Draft
+  pub is_old : slice_get before.drafts.items at ≡ Some old
+  pub gets : HasArm old new arm
+  pub drafts : after.drafts.items ≡ set before.drafts.items at new
+  pub keys : after.keys ≡ before.keys
+  pub stack : after.stack.items ≡ before.stack.items
+  pub pairs : after.pairs ≡ before.pairs
+  pub limit : after.limit ≡ before.limit

@@ -1,0 +1,144 @@
+//! The graph of a query.
+
+ghost use Rattle.std.specs.Prelude.{◌≡◌, ◌≤◌, ◌++◌, ◌∷◌, [], ℕ, List, map, length, IfOk, OnOk, IfSome, IsErrOf};
+ghost use Rattle.dns_data.specs.Name.{wire_octets};
+ghost use Rattle.dns_data.specs.declared.rr_type.RrType.{RrType};
+ghost use Rattle.name_rules.specs.SymName.{whole};
+ghost use Rattle.net_model.specs.Nearest.{server_names};
+ghost use Rattle.net_model.specs.Step.{Setting, following};
+ghost use Rattle.net_model.specs.Tree.{IsReached, HasMoreThan};
+ghost use Rattle.net_model.specs.declared.walk.State.{State};
+ghost use Rattle.graph_form.specs.Graph.{pairs_of};
+ghost use Rattle.graph_form.specs.GraphOf.{IsExact, IsGraphOf};
+ghost use Rattle.interp_graph.specs.Asked.{IsAsked, StandsForOthers, ReachesMost};
+ghost use Rattle.interp_graph.specs.Drafts.{AreDrafts, Grows, node_of};
+ghost use Rattle.interp_graph.specs.Work.{IsSound, IsListed, Waits, Advances, HasMoreComing, AwaitAll};
+
+use crate::draft::Draft;
+use crate::fault::GraphFault;
+use crate::following::put_forks;
+use crate::trees::Trees;
+use crate::work::Work;
+use crate::zones::Zones;
+use dns_data::{JoinFault, List, Name, NoMemory, TypeSet};
+use graph_form::{Graph, Node};
+use name_rules::SymName;
+use net_model::State;
+use std::alloc::Global;
+use std::collections::VecDeque;
+
+/// The graph of the walks of a name with its tail, while every configured server is followed: for all types at once, with
+/// one node for each state. It is `StatesPassed` where the name reaches more than `limit` pairs of state and type.
+pub fn build(
+    alloc: Global,
+    servers: &Trees<'_>,
+    name: &SymName,
+    rewrites: u32,
+    limit: u32,
+) -> Result<Graph, GraphFault>
+    requires { IsAsked servers.now name.now }
+    ensures graph { IfOk result (IsGraphOf (following servers.now rewrites (server_names servers.now)) (whole name.now)) }
+    ensures exact { IfOk result (IsExact servers.now rewrites (whole name.now)) }
+    ensures pairs { IfOk result (λ graph. length (pairs_of graph) ≤ limit) }
+    ensures few { OnOk result (HasMoreThan (IsReached servers.now rewrites (whole name.now)) limit → ⊥) }
+    ensures passed { IsErrOf result GraphFault.StatesPassed → HasMoreThan (IsReached servers.now rewrites (whole name.now)) limit }
+    ensures stands_for { OnOk result (StandsForOthers servers.now name.now name.now.tail) }
+    ensures reaches_most { OnOk result (ReachesMost servers.now rewrites name.now limit name.now.tail) }
+{
+    let query = whole_name(alloc, name)?;
+    let zones = Zones::new(servers, rewrites);
+    let states = zones.starts(alloc, &query)?;
+    let mut work = Work::new(alloc, limit);
+    let starts = begin(alloc, &mut work, states)?;
+    follow(alloc, &zones, &mut work)?;
+    Ok(graph_of(alloc, work, starts)?)
+}
+
+/// The known name with its tail.
+fn whole_name(alloc: Global, name: &SymName) -> Result<Name, NoMemory>
+    requires { IfSome name.now.tail (λ label. wire_octets (name.now.known ++ label ∷ []) ≤ 255) }
+    ensures { IfOk result (λ made. made ≡ whole name.now) }
+{
+    let mut made = name.known.copy(alloc)?;
+    if let Some(label) = &name.tail {
+        match made.push(alloc, label) {
+            Ok(()) => {}
+            Err(JoinFault::NoMemory) => return Err(NoMemory),
+            Err(JoinFault::TooLong) => unreachable!(),
+        }
+    }
+    Ok(made)
+}
+
+/// The numbers of the nodes of the states in which a query begins. All types come to them.
+pub(crate) fn begin(
+    alloc: Global,
+    work: &mut Work,
+    states: List<State>,
+) -> Result<List<u32>, GraphFault>
+    requires { IsSound work.old }
+    ensures sound { OnOk result (IsSound work.new) }
+    ensures advances { OnOk result (Advances work.old work.new) }
+    ensures starts { IfOk result (λ starts. AwaitAll work.new.drafts.items starts states) }
+    ensures drafts { OnOk result ((setting : Setting) → AreDrafts setting states work.old.drafts.items → AreDrafts setting states work.new.drafts.items) }
+    ensures passed { IsErrOf result GraphFault.StatesPassed → (setting : Setting) → AreDrafts setting states work.old.drafts.items → HasMoreComing setting states work.old.limit }
+{
+    let all = TypeSet::all();
+    let mut left = VecDeque::from_vec(states.into_vec());
+    let mut starts = List::new(alloc);
+    while let Some(state) = left.pop_front() {
+        starts.push(work.reach(alloc, state, all)?)?;
+    }
+    Ok(starts)
+}
+
+/// Follows each type that waits at a node, while every configured server is followed.
+fn follow(alloc: Global, zones: &Zones<'_, '_>, work: &mut Work) -> Result<(), GraphFault>
+    requires sound { IsSound work.old }
+    requires listed { IsListed work.old }
+    ensures sound { OnOk result (IsSound work.new) }
+    ensures limit { OnOk result (work.new.limit ≡ work.old.limit) }
+    ensures grows { OnOk result (Grows work.old.drafts.items work.new.drafts.items) }
+    ensures none { OnOk result ((at : ℕ) (rtype : RrType) → Waits work.new.drafts.items at rtype → ⊥) }
+    ensures drafts { OnOk result ((begin : List State) → AreDrafts zones.now begin work.old.drafts.items → AreDrafts zones.now begin work.new.drafts.items) }
+    ensures passed { IsErrOf result GraphFault.StatesPassed → (begin : List State) → AreDrafts zones.now begin work.old.drafts.items → HasMoreComing zones.now begin work.old.limit }
+{
+    while let Some(at) = work.take() {
+        let draft = &work.drafts[at];
+        let forks = zones.forks(alloc, &draft.state, draft.waiting)?;
+        put_forks(alloc, work, at, forks)?;
+    }
+    Ok(())
+}
+
+/// The graph whose nodes are made.
+pub(crate) fn graph_of(alloc: Global, work: Work, starts: List<u32>) -> Result<Graph, NoMemory>
+    requires sound { IsSound work }
+    requires drafts { (setting : Setting) × (begin : List State) × AreDrafts setting begin work.drafts.items }
+    ensures { IfOk result (λ graph. graph ≡ record { nodes = map node_of work.drafts.items; starts = starts }) }
+{
+    let Work {
+        keys: _,
+        drafts,
+        stack: _,
+        pairs: _,
+        limit: _,
+    } = work;
+    let nodes = nodes_of(alloc, drafts)?;
+    Ok(Graph::new(nodes, starts))
+}
+
+/// The nodes that drafts become.
+fn nodes_of(alloc: Global, drafts: Vec<Draft>) -> Result<List<Node>, NoMemory>
+    ensures { IfOk result (λ nodes. nodes ≡ map node_of drafts.items) }
+{
+    let mut left = VecDeque::from_vec(drafts);
+    let mut nodes = List::new(alloc);
+    while let Some(draft) = left.pop_front() {
+        nodes.push(Node {
+            state: draft.state,
+            arms: draft.arms,
+        })?;
+    }
+    Ok(nodes)
+}

@@ -1,0 +1,120 @@
+//! How the steps of a state are followed.
+
+ghost use Rattle.std.specs.Prelude.{◌≡◌, ◌<◌, ◌∷◌, [], List, true, false, map, vec_len, IfOk, OnOk, IsErrOf};
+ghost use Rattle.std.specs.List.{AllZip};
+ghost use Rattle.dns_data.specs.TypeSet.{has_bit};
+ghost use Rattle.dns_data.specs.declared.rr_type.RrType.{RrType};
+ghost use Rattle.net_model.specs.Step.{Setting};
+ghost use Rattle.net_model.specs.declared.walk.State.{State};
+ghost use Rattle.interp_graph.specs.Drafts.{Tells, AreDrafts};
+ghost use Rattle.interp_graph.specs.Steps.{branch_of};
+ghost use Rattle.interp_graph.specs.Work.{IsSound, Advances, StillWaits, Waits, ComeOn, HasMoreComing, IsForkAt, AreForksAt, SplitWaiting, IsRid};
+
+use crate::fault::GraphFault;
+use crate::step::{Fork, Step};
+use crate::work::Work;
+use dns_data::{List, TypeSet};
+use graph_form::{Arm, Branch};
+use std::alloc::Global;
+use std::collections::VecDeque;
+
+/// Gives a node the arms that its state's forks tell. The types of the forks are those that wait at the node, which don't
+/// wait any more.
+pub(crate) fn put_forks(
+    alloc: Global,
+    work: &mut Work,
+    at: usize,
+    forks: List<Fork>,
+) -> Result<(), GraphFault>
+    requires sound { IsSound work.old }
+    requires there { at < vec_len work.old.drafts }
+    requires split { SplitWaiting work.old.drafts.items at forks }
+    ensures sound { OnOk result (IsSound work.new) }
+    ensures advances { OnOk result (Advances work.old work.new) }
+    ensures rid { OnOk result (IsRid work.new at) }
+    ensures drafts { OnOk result ((setting : Setting) (begin : List State) → AreDrafts setting begin work.old.drafts.items
+        → AreForksAt setting work.old.drafts.items at forks → AreDrafts setting begin work.new.drafts.items) }
+    ensures passed { IsErrOf result GraphFault.StatesPassed → (setting : Setting) (begin : List State)
+        → AreDrafts setting begin work.old.drafts.items → AreForksAt setting work.old.drafts.items at forks
+        → HasMoreComing setting begin work.old.limit }
+{
+    let mut left = VecDeque::from_vec(forks.into_vec());
+    while let Some(fork) = left.pop_front() {
+        put_fork(alloc, work, at, fork)?;
+    }
+    Ok(())
+}
+
+/// Gives a node the arm that one fork of its state tells.
+fn put_fork(alloc: Global, work: &mut Work, at: usize, fork: Fork) -> Result<(), GraphFault>
+    requires sound { IsSound work.old }
+    requires there { at < vec_len work.old.drafts }
+    requires waits { (rtype : RrType) → has_bit fork.types rtype ≡ true → Waits work.old.drafts.items at rtype }
+    ensures sound { OnOk result (IsSound work.new) }
+    ensures advances { OnOk result (Advances work.old work.new) }
+    ensures done { OnOk result ((rtype : RrType) → has_bit fork.types rtype ≡ true → Waits work.new.drafts.items at rtype → ⊥) }
+    ensures others { OnOk result ((rtype : RrType) → has_bit fork.types rtype ≡ false → Waits work.old.drafts.items at rtype → Waits work.new.drafts.items at rtype) }
+    ensures drafts { OnOk result ((setting : Setting) (begin : List State) → AreDrafts setting begin work.old.drafts.items
+        → IsForkAt setting work.old.drafts.items at fork → AreDrafts setting begin work.new.drafts.items) }
+    ensures passed { IsErrOf result GraphFault.StatesPassed → (setting : Setting) (begin : List State)
+        → AreDrafts setting begin work.old.drafts.items → IsForkAt setting work.old.drafts.items at fork
+        → HasMoreComing setting begin work.old.limit }
+{
+    let types = fork.types;
+    if types.first().is_none() {
+        return Ok(());
+    }
+    let branches = branches(alloc, work, types, fork.steps)?;
+    work.put_arm(at, Arm { types, branches })?;
+    Ok(())
+}
+
+/// The branches for some types by the steps of a state. They lead to the nodes of the next states, to which the types come.
+pub(crate) fn branches(
+    alloc: Global,
+    work: &mut Work,
+    types: TypeSet,
+    steps: List<Step>,
+) -> Result<List<Branch>, GraphFault>
+    requires sound { IsSound work.old }
+    requires some { (rtype : RrType) × (has_bit types rtype ≡ true) }
+    ensures sound { OnOk result (IsSound work.new) }
+    ensures advances { OnOk result (Advances work.old work.new) }
+    ensures still { OnOk result (StillWaits work.old work.new) }
+    ensures told { IfOk result (λ branches. AllZip (Tells work.new.drafts.items types) branches (map branch_of steps)) }
+    ensures drafts { OnOk result ((setting : Setting) (begin : List State) → AreDrafts setting begin work.old.drafts.items
+        → ComeOn setting begin types (map branch_of steps) → AreDrafts setting begin work.new.drafts.items) }
+    ensures passed { IsErrOf result GraphFault.StatesPassed → (setting : Setting) (begin : List State)
+        → AreDrafts setting begin work.old.drafts.items → ComeOn setting begin types (map branch_of steps)
+        → HasMoreComing setting begin work.old.limit }
+{
+    let mut left = VecDeque::from_vec(steps.into_vec());
+    let mut branches = List::new(alloc);
+    while let Some(step) = left.pop_front() {
+        branches.push(branch(alloc, work, types, step)?)?;
+    }
+    Ok(branches)
+}
+
+/// The branch for some types by one step of a state.
+fn branch(alloc: Global, work: &mut Work, types: TypeSet, step: Step) -> Result<Branch, GraphFault>
+    requires sound { IsSound work.old }
+    requires some { (rtype : RrType) × (has_bit types rtype ≡ true) }
+    ensures sound { OnOk result (IsSound work.new) }
+    ensures advances { OnOk result (Advances work.old work.new) }
+    ensures still { OnOk result (StillWaits work.old work.new) }
+    ensures told { IfOk result (λ branch. Tells work.new.drafts.items types branch (branch_of step)) }
+    ensures drafts { OnOk result ((setting : Setting) (begin : List State) → AreDrafts setting begin work.old.drafts.items
+        → ComeOn setting begin types (branch_of step ∷ []) → AreDrafts setting begin work.new.drafts.items) }
+    ensures passed { IsErrOf result GraphFault.StatesPassed → (setting : Setting) (begin : List State)
+        → AreDrafts setting begin work.old.drafts.items → ComeOn setting begin types (branch_of step ∷ [])
+        → HasMoreComing setting begin work.old.limit }
+{
+    match step {
+        Step::Go(hop, state) => {
+            let to = work.reach(alloc, state, types)?;
+            Ok(Branch::Go { hop, to })
+        }
+        Step::End(hop, leaf) => Ok(Branch::End { hop, leaf }),
+    }
+}

@@ -1,0 +1,122 @@
+//! States as keys.
+
+ghost use Rattle.std.specs.Prelude.{◌≡◌, fold};
+ghost use Rattle.interp_graph.specs.StateKey.{state_eq, place_eq, maybe_eq};
+ghost use Rattle.dns_data.specs.Name.{name_eq};
+
+use dns_data::Name;
+use net_model::{Place, State};
+use std::hash::{Hash, Hasher};
+use std::marker::Model;
+
+/// A state by which its node is found.
+#[derive(Debug, Drop)]
+pub(crate) struct Key {
+    state: State,
+}
+
+impl Model for Key {
+    ghost use Rattle.net_model.specs.declared.walk.State.{State};
+
+    ghost Value = { State };
+
+    ghost view = { λ key. key.state };
+
+    ghost inverse = { λ state. record { state = state } };
+}
+
+impl Key {
+    /// The key of a state.
+    pub fn new(state: State) -> Key
+        ensures { result ≡ state }
+    {
+        Key { state }
+    }
+
+    /// The state.
+    pub fn state(&self) -> &State
+        ensures { result.now ≡ self.now }
+    {
+        &self.state
+    }
+}
+
+impl PartialEq for Key {
+    ghost use Rattle.std.specs.Cmp.{partial_equiv_from_equiv};
+    ghost use Rattle.interp_graph.specs.StateKey.{state_equivalence};
+
+    ghost eq = { state_eq };
+
+    ghost laws = { partial_equiv_from_equiv state_equivalence };
+
+    fn eq(&self, other: &Key) -> bool {
+        same_states(&self.state, &other.state)
+    }
+}
+
+impl Eq for Key {
+    ghost use Rattle.interp_graph.specs.StateKey.{state_equivalence};
+
+    ghost laws = { state_equivalence };
+}
+
+impl Hash for Key {
+    ghost use Rattle.std.specs.Prelude.{◌++◌};
+    ghost use Rattle.std.specs.Hash as fed;
+    ghost use Rattle.interp_graph.specs.StateKey.{state_writes, equal_writes};
+
+    ghost hash_input = { state_writes };
+
+    ghost respects_eq = { equal_writes };
+
+    fn hash<H: Hasher>(&self, state: &mut H) {
+        write_labels(&self.state.server, state);
+        write_labels(&self.state.name, state);
+        state.write_u32(self.state.used);
+    }
+}
+
+/// Writes a name's labels.
+fn write_labels<H: Hasher>(name: &Name, state: &mut H)
+    ensures { state.new ≡ fold H.write state.old name.now }
+{
+    let mut labels = name.labels();
+    while let Some(label) = labels.next() {
+        state.write(label);
+    }
+}
+
+/// Whether two states are one.
+fn same_states(a: &State, b: &State) -> bool
+    ensures { result ≡ state_eq a.now b.now }
+{
+    a.name == b.name
+        && a.server == b.server
+        && a.carried == b.carried
+        && a.cut == b.cut
+        && a.used == b.used
+        && same_last(&a.last, &b.last)
+        && same_origins(&a.zone, &b.zone)
+}
+
+/// Whether two places are one, or neither is there.
+fn same_last(a: &Option<Place>, b: &Option<Place>) -> bool
+    ensures { result ≡ maybe_eq place_eq a.now b.now }
+{
+    match (a, b) {
+        (None, None) => true,
+        (Some(a), Some(b)) => a.server == b.server && a.zone == b.zone && a.owner == b.owner,
+        _ => false,
+    }
+}
+
+/// Whether two origins are one, or neither is there.
+fn same_origins(a: &Option<Name>, b: &Option<Name>) -> bool
+    ensures { result ≡ maybe_eq name_eq a.now b.now }
+{
+    match (a, b) {
+        (None, None) => true,
+        (Some(a), Some(b)) => *a == *b,
+        _ => false,
+    }
+}

@@ -1,0 +1,30 @@
+//! The graph of the walks of one query for all types at once, and the part of it that is left where some name servers
+//! may not be followed.
+//!
+//! The layer above may rest on this: a graph that `build` makes is one of the query's walks while every configured server
+//! is followed, with one node for each state and exactly the pairs of state and type that the query reaches; `restrict`
+//! gives the graph of the walks that follow fewer servers. Where there are more pairs than are allowed, `build` says so.
+//!
+//! Costs: a state is looked up once for all types that come to it together, and its names are made once; a state that is
+//! met again takes only the types that it hasn't had. States are numbered by their hashes. No zone is copied, and no list
+//! of walks is made.
+#![tactic(auto)]
+
+mod building;
+mod draft;
+mod fault;
+mod following;
+mod forks;
+mod key;
+mod limited;
+mod restriction;
+mod rewrites;
+mod step;
+mod trees;
+mod work;
+mod zones;
+
+pub use building::build;
+pub use fault::GraphFault;
+pub use restriction::restrict;
+pub use trees::Trees;
