@@ -1,4 +1,5 @@
 pub mod Sets
+pub mod Places
 pub mod Rivals
 pub mod SeenRecords
 pub mod Before

@@ -1,7 +1,6 @@
 -- Buckets with one item more, and what they tell of two items.
-use Rattle.std.proofs.Common.{◌≡◌, ℕ, ◌+◌, ◌<◌, ◌%◌, Bool, true, false, cond, ◌||◌, List, [], ◌∷◌, ◌++◌, length, map, take, get_or, set, All, refl, sym, ap, ◌∙◌, subst, arith, ◌==◌}
+use Rattle.std.proofs.Common.{◌≡◌, ℕ, ◌+◌, ◌<◌, ◌*◌, ◌/◌, ◌^◌, Bool, true, false, cond, ◌||◌, List, [], ◌∷◌, ◌++◌, length, map, take, get_or, set, All, refl, sym, ap, ◌∙◌, subst, arith, ◌==◌}
 use Rattle.std.proofs.lemmas.Bool.{eqb-true, eqb-false}
-use Rattle.std.proofs.lemmas.Nat.{mod_below}
 use Rattle.std.proofs.lemmas.List.{take_more, map-append, get_or-set_other, get_or-take, get_or_default, get_or-map, length-set, length-take, length-map}
 use Rattle.std.proofs.lemmas.Grind.{get_or-set_at}
 use Rattle.std.proofs.lemmas.List.Elements.{All-push, All-weaker}
@@ -74,10 +73,7 @@ module _ (old new : List Bucket) (number : ℕ) (is_alone : Bool) (rise : (query
   }
 
 -- a row of buckets of which one got an item more
-module _ (old : List Bucket) (number i : ℕ) (filled : Bucket) (is_alone : Bool) (some : 0 < length old) (at : i ≡ place_of old number) (is : filled ≡ bucket_with (bucket_of old number) is_alone) where
-  below : i < length old
-  below = subst (λ n. n < length old) (sym at) (mod_below number (length old) some)
-
+module _ (old : List Bucket) (number i : ℕ) (filled : Bucket) (is_alone : Bool) (below : i < length old) (at : i ≡ place_of old number) (is : filled ≡ bucket_with (bucket_of old number) is_alone) where
   -- the buckets of other places are as they were
   read : (query : ℕ) (b : Bool) → (place_of old query == place_of old number) ≡ b → get_or (set old i filled) (place_of old query) Empty ≡ cond b (bucket_with (bucket_of old query) is_alone) (bucket_of old query)
   read query true e =
@@ -91,23 +87,23 @@ module _ (old : List Bucket) (number i : ℕ) (filled : Bucket) (is_alone : Bool
   -- the bucket for a number
   rise : (query : ℕ) → bucket_of (set old i filled) query ≡ cond (place_of old query == place_of old number) (bucket_with (bucket_of old query) is_alone) (bucket_of old query)
   rise query =
-      ap (λ n. get_or (set old i filled) (query % n) Empty) (length-set old i filled)
+      ap (λ n. get_or (set old i filled) (query / 2 ^ 32 * n / 2 ^ 32) Empty) (length-set old i filled)
       ∙ read query (place_of old query == place_of old number) refl
 
   -- the bucket that got it
   here : bucket_of (set old i filled) number ≡ bucket_with (bucket_of old number) is_alone
   here =
-      ap (λ n. get_or (set old i filled) (number % n) Empty) (length-set old i filled)
+      ap (λ n. get_or (set old i filled) (number / 2 ^ 32 * n / 2 ^ 32) Empty) (length-set old i filled)
       ∙ (get_or-set_at old i (place_of old number) filled Empty (sym at) below ∙ is)
 
   pub set-marked : (keys : List (ℕ × Bool)) → Marked old keys → Marked (set old i filled) (keys ++ (number, is_alone) ∷ [])
   set-marked = put-marked old (set old i filled) number is_alone rise here
 
 -- a bucket that was read is the one for the number
-pub bucket-read : (buckets : List Bucket) (number i : ℕ) (bucket : Bucket) → 0 < length buckets → i ≡ place_of buckets number → bucket ≡ get_or buckets i bucket → bucket ≡ bucket_of buckets number
-bucket-read buckets number i bucket some at is =
+pub bucket-read : (buckets : List Bucket) (number i : ℕ) (bucket : Bucket) → i < length buckets → i ≡ place_of buckets number → bucket ≡ get_or buckets i bucket → bucket ≡ bucket_of buckets number
+bucket-read buckets number i bucket below at is =
     is
-    ∙ (get_or_default buckets i bucket Empty (subst (λ n. n < length buckets) (sym at) (mod_below number (length buckets) some))
+    ∙ (get_or_default buckets i bucket Empty below
     ∙ ap (λ n. get_or buckets n Empty) at)
 
 -- ---- the keys of items in order

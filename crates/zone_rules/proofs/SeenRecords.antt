@@ -1,5 +1,6 @@
 -- Records as they are compared, and a set of those that were seen.
 use Rattle.std.proofs.Common.{◌≡◌, Bool, true, false, ◌&&◌, ◌||◌, List, [], ◌∷◌, All, refl, ap, sym, ◌∙◌}
+use Rattle.std.proofs.Math.Bool.{and_comm}
 use Rattle.std.proofs.lemmas.List.Elements.{All-head, All-tail}
 use Rattle.std.specs.BTreeSet as tree
 use Rattle.std.specs.Hash.FoldHasher.{initial, finish}
@@ -8,6 +9,7 @@ use Rattle.dns_data.specs.Identical.{is_identical}
 use Rattle.dns_data.specs.Name.{name_eq}
 use Rattle.dns_data.specs.Rdata.{data_eq}
 use Rattle.dns_data.specs.declared.rdata.Rr.{Rr}
+use Rattle.dns_data.specs.contracts.rdata.RdataPartialEq.TheImpl as data_impl
 use Rattle.dns_data.proofs.Tellers.{same_data}
 use Rattle.dns_data.proofs.IdenticalRecords.{identical_by_parts}
 use Rattle.zone_rules.specs.Buckets.{has_rival}
@@ -30,7 +32,8 @@ sees query rr = name_eq query.owner.now rr.owner && data_eq query.rdata.now rr.r
 -- what is compared are owner and data
 pub same_identity : (query item : Identity) (rr : Rr) → item.owner.now ≡ rr.owner → item.rdata.now ≡ rr.rdata → (identity_impl.ghosts).eq query item ≡ sees query rr
 same_identity query item rr owner rdata =
-    ap (λ b. name_eq query.owner.now item.owner.now && b) (same_data query.rdata.now item.rdata.now)
+    and_comm ((data_impl.ghosts).eq query.rdata.now item.rdata.now) (name_eq query.owner.now item.owner.now)
+    ∙ ap (λ b. name_eq query.owner.now item.owner.now && b) (same_data query.rdata.now item.rdata.now)
     ∙ (λ j. name_eq query.owner.now (owner j) && data_eq query.rdata.now (rdata j))
 
 -- the records that may have a rival were seen

@@ -1,5 +1,5 @@
 -- Buckets, into which items fall by their numbers: for the contracts of the code's searches alone.
-use Rattle.std.specs.Prelude.{◌≡◌, Bool, true, false, ◌||◌, ℕ, ◌%◌, List, length, slice_index_or}
+use Rattle.std.specs.Prelude.{◌≡◌, Bool, true, false, ◌||◌, ℕ, ◌*◌, ◌/◌, ◌^◌, List, length, slice_index_or}
 use Rattle.std.specs.List.{All, AllPairs}
 use Rattle.zone_rules.specs.declared.buckets.Bucket.{Bucket}
 use Rattle.zone_rules.specs.declared.buckets.Bucket.TheVariants.{Empty, Shared, Taken, Contested}
@@ -34,9 +34,9 @@ is_contested Shared = false
 is_contested Taken = false
 is_contested Contested = true
 
--- where the bucket for this number stands
+-- where the bucket for this number of 64 bits stands: the rows of numbers for each bucket are equally long
 abbrev pub place_of : List Bucket → ℕ → ℕ
-place_of buckets number = number % length buckets
+place_of buckets number = number / 2 ^ 32 * length buckets / 2 ^ 32
 
 -- the bucket for this number
 abbrev pub bucket_of : List Bucket → ℕ → Bucket

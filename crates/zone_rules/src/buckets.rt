@@ -1,6 +1,6 @@
 //! Buckets, into which items fall by numbers that equal items share, so that few items have to be compared.
 
-ghost use Rattle.std.specs.Prelude.{◌≡◌, ◌∷◌, ◌++◌, [], ℕ, Bool, List, IfOk};
+ghost use Rattle.std.specs.Prelude.{◌≡◌, ◌<◌, ◌∷◌, ◌++◌, [], ℕ, Bool, List, length, IfOk};
 ghost use Rattle.zone_rules.specs.Buckets.{bucket_with, has_rival, place_of, Marked};
 
 use dns_data::NoMemory;
@@ -9,6 +9,9 @@ use std::marker::Model;
 
 /// How many buckets there are for an item.
 const BUCKETS_FOR_ONE: usize = 8;
+
+/// The most buckets that there are.
+const MOST_BUCKETS: usize = 0xFFFF_FFFF;
 
 /// What fell into a bucket.
 #[derive(Clone, Copy, Debug, PartialEq, Eq)]
@@ -23,21 +26,21 @@ pub(crate) enum Bucket {
     Contested,
 }
 
-/// Buckets, of which there is at least one.
+/// Buckets, of which there is at least one, and fewer than 2^32.
 #[derive(Drop)]
 pub(crate) struct Buckets {
     buckets: Vec<Bucket>,
 }
 
 impl Model for Buckets {
-    ghost use Rattle.std.specs.Prelude.{List, ◌<◌, length};
+    ghost use Rattle.std.specs.Prelude.{List, ◌<◌, ◌^◌, length};
     ghost use Rattle.zone_rules.specs.declared.buckets.Bucket.{Bucket};
 
     ghost Value = { List Bucket };
 
     ghost view = { λ a. a.buckets.items };
 
-    ghost invariant = { λ a. 0 < length a.buckets.items };
+    ghost invariant = { λ a. (0 < length a.buckets.items) × (length a.buckets.items < 2 ^ 32) };
 }
 
 impl Bucket {
@@ -58,7 +61,7 @@ impl Buckets {
     pub fn new(alloc: Global, items: usize) -> Result<Buckets, NoMemory>
         ensures { IfOk result (λ buckets. Marked buckets []) }
     {
-        let count = items.saturating_mul(BUCKETS_FOR_ONE).max(1);
+        let count = items.saturating_mul(BUCKETS_FOR_ONE).clamp(1, MOST_BUCKETS);
         Ok(Buckets {
             buckets: vec![in alloc; Bucket::Empty; count]?,
         })
@@ -80,9 +83,13 @@ impl Buckets {
     }
 
     /// The place of the bucket for this number.
+    #[tactic(auto, using(crate::proofs::Places::place_within, crate::proofs::Places::scaled_fits))]
     fn place(&self, number: u64) -> usize
-        ensures { result ≡ place_of self.now number }
+        ensures place { result ≡ place_of self.now number }
+        ensures within { result < length self.now }
     {
-        number as usize % self.buckets.len()
+        let high = number >> 32;
+        let scaled = high * self.buckets.len() as u64;
+        (scaled >> 32) as usize
     }
 }

@@ -15,11 +15,11 @@ use dns_data::{List, Name, NoMemory, Rdata, Rr};
 use std::alloc::Global;
 use std::collections::{BTreeSet, VecDeque};
 
-/// What tells a record from others: its owner and its data.
+/// What tells a record from others: its data, which are compared first, and its owner.
 #[derive(PartialEq, Eq, PartialOrd, Ord, Drop)]
 struct Identity<'a> {
-    owner: &'a Name,
     rdata: &'a Rdata,
+    owner: &'a Name,
 }
 
 /// Of identical records the first, in their order: owner, type and data are compared, and not the TTL, the file or the
@@ -43,8 +43,8 @@ fn are_first(alloc: Global, rrs: &[Rr]) -> Result<Vec<bool>, NoMemory>
     let mut firsts = Vec::with_capacity(alloc, rrs.len())?;
     for rr in rrs {
         let identity = Identity {
-            owner: &rr.owner,
             rdata: &rr.rdata,
+            owner: &rr.owner,
         };
         let has_rival = buckets.has_rival(record_number(rr));
         let is_first = is_first(&mut seen, identity, has_rival)?;
