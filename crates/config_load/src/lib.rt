@@ -17,6 +17,7 @@ mod code;
 mod fault;
 mod file;
 mod joined;
+mod laws;
 mod left;
 mod loading;
 mod refusal;
@@ -26,4 +27,5 @@ mod zone;
 mod zone_files;
 
 pub use fault::LoadFault;
+pub use laws::files_want_nothing;
 pub use loading::load;
