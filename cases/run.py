@@ -61,8 +61,8 @@ def octets(value):
 
 
 def made(text, name):
-    """The value of a Python expression over the head of a zone and the metadata that most cases have."""
-    value = eval(text, {"HEAD": HEAD, "METADATA": METADATA})
+    """The value of a Python expression over the head of a zone, the metadata that most cases have, and files beside."""
+    value = eval(text, {"HEAD": HEAD, "METADATA": METADATA, "beside": lambda file: contents("cases", file)})
     return [octets(word) for word in value] if name == "args" else octets(value)
 
 

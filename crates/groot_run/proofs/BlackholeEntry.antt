@@ -20,19 +20,20 @@ use Rattle.net_model.specs.declared.fault.Fault.TheVariants.{Blackhole}
 use Rattle.net_model.specs.declared.place.Place.{Place}
 use Rattle.net_model.specs.declared.walk.Walk.{Walk}
 use Rattle.net_model.specs.Class.{class_cmp}
-use Rattle.net_model.specs.Nearest.{server_names}
 use Rattle.net_model.specs.Prefix.{prefixes}
 use Rattle.net_model.specs.Reading.{IsNamed, records, origins_and_owners, ground_of}
 use Rattle.net_model.specs.Shown.{ShowsIn, with_sets}
 use Rattle.net_model.specs.Walk.{walk_along}
 use Rattle.groot_run.specs.Blackholes.{Alias, IsBlackhole, alias_place, blackhole_walk, blackhole_entry}
 use Rattle.graph_form.specs.Report.{repeats, PathsShow, paths_cmp}
+use Rattle.net_model.specs.Learnt.{IsInForce}
 use Rattle.groot_run.specs.Report.{ClassShows, IsEntry}
 use Rattle.groot_run.proofs.FirstAliases.{target_differs}
 use Rattle.groot_run.proofs.FirstBlackholes.{owns_blackhole, shown_is_alias, only_blackhole, blackhole_walk_shows, owner_shows}
 use Rattle.groot_run.proofs.FirstNearest.{config_for}
 use Rattle.groot_run.proofs.FirstRecords.{IsFirstZone}
 use Rattle.groot_run.proofs.FirstWalks.{setting_for}
+use Rattle.groot_run.proofs.InForce.{some_in_force}
 use Rattle.groot_run.proofs.OnlyWalk.{IsOnlyWalk, shown_by_one}
 use Rattle.net_model.proofs.Naming.{among_named}
 use Rattle.dns_data.proofs.Membership.{has_later, map_has, flat_map_has}
@@ -58,6 +59,10 @@ module _ (server : Labels) (zone : Zone) (first : IsFirstZone zone) (named : All
   -- the configuration of a server that holds the zone
   abbrev config : Config
   config = config_for server zone
+
+  -- a set in force
+  in_force : (followed : List Labels) × IsInForce config rewrites followed
+  in_force = some_in_force config rewrites
 
   -- an alias's owner is named
   owner_named : (alias : Alias) → IsBlackhole zone alias → IsNamed (ground_of config) alias.owner
@@ -105,23 +110,23 @@ module _ (server : Labels) (zone : Zone) (first : IsFirstZone zone) (named : All
 
   -- by its one walk
   only_walk : (alias : Alias) → IsBlackhole zone alias
-      → IsOnlyWalk (setting_for server zone rewrites (server_names config)) alias.owner types.A (0 ∷ 0 ∷ 0 ∷ []) (blackhole_walk server zone.origin alias)
-  only_walk alias is = only_blackhole server zone first rewrites some (server_names config) alias types.A refl is
+      → IsOnlyWalk (setting_for server zone rewrites in_force.0) alias.owner types.A (0 ∷ 0 ∷ 0 ∷ []) (blackhole_walk server zone.origin alias)
+  only_walk alias is = only_blackhole server zone first rewrites some in_force.0 alias types.A refl is
 
   -- so no walk stands before it
   no_walk_before : (alias : Alias) → IsBlackhole zone alias → (others : List (List ℕ)) (walks : List Walk)
-      → PathsShow (setting_for server zone rewrites (server_names config)) alias.owner types.A (Blackhole (alias_place server zone.origin alias)) others walks
+      → PathsShow (setting_for server zone rewrites in_force.0) alias.owner types.A (Blackhole (alias_place server zone.origin alias)) others walks
       → paths_cmp others ((0 ∷ 0 ∷ 0 ∷ []) ∷ []) ≢ Less
   no_walk_before alias is others walks paths =
-      let one = shown_by_one (with_sets (setting_for server zone rewrites (server_names config))) (alias_place server zone.origin alias) walks paths.show in
+      let one = shown_by_one (with_sets (setting_for server zone rewrites in_force.0)) (alias_place server zone.origin alias) walks paths.show in
       by others one.0 (paths.are_walks ∙ ap (map (λ (w : Walk). Some w)) one.1)
     where
       by : (others : List (List ℕ)) (walk : Walk)
-          → map (walk_along (setting_for server zone rewrites (server_names config)) alias.owner types.A) others ≡ Some walk ∷ []
+          → map (walk_along (setting_for server zone rewrites in_force.0) alias.owner types.A) others ≡ Some walk ∷ []
           → paths_cmp others ((0 ∷ 0 ∷ 0 ∷ []) ∷ []) ≢ Less
       by [] walk along before = cc
       by (path ∷ []) walk along before =
-          let is_walk : walk_along (setting_for server zone rewrites (server_names config)) alias.owner types.A path ≡ Some walk = cc in
+          let is_walk : walk_along (setting_for server zone rewrites in_force.0) alias.owner types.A path ≡ Some walk = cc in
           let same : path ≡ 0 ∷ 0 ∷ 0 ∷ [] = (only_walk alias is).only path walk is_walk in
           let tied : Equal ≡ Less = sym (ap (λ (p : List ℕ). paths_cmp (p ∷ []) ((0 ∷ 0 ∷ 0 ∷ []) ∷ [])) same) ∙ before in
           cc
@@ -139,9 +144,9 @@ module _ (server : Labels) (zone : Zone) (first : IsFirstZone zone) (named : All
   entry_right alias is =
       record {
         class = Exact alias.owner;
-        followed = server_names config;
+        followed = in_force.0;
         paths = (0 ∷ 0 ∷ 0 ∷ []) ∷ [];
-        in_force = refl;
+        in_force = in_force.1;
         shown = owner_class_shows alias is;
         first_class = no_class_before alias is;
         first_type = λ rtype _. a_first rtype;

@@ -16,7 +16,8 @@ use Rattle.net_model.specs.declared.walk.Leaf.{Leaf}
 use Rattle.net_model.specs.declared.walk.Leaf.TheVariants.{NxDomain, Outside}
 use Rattle.net_model.specs.declared.walk.State.{State}
 use Rattle.net_model.specs.declared.walk.Walk.{Walk}
-use Rattle.net_model.specs.Nearest.{nearest_of, server_names}
+use Rattle.net_model.specs.Learnt.{IsInForce}
+use Rattle.net_model.specs.Nearest.{nearest_of}
 use Rattle.net_model.specs.Order.{in_order}
 use Rattle.net_model.specs.Shown.{LastRewriteAt, ShowsBlackhole, ShowsIn}
 use Rattle.net_model.specs.Zone.{exists_in, data_at, data_cmp}
@@ -25,6 +26,7 @@ use Rattle.groot_run.proofs.FirstAliases.{OwnsAlias, alias_for, alias_tells, ali
 use Rattle.groot_run.proofs.FirstNearest.{config_for, nearest_inside}
 use Rattle.groot_run.proofs.FirstRecords.{IsFirstZone}
 use Rattle.groot_run.proofs.FirstWalks.{leaf_of, leaf_inside, leaf_at, setting_for, begun, led, plain_walk, alias_walk, only_plain, only_alias}
+use Rattle.groot_run.proofs.InForce.{some_in_force}
 use Rattle.groot_run.proofs.OnlyWalk.{IsOnlyWalk, only_walk_shows}
 
 -- ---- ends
@@ -73,6 +75,10 @@ pub owns_blackhole : (zone : Zone) (alias : Alias) → IsBlackhole zone alias �
 owns_blackhole zone alias is = record { rr = is.rr; among = is.among; owned = is.owned; holds = is.holds }
 
 module _ (server : Labels) (zone : Zone) (first : IsFirstZone zone) (rewrites : ℕ) (some : 0 < rewrites) where
+  -- a set in force
+  in_force : (followed : List Labels) × IsInForce (config_for server zone) rewrites followed
+  in_force = some_in_force (config_for server zone) rewrites
+
   -- a walk that no alias rewrites shows no blackhole
   plain_shows_none : (query : Labels) (rtype : RrType) (place : Place)
       → ShowsBlackhole (plain_walk server zone query rtype) place → ⊥
@@ -149,12 +155,12 @@ module _ (server : Labels) (zone : Zone) (first : IsFirstZone zone) (rewrites : 
       → ShowsIn (config_for server zone) rewrites alias.owner rtype (Blackhole (alias_place server zone.origin alias))
   owner_shows alias rtype other is =
       record {
-        followed = server_names (config_for server zone);
-        in_force = refl;
+        followed = in_force.0;
+        in_force = in_force.1;
         shows = record {
           may = tt;
           walks = blackhole_walk server zone.origin alias ∷ [];
-          are_walks = ((0 ∷ 0 ∷ 0 ∷ [], (only_blackhole (server_names (config_for server zone)) alias rtype other is).is_walk), tt);
+          are_walks = ((0 ∷ 0 ∷ 0 ∷ [], (only_blackhole in_force.0 alias rtype other is).is_walk), tt);
           show = blackhole_walk_shows alias;
         };
       }

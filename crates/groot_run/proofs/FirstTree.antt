@@ -1,6 +1,6 @@
 -- The size of the class tree of a configuration of the first shape.
-use Rattle.std.proofs.Common.{◌≡◌, ℕ, suc, ◌+◌, ◌*◌, ◌^◌, ◌<◌, ◌≤◌, true, false, List, [], ◌∷◌, ◌++◌, map, length, All, Contains, AllPairs, IsSorted, IsPermutation, get_or, is_lt, is_gt, drop, Bor, ◌-◌, sym, refl, ap, ◌∙◌, subst, inl, inr, arith, le_trans, append-nil, length-append}
-use Rattle.std.proofs.lemmas.List.{length-map, get_or-map, drop_more}
+use Rattle.std.proofs.Common.{◌≡◌, ℕ, ◌+◌, ◌*◌, ◌^◌, ◌<◌, ◌≤◌, true, List, [], ◌∷◌, ◌++◌, map, length, All, Contains, AllPairs, IsSorted, IsPermutation, get_or, drop, Bor, ◌-◌, sym, refl, ap, ◌∙◌, subst, inl, inr, arith, le_trans, append-nil, length-append}
+use Rattle.std.proofs.lemmas.List.{length-map, drop_more}
 use Rattle.std.specs.List.{common_prefix_len}
 use Rattle.std.proofs.lemmas.List.Sorted.{IsPermutation-sym, Contains-permutation, length_permutation}
 use Rattle.dns_data.specs.Label.{label_eq}
@@ -19,7 +19,7 @@ use Rattle.zone_tree.proofs.SortedTree.{InOrder, in_order as in_order_below}
 use Rattle.groot_run.proofs.SortedTree.{rising_tree, tree_has, from_tree, length-new_prefixes}
 use Rattle.groot_run.proofs.FirstGround.{no_redirections, ground_has, from_ground}
 use Rattle.groot_run.proofs.FirstRecords.{first_zone, how_made}
-use Rattle.dns_data.proofs.NameOrder.{turned, UpTo, Before, names_total, pairs_from_rising}
+use Rattle.dns_data.proofs.NameOrder.{Before, pairs_from_rising}
 use Rattle.dns_data.proofs.NameFronts.{octets_of_prefix, octets_with_label}
 use Rattle.dns_data.proofs.Names.{root_is_name, prefix_is_name, name_append}
 use Rattle.dns_data.proofs.Membership.{has_first, from_map, map_has, all_from_contains}

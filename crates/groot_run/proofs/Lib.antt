@@ -1,5 +1,6 @@
 pub mod BlackholeEntry
 pub mod BlackholeReport
+pub mod ClassLists
 pub mod FewRecords
 pub mod FirstAliases
 pub mod FirstBlackholes
@@ -9,12 +10,17 @@ pub mod FirstNearest
 pub mod FirstRecords
 pub mod FirstTree
 pub mod FirstWalks
+pub mod InForce
 pub mod NameSearches
+pub mod OneAnswer
+pub mod OneClassList
 pub mod OneEntry
 pub mod OneOutcome
 pub mod OneReport
 pub mod OnlyWalk
 pub mod PlainAliases
+pub mod SameGround
 pub mod SortedNames
 pub mod SortedTree
+pub mod TreeSizes
 pub mod ZoneAliases

@@ -21,6 +21,7 @@ use Rattle.groot_run.specs.Report.{ClassShows, IsEntry}
 use Rattle.net_model.proofs.FaultOrder.{classes_total, one_class, one_type}
 use Rattle.dns_data.proofs.OrderedLists.{exact_lists, neither_before}
 use Rattle.net_model.proofs.TrialOrder.{one_representative}
+use Rattle.groot_run.proofs.InForce.{one_in_force}
 
 paths_total : IsTotalOrder paths_cmp
 paths_total = lists_total nat_list_cmp_total
@@ -29,7 +30,7 @@ exact_paths : CmpEqualImpliesEq paths_cmp
 exact_paths = exact_lists path_cmp exact_bytes
 
 -- lists are one where their items under `Some` are
-same_items : {X : Type 0} (xs ys : List X) → map (λ x. Some x) xs ≡ map (λ y. Some y) ys → xs ≡ ys
+pub same_items : {X : Type 0} (xs ys : List X) → map (λ x. Some x) xs ≡ map (λ y. Some y) ys → xs ≡ ys
 same_items [] [] e = refl
 same_items [] (y ∷ ys) e = cc
 same_items (x ∷ xs) [] e = cc
@@ -92,7 +93,7 @@ module _ (config : Config) (rewrites : ℕ) where
       → a.seen.fault ≡ b.seen.fault → a.query ≡ b.query → a.seen.rtype ≡ b.seen.rtype
       → PathsShow (setting p.followed) a.query a.seen.rtype a.seen.fault q.paths b.walks
   also_show a b p q same query rtype =
-      let followed : p.followed ≡ q.followed = p.in_force ∙ sym q.in_force in
+      let followed : p.followed ≡ q.followed = one_in_force config rewrites p.followed q.followed p.in_force q.in_force in
       rw (followed, query, rtype, same) q.walks
 
   no_walks_before : (a b : ReportEntry) (p : IsEntry config rewrites a) (q : IsEntry config rewrites b)

@@ -5,13 +5,17 @@ pub use Rattle.dns_data.specs.RrType
 pub use Rattle.dns_data.specs.Spelling
 pub use Rattle.net_model.specs.Class
 pub use Rattle.net_model.specs.FaultOrder
+pub use Rattle.net_model.specs.Learnt
 pub use Rattle.net_model.specs.Reading
 pub use Rattle.net_model.specs.Shown
 pub use Rattle.net_model.specs.Step
 pub use Rattle.net_model.specs.Tree
 pub use Rattle.net_model.specs.Walk
 pub use Rattle.graph_form.specs.Report as WalkReport
+pub use Rattle.report_json.specs.Ask
 pub use Rattle.report_json.specs.Report as ReportText
+pub use Rattle.plain_resolver.specs.Passed
+pub use Rattle.query_classes.specs.Children
 pub use Rattle.io_edges.specs.Counts
 pub use Rattle.io_edges.specs.Files
 pub use Rattle.config_load.specs.Conf
@@ -24,9 +28,12 @@ pub mod FirstShape
 pub mod Blackholes
 pub mod Aliases
 pub mod Report
+pub mod ClassList
 pub mod Outcome
+pub mod Task
 pub mod Writing
 pub mod Line
 pub mod NotLoaded
 pub mod SortedTree
 pub mod SortedNames
+pub mod ClassRows

@@ -1,10 +1,8 @@
 -- The report of a configuration: the faults that some query shows, each with its first query and walk.
-use Rattle.std.specs.Prelude.{◌≡◌, ◌≢◌, ℕ, ◌+◌, ◌≤◌, Bool, true, false, ◌&&◌, ◌||◌, List, [], ◌∷◌, length, map, Some, Contains, AllPairs, slice_get}
-use Rattle.std.specs.List.{list_any, AllByRecursion}
-use Rattle.std.specs.Cmp.Lexicographic.{slice_cmp}
-use Rattle.std.specs.declared.cmp.Ordering.{Ordering}
+use Rattle.std.specs.Prelude.{◌≡◌, ◌≢◌, ℕ, ◌+◌, ◌≤◌, Bool, true, false, List, length, map, Some, Contains, AllPairs, slice_get}
+use Rattle.std.specs.List.{AllByRecursion}
 use Rattle.std.specs.declared.cmp.Ordering.TheVariants.{Less}
-use Rattle.dns_data.specs.Name.{Labels, IsName, name_eq}
+use Rattle.dns_data.specs.Name.{Labels, IsName}
 use Rattle.dns_data.specs.RrType.{number_of}
 use Rattle.dns_data.specs.declared.rr_type.RrType.{RrType}
 use Rattle.net_model.specs.declared.class.Class.{Class}
@@ -12,14 +10,13 @@ use Rattle.net_model.specs.declared.class.Class.TheVariants.{Exact, Below}
 use Rattle.net_model.specs.declared.config.Config.{Config}
 use Rattle.net_model.specs.declared.fault.Fault.{Fault}
 use Rattle.net_model.specs.declared.fault.Fault.TheVariants.{Blackhole}
-use Rattle.net_model.specs.declared.walk.State.{State}
 use Rattle.net_model.specs.declared.walk.Walk.{Walk}
 use Rattle.net_model.specs.Class.{class_cmp, IsRepresentative}
 use Rattle.net_model.specs.FaultOrder.{fault_cmp}
 use Rattle.net_model.specs.Learnt.{IsInForce}
 use Rattle.net_model.specs.Reading.{Ground, ground_of, IsNamed}
-use Rattle.net_model.specs.Shown.{ShowsIn, WalksShow, with_sets}
-use Rattle.net_model.specs.Step.{Setting, following}
+use Rattle.net_model.specs.Shown.{ShowsIn}
+use Rattle.net_model.specs.Step.{following}
 use Rattle.net_model.specs.Tree.{IsClassTree, AreBelowClasses}
 use Rattle.graph_form.specs.Report.{repeats, PathsShow, paths_cmp}
 use Rattle.graph_form.specs.declared.report.Report.{Report}

@@ -1,13 +1,14 @@
 //! How a run ends, before anything is written.
 
-ghost use Rattle.std.specs.Prelude.{◌≡◌, ◌⊎◌, decimal, IfOk};
+ghost use Rattle.std.specs.Prelude.{◌≡◌, ◌⊎◌, ◌++◌, codes, decimal, IfOk};
+ghost use Rattle.dns_data.specs.Spelling.{name_text};
 ghost use Rattle.config_load.specs.Refusal.{fields_line};
 ghost use Rattle.groot_run.specs.Outcome as outcome;
 
 use crate::line::Line;
 use crate::status::Status;
 use config_load::LoadFault;
-use dns_data::{NoMemory, Octets, Text};
+use dns_data::{Name, NoMemory, Octets, Text};
 use groot_line::usage_line;
 use itoa::Buffer;
 use std::alloc::Global;
@@ -65,6 +66,23 @@ impl Ending {
         }
     }
 
+    /// The query has more walks than are written.
+    pub(crate) fn too_many_walks() -> Ending
+        ensures { result ≡ outcome.too_many_walks }
+    {
+        without_output(Status::Walks, Line::fixed("walks: more than 1000\n"))
+    }
+
+    /// The server's name has more walks than are followed to learn its address.
+    pub(crate) fn too_many_to_learn(alloc: Global, server: &Name) -> Ending
+        ensures { (result ≡ outcome.too_many_to_learn server.now) ⊎ (result ≡ outcome.no_memory) }
+    {
+        match line_for(alloc, server) {
+            Ok(line) => without_output(Status::Walks, line),
+            Err(NoMemory) => Ending::no_memory(),
+        }
+    }
+
     /// The class tree has more names than this limit.
     pub(crate) fn too_many_names(alloc: Global, limit: u32) -> Ending
         ensures { (result ≡ outcome.too_many_names limit) ⊎ (result ≡ outcome.no_memory) }
@@ -87,6 +105,21 @@ fn without_output(status: Status, err: Line) -> Ending
         out: Octets::new(),
         err,
     }
+}
+
+/// The line that says that a server's name has more walks than are followed to learn its address.
+fn line_for(alloc: Global, server: &Name) -> Result<Line, NoMemory>
+    ensures { IfOk result (λ line. line ≡ codes "walks: more than 10000 for " ++ (name_text server.now ++ codes "\n")) }
+{
+    let name = server.to_text(alloc)?;
+    Line::of_pieces(
+        alloc,
+        &[
+            b"walks: more than 10000 for ",
+            name.as_str().as_bytes(),
+            b"\n",
+        ],
+    )
 }
 
 /// The line of a refusal.

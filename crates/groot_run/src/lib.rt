@@ -4,7 +4,9 @@
 #![tactic(auto)]
 
 mod aliases;
+mod ask;
 mod check;
+mod classes;
 mod ending;
 mod entry;
 mod laws;
@@ -16,6 +18,7 @@ mod report;
 mod run;
 mod shape;
 mod status;
+mod task;
 mod tree;
 
 pub use ending::Ending;

@@ -1,34 +1,30 @@
-//! The check of files.
+//! What is done with the configuration of files.
 
-ghost use Rattle.std.specs.Prelude.{◌≡◌, ◌⊎◌, ◌<◌, ℕ, List};
+ghost use Rattle.std.specs.Prelude.{◌≡◌, ◌⊎◌, ℕ, List};
 ghost use Rattle.io_edges.specs.Counts.{Rose};
 ghost use Rattle.io_edges.specs.Files.{TellsAll};
 ghost use Rattle.config_load.specs.Conf.{conf};
 ghost use Rattle.config_load.specs.Load.{ReadingComesTo};
 ghost use Rattle.groot_run.specs.NotLoaded.{IsNotLoaded};
-ghost use Rattle.groot_run.specs.Outcome.{Checks, OfReading, read_failed, no_memory};
+ghost use Rattle.groot_run.specs.Outcome.{OfReading, read_failed, no_memory};
+ghost use Rattle.groot_run.specs.Task.{Gives, IsPossible};
 
-use crate::check::{Limits, check};
 use crate::ending::Ending;
+use crate::task::{Task, of_config};
 use config_load::{LoadFault, load};
 use io_edges::Files;
 use std::alloc::Global;
 
-/// The check of what the metadata file of this name gives.
-pub(crate) fn check_files<F: Files>(
-    alloc: Global,
-    files: &mut F,
-    meta: &str,
-    limits: Limits,
-) -> Ending
-    requires { 0 < limits.rewrites }
-    ensures cause { OfReading meta.now (Checks meta.now limits.classes limits.rewrites) (conf meta.now (F.told files.new)) result
+/// What a task gives of the configuration of the metadata file of this name.
+pub(crate) fn of_files<F: Files>(alloc: Global, files: &mut F, meta: &str, task: &Task) -> Ending
+    requires { IsPossible task.now }
+    ensures cause { OfReading meta.now (Gives meta.now task.now) (conf meta.now (F.told files.new)) result
         ⊎ ((file : List ℕ) × (result ≡ read_failed file) × ReadingComesTo meta.now (F.told files.new) file
         × Rose (F.faults files.old file) (F.faults files.new file)) ⊎ (result ≡ no_memory) }
     ensures from_the_start { TellsAll (F.told files.old) → F.told files.new ≡ F.told files.old }
 {
     match load(alloc, files, meta) {
-        Ok(config) => check(alloc, meta, &config, limits),
+        Ok(config) => of_config(alloc, meta, &config, task),
         Err(fault) => not_loaded(alloc, meta, fault),
     }
 }

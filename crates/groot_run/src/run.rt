@@ -16,9 +16,10 @@ ghost use Rattle.groot_run.specs.Writing.{IsLeft, TookLine};
 
 use crate::check::Limits;
 use crate::ending::Ending;
-use crate::load::check_files;
+use crate::load::of_files;
 use crate::output::{tell, write_all};
 use crate::status::Status;
+use crate::task::Task;
 use groot_line::{Job, LineFault, read_words};
 use io_edges::{Failed, Files, Gate, Sink};
 use std::alloc::Global;
@@ -111,7 +112,16 @@ pub fn run_words<F: Files>(alloc: Global, words: &[&str], files: &mut F) -> Endi
                 rewrites,
                 ..
             },
-        ) => check_files(alloc, files, meta.as_str(), Limits { classes, rewrites }),
+        ) => {
+            let limits = Limits { classes, rewrites };
+            of_files(alloc, files, meta.as_str(), &Task::Check(limits))
+        }
+        Ok(Job::Classes { meta, classes }) => {
+            of_files(alloc, files, meta.as_str(), &Task::Classes(classes))
+        }
+        Ok(Job::Ask { meta, name, rtype }) => {
+            of_files(alloc, files, meta.as_str(), &Task::Ask { name, rtype })
+        }
         Ok(_) | Err(LineFault::Usage) => Ending::usage(),
         Err(LineFault::NoMemory) => Ending::no_memory(),
     }

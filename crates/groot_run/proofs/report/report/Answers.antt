@@ -1,10 +1,6 @@
 -- The report has the entries of the zone's blackholes.
-use Rattle.std.proofs.Common.{◌≡◌, List, map, subst, sym, ap, ◌∙◌}
-use Rattle.graph_form.specs.declared.report.ReportEntry.{ReportEntry}
+use Rattle.std.proofs.Common.{map}
 use Rattle.groot_run.specs.Aliases.{alias_of}
-use Rattle.groot_run.specs.Blackholes.{blackhole_entries}
-use Rattle.groot_run.specs.Report.{IsReport}
-use Rattle.groot_run.specs.declared.aliases.Alias.{Alias as Borrowed}
 use Rattle.groot_run.proofs.BlackholeReport.{report_of_blackholes}
 use Rattle.groot_run.proofs.PlainAliases.{records_of_shape}
 use Rattle.groot_run.proofs.report.report.Goals as goal

@@ -1,4 +1,4 @@
-use Rattle.std.proofs.Common.{◌≡◌, ◌⊎◌, List, ℕ, refl, ap, subst, inl, inr}
+use Rattle.std.proofs.Common.{List, ℕ, refl, ap, subst, inl, inr}
 use Rattle.std.specs.Io.KnownBytes.{Appends}
 use Rattle.groot_run.specs.declared.ending.Ending.{Ending}
 use Rattle.groot_run.specs.Writing.{output_failed, TookProperFront}

@@ -1,4 +1,4 @@
-use Rattle.std.proofs.Common.{Bor, List, [], map, option_map, unwrap_or, subst, refl, arith}
+use Rattle.std.proofs.Common.{Bor, [], option_map, unwrap_or, subst, refl, arith}
 use Rattle.std.specs.List.{common_prefix_len}
 use Rattle.std.proofs.lemmas.List.Elements.{All-more}
 use Rattle.dns_data.specs.Label.{label_eq}

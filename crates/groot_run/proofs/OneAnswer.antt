@@ -1,0 +1,79 @@
+-- A query has one answer: the servers that may be followed are one list, and so are its walks.
+use Rattle.std.proofs.Common.{◌≡◌, ℕ, ◌<◌, List, [], ◌∷◌, ◌++◌, map, Contains, sym, ap, ◌∙◌, subst, inl, inr, arith}
+use Rattle.std.proofs.lemmas.Cmp.{nat_list_cmp_total}
+use Rattle.std.proofs.lemmas.Bool.{cases_lt}
+use Rattle.dns_data.specs.Name.{Labels}
+use Rattle.dns_data.specs.declared.rr_type.RrType.{RrType}
+use Rattle.net_model.specs.declared.config.Config.{Config}
+use Rattle.net_model.specs.declared.walk.Walk.{Walk}
+use Rattle.net_model.specs.Learnt.{AfterRounds}
+use Rattle.net_model.specs.Nearest.{server_names}
+use Rattle.net_model.specs.Step.{Setting}
+use Rattle.net_model.specs.Walk.{path_cmp, walk_along, AreWalks}
+use Rattle.plain_resolver.specs.Passed.{HasTooMany, NoneInRounds, IsFirstWithTooMany}
+use Rattle.dns_data.proofs.Membership.{has_first, has_later}
+use Rattle.dns_data.proofs.OrderedLists.{same_rising}
+use Rattle.net_model.proofs.LearntSets.{one_after_rounds}
+use Rattle.groot_run.proofs.OneEntry.{same_items}
+
+-- ---- walks
+
+-- the walks of a query are one list
+pub one_walks : (setting : Setting) (query : Labels) (rtype : RrType) (a b : List Walk) → AreWalks setting query rtype a → AreWalks setting query rtype b → a ≡ b
+one_walks setting query rtype a b (paths, are, walks) (others, also, same) =
+    let one : paths ≡ others =
+    same_rising path_cmp nat_list_cmp_total paths others are.ordered also.ordered
+    (λ path has. (also.all path).1 ((are.all path).0 has)) (λ path has. (are.all path).1 ((also.all path).0 has)) in
+    same_items a b (sym walks ∙ ap (map (walk_along setting query rtype)) one ∙ same)
+
+-- ---- the server with too many walks
+
+-- the first item of a kind is one
+first_of_kind : {X : Type 0} (P : X → Type 0) (before behind others rest : List X) (x y : X) → before ++ x ∷ behind ≡ others ++ y ∷ rest
+    → ((z : X) → Contains before z → P z → ⊥) → ((z : X) → Contains others z → P z → ⊥) → P x → P y → x ≡ y
+first_of_kind P [] behind [] rest x y e none also one other = cc
+first_of_kind P [] behind (z ∷ others) rest x y e none also one other =
+    let same : x ≡ z = cc in
+    absurd (also z (has_first z others) (subst P same one))
+first_of_kind P (z ∷ before) behind [] rest x y e none also one other =
+    let same : y ≡ z = cc in
+    absurd (none z (has_first z before) (subst P same other))
+first_of_kind P (z ∷ before) behind (w ∷ others) rest x y e none also one other =
+    let later : before ++ x ∷ behind ≡ others ++ y ∷ rest = cc in
+    first_of_kind P before behind others rest x y later
+    (λ v has. none v (has_later z before v has)) (λ v has. also v (has_later w others v has)) one other
+
+module _ (config : Config) (rewrites most : ℕ) (begin : List Labels) where
+  -- the server is among those of the configuration
+  is_server : (name : Labels) (is : IsFirstWithTooMany config rewrites most begin name) → Contains (server_names config) name
+  is_server name is =
+      subst (λ (names : List Labels). Contains names name) (sym is.first.splits) (middle is.first.earlier) where
+        middle : (earlier : List Labels) → Contains (earlier ++ name ∷ is.first.later) name
+        middle [] = has_first name is.first.later
+        middle (other ∷ earlier) = has_later other (earlier ++ name ∷ is.first.later) name (middle earlier)
+
+  -- where none has too many in so many rounds, none is the first that has in fewer
+  pub none_is_first : (rounds : ℕ) (name : Labels) (is : IsFirstWithTooMany config rewrites most begin name) → is.before < rounds
+      → NoneInRounds config rewrites most begin rounds → ⊥
+  none_is_first rounds name is below none = none is.before is.followed below is.after name (is_server name is) is.first.has
+
+  -- it is one
+  pub one_first : (a b : Labels) → IsFirstWithTooMany config rewrites most begin a → IsFirstWithTooMany config rewrites most begin b → a ≡ b
+  one_first a b p q =
+      elim (cases_lt p.before q.before) [
+        | inl less ↦ absurd (none_is_first q.before a p less q.none_earlier)
+        | inr not_less ↦ elim (cases_lt q.before p.before) [
+          | inl more ↦ absurd (none_is_first p.before b q more p.none_earlier)
+          | inr not_more ↦ (
+              let rounds : q.before ≡ p.before = omega arith in
+              same_round (one_after_rounds config rewrites p.before begin q.followed p.followed
+              (subst (λ (n : ℕ). AfterRounds config rewrites n begin q.followed) rounds q.after) p.after))
+        ]
+      ]
+    where
+      same_round : q.followed ≡ p.followed → a ≡ b
+      same_round e =
+          first_of_kind (HasTooMany config rewrites most p.followed) p.first.earlier p.first.later q.first.earlier q.first.later a b (sym p.first.splits ∙ q.first.splits)
+          p.first.none_has
+          (λ name has too_many. q.first.none_has name has (subst (λ (names : List Labels). HasTooMany config rewrites most names name) (sym e) too_many))
+          p.first.has (subst (λ (names : List Labels). HasTooMany config rewrites most names b) e q.first.has)

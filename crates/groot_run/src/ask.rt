@@ -1,0 +1,59 @@
+//! The walks of a query.
+
+ghost use Rattle.std.specs.Prelude.{◌≡◌, ◌⊎◌};
+ghost use Rattle.groot_run.specs.Outcome.{Asks, IsAnswered, answered, no_memory};
+
+use crate::ending::Ending;
+use crate::line::Line;
+use crate::status::Status;
+use dns_data::{List, Name, NoMemory, RrType};
+use net_model::{Config, Walk};
+use plain_resolver::{LearntFault, ResolveFault, learnt, resolve};
+use report_json::ask_text;
+use std::alloc::Global;
+
+/// How many rewrites a walk may use.
+const REWRITES: u32 = 12;
+
+/// How many walks are written at most.
+const MOST_WALKS: u32 = 1_000;
+
+/// How many walks of a server's name with one type are followed at most to learn its address.
+const MOST_LEARNING_WALKS: u32 = 10_000;
+
+/// All walks of the query, unless there are too many; or the first server whose name has too many to learn its address.
+pub(crate) fn ask(alloc: Global, config: &Config, name: &Name, rtype: RrType) -> Ending
+    ensures { Asks name.now rtype config.now result ⊎ (result ≡ no_memory) }
+{
+    let none = List::new(alloc);
+    match learnt(alloc, config, REWRITES, none.items(), MOST_LEARNING_WALKS) {
+        Ok(followed) => answer(alloc, config, followed.items(), name, rtype),
+        Err(LearntFault::WalksPassed(server)) => Ending::too_many_to_learn(alloc, &server),
+        Err(LearntFault::NoMemory) => Ending::no_memory(),
+    }
+}
+
+/// All walks of the query while these servers are followed, unless there are too many.
+fn answer(alloc: Global, config: &Config, followed: &[Name], name: &Name, rtype: RrType) -> Ending
+    ensures { IsAnswered config.now followed.now name.now rtype result ⊎ (result ≡ no_memory) }
+{
+    match resolve(alloc, config, REWRITES, followed, name, rtype, MOST_WALKS) {
+        Ok(walks) => answered(alloc, name, rtype, walks.items()),
+        Err(ResolveFault::WalksPassed) => Ending::too_many_walks(),
+        Err(ResolveFault::NoMemory) => Ending::no_memory(),
+    }
+}
+
+/// The answer with these walks.
+fn answered(alloc: Global, name: &Name, rtype: RrType, walks: &[Walk]) -> Ending
+    ensures { (result ≡ answered name.now rtype walks.now) ⊎ (result ≡ no_memory) }
+{
+    match ask_text(alloc, name, rtype, walks) {
+        Ok(out) => Ending {
+            status: Status::Clean,
+            out,
+            err: Line::fixed(""),
+        },
+        Err(NoMemory) => Ending::no_memory(),
+    }
+}

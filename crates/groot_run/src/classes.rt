@@ -1,0 +1,102 @@
+//! The list of classes of query names.
+
+ghost use Rattle.std.specs.Prelude.{◌≡◌, ◌⊎◌, ◌++◌, IfOk, OnOk};
+ghost use Rattle.net_model.specs.Reading.{ground_of};
+ghost use Rattle.label_graph.specs.Pairs.{AreSame};
+ghost use Rattle.net_model.specs.declared.class.Class.TheVariants.{Exact, Below};
+ghost use Rattle.groot_run.specs.ClassList.{class_line, class_list_text};
+ghost use Rattle.groot_run.specs.ClassRows.{classes_of_row, rows_text};
+ghost use Rattle.groot_run.specs.Outcome.{ListsClasses, no_memory};
+
+use crate::ending::Ending;
+use crate::line::Line;
+use crate::status::Status;
+use dns_data::{Name, NoMemory, Octets};
+use label_graph::{LabelGraph, base_of};
+use net_model::Config;
+use query_classes::{ClassRow, TreeFault, class_tree};
+use std::alloc::Global;
+
+/// The list of the configuration's classes, unless its class tree has more names than the limit.
+pub(crate) fn list_classes(alloc: Global, config: &Config, limit: u32) -> Ending
+    ensures { ListsClasses limit config.now result ⊎ (result ≡ no_memory) }
+{
+    match listed(alloc, config, limit) {
+        Ok(ending) => ending,
+        Err(NoMemory) => Ending::no_memory(),
+    }
+}
+
+/// The list of the configuration's classes, unless its class tree has too many names.
+fn listed(alloc: Global, config: &Config, limit: u32) -> Result<Ending, NoMemory>
+    ensures { IfOk result (λ ending. ListsClasses limit config.now ending ⊎ (ending ≡ no_memory)) }
+{
+    let graph = graph_of(alloc, config)?;
+    match class_tree(alloc, &graph, limit) {
+        Ok(rows) => Ok(Ending {
+            status: Status::Clean,
+            out: text_of(alloc, rows.items())?,
+            err: Line::fixed(""),
+        }),
+        Err(TreeFault::TooMany) => Ok(Ending::too_many_names(alloc, limit)),
+        Err(TreeFault::NoMemory) => Err(NoMemory),
+    }
+}
+
+/// The graph of the configuration's base names and DNAME records.
+fn graph_of(alloc: Global, config: &Config) -> Result<LabelGraph, NoMemory>
+    ensures { IfOk result (λ graph. AreSame graph (ground_of config.now)) }
+{
+    let base = base_of(alloc, config)?;
+    Ok(LabelGraph::build(alloc, base.names.items(), base.dnames.items())?)
+}
+
+/// A line for each class of the rows.
+fn text_of(alloc: Global, rows: &[ClassRow]) -> Result<Octets, NoMemory>
+    ensures { IfOk result (λ text. text ≡ rows_text rows.now) }
+{
+    let mut text = Octets::new();
+    for row in rows {
+        put_row(alloc, &mut text, row)?;
+    }
+    Ok(text)
+}
+
+/// Puts the lines of a row's classes at the end.
+fn put_row(alloc: Global, text: &mut Octets, row: &ClassRow) -> Result<(), NoMemory>
+    ensures { OnOk result (text.new ≡ text.old ++ class_list_text (classes_of_row row.now)) }
+{
+    put_exact(alloc, text, &row.name)?;
+    match &row.below {
+        Some(representative) => put_below(alloc, text, &row.name, representative),
+        None => Ok(()),
+    }
+}
+
+/// Puts the line of a name that is alone in its class at the end.
+fn put_exact(alloc: Global, text: &mut Octets, name: &Name) -> Result<(), NoMemory>
+    ensures { OnOk result (text.new ≡ text.old ++ class_line (Exact name.now) name.now) }
+{
+    let name = name.to_text(alloc)?;
+    text.extend_from_slice(alloc, b"exact ")?;
+    text.extend_from_slice(alloc, name.as_str().as_bytes())?;
+    text.extend_from_slice(alloc, b"\n")
+}
+
+/// Puts the line of the class below a name, with its representative, at the end.
+fn put_below(
+    alloc: Global,
+    text: &mut Octets,
+    name: &Name,
+    representative: &Name,
+) -> Result<(), NoMemory>
+    ensures { OnOk result (text.new ≡ text.old ++ class_line (Below name.now) representative.now) }
+{
+    let name = name.to_text(alloc)?;
+    let representative = representative.to_text(alloc)?;
+    text.extend_from_slice(alloc, b"below ")?;
+    text.extend_from_slice(alloc, name.as_str().as_bytes())?;
+    text.extend_from_slice(alloc, b" ")?;
+    text.extend_from_slice(alloc, representative.as_str().as_bytes())?;
+    text.extend_from_slice(alloc, b"\n")
+}
