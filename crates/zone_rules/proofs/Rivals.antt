@@ -113,6 +113,11 @@ module _ {A : Type 0} (key : A → ℕ × Bool) (items : List A) (i : ℕ) (item
       sym (map-append key (take i items) (item ∷ []))
       ∙ ap (map key) (sym (take_more items i item below ∙ (λ j. take i items ++ sym is j ∷ [])))
 
+  -- what was said of the next one
+  pub said-next : (test : A → Bool) (said : List Bool) (b : Bool) → said ≡ map test items → b ≡ get_or said i b → b ≡ test item
+  said-next test said b says read =
+      read ∙ (ap (λ all. get_or all i b) says ∙ (get_or-map test items i item b below ∙ ap test (sym is)))
+
   -- an item before the next one, with the same number, of which one has to stand alone
   pub rivals-before : (buckets : List Bucket) → Marked buckets (map key items)
       → All (λ before. (key before).0 ≡ (key item).0 → ((key before).1 || (key item).1) ≡ true → has_rival buckets (key item).0 ≡ true) (take i items)

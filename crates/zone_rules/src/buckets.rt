@@ -1,6 +1,6 @@
 //! Buckets, into which items fall by numbers that equal items share, so that few items have to be compared.
 
-ghost use Rattle.std.specs.Prelude.{◌≡◌, ◌<◌, ◌∷◌, ◌++◌, [], ℕ, Bool, List, length, IfOk};
+ghost use Rattle.std.specs.Prelude.{◌≡◌, ◌<◌, ◌∷◌, ◌++◌, [], ℕ, Bool, List, length, map, IfOk};
 ghost use Rattle.zone_rules.specs.Buckets.{bucket_with, has_rival, place_of, Marked};
 
 use dns_data::NoMemory;
@@ -8,7 +8,7 @@ use std::alloc::Global;
 use std::marker::Model;
 
 /// How many buckets there are for an item.
-const BUCKETS_FOR_ONE: usize = 8;
+const BUCKETS_FOR_ONE: usize = 16;
 
 /// The most buckets that there are.
 const MOST_BUCKETS: usize = 0xFFFF_FFFF;
@@ -57,8 +57,30 @@ impl Bucket {
 }
 
 impl Buckets {
+    /// The buckets of items with these keys: their numbers, and whether each has to stand alone.
+    pub fn of(alloc: Global, keys: &[(u64, bool)]) -> Result<Buckets, NoMemory>
+        ensures { IfOk result (λ buckets. Marked buckets keys.now) }
+    {
+        let mut buckets = Buckets::new(alloc, keys.len())?;
+        for key in keys {
+            buckets.put(key.0, key.1);
+        }
+        Ok(buckets)
+    }
+
+    /// Of each key whether an item with it may have a rival: of the two one has to stand alone.
+    pub fn rivals(&self, alloc: Global, keys: &[(u64, bool)]) -> Result<Vec<bool>, NoMemory>
+        ensures { IfOk result (λ rivals. rivals.items ≡ map (λ key. has_rival self.now key.0) keys.now) }
+    {
+        let mut rivals = Vec::with_capacity(alloc, keys.len())?;
+        for key in keys {
+            rivals.push(self.has_rival(key.0))?;
+        }
+        Ok(rivals)
+    }
+
     /// Empty buckets for so many items.
-    pub fn new(alloc: Global, items: usize) -> Result<Buckets, NoMemory>
+    fn new(alloc: Global, items: usize) -> Result<Buckets, NoMemory>
         ensures { IfOk result (λ buckets. Marked buckets []) }
     {
         let count = items.saturating_mul(BUCKETS_FOR_ONE).clamp(1, MOST_BUCKETS);
@@ -68,7 +90,7 @@ impl Buckets {
     }
 
     /// Puts an item in, by its number. It has to stand alone, or may stand beside others that may.
-    pub fn put(&mut self, number: u64, is_alone: bool)
+    fn put(&mut self, number: u64, is_alone: bool)
         ensures { (keys : List (ℕ × Bool)) → Marked self.old keys → Marked self.new (keys ++ (number, is_alone) ∷ []) }
     {
         let place = self.place(number);
@@ -76,7 +98,7 @@ impl Buckets {
     }
 
     /// Whether an item with this number may have a rival: of the two one has to stand alone.
-    pub fn has_rival(&self, number: u64) -> bool
+    fn has_rival(&self, number: u64) -> bool
         ensures { result ≡ has_rival self.now number }
     {
         self.buckets[self.place(number)] == Bucket::Contested

@@ -5,7 +5,6 @@ ghost use Rattle.std.specs.List.{list_all};
 ghost use Rattle.dns_data.specs.Distinct.{distinct};
 ghost use Rattle.dns_data.specs.First.{are_first, chosen};
 ghost use Rattle.dns_data.specs.Identical.{is_identical};
-ghost use Rattle.zone_rules.specs.Buckets.{Marked};
 ghost use Rattle.zone_rules.specs.Fingerprint.{record_key};
 ghost use Rattle.zone_rules.specs.Seen.{has};
 
@@ -38,30 +37,31 @@ pub(crate) fn first_of_identical(alloc: Global, rrs: List<Rr>) -> Result<List<Rr
 fn are_first(alloc: Global, rrs: &[Rr]) -> Result<Vec<bool>, NoMemory>
     ensures { IfOk result (λ firsts. firsts.items ≡ are_first is_identical rrs.now) }
 {
-    let buckets = record_buckets(alloc, rrs)?;
+    let keys = record_keys(alloc, rrs)?;
+    let buckets = Buckets::of(alloc, keys.as_slice())?;
+    let rivals = buckets.rivals(alloc, keys.as_slice())?;
     let mut seen = BTreeSet::new(alloc);
     let mut firsts = Vec::with_capacity(alloc, rrs.len())?;
-    for rr in rrs {
+    for (i, rr) in rrs.iter().enumerate() {
         let identity = Identity {
             rdata: &rr.rdata,
             owner: &rr.owner,
         };
-        let has_rival = buckets.has_rival(record_number(rr));
-        let is_first = is_first(&mut seen, identity, has_rival)?;
+        let is_first = is_first(&mut seen, identity, rivals[i])?;
         firsts.push(is_first)?;
     }
     Ok(firsts)
 }
 
-/// The records by their numbers. Each has to stand alone.
-fn record_buckets(alloc: Global, rrs: &[Rr]) -> Result<Buckets, NoMemory>
-    ensures { IfOk result (λ buckets. Marked buckets (map record_key rrs.now)) }
+/// The numbers of the records. Each has to stand alone.
+fn record_keys(alloc: Global, rrs: &[Rr]) -> Result<Vec<(u64, bool)>, NoMemory>
+    ensures { IfOk result (λ keys. keys.items ≡ map record_key rrs.now) }
 {
-    let mut buckets = Buckets::new(alloc, rrs.len())?;
+    let mut keys = Vec::with_capacity(alloc, rrs.len())?;
     for rr in rrs {
-        buckets.put(record_number(rr), true);
+        keys.push((record_number(rr), true))?;
     }
-    Ok(buckets)
+    Ok(keys)
 }
 
 /// Whether an item that may have a rival isn't among those seen, and it is from then on; any other is the first.

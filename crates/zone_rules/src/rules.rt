@@ -4,7 +4,6 @@ ghost use Rattle.std.specs.Prelude.{◌≡◌, ◌⊎◌, ◌++◌, ◌∷◌, [
 ghost use Rattle.dns_data.specs.Name.{Labels, name_eq};
 ghost use Rattle.zone_rules.specs.Apex.{is_type};
 ghost use Rattle.zone_rules.specs.Before.{has_name, IsSummaryOf, rule_in};
-ghost use Rattle.zone_rules.specs.Buckets.{Marked};
 ghost use Rattle.zone_rules.specs.Fingerprint.{owner_key};
 ghost use Rattle.zone_rules.specs.Rules.{had, first_fault, is_soa_elsewhere, is_star_record};
 ghost use Rattle.zone_rules.specs.ZoneOf.{checked};
@@ -33,10 +32,12 @@ pub(crate) fn check_rules(alloc: Global, origin: &Name, rrs: &[Rr]) -> Result<()
     ensures ok { OnOk result ((first_fault origin.now rrs.now ≡ None) × (had RrType.Soa rrs.now ≡ true)) }
     ensures err { IfErr result (λ fault. (fault ≡ RuleFault.NoMemory) ⊎ (checked origin.now rrs.now ≡ Err fault)) }
 {
-    let buckets = owner_buckets(alloc, rrs)?;
+    let keys = owner_keys(alloc, rrs)?;
+    let buckets = Buckets::of(alloc, keys.as_slice())?;
+    let rivals = buckets.rivals(alloc, keys.as_slice())?;
     let mut before = Before::new(alloc);
-    for rr in rrs {
-        let has_rival = buckets.has_rival(owner_number(&rr.owner));
+    for (i, rr) in rrs.iter().enumerate() {
+        let has_rival = rivals[i];
         if let Some(cause) = before.rule_at(origin, rr, has_rival) {
             return Err(RuleFault::At {
                 file: rr.file,
@@ -56,15 +57,15 @@ pub(crate) fn check_rules(alloc: Global, origin: &Name, rrs: &[Rr]) -> Result<()
     Ok(())
 }
 
-/// The records by their owners' numbers. A CNAME record has to stand alone (RFC 1034 section 3.6.2).
-fn owner_buckets(alloc: Global, rrs: &[Rr]) -> Result<Buckets, NoMemory>
-    ensures { IfOk result (λ buckets. Marked buckets (map owner_key rrs.now)) }
+/// The numbers of the records' owners. A CNAME record has to stand alone (RFC 1034 section 3.6.2).
+fn owner_keys(alloc: Global, rrs: &[Rr]) -> Result<Vec<(u64, bool)>, NoMemory>
+    ensures { IfOk result (λ keys. keys.items ≡ map owner_key rrs.now) }
 {
-    let mut buckets = Buckets::new(alloc, rrs.len())?;
+    let mut keys = Vec::with_capacity(alloc, rrs.len())?;
     for rr in rrs {
-        buckets.put(owner_number(&rr.owner), is_cname(rr));
+        keys.push((owner_number(&rr.owner), is_cname(rr)))?;
     }
-    Ok(buckets)
+    Ok(keys)
 }
 
 impl<'a> Before<'a> {

@@ -1,41 +1,54 @@
-use Rattle.std.proofs.Common.{◌≡◌, ◌||◌, ◌&&◌, not, Bool, true, take, ap, sym, ◌∙◌, refl}
+use Rattle.std.proofs.Common.{◌≡◌, ◌||◌, ◌&&◌, not, Bool, true, map, take, rules, subst, ap, sym, ◌∙◌, refl}
 use Rattle.std.proofs.lemmas.List.Elements.{All-weaker}
+use Rattle.std.proofs.lemmas.Simd.{map-map}
 use Rattle.dns_data.specs.Identical.{is_identical}
 use Rattle.dns_data.proofs.FirstItems.{any-next, first-more}
-use Rattle.zone_rules.specs.Buckets.{has_rival}
+use Rattle.zone_rules.specs.Buckets.{has_rival, Marked}
 use Rattle.zone_rules.specs.Fingerprint.{record_key, record_number}
-use Rattle.zone_rules.proofs.Rivals.{rivals-before}
+use Rattle.zone_rules.proofs.Rivals.{rivals-before, said-next}
 use Rattle.zone_rules.proofs.SeenRecords.{sees, same_identity, first-known}
 use Rattle.zone_rules.specs.Seen.{has}
 use Rattle.zone_rules.specs.contracts.identical.IdentityOrd.TheImpl as identity_order
 use Rattle.zone_rules.specs.declared.identical.Identity.{Identity}
 use Rattle.zone_rules.proofs.identical.are_first.Goals as goal
 
-pub loop-rr-preserved : goal.loop-rr-preserved
-loop-rr-preserved c =
-    let buckets = c.buckets.inside.buckets.items in
-    let rr = c.rr-item.result in
-    let i = c.loop-rr.rr-index in
-    let may : Bool = has_rival buckets (record_number rr) in
-    let may_is : c.has_rival-has_rival.result ≡ may = c.has_rival-has_rival.ensures ∙ (λ j. has_rival (sym c.buckets.view_is j) (c.record_number.ensures j)) in
-    let item : Identity = record { owner = record { ref_ptr = c.args.rrs.ref_ptr; now = rr.owner }; rdata = record { ref_ptr = c.args.rrs.ref_ptr; now = rr.rdata } } in
-    let has_seen : Identity → Bool = has (identity_order.ghosts).cmp c.loop-rr.seen in
+pub loop-i-init : goal.loop-i-init
+loop-i-init c =
+    let keys : c.as_slice.result.now ≡ map record_key c.args.rrs.now = c.as_slice.ensures.value ∙ c.in_ok-keys.ensures in
+    let keys' : c.as_slice-2.result.now ≡ map record_key c.args.rrs.now = c.as_slice-2.ensures.value ∙ c.in_ok-keys.ensures in
     record {
-      marked = c.loop-rr.invariant.marked;
+      told = c.in_ok-rivals.ensures ∙ ((λ j. map (λ key. has_rival (sym c.buckets.view_is j) key.0) (keys' j)) ∙ map-map (λ key. has_rival c.buckets.inside.buckets.items key.0) record_key c.args.rrs.now);
+      marked = subst (λ buckets. Marked buckets (map record_key c.args.rrs.now)) (sym c.buckets.view_is) (subst (Marked c.in_ok-buckets.buckets) keys c.in_ok-buckets.ensures);
+      seen = search rules;
+      so_far = search rules;
+    }
+
+pub loop-i-preserved : goal.loop-i-preserved
+loop-i-preserved c =
+    let buckets = c.buckets.inside.buckets.items in
+    let rr = c.index-rrs-i.result in
+    let i = c.loop-i.i in
+    let may : Bool = has_rival buckets (record_number rr) in
+    let may_is : c.index.result.now ≡ may = said-next record_key c.args.rrs.now i rr c.loop-i-test.true c.index-rrs-i.is (λ other. has_rival buckets (record_number other)) c.in_ok-rivals.rivals.items c.index.result.now c.loop-i.invariant.told c.index.ensures in
+    let item : Identity = record { owner = record { ref_ptr = c.args.rrs.ref_ptr; now = rr.owner }; rdata = record { ref_ptr = c.args.rrs.ref_ptr; now = rr.rdata } } in
+    let has_seen : Identity → Bool = has (identity_order.ghosts).cmp c.loop-i.seen in
+    record {
+      told = c.loop-i.invariant.told;
+      marked = c.loop-i.invariant.marked;
       seen = λ query.
           c.in_ok-is_first.ensures.seen query
           ∙ (λ j. has_seen query || (may_is j && same_identity query item rr refl refl j))
-          ∙ any-next (λ other. has_rival buckets (record_number other) && sees query other) c.args.rrs.now i rr (has_seen query) c.loop-rr-test.true c.rr-item.is (c.loop-rr.invariant.seen query);
+          ∙ any-next (λ other. has_rival buckets (record_number other) && sees query other) c.args.rrs.now i rr (has_seen query) c.loop-i-test.true c.index-rrs-i.is (c.loop-i.invariant.seen query);
       so_far =
-          c.loop-rr.invariant.so_far
-          ∙ first-more is_identical c.args.rrs.now i rr c.loop-rr.firsts.items c.push.new.self.items c.in_ok-is_first.is_first c.loop-rr-test.true c.rr-item.is
+          c.loop-i.invariant.so_far
+          ∙ first-more is_identical c.args.rrs.now i rr c.loop-i.firsts.items c.push.new.self.items c.in_ok-is_first.is_first c.loop-i-test.true c.index-rrs-i.is
           (c.in_ok-is_first.ensures.first
-          ∙ ap not ((λ j. may_is j && c.loop-rr.invariant.seen item j)
+          ∙ ap not ((λ j. may_is j && c.loop-i.invariant.seen item j)
           ∙ first-known buckets rr (take i c.args.rrs.now)
           (All-weaker
           (λ other. record_number other ≡ record_number rr → (true || true) ≡ true → may ≡ true)
           (λ other. record_number other ≡ record_number rr → may ≡ true)
-          (λ other rivals same. rivals same refl) (take i c.args.rrs.now) (rivals-before record_key c.args.rrs.now i rr c.loop-rr-test.true c.rr-item.is buckets c.loop-rr.invariant.marked))
+          (λ other rivals same. rivals same refl) (take i c.args.rrs.now) (rivals-before record_key c.args.rrs.now i rr c.loop-i-test.true c.index-rrs-i.is buckets c.loop-i.invariant.marked))
           may refl))
           c.in_ok-push.ensures.items;
     }

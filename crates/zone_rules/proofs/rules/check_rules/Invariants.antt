@@ -6,9 +6,10 @@ use Rattle.zone_rules.specs.Rules.{first_fault, first_fault_behind}
 use Rattle.zone_rules.proofs.rules.check_rules.Given as goal
 
 -- what is kept are the records so far, of which none breaks a rule
-abbrev pub invariant-loop-rr : goal.invariant-loop-rr
-invariant-loop-rr l = record {
+abbrev pub invariant-loop-i : goal.invariant-loop-i
+invariant-loop-i l = record {
+  told : l.rivals.items ≡ map (λ rr. has_rival l.buckets-inside.buckets.items (owner_number rr.owner)) l.rrs;
   marked : Marked l.buckets-inside.buckets.items (map owner_key l.rrs);
-  stands : IsSummaryOf (λ owner. has_rival l.buckets-inside.buckets.items (owner_number owner)) l.before (take l.rr-index l.rrs);
-  so_far : first_fault l.origin l.rrs ≡ first_fault_behind l.origin (take l.rr-index l.rrs) (drop l.rr-index l.rrs);
+  stands : IsSummaryOf (λ owner. has_rival l.buckets-inside.buckets.items (owner_number owner)) l.before (take l.i l.rrs);
+  so_far : first_fault l.origin l.rrs ≡ first_fault_behind l.origin (take l.i l.rrs) (drop l.i l.rrs);
 }
