@@ -1,0 +1,6 @@
+mod GivingNodes
+mod Growing
+mod Marks
+mod MoreFollowed
+mod ServerSets
+mod TwoSets

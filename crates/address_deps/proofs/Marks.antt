@@ -1,0 +1,52 @@
+-- Marks of nodes, one by one.
+use Rattle.std.proofs.Common.{◌≡◌, ◌≢◌, ℕ, zero, suc, ◌+◌, ◌<◌, Bool, true, false, List, [], ◌∷◌, length, get_or, replicate, refl, sym, ap, ◌∙◌, subst, inl, inr, arith}
+use Rattle.std.proofs.Math.ListN.{set}
+use Rattle.std.specs.Prelude.{◌⊎◌}
+use Rattle.std.proofs.lemmas.Bool.{cases_eq}
+use Rattle.std.proofs.lemmas.List.Sums.{sum_by-set}
+use Rattle.dns_data.specs.Name.{Labels}
+use Rattle.dns_data.specs.declared.rr_type.RrType.{RrType}
+use Rattle.net_model.specs.declared.config.Config.{Config}
+use Rattle.graph_form.specs.Graph.{PlainGraph}
+use Rattle.address_deps.specs.Giving.{is_marked, unset, unmarked, gives_from, AreGiving}
+
+-- a mark by its place
+pub marked_at : (marks : List Bool) (at : ℕ) (d : Bool) → at < length marks → is_marked marks at ≡ get_or marks at d
+marked_at [] at d within = absurd (omega arith)
+marked_at (mark ∷ marks) zero d within = refl
+marked_at (mark ∷ marks) (suc at) d within = marked_at marks at d (omega arith)
+
+-- another one stays where one is set
+set_other : (marks : List Bool) (at other : ℕ) → (other ≡ at → ⊥) → is_marked (set marks at true) other ≡ is_marked marks other
+set_other [] at other apart = refl
+set_other (mark ∷ marks) zero zero apart = absurd (apart refl)
+set_other (mark ∷ marks) zero (suc other) apart = refl
+set_other (mark ∷ marks) (suc at) zero apart = refl
+set_other (mark ∷ marks) (suc at) (suc other) apart = set_other marks at other (λ e. apart (ap suc e))
+
+-- one mark more that is set is one fewer that isn't
+pub one_fewer : (marks : List Bool) (at : ℕ) (d : Bool) → at < length marks → get_or marks at d ≡ false → unmarked (set marks at true) < unmarked marks
+one_fewer marks at d within clear =
+    let was : unset (get_or marks at d) ≡ 1 = ap unset clear in
+    omega (arith, sum_by-set unset marks at true d within, was)
+
+-- a marked node from which a path gives an address
+pub giving_more : (config : Config) (followed : List Labels) (graph : PlainGraph) (rtype : RrType) (marks : List Bool) (at : ℕ)
+    → AreGiving config followed graph rtype marks → (numbers : List ℕ) × (gives_from config followed graph rtype numbers at ≡ true)
+    → AreGiving config followed graph rtype (set marks at true)
+giving_more config followed graph rtype marks at giving path =
+    λ other marked.
+    elim (cases_eq other at) [
+      | inl same ↦ subst (λ (n : ℕ). (numbers : List ℕ) × (gives_from config followed graph rtype numbers n ≡ true)) (sym same) path
+      | inr apart ↦ giving other (sym (set_other marks at other apart) ∙ marked)
+    ]
+
+-- none is set among marks that are all clear
+pub none_giving : (config : Config) (followed : List Labels) (graph : PlainGraph) (rtype : RrType) (marks : List Bool)
+    → ((at : ℕ) → is_marked marks at ≡ false) → AreGiving config followed graph rtype marks
+none_giving config followed graph rtype marks clear = λ at marked. let no : false ≡ true = sym (clear at) ∙ marked in cc
+
+pub all_clear : (count at : ℕ) → is_marked (replicate count false) at ≡ false
+all_clear zero at = refl
+all_clear (suc count) zero = refl
+all_clear (suc count) (suc at) = all_clear count at

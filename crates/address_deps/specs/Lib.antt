@@ -1,0 +1,4 @@
+pub use Rattle.net_model.specs.Learnt
+pub use Rattle.graph_form.specs.GraphOf
+pub mod Giving
+pub mod Sets

@@ -1,0 +1,18 @@
+//! The least and the greatest set of learnt addresses, from one graph of each server's name.
+//!
+//! The layer above may rest on this: `dependencies` gives the two sets of the definitions, which take as many rounds as
+//! there are servers, where the graphs are those of the servers' names.
+//!
+//! Costs: a server is added to the least set, or taken from the greatest, as soon as it is found; the servers are passed
+//! over until nothing changes. A graph is passed over until no node more leads to an address, from its last node to its
+//! first.
+#![tactic(auto)]
+
+mod giving;
+mod server_set;
+mod sets;
+
+pub use sets::dependencies;
+
+#[cfg(test)]
+mod tests;

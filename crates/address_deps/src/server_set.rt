@@ -1,0 +1,57 @@
+//! Sets of servers.
+
+ghost use Rattle.std.specs.Prelude.{◌≡◌, [], ◌||◌, ◌&&◌, not, OnOk};
+ghost use Rattle.std.specs.List.{list_any};
+ghost use Rattle.dns_data.specs.Name.{Labels, name_eq};
+
+use dns_data::{Name, NoMemory};
+use std::alloc::Global;
+use std::collections::BTreeSet;
+use std::marker::Model;
+
+/// Names of servers.
+#[derive(Debug, Drop)]
+pub(crate) struct ServerSet {
+    names: BTreeSet<Name>,
+}
+
+impl Model for ServerSet {
+    ghost use Rattle.std.specs.Prelude.{List, ℕ};
+
+    ghost Value = { List (List (List ℕ)) };
+
+    ghost view = { λ set. set.names.keys };
+}
+
+impl ServerSet {
+    /// The empty set.
+    pub fn new(alloc: Global) -> ServerSet
+        ensures { result ≡ [] }
+    {
+        ServerSet {
+            names: BTreeSet::new(alloc),
+        }
+    }
+
+    /// Whether the server is in the set.
+    pub fn has(&self, name: &Name) -> bool
+        ensures { result ≡ list_any (name_eq name.now) self.now }
+    {
+        self.names.contains(name)
+    }
+
+    /// Puts a server into the set.
+    pub fn put(&mut self, alloc: Global, name: &Name) -> Result<(), NoMemory>
+        ensures { OnOk result ((other : Labels) → list_any (name_eq other) self.new ≡ (name_eq name.now other || list_any (name_eq other) self.old)) }
+    {
+        self.names.insert(name.copy(alloc)?)?;
+        Ok(())
+    }
+
+    /// Takes a server out of the set.
+    pub fn take(&mut self, name: &Name)
+        ensures { (other : Labels) → list_any (name_eq other) self.new ≡ (not (name_eq name.now other) && list_any (name_eq other) self.old) }
+    {
+        self.names.remove(name);
+    }
+}
