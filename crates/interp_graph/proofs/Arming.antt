@@ -1,6 +1,6 @@
 -- How the list of what is to be followed goes on: a state is reached, and a node gets an arm.
-use Rattle.std.proofs.Common.{◌≡◌, ◌≢◌, ℕ, ◌+◌, ◌<◌, ◌≤◌, Bool, true, false, not, List, [], ◌∷◌, ◌++◌, map, length, Some, zero, suc, refl, sym, ap, ◌∙◌, subst, inl, inr, true≢false, arith, length-append}
-use Rattle.std.specs.Prelude.{◌⊎◌, ◌&&◌, Contains, AllPairs, slice_get, set}
+use Rattle.std.proofs.Common.{◌≡◌, ◌≢◌, ℕ, ◌+◌, ◌<◌, ◌≤◌, Bool, true, false, not, List, [], ◌∷◌, ◌++◌, map, length, Some, refl, sym, ap, ◌∙◌, subst, inl, inr, true≢false, arith, length-append}
+use Rattle.std.specs.Prelude.{Contains, AllPairs, slice_get, set}
 use Rattle.std.specs.List.{AllZip}
 use Rattle.std.proofs.lemmas.Bool.{and_parts, and_from}
 use Rattle.std.proofs.lemmas.List.{length-set}
@@ -15,14 +15,15 @@ use Rattle.net_model.specs.declared.walk.State.{State}
 use Rattle.net_model.proofs.Leads.{Leads}
 use Rattle.graph_form.specs.declared.node.Arm.{Arm}
 use Rattle.graph_form.specs.declared.node.Branch.{Branch}
+use Rattle.graph_form.proofs.Places.{place_of_item}
 use Rattle.interp_graph.specs.Drafts.{Awaits, Tells, IsMade, Comes, AreDrafts, Grows, states_of, size_of, pair_count}
-use Rattle.interp_graph.specs.Steps.{branch_of, IsFork}
-use Rattle.interp_graph.specs.Work.{IsFresh, IsWithin, IsSound, Waits, StillWaits, Advances, ComesTo, ComeOn, HasMoreComing, IsForkAt, Numbered, Took, TooMany, HasArm, PutArm}
+use Rattle.interp_graph.specs.Steps.{branch_of}
+use Rattle.interp_graph.specs.Work.{IsFresh, IsWithin, IsSound, Waits, StillWaits, Advances, ComesTo, ComeOn, HasMoreComing, IsForkAt, Numbered, Took, TooMany, PutArm}
 use Rattle.interp_graph.specs.declared.draft.Draft.{Draft}
 use Rattle.interp_graph.specs.declared.step.Fork.{Fork}
 use Rattle.interp_graph.specs.declared.work.Work.{Work}
 use Rattle.interp_graph.proofs.Drafts.{IsLater, grows_not, grows_twice, grows_in_place, drafts_with_arm}
-use Rattle.interp_graph.proofs.ItemsByNumber.{item_below, pushed_there, from_set, set_there, set_elsewhere, number_of_item}
+use Rattle.interp_graph.proofs.ItemsByNumber.{item_below, pushed_there, from_set, set_there}
 use Rattle.interp_graph.proofs.Working.{one_there, numbered_grows, numbered_there, numbered_drafts, numbered_count, numbered_waits, numbered_still, states_in_place, took_grows, took_states, took_length, took_within, took_more, took_new, took_among, took_stays, took_listed, took_still, took_paid, took_awaits, took_drafts, too_many_come}
 
 -- ---- one change after another
@@ -258,7 +259,7 @@ leads_on setting rtype (n ∷ numbers) (h ∷ hops) from via number hop to (betw
 pub comes_on : (setting : Setting) (begin : List State) (rtype : RrType) (state : State) → Comes setting begin rtype state
     → (hop : Hop) (to : State) → Contains (next setting rtype state) (step.Go hop to) → Comes setting begin rtype to
 comes_on setting begin rtype state comes hop to has =
-    let at = number_of_item (next setting rtype state) (step.Go hop to) has in
+    let at = place_of_item (next setting rtype state) (step.Go hop to) has in
     record {
       number = comes.number;
       first = comes.first;

@@ -1,6 +1,6 @@
 -- The states in which a query begins, one after another.
-use Rattle.std.proofs.Common.{◌≡◌, ℕ, true, List, [], ◌∷◌, ◌++◌, Bool, Some, length, refl, sym, ap, ◌∙◌, subst, append_assoc}
-use Rattle.std.specs.Prelude.{Contains, slice_get}
+use Rattle.std.proofs.Common.{◌≡◌, ℕ, true, List, [], ◌∷◌, ◌++◌, Bool, refl, sym, ap, ◌∙◌, subst, append_assoc}
+use Rattle.std.specs.Prelude.{Contains}
 use Rattle.std.specs.List.{AllZip}
 use Rattle.std.proofs.lemmas.List.{append-nil}
 use Rattle.std.proofs.lemmas.List.Elements.{Contains-append_right}
@@ -9,17 +9,18 @@ use Rattle.dns_data.specs.declared.rr_type.RrType.{RrType}
 use Rattle.dns_data.proofs.Membership.{has_first}
 use Rattle.net_model.specs.Step.{Setting}
 use Rattle.net_model.specs.declared.walk.State.{State}
+use Rattle.graph_form.proofs.Places.{place_of_item}
 use Rattle.interp_graph.specs.Drafts.{Awaits, Comes, AreDrafts}
 use Rattle.interp_graph.specs.Work.{IsSound, Advances, ComesTo, HasMoreComing, AwaitAll}
 use Rattle.interp_graph.specs.declared.work.Work.{Work}
 use Rattle.interp_graph.proofs.Arming.{advances_not, advances_twice}
 use Rattle.interp_graph.proofs.Drafts.{awaits_grow}
-use Rattle.interp_graph.proofs.ItemsByNumber.{beside_pushed, number_of_item, side_by_side}
+use Rattle.interp_graph.proofs.ItemsByNumber.{beside_pushed, side_by_side}
 
 -- a state in which the query begins comes from there
 pub begins : (setting : Setting) (states : List State) (state : State) (rtype : RrType) → Contains states state → Comes setting states rtype state
 begins setting states state rtype has =
-    let at = number_of_item states state has in
+    let at = place_of_item states state has in
     record { number = at.0; first = state; is_first = at.1; numbers = []; hops = []; leads = refl }
 
 -- so far: all types come to the nodes of the states that aren't left

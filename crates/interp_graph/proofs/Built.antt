@@ -1,11 +1,10 @@
 -- What a graph that is made says of the query.
 use Rattle.std.proofs.Common.{◌≡◌, ◌≢◌, ℕ, ◌≤◌, Bool, true, false, List, [], ◌∷◌, ◌++◌, map, length, Option, Some, None, refl, sym, ap, ◌∙◌, subst}
-use Rattle.std.specs.Prelude.{AllPairs, Contains, IfSome, slice_get}
-use Rattle.std.specs.List.{AllByRecursion, AllZip}
+use Rattle.std.specs.Prelude.{AllPairs, IfSome, slice_get}
+use Rattle.std.specs.List.{AllByRecursion}
 use Rattle.dns_data.specs.Name.{Labels, wire_octets}
 use Rattle.dns_data.specs.TypeSet.{has_bit}
-use Rattle.dns_data.proofs.Membership.{none_in_nil}
-use Rattle.name_rules.specs.SymName.{tail_labels, whole}
+use Rattle.name_rules.specs.SymName.{tail_labels}
 use Rattle.name_rules.specs.declared.sym_name.SymName.{SymName}
 use Rattle.dns_data.specs.declared.rr_type.RrType.{RrType}
 use Rattle.net_model.specs.Nearest.{server_names}

@@ -1,5 +1,5 @@
 -- The pairs that come to drafts: how many they are, and that they differ.
-use Rattle.std.proofs.Common.{◌≡◌, ◌≢◌, ℕ, suc, ◌+◌, ◌<◌, ◌≤◌, Bool, true, false, cond, ◌||◌, List, [], ◌∷◌, map, length, get_or, subst, refl, sym, ap, ◌∙◌, inl, inr, Some, arith, true≢false, length-append, filter}
+use Rattle.std.proofs.Common.{◌≡◌, ◌≢◌, ℕ, ◌+◌, ◌<◌, Bool, true, false, cond, ◌||◌, List, [], ◌∷◌, map, length, get_or, subst, refl, sym, ap, ◌∙◌, Some, arith, true≢false, length-append, filter}
 use Rattle.std.specs.Prelude.{Contains, AllPairs, slice_get}
 use Rattle.std.specs.List.{AllByRecursion, flat_map, sum_by}
 use Rattle.std.proofs.lemmas.List.{length-map}
@@ -7,18 +7,16 @@ use Rattle.std.proofs.lemmas.List.Sums.{sum_by-cons}
 use Rattle.dns_data.specs.TypeSet.{has_bit}
 use Rattle.dns_data.specs.RrType.{types}
 use Rattle.dns_data.specs.declared.rr_type.RrType.{RrType}
-use Rattle.dns_data.proofs.DifferentItems.{fits_among}
-use Rattle.dns_data.proofs.Membership.{none_in_nil, has_first, has_later, map_has, from_map, filter_has, from_filter, flat_map_has, from_flat_map}
+use Rattle.dns_data.proofs.Membership.{has_first, has_later, map_has, from_map, filter_has, from_filter, flat_map_has, from_flat_map}
 use Rattle.net_model.specs.Step.{Setting}
 use Rattle.net_model.specs.Tree.{HasMoreThan}
 use Rattle.net_model.specs.declared.walk.State.{State}
-use Rattle.graph_form.proofs.Places.{pairs_in_row}
+use Rattle.graph_form.proofs.Places.{pairs_in_row, place_of_item, item_there}
 use Rattle.graph_form.proofs.Reached.{every_type, arm_differs}
 use Rattle.graph_form.specs.declared.node.Arm.{Arm}
-use Rattle.interp_graph.specs.Drafts.{Comes, AreDrafts, states_of, size_of, pair_count}
+use Rattle.interp_graph.specs.Drafts.{Comes, AreDrafts, size_of, pair_count}
 use Rattle.interp_graph.specs.declared.draft.Draft.{Draft}
 use Rattle.interp_graph.specs.Work.{TakesTypes}
-use Rattle.interp_graph.proofs.ItemsByNumber.{number_of_item, has_item}
 
 -- ---- of two sets without a common type
 
@@ -93,7 +91,7 @@ pub pair_of_draft : (drafts : List Draft) (at : ℕ) (draft : Draft) (rtype : Rr
     → Contains (wanted_pairs drafts) (draft.state, rtype)
 pair_of_draft drafts at draft rtype is wanted =
     let pair : RrType → State × RrType = λ t. (draft.state, t) in
-    flat_map_has draft_pairs drafts draft (draft.state, rtype) (has_item drafts at draft is)
+    flat_map_has draft_pairs drafts draft (draft.state, rtype) (item_there drafts at draft is)
     (map_has pair (filter (has_bit draft.wanted) types) rtype (filter_has (has_bit draft.wanted) types rtype (every_type rtype) wanted))
 
 -- each pair comes from where the query begins
@@ -101,7 +99,7 @@ pub each_comes : (setting : Setting) (begin : List State) (drafts : List Draft) 
     → (pair : State × RrType) → Contains (wanted_pairs drafts) pair → Comes setting begin pair.1 pair.0
 each_comes setting begin drafts are pair has =
     let of = from_flat_map draft_pairs drafts pair has in
-    let at = number_of_item drafts of.0 of.1 in
+    let at = place_of_item drafts of.0 of.1 in
     let make : RrType → State × RrType = λ rtype. (of.0.state, rtype) in
     let typed = from_map make (filter (has_bit of.0.wanted) types) pair of.2 in
     let wanted = (from_filter (has_bit of.0.wanted) types typed.0 typed.1).1 in

@@ -1,7 +1,7 @@
 -- Where no type waits at a draft, the drafts are the nodes of a graph of the query's walks.
-use Rattle.std.proofs.Common.{◌≡◌, ◌≢◌, ℕ, ◌<◌, Bool, true, false, List, map, length, get_or, Some, refl, sym, ap, ◌∙◌, subst, inl, inr, true≢false, arith}
+use Rattle.std.proofs.Common.{◌≡◌, ◌≢◌, ℕ, Bool, true, false, List, map, length, Some, sym, ap, ◌∙◌, subst, inl, inr, true≢false, arith}
 use Rattle.std.specs.Prelude.{◌⊎◌, Contains, AllPairs, is_some, slice_get}
-use Rattle.std.specs.List.{AllZip, find}
+use Rattle.std.specs.List.{AllZip}
 use Rattle.std.proofs.lemmas.List.{length-map, get_or-map}
 use Rattle.dns_data.specs.Name.{Labels}
 use Rattle.dns_data.specs.TypeSet.{has_bit}
@@ -11,7 +11,6 @@ use Rattle.dns_data.proofs.Membership.{from_filter, from_map, from_flat_map, pai
 use Rattle.dns_data.proofs.Searches.{find_some}
 use Rattle.net_model.specs.Step as step
 use Rattle.net_model.specs.Step.{Setting, start, next}
-use Rattle.net_model.specs.declared.walk.Hop.{Hop}
 use Rattle.net_model.specs.declared.walk.State.{State}
 use Rattle.graph_form.specs.Graph.{PlainGraph, types_of, arm_of, arm_pairs, node_pairs, pairs_of}
 use Rattle.graph_form.specs.GraphOf.{HasState, HasType, TellsStep, IsArm, IsGraphOf}
@@ -19,9 +18,10 @@ use Rattle.graph_form.specs.declared.node.Arm.{Arm}
 use Rattle.graph_form.specs.declared.node.Branch.{Branch}
 use Rattle.graph_form.specs.declared.node.Branch.TheVariants.{Go, End}
 use Rattle.graph_form.specs.declared.node.Node.{Node}
-use Rattle.interp_graph.specs.Drafts.{Awaits, Tells, IsMade, Comes, IsDraft, AreDrafts, states_of, node_of}
+use Rattle.graph_form.proofs.Places.{place_of_item}
+use Rattle.interp_graph.specs.Drafts.{Awaits, Tells, Comes, AreDrafts, states_of, node_of}
 use Rattle.interp_graph.specs.declared.draft.Draft.{Draft}
-use Rattle.interp_graph.proofs.ItemsByNumber.{has_item, number_of_item, from_mapped, mapped_there, side_by_side, beside, beside_other}
+use Rattle.interp_graph.proofs.ItemsByNumber.{from_mapped, mapped_there, side_by_side, beside}
 
 module _ (setting : Setting) (begin : List State) (drafts : List Draft) (are : AreDrafts setting begin drafts) where
   -- a pair of a node comes to its draft, and so from where the query begins
@@ -30,7 +30,7 @@ module _ (setting : Setting) (begin : List State) (drafts : List Draft) (are : A
   pair_comes starts pair has =
       let node = from_flat_map node_pairs (map node_of drafts) pair has in
       let of = from_map node_of drafts node.0 node.1 in
-      let at = number_of_item drafts of.0 of.1 in
+      let at = place_of_item drafts of.0 of.1 in
       let arm = from_flat_map (arm_pairs node.0.state) node.0.arms pair node.2 in
       let make : RrType → State × RrType = λ t. (node.0.state, t) in
       let typed = from_map make (types_of arm.0) pair arm.2 in

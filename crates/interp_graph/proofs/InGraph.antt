@@ -1,22 +1,20 @@
 -- What walks that follow some servers come to is in the graph of the walks that follow all, and is told by it.
-use Rattle.std.proofs.Common.{◌≡◌, ◌≢◌, ℕ, zero, suc, ◌<◌, Bool, true, false, List, [], ◌∷◌, map, length, Option, Some, None, refl, sym, ap, ◌∙◌, subst, inl, inr, true≢false, arith}
-use Rattle.std.specs.Prelude.{◌⊎◌, ◌&&◌, Contains, AllPairs, is_some, slice_get, if◌then◌else◌}
-use Rattle.std.specs.List.{AllZip, find}
+use Rattle.std.proofs.Common.{◌≡◌, ℕ, Bool, true, false, List, [], ◌∷◌, map, Option, Some, None, refl, sym, ap, ◌∙◌, subst, true≢false, arith}
+use Rattle.std.specs.Prelude.{◌&&◌, Contains, AllPairs, is_some, slice_get, if◌then◌else◌}
+use Rattle.std.specs.List.{AllZip}
 use Rattle.std.proofs.lemmas.Bool.{and_parts, and_from}
 use Rattle.std.proofs.lemmas.List.Kept.{AllPairs-cons}
 use Rattle.std.proofs.lemmas.Option.{slice_get_within}
 use Rattle.dns_data.specs.Name.{Labels}
 use Rattle.dns_data.specs.TypeSet.{has_bit}
 use Rattle.dns_data.specs.declared.rr_type.RrType.{RrType}
-use Rattle.dns_data.proofs.Membership.{none_in_nil, has_first, has_later, all_from_contains, pairs_first, pairs_rest}
+use Rattle.dns_data.proofs.Membership.{all_from_contains, pairs_first, pairs_rest}
 use Rattle.net_model.specs.Nearest.{server_names}
 use Rattle.net_model.specs.Step as step
 use Rattle.net_model.specs.Step.{Setting, following, may_follow, start, next}
 use Rattle.net_model.specs.declared.config.Config.{Config}
-use Rattle.net_model.specs.declared.place.Cut.{Cut}
 use Rattle.net_model.specs.declared.walk.Hop.{Hop}
 use Rattle.net_model.specs.declared.walk.Hop.TheVariants.{Refer, Rewrite}
-use Rattle.net_model.specs.declared.walk.Leaf.{Leaf}
 use Rattle.net_model.specs.declared.walk.Leaf.TheVariants.{Lame, NoAddress}
 use Rattle.net_model.specs.declared.walk.State.{State}
 use Rattle.net_model.proofs.Leads.{Leads}
@@ -26,13 +24,13 @@ use Rattle.graph_form.specs.declared.node.Arm.{Arm}
 use Rattle.graph_form.specs.declared.node.Branch.{Branch}
 use Rattle.graph_form.specs.declared.node.Branch.TheVariants.{Go, End}
 use Rattle.graph_form.specs.declared.node.Node.{Node}
-use Rattle.graph_form.proofs.Places.{found_there}
+use Rattle.graph_form.proofs.Places.{found_there, item_there}
 use Rattle.interp_graph.specs.Drafts.{Comes}
-use Rattle.interp_graph.specs.Restricted.{restricted, IsRestriction, HasTypes, Restricts, IsCutOf, AllLeadWithin, LeadsWithin}
+use Rattle.interp_graph.specs.Restricted.{restricted, IsRestriction, Restricts, IsCutOf, AllLeadWithin}
 use Rattle.interp_graph.specs.Steps.{branch_of, IsApart, IsFork, AreSplit}
 use Rattle.interp_graph.specs.declared.step.Fork.{Fork}
 use Rattle.interp_graph.specs.declared.step.Step.{Step}
-use Rattle.interp_graph.proofs.ItemsByNumber.{has_item, from_mapped, beside, beside_other}
+use Rattle.interp_graph.proofs.ItemsByNumber.{from_mapped, beside, beside_other}
 use Rattle.interp_graph.proofs.NextRestricted.{next_restricted}
 use Rattle.interp_graph.proofs.Working.{one_there}
 
@@ -101,7 +99,7 @@ module _ (config : Config) (graph : PlainGraph) (followed : List Labels) (settin
       let told = beside_other (TellsStep graph) arm.arm.branches (next all rtype there.node.state) (step.Go hop to)
       (graph_of.steps there.at there.node arm.arm rtype in_graph arm.typed)
       (subst (λ (s : State). Contains (next all rtype s) (step.Go hop to)) (sym there.has_state)
-      (subst (Contains (next all rtype via)) full (has_item (next all rtype via) number from.0 from.1))) in
+      (subst (Contains (next all rtype via)) full (item_there (next all rtype via) number from.0 from.1))) in
       by told.0 told.1 told.2 (graph_of.closed there.at there.node arm.arm rtype in_graph arm.typed)
     where
       by : (branch : Branch) → Contains (arm_for there.node rtype there.has_arm).arm.branches branch → TellsStep graph branch (step.Go hop to)
@@ -130,7 +128,7 @@ module _ (config : Config) (graph : PlainGraph) (followed : List Labels) (settin
   first_there : (rtype : RrType) (number : ℕ) (first : State) → slice_get begin number ≡ Some first → InGraph graph rtype first
   first_there rtype number first is_first =
       let told = beside_other (HasState graph) graph.starts (start config is.query) first graph_of.starts
-      (has_item (start config is.query) number first (ap (λ (states : List State). slice_get states number) (sym is.begins) ∙ is_first)) in
+      (item_there (start config is.query) number first (ap (λ (states : List State). slice_get states number) (sym is.begins) ∙ is_first)) in
       let typed = graph_of.all_types told.0 told.1 rtype in
       let one : typed.0 ≡ told.2.0 = one_there graph.nodes told.0 typed.0 told.2.0 typed.1 told.2.1 in
       record {

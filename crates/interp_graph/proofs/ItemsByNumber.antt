@@ -1,5 +1,5 @@
 -- Items of lists by their numbers, where an item is put behind others or over another; and lists that stand side by side.
-use Rattle.std.proofs.Common.{◌≡◌, ◌≢◌, ℕ, zero, suc, ◌<◌, List, [], ◌∷◌, ◌++◌, map, length, get_or, Some, refl, sym, ap, ◌∙◌, subst, inl, inr, arith}
+use Rattle.std.proofs.Common.{◌≡◌, ◌≢◌, ℕ, zero, suc, ◌<◌, List, [], ◌∷◌, ◌++◌, map, length, get_or, Some, refl, ap, subst, inl, inr, arith}
 use Rattle.std.specs.Prelude.{◌⊎◌, AllPairs, Contains, slice_get, set}
 use Rattle.std.specs.List.{AllZip}
 use Rattle.std.proofs.lemmas.List.{length-map, get_or-map}
@@ -61,22 +61,6 @@ module _ {A : Type 0} where
   item_below [] k below = absurd (omega (arith, below))
   item_below (x ∷ xs) zero below = (x, refl)
   item_below (x ∷ xs) (suc k) below = item_below xs k (omega (arith, below))
-
-  -- a list has the item with a number
-  pub has_item : (xs : List A) (k : ℕ) (x : A) → slice_get xs k ≡ Some x → Contains xs x
-  has_item [] k x e = cc
-  has_item (y ∷ xs) zero x e =
-      let same : y ≡ x = cc in
-      subst (Contains (y ∷ xs)) same (has_first y xs)
-  has_item (y ∷ xs) (suc k) x e = has_later y xs x (has_item xs k x e)
-
-  -- and each item that it has has a number
-  pub number_of_item : (xs : List A) (x : A) → Contains xs x → (k : ℕ) × (slice_get xs k ≡ Some x)
-  number_of_item [] x has = absurd (none_in_nil x has)
-  number_of_item (y ∷ xs) x has = by (first_or_later y xs x has) (number_of_item xs x) where
-    by : (y ≡ x) ⊎ Contains xs x → (Contains xs x → (k : ℕ) × (slice_get xs k ≡ Some x)) → (k : ℕ) × (slice_get (y ∷ xs) k ≡ Some x)
-    by (inl same) later = (0, ap Some same)
-    by (inr behind) later = let there = later behind in (suc there.0, there.1)
 
 module _ {A B : Type 0} where
   -- an item of a mapped list is the image of the item with its number

@@ -1,8 +1,8 @@
 -- How the node of a state is found in a graph, and lists that are made item by item beside another.
-use Rattle.std.proofs.Common.{◌≡◌, ◌≢◌, ℕ, zero, suc, ◌+◌, ◌<◌, ◌≤◌, Bool, true, false, not, cond, List, [], ◌∷◌, ◌++◌, map, take, length, get_or, Option, Some, None, refl, sym, ap, ◌∙◌, subst, inl, inr, true≢false, arith}
+use Rattle.std.proofs.Common.{◌≡◌, ◌≢◌, ℕ, zero, suc, ◌+◌, ◌<◌, Bool, true, false, List, [], ◌∷◌, ◌++◌, map, take, length, get_or, Option, Some, None, refl, sym, ap, ◌∙◌, subst, inl, inr, true≢false, arith}
 use Rattle.std.specs.Prelude.{◌⊎◌, Contains, AllPairs, is_some, slice_get, position, if◌then◌else◌}
 use Rattle.std.specs.List.{AllZip, list_any}
-use Rattle.std.proofs.lemmas.List.{length-map, take_more, get_or-map}
+use Rattle.std.proofs.lemmas.List.{length-map, take_more}
 use Rattle.std.proofs.lemmas.List.Quantifiers.{position-Some}
 use Rattle.std.proofs.lemmas.Option.{slice_get-get_or, slice_get_within, get_or_from_slice_get}
 use Rattle.dns_data.specs.TypeSet.{has_bit}
@@ -14,12 +14,12 @@ use Rattle.graph_form.specs.Graph.{PlainGraph, arm_of}
 use Rattle.graph_form.specs.GraphOf.{HasState}
 use Rattle.graph_form.specs.declared.node.Arm.{Arm}
 use Rattle.graph_form.specs.declared.node.Node.{Node}
-use Rattle.graph_form.proofs.Places.{found_there}
+use Rattle.graph_form.proofs.Places.{found_there, item_there, place_of_item}
 use Rattle.indexmap.specs.IndexSet.{insert_key}
 use Rattle.interp_graph.specs.Restricted.{IsNumbered, HasTypes}
 use Rattle.interp_graph.specs.StateKey.{state_eq, state_decides}
 use Rattle.interp_graph.specs.Steps.{AreSplit}
-use Rattle.interp_graph.proofs.ItemsByNumber.{beside, beside_pushed, from_mapped, mapped_there, has_item, number_of_item}
+use Rattle.interp_graph.proofs.ItemsByNumber.{beside, beside_pushed, from_mapped, mapped_there}
 use Rattle.interp_graph.proofs.Working.{one_there}
 
 module _ {A B : Type 0} (R : A → B → Type 0) where
@@ -63,7 +63,7 @@ module _ (graph : PlainGraph) (keys : List State) (numbered : IsNumbered keys gr
   key_there types state rtype has typed =
       let there = has rtype typed in
       any_has (state_eq state) keys state
-      (has_item keys there.0 state
+      (item_there keys there.0 state
       (ap (λ (ks : List State). slice_get ks there.0) numbered
       ∙ (mapped_there (λ (n : Node). n.state) graph.nodes there.0 there.1 there.2 ∙ ap Some there.3)))
       ((state_decides state state).1 refl)
@@ -126,7 +126,7 @@ module _ (graph : PlainGraph) (keys : List State) (numbered : IsNumbered keys gr
 pub start_below : (graph : PlainGraph) (starts : List ℕ) (states : List State) → AllZip (HasState graph) starts states → (i : ℕ) → i < length starts
     → get_or starts i 0 < length graph.nodes
 start_below graph starts states all i below =
-    let told = beside (HasState graph) starts states (get_or starts i 0) all (has_item starts i (get_or starts i 0) (slice_get-get_or starts i 0 below)) in
+    let told = beside (HasState graph) starts states (get_or starts i 0) all (item_there starts i (get_or starts i 0) (slice_get-get_or starts i 0 below)) in
     slice_get_within graph.nodes (get_or starts i 0) told.2.0 told.2.1
 
 -- ---- the keys of a graph, one after another
@@ -166,7 +166,7 @@ next_key nodes i node keys after once here so made =
         differs x has false is = is
         differs x has true is =
             let same = (state_decides node.state x).0 is in
-            let place = number_of_item (take i states) x has in
+            let place = place_of_item (take i states) x has in
             let before = earlier states i place.0 x place.1 in
             let from = from_mapped (λ (n : Node). n.state) nodes place.0 x before.1 in
             absurd (once place.0 i node before.0 (slice_get_within nodes i node here)

@@ -1,7 +1,6 @@
 -- The nodes of drafts have no more pairs than came to the drafts.
-use Rattle.std.proofs.Common.{◌≡◌, ◌≢◌, ℕ, ◌+◌, ◌<◌, ◌≤◌, List, [], ◌∷◌, map, length, refl, sym, ap, ◌∙◌, subst, arith, length-append, filter, flat_map}
-use Rattle.std.specs.Prelude.{Contains, AllPairs}
-use Rattle.std.specs.List.{sum_by}
+use Rattle.std.proofs.Common.{◌≡◌, ℕ, ◌+◌, ◌≤◌, List, [], ◌∷◌, map, length, subst, arith, length-append, filter, flat_map}
+use Rattle.std.specs.Prelude.{Contains}
 use Rattle.std.proofs.lemmas.List.{length-map}
 use Rattle.std.proofs.lemmas.List.Sums.{sum_by-cons}
 use Rattle.dns_data.specs.TypeSet.{has_bit}
@@ -12,14 +11,13 @@ use Rattle.dns_data.proofs.Membership.{has_first, has_later, map_has, from_map, 
 use Rattle.net_model.specs.Step.{Setting}
 use Rattle.net_model.specs.declared.walk.State.{State}
 use Rattle.graph_form.specs.Graph.{arm_pairs, node_pairs, pairs_of, types_of}
-use Rattle.graph_form.specs.declared.node.Node.{Node}
 use Rattle.graph_form.proofs.Reached.{every_type, node_differs}
+use Rattle.graph_form.proofs.Places.{place_of_item}
 use Rattle.interp_graph.specs.Drafts.{IsDraft, AreDrafts, node_of, size_of, pair_count}
 use Rattle.interp_graph.specs.Work.{IsSound}
 use Rattle.interp_graph.specs.declared.draft.Draft.{Draft}
 use Rattle.interp_graph.specs.declared.work.Work.{Work}
 use Rattle.interp_graph.proofs.Counts.{draft_pairs}
-use Rattle.interp_graph.proofs.ItemsByNumber.{number_of_item}
 
 -- those of one node
 one_node_pairs : (draft : Draft) → IsDraft draft → length (node_pairs (node_of draft)) ≤ size_of draft.wanted
@@ -61,7 +59,7 @@ all_node_pairs (draft ∷ drafts) each =
 pub few_pairs : (setting : Setting) (begin : List State) (drafts : List Draft) (starts : List ℕ) → AreDrafts setting begin drafts
     → length (pairs_of (record { nodes = map node_of drafts; starts = starts })) ≤ pair_count drafts
 few_pairs setting begin drafts starts are =
-    all_node_pairs drafts (λ draft has. let at = number_of_item drafts draft has in are.each at.0 draft at.1)
+    all_node_pairs drafts (λ draft has. let at = place_of_item drafts draft has in are.each at.0 draft at.1)
 
 -- and there are no more nodes
 pub few_nodes : (work : Work) → IsSound work → length (map node_of work.drafts.items) ≤ work.pairs

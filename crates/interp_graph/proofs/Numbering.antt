@@ -1,11 +1,11 @@
 -- How states are numbered by their keys, and what comes new to a draft.
-use Rattle.std.proofs.Common.{◌≡◌, ◌≢◌, ℕ, ◌+◌, ◌-◌, ◌<◌, ◌≤◌, Bool, true, false, not, cond, List, [], ◌∷◌, ◌++◌, map, length, filter, get_or, Option, Some, None, refl, sym, ap, ◌∙◌, subst, inl, inr, true≢false, arith}
-use Rattle.std.specs.Prelude.{◌⊎◌, ◌&&◌, ◌||◌, Contains, AllPairs, IfSome, slice_get, set, if◌then◌else◌}
-use Rattle.std.specs.List.{AllByRecursion, IsDistinct, list_any}
+use Rattle.std.proofs.Common.{◌≡◌, ◌≢◌, ℕ, ◌+◌, ◌<◌, Bool, true, false, not, List, [], ◌∷◌, ◌++◌, map, length, get_or, Option, Some, None, refl, sym, ap, ◌∙◌, subst, inl, inr, true≢false, arith}
+use Rattle.std.specs.Prelude.{◌&&◌, ◌||◌, Contains, AllPairs, IfSome, slice_get, if◌then◌else◌}
+use Rattle.std.specs.List.{IsDistinct, list_any}
 use Rattle.std.specs.Option.{option_to_list}
 use Rattle.std.proofs.lemmas.Bool.{and_parts, and_from, or_left, or_right}
 use Rattle.std.proofs.lemmas.List.{length-map}
-use Rattle.std.proofs.lemmas.List.Elements.{All-from_recursion, All-contains, Contains-append_left, Contains-append_right}
+use Rattle.std.proofs.lemmas.List.Elements.{All-from_recursion, All-contains, Contains-append_right}
 use Rattle.std.proofs.lemmas.List.Kept.{AllPairs-cons}
 use Rattle.std.proofs.lemmas.Map.Keys.{IsDistinct-head, IsDistinct-tail}
 use Rattle.std.proofs.lemmas.Option.{slice_get-get_or}
@@ -13,17 +13,18 @@ use Rattle.dns_data.specs.TypeSet.{has_bit}
 use Rattle.dns_data.specs.RrType.{types}
 use Rattle.dns_data.specs.declared.rr_type.RrType.{RrType}
 use Rattle.dns_data.specs.declared.rr_type.RrType.TheVariants as rr
-use Rattle.dns_data.proofs.Membership.{none_in_nil, has_first, all_from_contains, filter_has}
-use Rattle.dns_data.proofs.Searches.{from_any, any_has}
+use Rattle.dns_data.proofs.Membership.{has_first, all_from_contains, filter_has}
+use Rattle.dns_data.proofs.Searches.{any_has}
 use Rattle.net_model.specs.declared.walk.State.{State}
 use Rattle.graph_form.proofs.Reached.{every_type}
 use Rattle.indexmap.specs.IndexSet.{insert_key}
+use Rattle.graph_form.proofs.Places.{item_there}
 use Rattle.interp_graph.specs.Drafts.{states_of, size_of}
 use Rattle.interp_graph.specs.StateKey.{state_eq, state_decides}
-use Rattle.interp_graph.specs.Work.{TakesTypes, Stays, Took, TooMany}
+use Rattle.interp_graph.specs.Work.{TakesTypes, Took, TooMany}
 use Rattle.interp_graph.specs.declared.draft.Draft.{Draft}
 use Rattle.interp_graph.specs.declared.work.Work.{Work}
-use Rattle.interp_graph.proofs.ItemsByNumber.{from_pushed, from_mapped, has_item}
+use Rattle.interp_graph.proofs.ItemsByNumber.{from_pushed, from_mapped}
 
 -- an item below the length stands with its number
 pub item_is : {A : Type 0} (xs : List A) (i : ℕ) (x : A) → i < length xs → x ≡ get_or xs i x → slice_get xs i ≡ Some x
@@ -62,7 +63,7 @@ module _ (keys after : List State) (drafts : List Draft) (value : State) (at : �
     pub number_behind : at ≡ length drafts
     number_behind =
         elim (from_pushed keys value value at (ap (λ (ks : List State). slice_get ks at) (sym key_behind) ∙ stored_there)) [
-          | inl there ↦ absurd (true≢false (sym (any_has (state_eq value) keys value (has_item keys at value there) ((state_decides value value).1 refl)) ∙ none))
+          | inl there ↦ absurd (true≢false (sym (any_has (state_eq value) keys value (item_there keys at value there) ((state_decides value value).1 refl)) ∙ none))
           | inr new ↦ new.0 ∙ (ap (λ (ks : List State). length ks) keyed ∙ length-map drafts state)
         ]
       where

@@ -4,7 +4,6 @@ use Rattle.dns_data.specs.Name.{Labels, wire_octets}
 use Rattle.name_rules.specs.SymName.{tail_labels, whole}
 use Rattle.name_rules.specs.declared.sym_name.SymName.{SymName}
 use Rattle.net_model.specs.Reading.{IsNamed, ground_of}
-use Rattle.net_model.specs.Step.{Setting}
 use Rattle.net_model.specs.Tails.{AreTails, IsUnnamedTail}
 use Rattle.net_model.specs.Tree.{IsReached, HasMoreThan}
 use Rattle.net_model.specs.declared.config.Config.{Config}

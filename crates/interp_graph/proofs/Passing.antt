@@ -1,5 +1,5 @@
 -- A fault that a call answered is passed on; and what is left where nothing is taken.
-use Rattle.std.proofs.Common.{◌≡◌, ℕ, ◌+◌, List, [], ◌∷◌, length, Option, Some, None, Ok, Err, refl, sym, ap, ◌∙◌, arith}
+use Rattle.std.proofs.Common.{◌≡◌, ℕ, List, [], ◌∷◌, length, Option, Some, None, Ok, Err, refl, sym, ap, ◌∙◌, arith}
 use Rattle.std.specs.Prelude.{Result, MatchOption, IfNone}
 use Rattle.std.specs.Result.{IsErrAnd}
 

@@ -1,5 +1,5 @@
 -- The graph of the walks that follow some servers, of the graph of those that follow all.
-use Rattle.std.proofs.Common.{◌≡◌, ◌≢◌, ℕ, ◌<◌, ◌≤◌, Bool, true, false, List, [], ◌∷◌, map, length, Some, refl, sym, ap, ◌∙◌, subst, arith}
+use Rattle.std.proofs.Common.{◌≡◌, ◌≢◌, ℕ, Bool, true, false, List, [], ◌∷◌, map, length, Some, refl, sym, ap, ◌∙◌, subst, arith}
 use Rattle.std.specs.Prelude.{AllPairs, Contains, slice_get}
 use Rattle.std.specs.List.{AllZip}
 use Rattle.dns_data.specs.Name.{Labels}
@@ -9,10 +9,8 @@ use Rattle.net_model.specs.Step.{Setting, following, start}
 use Rattle.net_model.specs.declared.config.Config.{Config}
 use Rattle.net_model.specs.declared.walk.State.{State}
 use Rattle.net_model.proofs.Counting.{no_more_than}
-use Rattle.graph_form.specs.Graph.{PlainGraph, arm_of, pairs_of}
+use Rattle.graph_form.specs.Graph.{PlainGraph, pairs_of}
 use Rattle.graph_form.specs.GraphOf.{HasState, IsExactIn, IsGraphOf}
-use Rattle.graph_form.specs.declared.node.Arm.{Arm}
-use Rattle.graph_form.proofs.Places.{found_there}
 use Rattle.graph_form.proofs.Reached.{pair_there}
 use Rattle.interp_graph.specs.Asked.{IsBuilt}
 use Rattle.interp_graph.specs.Drafts.{Comes, AreDrafts, states_of, node_of}
@@ -20,7 +18,7 @@ use Rattle.interp_graph.specs.Restricted.{IsRestriction}
 use Rattle.interp_graph.specs.Work.{Waits, AwaitAll, HasMoreComing}
 use Rattle.interp_graph.specs.declared.draft.Draft.{Draft}
 use Rattle.interp_graph.proofs.Finished.{one_node, reached_by, finished}
-use Rattle.interp_graph.proofs.InGraph.{ArmFor, arm_for, comes_in_graph}
+use Rattle.interp_graph.proofs.InGraph.{arm_for, comes_in_graph}
 use Rattle.interp_graph.proofs.Standing.{comes_stand}
 use Rattle.interp_graph.proofs.Working.{one_there}
 

@@ -1,16 +1,16 @@
 -- What comes from where a query begins stands on a walk of it.
-use Rattle.std.proofs.Common.{◌≡◌, ◌≢◌, ℕ, List, [], ◌∷◌, ◌++◌, map, length, Some, None, true, refl, sym, ap, ◌∙◌, subst, inl, inr, ◌==◌}
-use Rattle.std.specs.Prelude.{◌⊎◌, Contains, slice_get, option_and_then}
+use Rattle.std.proofs.Common.{◌≡◌, ◌≢◌, ℕ, List, [], ◌∷◌, ◌++◌, map, length, Some, None, true, sym, ap, ◌∙◌, subst, inl, inr, ◌==◌}
+use Rattle.std.specs.Prelude.{Contains, slice_get, option_and_then}
 use Rattle.std.proofs.lemmas.List.Elements.{Contains-append_right}
 use Rattle.dns_data.specs.Name.{Labels}
 use Rattle.dns_data.specs.declared.rr_type.RrType.{RrType}
 use Rattle.dns_data.proofs.Membership.{has_first}
 use Rattle.net_model.specs.Step.{Setting, arrived, start, next}
-use Rattle.net_model.specs.Walk.{walk_from, walk_along}
+use Rattle.net_model.specs.Walk.{walk_from}
 use Rattle.net_model.specs.declared.walk.State.{State}
 use Rattle.net_model.specs.declared.walk.Walk.{Walk}
 use Rattle.net_model.proofs.EndsSomewhere.{ends_somewhere}
-use Rattle.net_model.proofs.Leads.{GoesOn, EndsBy, branch_taken, leads_walk}
+use Rattle.net_model.proofs.Leads.{branch_taken, leads_walk}
 use Rattle.graph_form.specs.GraphOf.{StandsOn}
 use Rattle.interp_graph.specs.Drafts.{Comes}
 

@@ -1,9 +1,9 @@
 -- What a state leads to, by what its server answers for sets of types.
-use Rattle.std.proofs.Common.{◌≡◌, ◌≢◌, ℕ, ◌<◌, Bool, true, false, not, List, [], ◌∷◌, map, length, get_or, Option, Some, None, refl, sym, ap, ◌∙◌, subst, inl, inr, true≢false, arith}
+use Rattle.std.proofs.Common.{◌≡◌, Bool, true, false, not, List, [], ◌∷◌, map, Option, Some, None, refl, sym, ap, ◌∙◌, subst, inl, inr, true≢false, arith}
 use Rattle.std.specs.Prelude.{Contains, AllPairs, if◌then◌else◌, is_some, option_and_then}
 use Rattle.std.specs.List.{AllByRecursion}
-use Rattle.std.proofs.lemmas.List.{length-map, get_or-map}
 use Rattle.std.proofs.lemmas.List.Elements.{All-from_recursion, All-contains}
+use Rattle.std.proofs.lemmas.Simd.{map-map}
 use Rattle.dns_data.specs.Name.{Labels}
 use Rattle.dns_data.specs.TypeSet.{has_bit}
 use Rattle.dns_data.specs.declared.rr_type.RrType.{RrType}
@@ -13,17 +13,16 @@ use Rattle.net_model.specs.Lookup.{found}
 use Rattle.net_model.specs.Nearest.{nearest, nearest_of, server_named, server_names, is_configured}
 use Rattle.net_model.specs.Step as step
 use Rattle.net_model.specs.Step.{Setting, may_follow, delegated, referred, after_lookup, in_zone, next}
-use Rattle.net_model.specs.declared.config.Config.{Config}
 use Rattle.net_model.specs.declared.config.Server.{Server}
 use Rattle.net_model.specs.declared.config.Zone.{Zone}
 use Rattle.net_model.specs.declared.place.Cut.{Cut}
 use Rattle.net_model.specs.declared.walk.Hop.TheVariants.{Refer}
-use Rattle.net_model.specs.declared.walk.Leaf.TheVariants.{Lame, NoAddress, Unhosted, Outside}
+use Rattle.net_model.specs.declared.walk.Leaf.TheVariants.{NoAddress, Unhosted, Outside}
 use Rattle.net_model.specs.declared.walk.State.{State}
 use Rattle.net_model.proofs.Followed.{names_follow_all}
 use Rattle.sym_query.specs.TypedFound.{AreApart, IsFoundFor, answers_type}
 use Rattle.sym_query.specs.declared.typed_found.TypedFound.{TypedFound}
-use Rattle.interp_graph.specs.Steps.{branch_of, fork_of, IsApart, IsFork, AreSplit, AreForks}
+use Rattle.interp_graph.specs.Steps.{fork_of, IsApart, AreForks}
 use Rattle.interp_graph.specs.declared.step.Fork.{Fork}
 use Rattle.interp_graph.proofs.ItemsByNumber.{pairs_from_images}
 
@@ -58,12 +57,8 @@ told_forks setting state types forks told same are =
     is_told : (fork : Fork) → Contains forks fork → Contains told (fork_of fork)
     is_told fork has = subst (λ (all : List Told). Contains all (fork_of fork)) same (map_has fork_of forks fork has)
 
-    twice : {A B C : Type 0} (g : B → C) (f : A → B) (xs : List A) → map (λ x. g (f x)) xs ≡ map g (map f xs)
-    twice g f [] = refl
-    twice g f (x ∷ xs) = ap (λ ys. g (f x) ∷ ys) (twice g f xs)
-
     sets : map (λ (fork : Fork). fork.types) forks ≡ map (λ (one : Told). one.0) told
-    sets = twice (λ (one : Told). one.0) fork_of forks ∙ ap (map (λ (one : Told). one.0)) same
+    sets = sym (map-map (λ (one : Told). one.0) fork_of forks) ∙ ap (map (λ (one : Told). one.0)) same
 
 -- a state whose server holds no zone for the name
 pub outside_told : (setting : Setting) (state : State) (types : List Bool) → None ≡ nearest_of setting.config state.server state.name
@@ -96,7 +91,7 @@ pub answers_told : (setting : Setting) (state : State) (types : List Bool) (zone
     → AreTold setting state types (map (told_of setting state zone.origin) answers)
 answers_told setting state types zone name answers near same apart together founds =
     record {
-      apart = subst (λ (sets : List (List Bool)). AllPairs IsApart sets) (twice (λ (one : Told). one.0) (told_of setting state zone.origin) answers)
+      apart = subst (λ (sets : List (List Bool)). AllPairs IsApart sets) (sym (map-map (λ (one : Told). one.0) (told_of setting state zone.origin) answers))
           (pairs_of_images (λ (answer : TypedFound). answer.types) IsApart answers apart);
       within = λ one has rtype typed.
           let from = from_map (told_of setting state zone.origin) answers one has in
@@ -113,10 +108,6 @@ answers_told setting state types zone name answers near same apart together foun
           (answered rtype (ap (λ (o : Told). has_bit o.0 rtype) from.2 ∙ typed) ∙ ap (λ (n : Labels). found zone n rtype) same)
           ∙ ap (in_zone setting rtype state) near);
     }
-  where
-    twice : {A B C : Type 0} (g : B → C) (f : A → B) (xs : List A) → map (λ x. g (f x)) xs ≡ map g (map f xs)
-    twice g f [] = refl
-    twice g f (x ∷ xs) = ap (λ ys. g (f x) ∷ ys) (twice g f xs)
 
 -- ---- referrals, with all configured servers followed
 

@@ -1,7 +1,6 @@
 -- What the single changes of the list of what is to be followed do.
-use Rattle.std.proofs.Common.{◌≡◌, ◌≢◌, ℕ, ◌+◌, ◌<◌, ◌≤◌, Bool, true, false, ◌||◌, List, [], ◌∷◌, ◌++◌, map, length, filter, get_or, Some, zero, suc, refl, sym, ap, ◌∙◌, subst, inl, inr, true≢false, arith, length-append}
+use Rattle.std.proofs.Common.{◌≡◌, ◌≢◌, ℕ, ◌+◌, ◌<◌, ◌≤◌, Bool, true, false, List, [], ◌∷◌, ◌++◌, length, filter, Some, zero, suc, refl, sym, ap, ◌∙◌, subst, inl, inr, true≢false, arith, length-append}
 use Rattle.std.specs.Prelude.{◌⊎◌, Contains, AllPairs, slice_get, set}
-use Rattle.std.specs.List.{sum_by}
 use Rattle.std.proofs.lemmas.Bool.{or_cases, or_left}
 use Rattle.std.proofs.lemmas.List.{length-set}
 use Rattle.std.proofs.lemmas.List.Elements.{Contains-append_left, Contains-append_right, Contains-append_cases}
@@ -14,11 +13,11 @@ use Rattle.dns_data.proofs.Membership.{none_in_nil, has_first, first_or_later}
 use Rattle.net_model.specs.Step.{Setting}
 use Rattle.net_model.specs.declared.walk.State.{State}
 use Rattle.interp_graph.specs.Drafts.{Awaits, Comes, AreDrafts, Grows, states_of, size_of, pair_count}
-use Rattle.interp_graph.specs.Work.{IsFresh, TakesTypes, IsWithin, IsSound, Waits, Advances, ComesTo, HasMoreComing, Numbered, Stays, Changes, Took, TooMany}
+use Rattle.interp_graph.specs.Work.{TakesTypes, IsWithin, Waits, ComesTo, HasMoreComing, Numbered, Took, TooMany}
 use Rattle.interp_graph.specs.declared.draft.Draft.{Draft}
 use Rattle.interp_graph.specs.declared.work.Work.{Work}
 use Rattle.interp_graph.proofs.Counts.{more_types, more_reached}
-use Rattle.interp_graph.proofs.Drafts.{grows_not, grows_twice, grows_behind, drafts_with_new, grows_in_place, takes_later, drafts_with_types}
+use Rattle.interp_graph.proofs.Drafts.{grows_not, grows_behind, drafts_with_new, grows_in_place, takes_later, drafts_with_types}
 use Rattle.interp_graph.proofs.ItemsByNumber.{from_pushed, in_front, pushed_there, from_set, set_there, set_elsewhere, pairs_from_images}
 
 -- what stands with one number is one

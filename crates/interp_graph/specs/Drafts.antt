@@ -1,5 +1,5 @@
 -- A graph in the making. The contracts of inner calls alone cite it.
-use Rattle.std.specs.Prelude.{◌≡◌, ◌≢◌, ◌⊎◌, ℕ, ◌<◌, ◌≤◌, Bool, true, false, List, length, map, Some, slice_get, Contains, AllPairs}
+use Rattle.std.specs.Prelude.{◌≡◌, ◌⊎◌, ℕ, Bool, true, false, List, length, map, Some, slice_get, Contains, AllPairs}
 use Rattle.std.specs.List.{AllZip, filter, sum_by}
 use Rattle.dns_data.specs.RrType.{types}
 use Rattle.dns_data.specs.TypeSet.{has_bit}

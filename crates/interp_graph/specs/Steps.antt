@@ -1,5 +1,5 @@
 -- What a state leads to, for some types at once. The contracts of inner calls alone cite it.
-use Rattle.std.specs.Prelude.{◌≡◌, ℕ, Bool, true, false, List, map, Contains, AllPairs}
+use Rattle.std.specs.Prelude.{◌≡◌, Bool, true, false, List, map, Contains, AllPairs}
 use Rattle.dns_data.specs.TypeSet.{has_bit}
 use Rattle.dns_data.specs.declared.rr_type.RrType.{RrType}
 use Rattle.net_model.specs.Step as step

@@ -1,10 +1,9 @@
-use Rattle.std.proofs.Common.{◌≡◌, ◌≤◌, List, length, map, refl, sym, ap, ◌∙◌, subst, inl, inr, arith}
+use Rattle.std.proofs.Common.{length, refl, sym, ap, ◌∙◌, subst, inl, inr, arith}
 use Rattle.name_rules.specs.SymName.{whole}
 use Rattle.net_model.specs.Nearest.{server_names}
-use Rattle.net_model.specs.Step.{Setting, following}
+use Rattle.net_model.specs.Step.{following}
 use Rattle.graph_form.specs.Graph.{PlainGraph, pairs_of}
 use Rattle.graph_form.specs.GraphOf.{IsExact, IsGraphOf}
-use Rattle.interp_graph.specs.Drafts.{AreDrafts, node_of}
 use Rattle.interp_graph.proofs.Built.{asked_short, no_drafts, none_at_first, still_await, drafts_there, more_there, graph_there, built_exact, built_few}
 use Rattle.interp_graph.proofs.NodePairs.{few_pairs}
 use Rattle.interp_graph.proofs.OpenNames.{stands_for, reaches_most}

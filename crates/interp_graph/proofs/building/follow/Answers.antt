@@ -1,7 +1,6 @@
-use Rattle.std.proofs.Common.{◌≡◌, ◌<◌, List, length, get_or, refl, subst, sym, ap, arith}
+use Rattle.std.proofs.Common.{◌≡◌, ◌<◌, List, length, get_or, refl, subst, sym, arith}
 use Rattle.net_model.specs.Step.{Setting}
 use Rattle.net_model.specs.declared.walk.State.{State}
-use Rattle.interp_graph.specs.Drafts.{AreDrafts}
 use Rattle.interp_graph.specs.Work.{Waits, AreForksAt}
 use Rattle.interp_graph.specs.Steps.{AreForks, IsFork}
 use Rattle.interp_graph.specs.declared.draft.Draft.{Draft}

@@ -1,4 +1,4 @@
-use Rattle.std.proofs.Common.{refl, ◌≡◌, [], ◌∷◌, List, ap, sym, subst}
+use Rattle.std.proofs.Common.{refl, ◌≡◌, [], ◌∷◌, List, subst}
 use Rattle.dns_data.proofs.Membership.{has_first}
 use Rattle.net_model.specs.Step as step
 use Rattle.net_model.specs.Step.{Setting}

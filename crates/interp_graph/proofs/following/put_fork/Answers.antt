@@ -1,8 +1,5 @@
-use Rattle.std.proofs.Common.{◌≡◌, refl, length, arith, ◌<◌, subst, sym}
-use Rattle.dns_data.specs.TypeSet.{has_bit}
-use Rattle.dns_data.specs.declared.rr_type.RrType.{RrType}
-use Rattle.interp_graph.specs.Work.{Waits}
-use Rattle.interp_graph.proofs.Arming.{advances_twice, put_sound, put_listed, put_done, put_others, put_advances, put_drafts, fork_comes, fork_made}
+use Rattle.std.proofs.Common.{refl, length, arith, ◌<◌}
+use Rattle.interp_graph.proofs.Arming.{advances_twice, put_sound, put_done, put_others, put_advances, put_drafts, fork_comes, fork_made}
 use Rattle.interp_graph.proofs.ForkSteps.{still_below}
 use Rattle.interp_graph.proofs.Passing.{passed_on}
 use Rattle.interp_graph.proofs.following.put_fork.Goals as goal

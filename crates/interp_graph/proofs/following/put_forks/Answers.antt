@@ -1,6 +1,4 @@
-use Rattle.std.proofs.Common.{◌≡◌, ◌<◌, [], List, length, refl, subst, sym, ◌∙◌, arith}
-use Rattle.interp_graph.specs.declared.step.Fork.{Fork}
-use Rattle.interp_graph.specs.Work.{SplitWaiting}
+use Rattle.std.proofs.Common.{◌<◌, length, refl, subst, sym, ◌∙◌, arith}
 use Rattle.interp_graph.proofs.ForkSteps.{ForksSoFar, forks_begin, now_below, forks_passed, forks_more, forks_end}
 use Rattle.interp_graph.proofs.Passing.{passed_on, none_left}
 use Rattle.interp_graph.proofs.following.put_forks.Goals as goal

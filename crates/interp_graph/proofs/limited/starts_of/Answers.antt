@@ -1,7 +1,6 @@
-use Rattle.std.proofs.Common.{◌≡◌, ◌<◌, ◌+◌, ℕ, List, length, get_or, take, sym, subst, arith, ap}
+use Rattle.std.proofs.Common.{◌+◌, ℕ, List, get_or, take, sym, subst}
 use Rattle.std.specs.List.{AllZip}
 use Rattle.std.proofs.lemmas.Option.{slice_get-get_or, get_or_from_slice_get}
-use Rattle.net_model.specs.declared.walk.State.{State}
 use Rattle.graph_form.specs.GraphOf.{HasState}
 use Rattle.interp_graph.proofs.Limiting.{start_below, zip_more_left}
 use Rattle.interp_graph.proofs.limited.starts_of.Goals as goal

@@ -1,7 +1,5 @@
-use Rattle.std.proofs.Common.{◌≡◌, ◌<◌, Some, List, length, get_or, refl, subst, sym, ap, arith}
+use Rattle.std.proofs.Common.{◌≡◌, ◌<◌, Some, List, length, get_or, refl, subst, arith}
 use Rattle.net_model.specs.Step.{Setting}
-use Rattle.net_model.specs.declared.walk.State.{State}
-use Rattle.interp_graph.specs.Drafts.{AreDrafts}
 use Rattle.interp_graph.specs.Restricted.{IsRestriction}
 use Rattle.interp_graph.specs.Work.{Waits, AreForksAt}
 use Rattle.interp_graph.specs.Steps.{AreSplit, IsFork}

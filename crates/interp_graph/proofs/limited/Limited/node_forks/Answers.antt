@@ -2,9 +2,9 @@ use Rattle.std.proofs.Common.{◌+◌, List, sym, subst, take}
 use Rattle.std.specs.Prelude.{Contains}
 use Rattle.std.specs.List.{AllZip}
 use Rattle.graph_form.specs.declared.node.Arm.{Arm}
+use Rattle.graph_form.proofs.Places.{item_there}
 use Rattle.interp_graph.specs.Restricted.{IsCutOf}
 use Rattle.interp_graph.specs.declared.step.Fork.{Fork}
-use Rattle.interp_graph.proofs.ItemsByNumber.{has_item}
 use Rattle.interp_graph.proofs.Limiting.{zip_more}
 use Rattle.interp_graph.proofs.Numbering.{item_is}
 use Rattle.interp_graph.proofs.limited.Limited.node_forks.Goals as goal
@@ -13,7 +13,7 @@ pub fork-requires : goal.fork-requires
 fork-requires c =
     c.requires c.arm-item.result
     (subst (λ (arms : List Arm). Contains arms c.arm-item.result) c.items-arm-items.ensures
-    (has_item c.items-arm-items.result.now c.loop-arm.arm-index c.arm-item.result
+    (item_there c.items-arm-items.result.now c.loop-arm.arm-index c.arm-item.result
     (item_is c.items-arm-items.result.now c.loop-arm.arm-index c.arm-item.result c.loop-arm-test.true c.arm-item.is)))
 
 pub loop-arm-preserved : goal.loop-arm-preserved

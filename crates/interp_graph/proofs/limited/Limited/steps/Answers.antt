@@ -1,8 +1,8 @@
 use Rattle.std.proofs.Common.{◌+◌, List, sym, subst, take}
 use Rattle.std.specs.List.{AllZip}
+use Rattle.graph_form.proofs.Places.{item_there}
 use Rattle.interp_graph.specs.Restricted.{Restricts}
 use Rattle.interp_graph.specs.declared.step.Step.{Step}
-use Rattle.interp_graph.proofs.ItemsByNumber.{has_item}
 use Rattle.interp_graph.proofs.Limiting.{zip_more}
 use Rattle.interp_graph.proofs.Numbering.{item_is}
 use Rattle.interp_graph.proofs.limited.Limited.steps.Goals as goal
@@ -10,7 +10,7 @@ use Rattle.interp_graph.proofs.limited.Limited.steps.Goals as goal
 pub step-requires : goal.step-requires
 step-requires c =
     c.requires c.branch-item.result
-    (has_item c.args.branches.now c.loop-branch.branch-index c.branch-item.result
+    (item_there c.args.branches.now c.loop-branch.branch-index c.branch-item.result
     (item_is c.args.branches.now c.loop-branch.branch-index c.branch-item.result c.loop-branch-test.true c.branch-item.is))
 
 pub loop-branch-preserved : goal.loop-branch-preserved

@@ -1,4 +1,4 @@
-use Rattle.std.proofs.Common.{◌<◌, ◌≤◌, length, refl, arith}
+use Rattle.std.proofs.Common.{◌<◌, length, refl, arith}
 use Rattle.interp_graph.specs.Work.{IsSound}
 use Rattle.interp_graph.proofs.Arming.{middle_within, middle_below, reached_passed, reached_sound, reached_advances, reached_still, reached_awaits, reached_drafts}
 use Rattle.interp_graph.proofs.Passing.{passed_on}

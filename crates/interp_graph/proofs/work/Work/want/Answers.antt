@@ -1,4 +1,4 @@
-use Rattle.std.proofs.Common.{◌≡◌, ◌+◌, ◌<◌, Bool, Some, not, refl, sym, ap, ◌∙◌, subst, inr, arith, length}
+use Rattle.std.proofs.Common.{◌≡◌, ◌+◌, ◌<◌, Some, not, refl, sym, ap, ◌∙◌, subst, inr, arith, length}
 use Rattle.std.specs.Prelude.{◌&&◌, slice_get}
 use Rattle.dns_data.specs.TypeSet.{has_bit}
 use Rattle.dns_data.specs.declared.rr_type.RrType.{RrType}

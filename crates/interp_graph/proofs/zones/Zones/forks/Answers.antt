@@ -1,11 +1,10 @@
-use Rattle.std.proofs.Common.{◌≡◌, [], Some, None, List, map, refl, sym, ap, ◌∙◌}
+use Rattle.std.proofs.Common.{◌≡◌, Some, None, List, map, ap, ◌∙◌}
 use Rattle.std.proofs.lemmas.List.{append-nil}
-use Rattle.std.specs.Prelude.{IfOk}
 use Rattle.std.proofs.lemmas.Result.{IfOk-weaker}
 use Rattle.net_model.specs.declared.config.Config.{Config}
 use Rattle.net_model.specs.declared.config.Zone.{Zone}
 use Rattle.net_model.specs.Nearest.{nearest_of}
-use Rattle.interp_graph.specs.Steps.{fork_of, AreForks}
+use Rattle.interp_graph.specs.Steps.{AreForks}
 use Rattle.interp_graph.specs.declared.step.Fork.{Fork}
 use Rattle.interp_graph.proofs.ToldForks.{told_of, told_forks, outside_told, answers_told}
 use Rattle.interp_graph.proofs.zones.Zones.forks.Goals as goal
