@@ -11,4 +11,5 @@ pub mod Passing
 pub mod Readings
 pub mod RowItems
 pub mod Saturating
+pub mod StandardFacts
 pub mod TargetLinks

@@ -15,18 +15,18 @@ use Rattle.query_classes.proofs.FreeLabels.{last_of, last_of_below}
 
 module _ (ground : Ground) (closed : IsClosed ground) (above : Labels) (live : List ℕ) (of : IsLiveSet ground above live) where
   -- the name is one label below another
-  abbrev is_below : Labels → Labels → Bool
+  abbrev pub is_below : Labels → Labels → Bool
   is_below base name = name_eq name (base ++ last_of name ∷ [])
 
   -- the names one label below, of the base names one label below a live one
-  abbrev taken_at : ℕ → List Labels
+  abbrev pub taken_at : ℕ → List Labels
   taken_at place = map (λ (name : Labels). above ++ last_of name ∷ []) (filter (is_below (name_at ground.names place)) ground.names)
 
-  abbrev taken : List Labels
+  abbrev pub taken : List Labels
   taken = flat_map taken_at live
 
   -- they are named, and so taken
-  taken_named : (label : List ℕ) → Contains taken (above ++ label ∷ []) → IsNamed ground (above ++ label ∷ [])
+  pub taken_named : (label : List ℕ) → Contains taken (above ++ label ∷ []) → IsNamed ground (above ++ label ∷ [])
   taken_named label has =
       let (place, among, at) = from_flat_map taken_at live (above ++ label ∷ []) has in
       let (name, passes, same) =
@@ -42,7 +42,7 @@ module _ (ground : Ground) (closed : IsClosed ground) (above : Labels) (live : L
       of_place : (place : ℕ) → Contains live place → place < length ground.names
       of_place place (k, within, is) = subst (λ (p : ℕ). p < length ground.names) is (of.within k place within)
 
-  named_taken : (label : List ℕ) → IsNamed ground (above ++ label ∷ []) → Contains taken (above ++ label ∷ [])
+  pub named_taken : (label : List ℕ) → IsNamed ground (above ++ label ∷ []) → Contains taken (above ++ label ∷ [])
   named_taken label named =
       let (base, (there, reads), has) = named_next ground closed above label named in
       let (place, below, is) = place_among ground.names base there in
@@ -56,6 +56,13 @@ module _ (ground : Ground) (closed : IsClosed ground) (above : Labels) (live : L
       (subst (λ (l : List ℕ). Contains (taken_at place) (above ++ l ∷ [])) own
       (map_has (λ (n : Labels). above ++ last_of n ∷ []) (filter (is_below (name_at ground.names place)) ground.names) name
       (filter_has (is_below (name_at ground.names place)) ground.names name has passes)))
+
+  -- each has one label more
+  pub taken_one : (name : Labels) → Contains taken name → (label : List ℕ) × (name ≡ above ++ label ∷ [])
+  taken_one name has =
+      let (place, among, at) = from_flat_map taken_at live name has in
+      let (other, passes, same) = from_map (λ (n : Labels). above ++ last_of n ∷ []) (filter (is_below (name_at ground.names place)) ground.names) name at in
+      (last_of other, sym same)
 
   -- the labels that are free in these names are free
   pub first_free : (label : List ℕ) → IsLabel label → (IsNamed ground (above ++ label ∷ []) → ⊥) → (first : List ℕ) × IsFirstUnnamed ground above first

@@ -1,3 +1,4 @@
+pub mod ChildLists
 pub mod ClassLaws
 pub mod FirstFree
 pub mod FreeLabels
