@@ -1,1 +1,9 @@
+pub mod Candidates
 pub mod Carrying
+pub mod Decided
+pub mod FaultsExist
+pub mod FirstFound
+pub mod InForce
+pub mod OneVerdict
+pub mod ShowsDecided
+pub mod VerdictsExist

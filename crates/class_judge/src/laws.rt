@@ -1,10 +1,14 @@
-//! What the faults of representatives tell of all queries.
+//! What the faults of representatives tell of all queries, and that classes have verdicts.
 
-ghost use Rattle.std.specs.Prelude.{◌↔◌};
+ghost use Rattle.std.specs.Prelude.{◌≡◌, ◌↔◌, ℕ};
 ghost use Rattle.class_judge.specs.Carried.{IsWhole, SomeClassShows};
+ghost use Rattle.class_judge.specs.Verdict.{IsClassVerdict};
+ghost use Rattle.class_judge.specs.declared.verdict.ClassVerdict.{ClassVerdict};
+ghost use Rattle.dns_data.specs.Name.{Labels, IsName};
 ghost use Rattle.graph_form.specs.Report.{Subject, IsShown};
 ghost use Rattle.label_graph.specs.Pairs.{AreSame};
 ghost use Rattle.net_model.specs.Reading.{ground_of};
+ghost use Rattle.net_model.specs.declared.config.Config.{Config};
 ghost use Rattle.net_model.specs.declared.fault.Fault.{Fault};
 
 use label_graph::LabelGraph;
@@ -18,3 +22,17 @@ pub fn carrying(graph: &LabelGraph)
 {
     partition(graph);
 }
+
+/// Where the graph has them, each name has a verdict as the representative of a class.
+pub fn verdicts_exist(graph: &LabelGraph)
+    ensures { (config : Config) (rewrites states : ℕ) → AreSame graph.now (ground_of config)
+        → (query : Labels) → IsName query → (verdict : ClassVerdict) × IsClassVerdict config rewrites states query verdict }
+{
+    partition(graph);
+}
+
+/// And it has one.
+pub fn one_verdict()
+    ensures { (config : Config) (rewrites states : ℕ) (query : Labels) (a b : ClassVerdict)
+        → IsClassVerdict config rewrites states query a → IsClassVerdict config rewrites states query b → a ≡ b }
+{}

@@ -5,3 +5,6 @@
 #![tactic(auto)]
 
 pub mod laws;
+mod verdict;
+
+pub use verdict::{ClassVerdict, NameVerdict};
