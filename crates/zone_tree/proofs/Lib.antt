@@ -1,6 +1,7 @@
 mod ByText
 mod Descents
 mod Existing
+mod Merged
 mod NameData
 mod NamesBelow
 mod Pairs

@@ -1,6 +1,6 @@
 //! Data and name servers in their order, each once.
 
-ghost use Rattle.std.specs.Prelude.{◌≡◌, map, IfOk, OnOk};
+ghost use Rattle.std.specs.Prelude.{◌≡◌, map, [], IfOk, OnOk};
 ghost use Rattle.std.specs.List.{filter, AllByRecursion};
 ghost use Rattle.dns_data.specs.DataText.{data_text};
 ghost use Rattle.dns_data.specs.Name.{name_cmp};
@@ -8,6 +8,7 @@ ghost use Rattle.dns_data.specs.Rdata.{has_type};
 ghost use Rattle.dns_data.specs.declared.rr_type.RrType.TheVariants as types;
 ghost use Rattle.net_model.specs.Order.{in_order, put_in_order};
 ghost use Rattle.net_model.specs.Zone.{data_cmp};
+ghost use Rattle.zone_tree.specs.Merged.{put_each};
 ghost use Rattle.zone_tree.specs.Records.{targets_of};
 
 use crate::records::{is_of_type, target_of};
@@ -22,8 +23,10 @@ pub(crate) fn servers_in_order<'a>(
 ) -> Result<Vec<&'a Name>, NoMemory>
     ensures { IfOk result (λ servers. map (λ server. server.now) servers.items ≡ in_order name_cmp (targets_of (map (λ rdata. rdata.now) all.now) types.Ns)) }
 {
-    let servers = server_set(alloc, all)?;
-    Ok(servers.into_iter().collect(alloc)?)
+    let set = server_set(alloc, all)?;
+    let mut servers: Vec<&'a Name> = set.into_iter().collect(alloc)?;
+    servers.shrink_to_fit();
+    Ok(servers)
 }
 
 /// The names of the name servers. The last data are looked at first.
@@ -53,7 +56,9 @@ pub(crate) fn set_in_order(
     ensures { IfOk result (λ set. set ≡ in_order data_cmp (filter (has_type rtype) (map (λ rdata. rdata.now) all.now))) }
 {
     let set = text_map(alloc, all, rtype)?;
-    Ok(List::from_vec(set.into_values().collect(alloc)?))
+    let mut data: Vec<Rdata> = set.into_values().collect(alloc)?;
+    data.shrink_to_fit();
+    Ok(List::from_vec(data))
 }
 
 /// The data of a type by their texts. The last data are looked at first, and stay where others have their text.
@@ -106,4 +111,36 @@ fn text_of(alloc: Global, rdata: &Rdata) -> Result<Octets, NoMemory>
         }
         None => Ok(Octets::new()),
     }
+}
+
+/// The data of both sets, which are in the order of their texts, in that order, each once.
+pub(crate) fn merged(
+    alloc: Global,
+    some: &[Rdata],
+    others: &[Rdata],
+) -> Result<List<Rdata>, NoMemory>
+    ensures { IfOk result (λ all. all ≡ put_each data_cmp some.now (put_each data_cmp others.now [])) }
+{
+    let mut set = BTreeMap::new(alloc);
+    put_each(alloc, &mut set, others)?;
+    put_each(alloc, &mut set, some)?;
+    Ok(List::from_vec(set.into_values().collect(alloc)?))
+}
+
+/// Puts equal data in their places, the last first, unless others have their text.
+fn put_each(
+    alloc: Global,
+    set: &mut BTreeMap<Octets, Rdata>,
+    items: &[Rdata],
+) -> Result<(), NoMemory>
+    requires { AllByRecursion (λ entry. entry.0 ≡ data_text entry.1) set.old.entries }
+    ensures keyed { OnOk result (AllByRecursion (λ entry. entry.0 ≡ data_text entry.1) set.new.entries) }
+    ensures put { OnOk result (map (λ entry. entry.1) set.new.entries ≡ put_each data_cmp items.now (map (λ entry. entry.1) set.old.entries)) }
+{
+    let mut left = items.len();
+    while left > 0 {
+        left -= 1;
+        put_by_text(alloc, set, &items[left])?;
+    }
+    Ok(())
 }

@@ -122,6 +122,7 @@ fn sets_of(alloc: Global, all: &[&Rdata]) -> Result<Vec<Set>, NoMemory>
             sets.push(Set { rtype, data })?;
         }
     }
+    sets.shrink_to_fit();
     Ok(sets)
 }
 

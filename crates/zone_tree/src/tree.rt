@@ -9,15 +9,16 @@ ghost use Rattle.dns_data.specs.declared.rr_type.RrType.{RrType};
 ghost use Rattle.dns_data.specs.declared.rr_type.RrType.TheVariants as rr_type;
 ghost use Rattle.net_model.specs.Lookup.{first_name};
 ghost use Rattle.net_model.specs.Order.{in_order};
-ghost use Rattle.net_model.specs.Zone.{exists_in, owns, data_at, data_cmp, targets_at, ns_names};
+ghost use Rattle.net_model.specs.Zone.{exists_in, owns, data_at, data_cmp, targets_at, ns_names, addresses};
 ghost use Rattle.zone_tree.specs.Records.{data_of, Tells};
 ghost use Rattle.zone_tree.specs.Tree.{IsNode, name_of};
 
 use crate::names::existing_names;
 use crate::node::NodeId;
+use crate::order::merged;
 use crate::places::{data_by_name, place_among, place_below};
 use crate::records::{Records, all_records, data_in};
-use dns_data::{Label, Labels, Name, NoMemory, Rdata, RrType, TypeSet};
+use dns_data::{Label, Labels, List, Name, NoMemory, Rdata, RrType, TypeSet};
 use net_model::Zone;
 use std::alloc::Global;
 use std::marker::Model;
@@ -139,6 +140,18 @@ impl<'a> Tree<'a> {
         ensures { result.now ≡ in_order data_cmp (data_at self.now.zone (name_of self.now node) t) }
     {
         data_in(self.records(node).sets.as_slice(), t)
+    }
+
+    /// The addresses of both types that a node's name owns, in the order of their texts, each once.
+    pub fn addresses(&self, alloc: Global, node: NodeId) -> Result<List<Rdata>, NoMemory>
+        requires { IsNode self.now node }
+        ensures { IfOk result (λ all. all ≡ addresses self.now.zone (name_of self.now node)) }
+    {
+        merged(
+            alloc,
+            self.set(node, RrType::A),
+            self.set(node, RrType::Aaaa),
+        )
     }
 
     /// The target of the CNAME record that a node's name owns, the first in file order.

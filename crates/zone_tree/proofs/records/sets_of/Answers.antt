@@ -53,7 +53,8 @@ returns c = λ rtype.
     let sets = c.loop-rtype.sets.items in
     let all = c.args.all.now in
     ap (λ (xs : List Set). data_in xs rtype)
-    (sym (append-nil sets)
+    (c.shrink_to_fit.ensures.items
+    ∙ sym (append-nil sets)
     ∙ ap (λ (some : List RrType). sets ++ sets_from (set_among all) some) (sym (drop_all c.loop-rtype.rtype-index types c.loop-rtype-test.false))
     ∙ c.loop-rtype.invariant)
     ∙ data_in_all (set_among all) rtype
