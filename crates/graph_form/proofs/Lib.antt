@@ -16,3 +16,5 @@ pub mod WalksLed
 pub mod TwiceEqual
 pub mod ReachedNodes
 pub mod FirstTypes
+pub mod ReachedHops
+pub mod Verdicts

@@ -1,7 +1,7 @@
 -- In an exact graph of a query each branch of a node with a type stands on a walk with this type, and each walk ends by one.
 use Rattle.std.proofs.Common.{◌≡◌, ℕ, ◌<◌, List, [], ◌∷◌, ◌++◌, get_or, refl, sym, ap, ◌∙◌, subst, inl, inr, Some, None}
 use Rattle.std.specs.Prelude.{◌⊎◌, Contains, slice_get, Option, option_map, option_and_then}
-use Rattle.std.specs.Option.{unwrap_or}
+use Rattle.std.specs.Option.{option_to_list, unwrap_or}
 use Rattle.std.proofs.lemmas.Bool.{cases_order}
 use Rattle.std.proofs.lemmas.Option.{slice_get_within, unwrap_or-slice_get}
 use Rattle.dns_data.specs.Name.{Labels}
@@ -44,6 +44,8 @@ module _ (graph : PlainGraph) (rtype : RrType) where
     pub leaf_is : walk.leaf ≡ leaf
     pub before : List State
     pub states_are : walk.states ≡ before ++ node.state ∷ []
+    pub hops_before : List Hop
+    pub hops_are : walk.hops ≡ hops_before ++ option_to_list hop
 
   end_of_rest : (numbers : List ℕ) (at : ℕ) (walk : Walk) → path_from graph rtype numbers at ≡ Some walk → EndOf walk
   end_of_rest [] at walk e = cc
@@ -60,6 +62,8 @@ module _ (graph : PlainGraph) (rtype : RrType) where
           leaf_is = end.leaf_is;
           before = on.node.state ∷ end.before;
           states_are = ap (λ (all : List State). on.node.state ∷ all) end.states_are;
+          hops_before = on.hop ∷ end.hops_before;
+          hops_are = ap (λ (all : List Hop). on.hop ∷ all) end.hops_are;
         }
 
     ends_here : (end : EndsSo graph rtype numbers at number walk) → EndOf (ended end.node.state end.hop end.leaf)
@@ -74,6 +78,8 @@ module _ (graph : PlainGraph) (rtype : RrType) where
           leaf_is = refl;
           before = [];
           states_are = refl;
+          hops_before = [];
+          hops_are = refl;
         }
 
     by : GoesOn graph rtype numbers at number walk ⊎ EndsSo graph rtype numbers at number walk
@@ -211,6 +217,8 @@ module _ (graph : PlainGraph) (rtype : RrType) where
       pub leaf_is : walk.leaf ≡ leaf
       pub before : List State
       pub states_are : walk.states ≡ before ++ node.state ∷ []
+      pub hops_before : List Hop
+      pub hops_are : walk.hops ≡ hops_before ++ option_to_list hop
 
     pub walk_by : (at number : ℕ) (node : Node) (hop : Option Hop) (leaf : Leaf) → HasBranch graph rtype at number node (End hop leaf) → WalkBy node hop leaf
     walk_by at number node hop leaf has =
@@ -225,6 +233,8 @@ module _ (graph : PlainGraph) (rtype : RrType) where
           leaf_is = refl;
           before = to.states;
           states_are = refl;
+          hops_before = to.hops;
+          hops_are = refl;
         }
 
     -- the branch by which a walk of the query ends

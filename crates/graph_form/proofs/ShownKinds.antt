@@ -95,11 +95,11 @@ is_behind_it cut hop e = ap (is_behind cut) e ∙ cut_itself cut
 
 -- ---- the last of a list
 
-none_is_more : {A : Type 0} (xs : List A) (x : A) → [] ≡ xs ++ x ∷ [] → ⊥
+pub none_is_more : {A : Type 0} (xs : List A) (x : A) → [] ≡ xs ++ x ∷ [] → ⊥
 none_is_more [] x e = cc
 none_is_more (y ∷ xs) x e = cc
 
-one_is_last : {A : Type 0} (xs : List A) (x y : A) → y ∷ [] ≡ xs ++ x ∷ [] → y ≡ x
+pub one_is_last : {A : Type 0} (xs : List A) (x y : A) → y ∷ [] ≡ xs ++ x ∷ [] → y ≡ x
 one_is_last [] x y e = cc
 one_is_last (z ∷ xs) x y e =
     let none : [] ≡ xs ++ x ∷ [] = cc in
@@ -219,7 +219,7 @@ module _ (graph : PlainGraph) (rtype : RrType) where
 
   -- the last referral, and the leaf, in a graph of a query
   module _ (setting : Setting) (query : Labels) (is : IsGraphOf setting query graph) where
-    stopped_behind : (at number : ℕ) (node : Node) (leaf : Leaf) → HasBranch graph rtype at number node (End None leaf) → is_stopped leaf ≡ true → ⊥
+    pub stopped_behind : (at number : ℕ) (node : Node) (leaf : Leaf) → HasBranch graph rtype at number node (End None leaf) → is_stopped leaf ≡ true → ⊥
     stopped_behind at number node leaf has stopped =
         let told = told_step setting query graph rtype is at number node (End None leaf) has in
         let branch = at_place StopsBehindHop (next setting rtype node.state) number told.0 (next_stops setting node.state rtype) told.1 in

@@ -1,21 +1,17 @@
 -- The faults of the ends of a graph, as they are collected: which ends they are of.
-use Rattle.std.proofs.Common.{◌≡◌, ℕ, ◌<◌, Bool, true, false, List, [], get_or, refl, sym, ap, ◌∙◌, subst, inl, inr, Some, None, true≢false}
-use Rattle.std.specs.Prelude.{AllPairs, Contains, slice_get, Option, option_map}
+use Rattle.std.proofs.Common.{◌≡◌, ℕ, Bool, List, [], refl, sym, ap, ◌∙◌, subst, inl, inr, Some, None}
+use Rattle.std.specs.Prelude.{Contains, slice_get, Option, option_map}
 use Rattle.std.specs.List.{find, flat_map}
-use Rattle.std.specs.Option.{option_map_or, option_to_list, unwrap_or}
-use Rattle.std.proofs.lemmas.Bool.{cases_order}
-use Rattle.std.proofs.lemmas.Option.{slice_get_within, unwrap_or-slice_get}
+use Rattle.std.specs.Option.{option_map_or, option_to_list}
 use Rattle.dns_data.specs.RrType.{types}
 use Rattle.dns_data.specs.TypeSet.{has_bit}
 use Rattle.dns_data.specs.declared.rr_type.RrType.{RrType}
 use Rattle.dns_data.proofs.Membership.{none_in_nil, has_first, first_or_later, flat_map_has, from_flat_map}
-use Rattle.dns_data.proofs.Searches.{found_there, find_some}
-use Rattle.graph_form.specs.Graph.{HasBranch, PlainGraph, arm_of}
+use Rattle.graph_form.specs.Graph.{PlainGraph}
 use Rattle.graph_form.specs.declared.node.Arm.{Arm}
 use Rattle.graph_form.specs.declared.node.Branch.{Branch}
 use Rattle.graph_form.specs.declared.node.Node.{Node}
 use Rattle.graph_form.specs.declared.report.Seen.{Seen}
-use Rattle.graph_form.proofs.Paths.{same_item}
 use Rattle.graph_form.proofs.Places.{item_there, place_of_item}
 use Rattle.net_model.specs.declared.fault.Fault.{Fault}
 use Rattle.rewrite_checks.specs.Ends.{arm_faults, branch_faults, end_fault, node_faults, with_type}
@@ -85,51 +81,3 @@ module _ (represents : Bool) (graph : PlainGraph) where
       (flat_map_has (branch_faults represents node.state rtype) arm.branches branch (with_type rtype fault) has_branch one) in
       flat_map_has (node_faults represents) graph.nodes node (with_type rtype fault) (item_there graph.nodes at node here)
       (flat_map_has (arm_faults represents node.state) node.arms arm (with_type rtype fault) has_arm all)
-
--- ---- the arm for a type
-
--- two items of a list at different places
-pairs_at : {X : Type 0} (R : X → X → Type 0) (xs : List X) → AllPairs R xs → (i j : ℕ) (a b : X) → slice_get xs i ≡ Some a → slice_get xs j ≡ Some b
-    → i < j → R a b
-pairs_at {X = X} R xs all i j a b is_a is_b less =
-    subst (λ x. R x b) (item_is i a is_a) (subst (λ y. R (get_or xs i a) y) (item_is j b is_b) (all i j a less (slice_get_within xs j b is_b)))
-  where
-    item_is : (k : ℕ) (x : X) → slice_get xs k ≡ Some x → get_or xs k a ≡ x
-    item_is k x e = sym (unwrap_or-slice_get xs k a) ∙ ap (λ found. unwrap_or found a) e
-
--- arms are apart in their types
-abbrev pub Apart : Arm → Arm → Type 0
-Apart a b = (t : RrType) → has_bit a.types t ≡ true → has_bit b.types t ≡ false
-
--- where they are, one that has a type is the arm for it
-pub one_arm : (node : Node) (arm : Arm) (rtype : RrType)
-    → AllPairs (λ a b. (t : RrType) → has_bit a.types t ≡ true → has_bit b.types t ≡ false) node.arms
-    → Contains node.arms arm → has_bit arm.types rtype ≡ true → arm_of node rtype ≡ Some arm
-one_arm node arm rtype apart has typed =
-    let found = find_some (λ (a : Arm). has_bit a.types rtype) node.arms arm has typed in
-    let other = found_there (λ (a : Arm). has_bit a.types rtype) node.arms found.0 found.1 in
-    let one = place_of_item node.arms arm has in
-    let two = place_of_item node.arms found.0 other.0 in
-    found.1 ∙ ap (λ (a : Arm). Some a) (same one.0 two.0 found.0 one.1 two.1 other.1)
-  where
-    same : (i j : ℕ) (b : Arm) → slice_get node.arms i ≡ Some arm → slice_get node.arms j ≡ Some b → has_bit b.types rtype ≡ true → b ≡ arm
-    same i j b is_arm is_b also =
-        elim (cases_order i j) [
-          | inl equal ↦ same_item (slice_get node.arms j) b arm is_b (ap (slice_get node.arms) (sym equal) ∙ is_arm)
-          | inr other ↦ elim other [
-            | inl less ↦ absurd (true≢false (sym also ∙ pairs_at Apart node.arms apart i j arm b is_arm is_b less rtype typed))
-            | inr more ↦ absurd (true≢false (sym typed ∙ pairs_at Apart node.arms apart j i b arm is_b is_arm more rtype also))
-          ]
-        ]
-
--- so its branches are those of the node for the type
-pub branch_for : (graph : PlainGraph) (at : ℕ) (node : Node) (arm : Arm) (branch : Branch) (rtype : RrType) → slice_get graph.nodes at ≡ Some node
-    → arm_of node rtype ≡ Some arm → Contains arm.branches branch → (number : ℕ) × HasBranch graph rtype at number node branch
-branch_for graph at node arm branch rtype here is_arm has =
-    let place = place_of_item arm.branches branch has in (
-      place.0,
-      record {
-        here = here;
-        there = ap (λ found. slice_get (option_map_or (λ (a : Arm). a.branches) found []) place.0) is_arm ∙ place.1;
-      },
-    )

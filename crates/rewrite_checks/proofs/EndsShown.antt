@@ -1,5 +1,5 @@
 -- The ends of a graph of a query show their faults, and each fault of an end is shown by one.
-use Rattle.std.proofs.Common.{◌≡◌, ℕ, ◌≤◌, Bool, true, false, List, [], ◌∷◌, ◌++◌, refl, sym, ap, ◌∙◌, subst, Some, None, true≢false}
+use Rattle.std.proofs.Common.{◌≡◌, ℕ, ◌≤◌, Bool, true, false, List, [], ◌∷◌, refl, sym, ap, ◌∙◌, subst, Some, None, true≢false}
 use Rattle.std.specs.Prelude.{Contains, Option, option_map, if◌then◌else◌}
 use Rattle.std.specs.List.{AllByRecursion, find, flat_map}
 use Rattle.dns_data.specs.Name.{Labels}
@@ -16,6 +16,7 @@ use Rattle.graph_form.specs.declared.report.Seen.{Seen}
 use Rattle.graph_form.proofs.NoCircle.{OfArm, of_arm}
 use Rattle.graph_form.proofs.Places.{item_there}
 use Rattle.graph_form.proofs.ReachedNodes.{EndOf, WalkBy, end_of_walk, walk_by}
+use Rattle.graph_form.proofs.Verdicts.{branch_for, one_arm, one_last}
 use Rattle.net_model.specs.Class.{IsRepresentative}
 use Rattle.net_model.specs.Reading.{ground_of}
 use Rattle.net_model.proofs.ClassTails.{one_class}
@@ -33,19 +34,7 @@ use Rattle.net_model.specs.declared.walk.State.{State}
 use Rattle.net_model.specs.declared.walk.Walk.{Walk}
 use Rattle.rewrite_checks.specs.Ends.{end_fault, leaf_fault, node_faults, with_type}
 use Rattle.rewrite_checks.specs.Rewrites.{IsGraphFor}
-use Rattle.rewrite_checks.proofs.Candidates.{branch_for, from_candidates, is_candidate, one_arm}
-
--- a list that ends isn't empty
-none_is_more : {A : Type 0} (xs : List A) (x : A) → [] ≡ xs ++ x ∷ [] → ⊥
-none_is_more [] x e = cc
-none_is_more (y ∷ xs) x e = cc
-
--- two ways to say the last of a list
-pub one_last : {A : Type 0} (xs ys : List A) (x y : A) → xs ++ x ∷ [] ≡ ys ++ y ∷ [] → x ≡ y
-one_last [] [] x y e = cc
-one_last [] (z ∷ ys) x y e = let none : [] ≡ ys ++ y ∷ [] = cc in absurd (none_is_more ys y none)
-one_last (z ∷ xs) [] x y e = let none : [] ≡ xs ++ x ∷ [] = cc in absurd (none_is_more xs x none)
-one_last (w ∷ xs) (z ∷ ys) x y e = let rest : xs ++ x ∷ [] ≡ ys ++ y ∷ [] = cc in one_last xs ys x y rest
+use Rattle.rewrite_checks.proofs.Candidates.{from_candidates, is_candidate}
 
 -- the fault is told by one end
 abbrev pub OfEnd : Fault → Type 0

@@ -1,4 +1,3 @@
-pub mod Putting
 pub mod Candidates
 pub mod EndsShown
 pub mod AnswersShown

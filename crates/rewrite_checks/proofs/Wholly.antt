@@ -1,19 +1,17 @@
 -- What was collected, each with its first type, are the faults that the query shows.
-use Rattle.std.proofs.Common.{◌≡◌, ◌≤◌, Bool, true, List, [], ◌∷◌, ◌++◌, map, refl, sym, ap, ◌∙◌, subst, inl, inr, arith}
-use Rattle.std.specs.Prelude.{◌⊎◌, AllPairs, Contains}
-use Rattle.std.specs.List.{AllByRecursion, flat_map}
-use Rattle.std.specs.declared.cmp.Ordering.TheVariants.{Less, Equal}
+use Rattle.std.proofs.Common.{◌≡◌, Bool, true, List, [], ◌∷◌, ◌++◌, refl, sym, ap, ◌∙◌, subst, inl, inr, arith}
+use Rattle.std.specs.Prelude.{◌⊎◌, Contains}
+use Rattle.std.specs.List.{flat_map}
 use Rattle.std.proofs.lemmas.List.Elements.{Contains-append_cases, Contains-append_left, Contains-append_right}
 use Rattle.dns_data.specs.Name.{Labels}
-use Rattle.dns_data.specs.RrType.{number_of, types}
+use Rattle.dns_data.specs.RrType.{types}
 use Rattle.dns_data.specs.declared.rr_type.RrType.{RrType}
-use Rattle.dns_data.proofs.Membership.{none_in_nil, has_first, has_later, first_or_later, map_has, pairs_first, pairs_rest}
+use Rattle.dns_data.proofs.Membership.{none_in_nil, has_first, first_or_later}
 use Rattle.graph_form.specs.Graph.{PlainGraph}
 use Rattle.graph_form.specs.Verdict.{AreFirstTypes, AreShownOf, IsCovered}
 use Rattle.graph_form.specs.declared.report.Seen.{Seen}
-use Rattle.graph_form.proofs.FirstTypes.{fault_itself}
 use Rattle.graph_form.proofs.Reached.{every_type}
-use Rattle.net_model.specs.FaultOrder.{fault_cmp}
+use Rattle.graph_form.proofs.Verdicts.{all_shown_of}
 use Rattle.net_model.specs.Shown.{Shows, with_sets}
 use Rattle.net_model.specs.Step.{Setting}
 use Rattle.net_model.specs.declared.class.Class.{Class}
@@ -25,39 +23,8 @@ use Rattle.rewrite_checks.specs.Rewrites.{IsGraphFor, is_of_rewrites}
 use Rattle.rewrite_checks.proofs.AnswersShown.{differ_shown, shown_differ}
 use Rattle.rewrite_checks.proofs.EndsShown.{OfEnd, candidate_of_end, candidate_shown, shown_collected}
 
--- what holds of each item holds along the list
-along : {X : Type 0} (P : X → Type 0) (xs : List X) → ((x : X) → Contains xs x → P x) → AllByRecursion P xs
-along P [] each = tt
-along P (x ∷ xs) each = (each x (has_first x xs), along P xs (λ y has. each y (has_later x xs y has)))
-
--- ---- one entry a fault
-
--- the fault comes before the other's
-abbrev Rises : Seen → Seen → Type 0
-Rises a b = fault_cmp a.fault b.fault ≡ Less
-
--- two entries with one fault are one, where faults rise
-one_entry : (shown : List Seen) → AllPairs (λ a b. fault_cmp a.fault b.fault ≡ Less) shown → (a b : Seen) → Contains shown a → Contains shown b
-    → a.fault ≡ b.fault → a ≡ b
-one_entry [] ordered a b has_a has_b same = absurd (none_in_nil a has_a)
-one_entry (x ∷ xs) ordered a b has_a has_b same = by (first_or_later x xs a has_a) (first_or_later x xs b has_b) (λ c d has_c has_d equal. one_entry xs (pairs_rest Rises x xs ordered) c d has_c has_d equal) where
-  never : (c : Seen) → Contains xs c → x.fault ≡ c.fault → ⊥
-  never c has equal =
-      let less : fault_cmp x.fault c.fault ≡ Less = pairs_first Rises x xs ordered c has in
-      let tie : fault_cmp x.fault c.fault ≡ Equal = ap (fault_cmp x.fault) (sym equal) ∙ fault_itself x.fault in
-      cc
-
-  by : (x ≡ a) ⊎ Contains xs a → (x ≡ b) ⊎ Contains xs b → ((c d : Seen) → Contains xs c → Contains xs d → c.fault ≡ d.fault → c ≡ d) → a ≡ b
-  by (inl is_a) (inl is_b) rest = sym is_a ∙ is_b
-  by (inl is_a) (inr later) rest = absurd (never b later (ap (λ (s : Seen). s.fault) is_a ∙ same))
-  by (inr later) (inl is_b) rest = absurd (never a later (ap (λ (s : Seen). s.fault) is_b ∙ sym same))
-  by (inr later) (inr also) rest = rest a b later also same
-
 module _ (setting : Setting) (query : Labels) (class : Class) (represents : Bool) (graph : PlainGraph) (for : IsGraphFor setting query class represents graph)
     (seen shown : List Seen) (puts : PutsAnswers class graph types (flat_map (node_faults represents) graph.nodes) seen) (firsts : AreFirstTypes seen shown) where
-  Shown : RrType → Fault → Type 0
-  Shown rtype fault = Shows (with_sets setting) query rtype fault
-
   of_rewrites : (fault : Fault) → OfEnd fault → is_of_rewrites fault ≡ true
   of_rewrites (faults.Limit place) of = refl
   of_rewrites (faults.Blackhole place) of = refl
@@ -105,33 +72,10 @@ module _ (setting : Setting) (query : Labels) (class : Class) (represents : Bool
       }
   collected rtype fault kind shows = cc
 
-  -- so one entry covers it
-  covered : (rtype : RrType) (fault : Fault) → is_of_rewrites fault ≡ true → Shows (with_sets setting) query rtype fault
-      → IsCovered shown (record { fault = fault; rtype = rtype })
-  covered rtype fault kind shows =
-      let one = collected rtype fault kind shows in
-      let by = firsts.covers one.by one.has in
-      record { by = by.by; has = by.has; fault_is = by.fault_is ∙ one.fault_is; not_later = omega (arith, by.not_later, one.not_later) }
-
-  first : (entry : Seen) → Contains shown entry → (rtype : RrType) → Shows (with_sets setting) query rtype entry.fault → number_of entry.rtype ≤ number_of rtype
-  first entry has rtype shows =
-      let kind = (right entry (firsts.from entry has)).kind in
-      let one = covered rtype entry.fault kind shows in
-      let same : one.by ≡ entry = one_entry shown firsts.ordered one.by entry one.has has one.fault_is in
-      subst (λ (s : Seen). number_of s.rtype ≤ number_of rtype) same one.not_later
-
   -- these are the faults
   pub are_shown : AreShownOf (with_sets setting) query is_of_rewrites shown
   are_shown =
-      record {
-        ordered = firsts.ordered;
-        kinds = along (λ (s : Seen). is_of_rewrites s.fault ≡ true) shown (λ entry has. (right entry (firsts.from entry has)).kind);
-        each_shown = along (λ (s : Seen). Shows (with_sets setting) query s.rtype s.fault) shown (λ entry has. (right entry (firsts.from entry has)).shows);
-        first_type = along (λ (s : Seen). (rtype : RrType) → Shows (with_sets setting) query rtype s.fault → number_of s.rtype ≤ number_of rtype) shown first;
-        all_shown = λ fault rtype kind shows.
-            let one = covered rtype fault kind shows in
-            subst (Contains (map (λ (s : Seen). s.fault) shown)) one.fault_is (map_has (λ (s : Seen). s.fault) shown one.by one.has);
-      }
+      all_shown_of (with_sets setting) query is_of_rewrites seen shown firsts (λ entry has. (right entry has).kind) (λ entry has. (right entry has).shows) collected
 
 -- ---- the faults of types, put one after the other
 

@@ -1,3 +1,3 @@
 mod FirstsByName
-mod Glue
+pub mod Glue
 pub mod NearestZones

@@ -28,7 +28,7 @@ impl<'a> Hosts<'a> {
 
     /// Whether the name server has glue in the referral: it is at or below the zone cut, and the referring zone holds an
     /// address of it.
-    fn has_glue(&self, cut: &Cut) -> bool
+    pub fn has_glue(&self, cut: &Cut) -> bool
         requires { is_prefix cut.now.zone cut.now.cut ≡ true }
         ensures { result ≡ has_glue self.now cut.now }
     {

@@ -1,6 +1,6 @@
 use Rattle.std.proofs.lemmas.List.{take_all}
 use Rattle.rewrite_checks.specs.Ends.{branch_faults}
-use Rattle.rewrite_checks.proofs.Putting.{put_more, put_all}
+use Rattle.graph_form.proofs.Verdicts.{put_more, put_all}
 use Rattle.rewrite_checks.proofs.ends.put_branches.Goals as goal
 
 pub loop-branch-preserved : goal.loop-branch-preserved

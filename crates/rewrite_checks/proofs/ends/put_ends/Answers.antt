@@ -4,7 +4,7 @@ use Rattle.std.proofs.lemmas.List.{take_all}
 use Rattle.std.proofs.lemmas.Option.{unwrap_or-slice_get}
 use Rattle.graph_form.specs.declared.node.Node.{Node}
 use Rattle.rewrite_checks.specs.Ends.{node_faults}
-use Rattle.rewrite_checks.proofs.Putting.{put_more, put_all}
+use Rattle.graph_form.proofs.Verdicts.{put_more, put_all}
 use Rattle.rewrite_checks.proofs.ends.put_ends.Goals as goal
 
 pub loop-i-preserved : goal.loop-i-preserved

@@ -3,7 +3,7 @@ use Rattle.std.specs.List.{flat_map}
 use Rattle.std.proofs.lemmas.List.{take_all}
 use Rattle.graph_form.specs.declared.node.Arm.{Arm}
 use Rattle.rewrite_checks.specs.Ends.{arm_faults}
-use Rattle.rewrite_checks.proofs.Putting.{put_more, put_all}
+use Rattle.graph_form.proofs.Verdicts.{put_more, put_all}
 use Rattle.rewrite_checks.proofs.ends.put_node.Goals as goal
 
 pub loop-arm-preserved : goal.loop-arm-preserved

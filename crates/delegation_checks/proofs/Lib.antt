@@ -1,0 +1,4 @@
+pub mod ZonesTell
+pub mod InsideZones
+pub mod Candidates
+pub mod DelegationsShown

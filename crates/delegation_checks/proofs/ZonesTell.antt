@@ -1,0 +1,125 @@
+-- The tests of a delegation tell what is asked of the zones.
+use Rattle.std.proofs.Common.{◌≡◌, Bool, true, false, ◌&&◌, not, List, [], ◌∷◌, map, refl, sym, ap, ◌∙◌, subst, Some, None, true≢false}
+use Rattle.std.specs.Prelude.{Contains, Option}
+use Rattle.std.specs.List.{filter, filter_map}
+use Rattle.std.specs.Cmp.Lexicographic.{pointwise_decides}
+use Rattle.std.proofs.lemmas.Bool.{and_from, and_parts}
+use lib.Pointwise.{pointwise}
+use denote.Bor.{Bor}
+use Rattle.dns_data.specs.Name.{Labels, name_eq, name_cmp, is_prefix}
+use Rattle.dns_data.specs.declared.rr_type.RrType.TheVariants as types
+use Rattle.dns_data.proofs.Names.{name_eq_decides}
+use Rattle.dns_data.proofs.Searches.{any_has, filter_none, from_any}
+use Rattle.graph_form.specs.Trails.{ZonesDiffer, WantsGlue, DependsOnItself}
+use Rattle.graph_form.specs.declared.deps.Deps.{Deps}
+use Rattle.net_model.specs.Nearest.{held_zone, is_configured, is_top}
+use Rattle.net_model.specs.Order.{in_order}
+use Rattle.net_model.specs.Shown.{with_lists}
+use Rattle.net_model.specs.Step.{Setting, has_glue}
+use Rattle.net_model.specs.Zone.{exists_in, is_of, ns_names, owns, target_of}
+use Rattle.net_model.specs.declared.config.Config.{Config}
+use Rattle.net_model.specs.declared.config.Zone.{Zone}
+use Rattle.net_model.specs.declared.place.Cut.{Cut}
+use Rattle.dns_data.specs.declared.rdata.Rr.{Rr}
+use Rattle.net_model.proofs.OpenTails.{owner_exists}
+use Rattle.delegation_checks.specs.Referrals.{depends_on_itself, is_among, names_eq, sides_differ, wants_glue, zones_differ}
+
+-- ---- names
+
+-- references to names are compared as the names
+pub same_referred : (a b : List (Bor Labels)) → pointwise (λ (x y : Bor Labels). name_eq x.now y.now) a b ≡ names_eq (map (λ (x : Bor Labels). x.now) a) (map (λ (x : Bor Labels). x.now) b)
+same_referred [] [] = refl
+same_referred [] (y ∷ ys) = refl
+same_referred (x ∷ xs) [] = refl
+same_referred (x ∷ xs) (y ∷ ys) = ap (λ b. name_eq x.now y.now && b) (same_referred xs ys)
+
+-- lists of names that are equal are one
+names_decide : (a b : List Labels) → (names_eq a b ≡ true → a ≡ b) × (a ≡ b → names_eq a b ≡ true)
+names_decide a b = pointwise_decides name_eq_decides a b
+
+-- a name that isn't in the zone has no name servers there
+pub none_listed : (zone : Zone) (name : Labels) → is_prefix zone.origin name ≡ true → exists_in zone name ≡ false → [] ≡ ns_names zone name
+none_listed zone name inside missing = sym (ap (λ (rrs : List Rr). in_order name_cmp (filter_map target_of (map (λ (rr : Rr). rr.rdata) rrs))) none) where
+  no_owner : (b : Bool) → owns zone name types.Ns ≡ b → owns zone name types.Ns ≡ false
+  no_owner false e = e
+  no_owner true e = absurd (true≢false (sym (owner_exists zone name types.Ns inside e) ∙ missing))
+
+  none : filter (is_of name types.Ns) zone.rrs ≡ []
+  none = filter_none (is_of name types.Ns) zone.rrs (no_owner (owns zone name types.Ns) refl)
+
+-- ---- what the zones show
+
+pub not_true : (b : Bool) → not b ≡ true → b ≡ false
+not_true true e = cc
+not_true false e = refl
+
+pub not_false : (b : Bool) → b ≡ false → not b ≡ true
+not_false true e = cc
+not_false false e = refl
+
+pub is_false : (b : Bool) → (b ≡ true → ⊥) → b ≡ false
+is_false true never = absurd (never refl)
+is_false false never = refl
+
+pub differ_told : (config : Config) (cut : Cut) → zones_differ config cut ≡ true → ZonesDiffer config cut
+differ_told config cut e = by (held_zone config cut.server cut.zone) refl (held_zone config cut.ns cut.cut) refl e where
+  by : (one : Option Zone) → held_zone config cut.server cut.zone ≡ one → (other : Option Zone) → held_zone config cut.ns cut.cut ≡ other
+      → sides_differ cut one other ≡ true → ZonesDiffer config cut
+  by None is other also e = cc
+  by (Some above) is None also e = cc
+  by (Some above) is (Some below) also e =
+      record {
+        sides = record { above = above; below = below; refers = is; serves = also };
+        differ = λ same. true≢false (sym ((names_decide (ns_names above cut.cut) (ns_names below cut.cut)).1 same)
+            ∙ not_true (names_eq (ns_names above cut.cut) (ns_names below cut.cut)) e);
+      }
+
+pub told_differ : (config : Config) (cut : Cut) → ZonesDiffer config cut → zones_differ config cut ≡ true
+told_differ config cut zones =
+    ap (λ one. sides_differ cut one (held_zone config cut.ns cut.cut)) zones.sides.refers
+    ∙ (ap (sides_differ cut (Some zones.sides.above)) zones.sides.serves
+    ∙ not_false (names_eq (ns_names zones.sides.above cut.cut) (ns_names zones.sides.below cut.cut))
+    (is_false (names_eq (ns_names zones.sides.above cut.cut) (ns_names zones.sides.below cut.cut))
+    (λ e. zones.differ ((names_decide (ns_names zones.sides.above cut.cut) (ns_names zones.sides.below cut.cut)).0 e))))
+
+pub glue_told : (config : Config) (cut : Cut) → wants_glue config cut ≡ true → WantsGlue config cut
+glue_told config cut e =
+    let parts = and_parts (is_prefix cut.cut cut.ns) (not (has_glue config cut)) e in
+    record { inside = parts.0; no_glue = not_true (has_glue config cut) parts.1 }
+
+pub told_glue : (config : Config) (cut : Cut) → WantsGlue config cut → wants_glue config cut ≡ true
+told_glue config cut wants =
+    and_from (is_prefix cut.cut cut.ns) (not (has_glue config cut)) wants.inside (not_false (has_glue config cut) wants.no_glue)
+
+-- a name is among others exactly where they have it
+pub among_has : (names : List Labels) (name : Labels) → is_among names name ≡ true → Contains names name
+among_has names name e =
+    let found = from_any (name_eq name) names e in
+    subst (Contains names) (sym ((name_eq_decides name found.0).0 found.2)) found.1
+
+pub has_among : (names : List Labels) (name : Labels) → Contains names name → is_among names name ≡ true
+has_among names name has = any_has (name_eq name) names name has ((name_eq_decides name name).1 refl)
+
+module _ (setting : Setting) (deps : Deps) (cut : Cut) where
+  pub cyclic_told : depends_on_itself setting.config deps cut ≡ true → DependsOnItself (with_lists setting deps.least deps.greatest) cut
+  cyclic_told e =
+      let four = and_parts (is_configured setting.config cut.ns && not (is_top setting.config cut.ns) && not (has_glue setting.config cut) && is_among deps.greatest cut.ns) (not (is_among deps.least cut.ns)) e in
+      let three = and_parts (is_configured setting.config cut.ns && not (is_top setting.config cut.ns) && not (has_glue setting.config cut)) (is_among deps.greatest cut.ns) four.0 in
+      let two = and_parts (is_configured setting.config cut.ns && not (is_top setting.config cut.ns)) (not (has_glue setting.config cut)) three.0 in
+      let one = and_parts (is_configured setting.config cut.ns) (not (is_top setting.config cut.ns)) two.0 in
+      record {
+        configured = one.0;
+        no_top = not_true (is_top setting.config cut.ns) one.1;
+        no_glue = not_true (has_glue setting.config cut) two.1;
+        learnt_at_most = among_has deps.greatest cut.ns three.1;
+        not_at_least = λ has. true≢false (sym (has_among deps.least cut.ns has) ∙ not_true (is_among deps.least cut.ns) four.1);
+      }
+
+  pub told_cyclic : DependsOnItself (with_lists setting deps.least deps.greatest) cut → depends_on_itself setting.config deps cut ≡ true
+  told_cyclic depends =
+      and_from (is_configured setting.config cut.ns && not (is_top setting.config cut.ns) && not (has_glue setting.config cut) && is_among deps.greatest cut.ns) (not (is_among deps.least cut.ns))
+      (and_from (is_configured setting.config cut.ns && not (is_top setting.config cut.ns) && not (has_glue setting.config cut)) (is_among deps.greatest cut.ns)
+      (and_from (is_configured setting.config cut.ns && not (is_top setting.config cut.ns)) (not (has_glue setting.config cut))
+      (and_from (is_configured setting.config cut.ns) (not (is_top setting.config cut.ns)) depends.configured (not_false (is_top setting.config cut.ns) depends.no_top))
+      (not_false (has_glue setting.config cut) depends.no_glue)) (has_among deps.greatest cut.ns depends.learnt_at_most))
+      (not_false (is_among deps.least cut.ns) (is_false (is_among deps.least cut.ns) (λ e. depends.not_at_least (among_has deps.least cut.ns e))))

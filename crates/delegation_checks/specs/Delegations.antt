@@ -1,0 +1,24 @@
+-- The kinds of faults that delegations show, and what is known of the graph in which they are looked for.
+use Rattle.std.specs.Prelude.{◌≡◌, Bool, true, false}
+use Rattle.dns_data.specs.Name.{Labels}
+use Rattle.graph_form.specs.Graph.{PlainGraph}
+use Rattle.graph_form.specs.GraphOf.{IsExactIn, IsGraphOf}
+use Rattle.net_model.specs.Step.{Setting}
+use Rattle.net_model.specs.declared.config.Config.{Config}
+use Rattle.net_model.specs.declared.fault.Fault.{Fault}
+use Rattle.net_model.specs.declared.fault.Fault.TheVariants.{Lame, Differs, NoGlue, Cyclic, NoAddress}
+
+-- a lame or differing delegation, missing glue, a cyclic dependency, or a name server without an address
+abbrev pub is_of_delegations : Fault → Bool
+is_of_delegations (Lame cut) = true
+is_of_delegations (Differs cut) = true
+is_of_delegations (NoGlue cut) = true
+is_of_delegations (Cyclic cut) = true
+is_of_delegations (NoAddress cut) = true
+is_of_delegations fault = false
+
+-- the graph is that of the query in the configuration
+pub record IsGraphIn (config : Config) (setting : Setting) (query : Labels) (graph : PlainGraph) : Type 0 where
+  pub config_is : setting.config ≡ config
+  pub is_graph : IsGraphOf setting query graph
+  pub exact : IsExactIn setting query graph

@@ -1,0 +1,72 @@
+//! What the zones hold of a delegation to a name server.
+
+ghost use Rattle.std.specs.Prelude.{◌≡◌, true, map};
+ghost use Rattle.dns_data.specs.Name.{is_prefix};
+ghost use Rattle.delegation_checks.specs.Referrals.{depends_on_itself, is_among, names_eq, wants_glue, zones_differ};
+ghost use Rattle.net_model.specs.Zone.{ns_names};
+
+use dns_data::Name;
+use graph_form::Deps;
+use net_model::Cut;
+use zone_lookup::Hosts;
+use zone_tree::Tree;
+
+/// Whether the delegated zone lists other name servers than the referring one.
+pub(crate) fn zones_differ(hosts: &Hosts<'_>, cut: &Cut) -> bool
+    requires { is_prefix cut.now.zone cut.now.cut ≡ true }
+    ensures { result ≡ zones_differ hosts.now cut.now }
+{
+    let Some(above) = hosts.held_zone(&cut.server, &cut.zone) else {
+        return false;
+    };
+    let Some(below) = hosts.held_zone(&cut.ns, &cut.cut) else {
+        return false;
+    };
+    !same_names(servers_at(above, &cut.cut), servers_at(below, &cut.cut))
+}
+
+/// Whether the name server is at or below the cut and has no glue.
+pub(crate) fn wants_glue(hosts: &Hosts<'_>, cut: &Cut) -> bool
+    requires { is_prefix cut.now.zone cut.now.cut ≡ true }
+    ensures { result ≡ wants_glue hosts.now cut.now }
+{
+    cut.cut.is_prefix_of(&cut.ns) && !hosts.has_glue(cut)
+}
+
+/// Whether the configured name server is no top server and has no glue, and its address is learnt only by way of name
+/// servers of which the same is true.
+pub(crate) fn depends_on_itself(hosts: &Hosts<'_>, deps: &Deps, cut: &Cut) -> bool
+    requires { is_prefix cut.now.zone cut.now.cut ≡ true }
+    ensures { result ≡ depends_on_itself hosts.now deps.now cut.now }
+{
+    hosts.host(&cut.ns).is_some()
+        && !is_among(hosts.config().tops.items(), &cut.ns)
+        && !hosts.has_glue(cut)
+        && is_among(deps.greatest.items(), &cut.ns)
+        && !is_among(deps.least.items(), &cut.ns)
+}
+
+/// Whether the name is among these.
+pub(crate) fn is_among(names: &[Name], name: &Name) -> bool
+    ensures { result ≡ is_among names.now name.now }
+{
+    names.iter().any(|other| *name == *other)
+}
+
+/// The names of the name servers that a name at or below the origin owns, in the order of names.
+fn servers_at<'t, 'a>(tree: &'t Tree<'a>, name: &Name) -> &'t [&'a Name]
+    requires { is_prefix tree.now.zone.origin name.now ≡ true }
+    ensures { map (λ server. server.now) result.now ≡ ns_names tree.now.zone name.now }
+{
+    match tree.node_at(name) {
+        Some(node) => tree.name_servers(node),
+        None => &[],
+    }
+}
+
+/// Whether two lists have the same names in the same order.
+fn same_names(a: &[&Name], b: &[&Name]) -> bool
+    ensures { result ≡ names_eq (map (λ name. name.now) a.now) (map (λ name. name.now) b.now) }
+{
+    a == b
+}
