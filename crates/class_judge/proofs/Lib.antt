@@ -1,3 +1,4 @@
+pub mod BelowDecided
 pub mod Candidates
 pub mod Carrying
 pub mod Decided

@@ -62,7 +62,7 @@ numbers_below_have (suc n) k below =
     ]
 
 -- all lists of at most so many numbers below a number
-words : (bound most : ℕ) → List (List ℕ)
+pub words : (bound most : ℕ) → List (List ℕ)
 words bound zero = [] ∷ []
 words bound (suc most) = [] ∷ flat_map (λ n. map (λ word. n ∷ word) (words bound most)) (numbers_below bound)
 
@@ -105,7 +105,7 @@ not_found names name out = by (list_any (name_eq name) names) refl where
   by false e = refl
 
 -- a label of at most so many octets is among them
-label_among : (most : ℕ) (label : List ℕ) → IsLabel label → length label ≤ most → Contains (words 256 most) label
+pub label_among : (most : ℕ) (label : List ℕ) → IsLabel label → length label ≤ most → Contains (words 256 most) label
 label_among most label is fits = words_have 256 most label fits (octets_of_label label is.octets)
 
 -- the least free label of the candidates is the first of all
