@@ -70,8 +70,8 @@ LETTERS = "abcdefghijklmnopqrstuvwxyz0123456789"
 
 def write_short(records, kind, into):
     """So many short records: each of an owner of its own, all of one owner with different data, or all identical."""
-    into.write("$TTL 60\n$ORIGIN hosting.example.\n@ SOA ns1 h 1 2 3 4 5\n@ NS ns1\n")
-    for number in range(records - 2):
+    into.write("$TTL 60\n$ORIGIN hosting.example.\nns1 A 10.0.0.1\n@ SOA ns1 h 1 2 3 4 5\n@ NS ns1\n")
+    for number in range(records - 3):
         if kind == "owners":
             label = LETTERS[number % 26] + "".join(LETTERS[number // 26 // 36**place % 36] for place in range(3))
             into.write(f"{label} A 10.1.1.1\n")
