@@ -1,6 +1,6 @@
 -- The branches of a graph of a query show their faults, and each fault of a delegation is shown by one.
 use Rattle.std.proofs.Common.{◌≡◌, ℕ, Bool, true, false, ◌&&◌, not, List, [], ◌∷◌, ◌++◌, refl, sym, ap, ◌∙◌, subst, inl, inr, Some, None, true≢false}
-use Rattle.std.specs.Prelude.{◌⊎◌, Contains, Option, if◌then◌else◌}
+use Rattle.std.specs.Prelude.{Contains, Option, if◌then◌else◌}
 use Rattle.std.specs.List.{AllByRecursion, find, flat_map}
 use Rattle.std.specs.Option.{option_to_list}
 use Rattle.std.proofs.lemmas.Bool.{and_from, and_parts}
@@ -42,9 +42,9 @@ use Rattle.net_model.specs.declared.walk.Leaf.{Leaf}
 use Rattle.net_model.specs.declared.walk.Leaf.TheVariants as leaves
 use Rattle.net_model.specs.declared.walk.Walk.{Walk}
 use Rattle.delegation_checks.specs.Delegations.{IsGraphIn, is_of_delegations}
-use Rattle.delegation_checks.specs.Referrals.{behind_faults, branch_faults, depends_on_itself, hop_faults, if_shown, is_among, leaf_faults, node_faults, referral_faults, wants_glue, zones_differ}
+use Rattle.delegation_checks.specs.Referrals.{addresses_differ, behind_faults, branch_faults, depends_on_itself, hop_faults, if_shown, is_among, leaf_faults, node_faults, referral_faults, wants_glue, zones_differ}
 use Rattle.delegation_checks.proofs.Candidates.{from_candidates, is_candidate}
-use Rattle.delegation_checks.proofs.ZonesTell.{among_has, cyclic_told, differ_told, glue_told, has_among, told_cyclic, told_differ, told_glue, not_true, not_false, is_false}
+use Rattle.delegation_checks.proofs.ZonesTell.{among_has, cyclic_told, differ_told, glue_told, has_among, other_addresses, told_addresses, told_cyclic, told_differ, told_glue, not_true, not_false, is_false}
 use Rattle.delegation_checks.proofs.InsideZones.{BranchInside, HopInside, next_inside}
 
 -- a fault that is shown, or none
@@ -61,12 +61,56 @@ module _ (setting : Setting) (query : Labels) (deps : Deps) (graph : PlainGraph)
   abbrev Shown : RrType → Fault → Type 0
   Shown rtype fault = Shows (with_lists setting deps.least deps.greatest) query rtype fault
 
+  -- ---- the parts of a referral's faults
+
+  abbrev differing : Cut → List Fault
+  differing cut = if_shown (zones_differ setting.config cut) (faults.Differs cut)
+
+  abbrev missing : Cut → List Fault
+  missing cut = if_shown (wants_glue setting.config cut) (faults.NoGlue cut)
+
+  abbrev other_glue : Cut → List Fault
+  other_glue cut = if_shown (addresses_differ setting.config cut) (faults.GlueDiffers cut)
+
+  abbrev cyclic : Cut → List Fault
+  cyclic cut = if_shown (depends_on_itself setting.config deps cut) (faults.Cyclic cut)
+
+  in_differing : (cut : Cut) (fault : Fault) → Contains (differing cut) fault → Contains (referral_faults setting.config deps cut) fault
+  in_differing cut fault has =
+      Contains-append_left (differing cut ++ missing cut ++ other_glue cut) (cyclic cut) fault
+      (Contains-append_left (differing cut ++ missing cut) (other_glue cut) fault (Contains-append_left (differing cut) (missing cut) fault has))
+
+  in_missing : (cut : Cut) (fault : Fault) → Contains (missing cut) fault → Contains (referral_faults setting.config deps cut) fault
+  in_missing cut fault has =
+      Contains-append_left (differing cut ++ missing cut ++ other_glue cut) (cyclic cut) fault
+      (Contains-append_left (differing cut ++ missing cut) (other_glue cut) fault (Contains-append_right (differing cut) (missing cut) fault has))
+
+  in_other_glue : (cut : Cut) (fault : Fault) → Contains (other_glue cut) fault → Contains (referral_faults setting.config deps cut) fault
+  in_other_glue cut fault has =
+      Contains-append_left (differing cut ++ missing cut ++ other_glue cut) (cyclic cut) fault
+      (Contains-append_right (differing cut ++ missing cut) (other_glue cut) fault has)
+
+  in_cyclic : (cut : Cut) (fault : Fault) → Contains (cyclic cut) fault → Contains (referral_faults setting.config deps cut) fault
+  in_cyclic cut fault has = Contains-append_right (differing cut ++ missing cut ++ other_glue cut) (cyclic cut) fault has
+
+  -- in which of them a fault stands
+  by_part : (P : Type 0) (cut : Cut) (fault : Fault) → (Contains (differing cut) fault → P) → (Contains (missing cut) fault → P)
+      → (Contains (other_glue cut) fault → P) → (Contains (cyclic cut) fault → P) → Contains (referral_faults setting.config deps cut) fault → P
+  by_part P cut fault one two three four has =
+      elim (Contains-append_cases (differing cut ++ missing cut ++ other_glue cut) (cyclic cut) fault has) [
+        | inl first ↦ elim (Contains-append_cases (differing cut ++ missing cut) (other_glue cut) fault first) [
+          | inl both ↦ elim (Contains-append_cases (differing cut) (missing cut) fault both) [ inl here ↦ one here | inr here ↦ two here ]
+          | inr here ↦ three here
+        ]
+        | inr last ↦ four last
+      ]
+
   -- ---- what a branch shows
 
   -- of a referral, whatever comes behind it
   by_referral : (rtype : RrType) (cut : Cut) (fault : Fault) → WalkWith graph rtype setting query is exact (Refer cut)
       → Contains (referral_faults setting.config deps cut) fault → Shown rtype fault
-  by_referral rtype cut fault on has = by (Contains-append_cases (if_shown (zones_differ setting.config cut) (faults.Differs cut) ++ if_shown (wants_glue setting.config cut) (faults.NoGlue cut)) (if_shown (depends_on_itself setting.config deps cut) (faults.Cyclic cut)) fault has) where
+  by_referral rtype cut fault on has = by_part (Shown rtype fault) cut fault of_differs of_glue of_other_glue of_cyclic has where
     of_differs : Contains (if_shown (zones_differ setting.config cut) (faults.Differs cut)) fault → Shown rtype fault
     of_differs here =
         let one = shown_one (zones_differ setting.config cut) (faults.Differs cut) fault here in
@@ -100,14 +144,24 @@ module _ (setting : Setting) (query : Labels) (deps : Deps) (graph : PlainGraph)
           };
         })
 
-    by : Contains (if_shown (zones_differ setting.config cut) (faults.Differs cut) ++ if_shown (wants_glue setting.config cut) (faults.NoGlue cut)) fault
-        ⊎ Contains (if_shown (depends_on_itself setting.config deps cut) (faults.Cyclic cut)) fault → Shown rtype fault
-    by (inl both) =
-        elim (Contains-append_cases (if_shown (zones_differ setting.config cut) (faults.Differs cut)) (if_shown (wants_glue setting.config cut) (faults.NoGlue cut)) fault both) [
-          | inl differs ↦ of_differs differs
-          | inr glue ↦ of_glue glue
-        ]
-    by (inr cyclic) = of_cyclic cyclic
+    of_other_glue : Contains (other_glue cut) fault → Shown rtype fault
+    of_other_glue here =
+        let one = shown_one (addresses_differ setting.config cut) (faults.GlueDiffers cut) fault here in
+        let zones = other_addresses setting.config cut one.0 in
+        subst (Shown rtype) one.1
+        (record {
+          may = tt;
+          walks = on.walk ∷ [];
+          are_walks = (on.is_walk, tt);
+          show = record {
+            refers = on.among;
+            inside = zones.inside;
+            sides = zones.sides;
+            above = zones.above;
+            below = zones.below;
+            differ = zones.differ;
+          };
+        })
 
   -- of a hop
   by_hop : (rtype : RrType) (hop : Hop) (fault : Fault) → WalkWith graph rtype setting query is exact hop
@@ -177,13 +231,12 @@ module _ (setting : Setting) (query : Labels) (deps : Deps) (graph : PlainGraph)
 
   of_referral_kind : (cut : Cut) (fault : Fault) → Contains (referral_faults setting.config deps cut) fault → is_of_delegations fault ≡ true
   of_referral_kind cut fault has =
-      elim (Contains-append_cases (if_shown (zones_differ setting.config cut) (faults.Differs cut) ++ if_shown (wants_glue setting.config cut) (faults.NoGlue cut)) (if_shown (depends_on_itself setting.config deps cut) (faults.Cyclic cut)) fault has) [
-        | inl both ↦ elim (Contains-append_cases (if_shown (zones_differ setting.config cut) (faults.Differs cut)) (if_shown (wants_glue setting.config cut) (faults.NoGlue cut)) fault both) [
-          | inl differs ↦ ap is_of_delegations (sym (shown_one (zones_differ setting.config cut) (faults.Differs cut) fault differs).1)
-          | inr glue ↦ ap is_of_delegations (sym (shown_one (wants_glue setting.config cut) (faults.NoGlue cut) fault glue).1)
-        ]
-        | inr cyclic ↦ ap is_of_delegations (sym (shown_one (depends_on_itself setting.config deps cut) (faults.Cyclic cut) fault cyclic).1)
-      ]
+      by_part (is_of_delegations fault ≡ true) cut fault
+      (λ here. ap is_of_delegations (sym (shown_one (zones_differ setting.config cut) (faults.Differs cut) fault here).1))
+      (λ here. ap is_of_delegations (sym (shown_one (wants_glue setting.config cut) (faults.NoGlue cut) fault here).1))
+      (λ here. ap is_of_delegations (sym (shown_one (addresses_differ setting.config cut) (faults.GlueDiffers cut) fault here).1))
+      (λ here. ap is_of_delegations (sym (shown_one (depends_on_itself setting.config deps cut) (faults.Cyclic cut) fault here).1))
+      has
 
   of_hop_kind : (hop : Hop) (fault : Fault) → Contains (hop_faults setting.config deps hop) fault → is_of_delegations fault ≡ true
   of_hop_kind (Rewrite place by_dname to) fault has = absurd (none_in_nil fault has)
@@ -303,17 +356,21 @@ module _ (setting : Setting) (query : Labels) (deps : Deps) (graph : PlainGraph)
       (not_false (is_among deps.greatest cut.ns) (is_false (is_among deps.greatest cut.ns) (λ e. show.not_at_most (among_has deps.greatest cut.ns e))))))
   by_kind rtype (faults.Differs cut) walk kind is_walk show =
       of_referral rtype cut (faults.Differs cut) (hop_of_walk graph rtype setting query is exact walk (Refer cut) is_walk show.refers)
-      (Contains-append_left (if_shown (zones_differ setting.config cut) (faults.Differs cut) ++ if_shown (wants_glue setting.config cut) (faults.NoGlue cut)) (if_shown (depends_on_itself setting.config deps cut) (faults.Cyclic cut)) (faults.Differs cut)
-      (Contains-append_left (if_shown (zones_differ setting.config cut) (faults.Differs cut)) (if_shown (wants_glue setting.config cut) (faults.NoGlue cut)) (faults.Differs cut)
-      (one_shown (zones_differ setting.config cut) (faults.Differs cut) (told_differ setting.config cut (record { sides = show.sides; differ = show.differ })))))
+      (in_differing cut (faults.Differs cut)
+      (one_shown (zones_differ setting.config cut) (faults.Differs cut) (told_differ setting.config cut (record { sides = show.sides; differ = show.differ }))))
   by_kind rtype (faults.NoGlue cut) walk kind is_walk show =
       of_referral rtype cut (faults.NoGlue cut) (hop_of_walk graph rtype setting query is exact walk (Refer cut) is_walk show.refers)
-      (Contains-append_left (if_shown (zones_differ setting.config cut) (faults.Differs cut) ++ if_shown (wants_glue setting.config cut) (faults.NoGlue cut)) (if_shown (depends_on_itself setting.config deps cut) (faults.Cyclic cut)) (faults.NoGlue cut)
-      (Contains-append_right (if_shown (zones_differ setting.config cut) (faults.Differs cut)) (if_shown (wants_glue setting.config cut) (faults.NoGlue cut)) (faults.NoGlue cut)
-      (one_shown (wants_glue setting.config cut) (faults.NoGlue cut) (told_glue setting.config cut (record { inside = show.inside; no_glue = show.no_glue })))))
+      (in_missing cut (faults.NoGlue cut)
+      (one_shown (wants_glue setting.config cut) (faults.NoGlue cut) (told_glue setting.config cut (record { inside = show.inside; no_glue = show.no_glue }))))
+  by_kind rtype (faults.GlueDiffers cut) walk kind is_walk show =
+      of_referral rtype cut (faults.GlueDiffers cut) (hop_of_walk graph rtype setting query is exact walk (Refer cut) is_walk show.refers)
+      (in_other_glue cut (faults.GlueDiffers cut)
+      (one_shown (addresses_differ setting.config cut) (faults.GlueDiffers cut)
+      (told_addresses setting.config cut
+      (record { inside = show.inside; sides = show.sides; above = show.above; below = show.below; differ = show.differ }))))
   by_kind rtype (faults.Cyclic cut) walk kind is_walk show =
       of_referral rtype cut (faults.Cyclic cut) (hop_of_walk graph rtype setting query is exact walk (Refer cut) is_walk show.refers)
-      (Contains-append_right (if_shown (zones_differ setting.config cut) (faults.Differs cut) ++ if_shown (wants_glue setting.config cut) (faults.NoGlue cut)) (if_shown (depends_on_itself setting.config deps cut) (faults.Cyclic cut)) (faults.Cyclic cut)
+      (in_cyclic cut (faults.Cyclic cut)
       (one_shown (depends_on_itself setting.config deps cut) (faults.Cyclic cut)
       (told_cyclic setting deps cut
       (record {

@@ -1,28 +1,34 @@
 -- The tests of a delegation tell what is asked of the zones.
-use Rattle.std.proofs.Common.{◌≡◌, Bool, true, false, ◌&&◌, not, List, [], ◌∷◌, map, refl, sym, ap, ◌∙◌, subst, Some, None, true≢false}
+use Rattle.std.proofs.Common.{◌≡◌, ◌≢◌, Bool, true, false, ◌&&◌, not, ◌==◌, List, [], ◌∷◌, ◌++◌, length, map, refl, sym, ap, ◌∙◌, subst, Some, None, true≢false, arith}
 use Rattle.std.specs.Prelude.{Contains, Option}
 use Rattle.std.specs.List.{filter, filter_map}
 use Rattle.std.specs.Cmp.Lexicographic.{pointwise_decides}
-use Rattle.std.proofs.lemmas.Bool.{and_from, and_parts}
+use Rattle.std.proofs.lemmas.Bool.{and_from, and_parts, ne_eqb}
 use lib.Pointwise.{pointwise}
 use denote.Bor.{Bor}
 use Rattle.dns_data.specs.Name.{Labels, name_eq, name_cmp, is_prefix}
+use Rattle.dns_data.specs.Rdata.{data_eq}
+use Rattle.dns_data.specs.contracts.rdata.RdataPartialEq.TheImpl as data_impl
+use Rattle.dns_data.specs.declared.rr_type.RrType.{RrType}
 use Rattle.dns_data.specs.declared.rr_type.RrType.TheVariants as types
+use Rattle.dns_data.proofs.EqualData.{equal_is_same}
 use Rattle.dns_data.proofs.Names.{name_eq_decides}
 use Rattle.dns_data.proofs.Searches.{any_has, filter_none, from_any}
-use Rattle.graph_form.specs.Trails.{ZonesDiffer, WantsGlue, DependsOnItself}
+use Rattle.graph_form.proofs.EqualAnswers.{same_lists}
+use Rattle.graph_form.specs.Trails.{AddressesDiffer, ZonesDiffer, WantsGlue, DependsOnItself}
 use Rattle.graph_form.specs.declared.deps.Deps.{Deps}
 use Rattle.net_model.specs.Nearest.{held_zone, is_configured, is_top}
 use Rattle.net_model.specs.Order.{in_order}
 use Rattle.net_model.specs.Shown.{with_lists}
 use Rattle.net_model.specs.Step.{Setting, has_glue}
-use Rattle.net_model.specs.Zone.{exists_in, is_of, ns_names, owns, target_of}
+use Rattle.net_model.specs.Zone.{addresses, data_cmp, exists_in, is_of, ns_names, owns, target_of}
 use Rattle.net_model.specs.declared.config.Config.{Config}
 use Rattle.net_model.specs.declared.config.Zone.{Zone}
 use Rattle.net_model.specs.declared.place.Cut.{Cut}
+use Rattle.dns_data.specs.declared.rdata.Rdata.{Rdata}
 use Rattle.dns_data.specs.declared.rdata.Rr.{Rr}
 use Rattle.net_model.proofs.OpenTails.{owner_exists}
-use Rattle.delegation_checks.specs.Referrals.{depends_on_itself, is_among, names_eq, sides_differ, wants_glue, zones_differ}
+use Rattle.delegation_checks.specs.Referrals.{addresses_differ, both_differ, depends_on_itself, glue_of_sides, is_among, names_eq, sides_differ, wants_glue, zones_differ}
 
 -- ---- names
 
@@ -37,6 +43,10 @@ same_referred (x ∷ xs) (y ∷ ys) = ap (λ b. name_eq x.now y.now && b) (same_
 names_decide : (a b : List Labels) → (names_eq a b ≡ true → a ≡ b) × (a ≡ b → names_eq a b ≡ true)
 names_decide a b = pointwise_decides name_eq_decides a b
 
+-- lists of data that are equal are one
+data_decide : (a b : List Rdata) → (pointwise data_eq a b ≡ true → a ≡ b) × (a ≡ b → pointwise data_eq a b ≡ true)
+data_decide a b = pointwise_decides (λ x y. equal_is_same x y) a b
+
 -- a name that isn't in the zone has no name servers there
 pub none_listed : (zone : Zone) (name : Labels) → is_prefix zone.origin name ≡ true → exists_in zone name ≡ false → [] ≡ ns_names zone name
 none_listed zone name inside missing = sym (ap (λ (rrs : List Rr). in_order name_cmp (filter_map target_of (map (λ (rr : Rr). rr.rdata) rrs))) none) where
@@ -46,6 +56,23 @@ none_listed zone name inside missing = sym (ap (λ (rrs : List Rr). in_order nam
 
   none : filter (is_of name types.Ns) zone.rrs ≡ []
   none = filter_none (is_of name types.Ns) zone.rrs (no_owner (owns zone name types.Ns) refl)
+
+-- lists of data are compared as they are equal
+pub same_data_lists : (a b : List Rdata) → pointwise (data_impl.ghosts).eq a b ≡ pointwise data_eq a b
+same_data_lists a b = same_lists a b
+
+-- a name that isn't in the zone has no addresses there
+pub no_addresses : (zone : Zone) (name : Labels) → is_prefix zone.origin name ≡ true → exists_in zone name ≡ false → [] ≡ addresses zone name
+no_addresses zone name inside missing =
+    sym (ap (λ (rrs : List Rr). in_order data_cmp (map (λ (rr : Rr). rr.rdata) rrs ++ map (λ (rr : Rr). rr.rdata) (filter (is_of name types.Aaaa) zone.rrs))) (none types.A)
+    ∙ ap (λ (rrs : List Rr). in_order data_cmp (map (λ (rr : Rr). rr.rdata) rrs)) (none types.Aaaa))
+  where
+    no_owner : (rtype : RrType) (b : Bool) → owns zone name rtype ≡ b → owns zone name rtype ≡ false
+    no_owner rtype false e = e
+    no_owner rtype true e = absurd (true≢false (sym (owner_exists zone name rtype inside e) ∙ missing))
+
+    none : (rtype : RrType) → filter (is_of name rtype) zone.rrs ≡ []
+    none rtype = filter_none (is_of name rtype) zone.rrs (no_owner rtype (owns zone name rtype) refl)
 
 -- ---- what the zones show
 
@@ -81,6 +108,52 @@ told_differ config cut zones =
     ∙ not_false (names_eq (ns_names zones.sides.above cut.cut) (ns_names zones.sides.below cut.cut))
     (is_false (names_eq (ns_names zones.sides.above cut.cut) (ns_names zones.sides.below cut.cut))
     (λ e. zones.differ ((names_decide (ns_names zones.sides.above cut.cut) (ns_names zones.sides.below cut.cut)).0 e))))
+
+-- data that aren't the same and are there
+both_told : (above below : List Rdata) → both_differ above below ≡ true → (above ≢ []) × (below ≢ []) × (above ≢ below)
+both_told above below e =
+    let two = and_parts (not (length above == 0) && not (length below == 0)) (not (pointwise data_eq above below)) e in
+    let one = and_parts (not (length above == 0)) (not (length below == 0)) two.0 in (
+      (λ none. true≢false (sym one.0 ∙ ap (λ (xs : List Rdata). not (length xs == 0)) none)),
+      (λ none. true≢false (sym one.1 ∙ ap (λ (xs : List Rdata). not (length xs == 0)) none)),
+      (λ same. true≢false (sym ((data_decide above below).1 same) ∙ not_true (pointwise data_eq above below) two.1)),
+    )
+
+some_there : (xs : List Rdata) → xs ≢ [] → not (length xs == 0) ≡ true
+some_there [] some = absurd (some refl)
+some_there (x ∷ xs) some = ap not (ne_eqb (length (x ∷ xs)) 0 (λ e. absurd (omega (arith, e))))
+
+told_both : (above below : List Rdata) → above ≢ [] → below ≢ [] → above ≢ below → both_differ above below ≡ true
+told_both above below some others differ =
+    and_from (not (length above == 0) && not (length below == 0)) (not (pointwise data_eq above below))
+    (and_from (not (length above == 0)) (not (length below == 0)) (some_there above some) (some_there below others))
+    (not_false (pointwise data_eq above below) (is_false (pointwise data_eq above below) (λ e. differ ((data_decide above below).0 e))))
+
+pub other_addresses : (config : Config) (cut : Cut) → addresses_differ config cut ≡ true → AddressesDiffer config cut
+other_addresses config cut e =
+    let parts = and_parts (is_prefix cut.cut cut.ns) (glue_of_sides cut (held_zone config cut.server cut.zone) (held_zone config cut.ns cut.cut)) e in
+    by parts.0 (held_zone config cut.server cut.zone) refl (held_zone config cut.ns cut.cut) refl parts.1
+  where
+    by : is_prefix cut.cut cut.ns ≡ true → (one : Option Zone) → held_zone config cut.server cut.zone ≡ one → (other : Option Zone)
+        → held_zone config cut.ns cut.cut ≡ other → glue_of_sides cut one other ≡ true → AddressesDiffer config cut
+    by inside None is other also e = cc
+    by inside (Some above) is None also e = cc
+    by inside (Some above) is (Some below) also e =
+        let three = both_told (addresses above cut.ns) (addresses below cut.ns) e in
+        record {
+          inside = inside;
+          sides = record { above = above; below = below; refers = is; serves = also };
+          above = three.0;
+          below = three.1;
+          differ = three.2;
+        }
+
+pub told_addresses : (config : Config) (cut : Cut) → AddressesDiffer config cut → addresses_differ config cut ≡ true
+told_addresses config cut zones =
+    and_from (is_prefix cut.cut cut.ns) (glue_of_sides cut (held_zone config cut.server cut.zone) (held_zone config cut.ns cut.cut)) zones.inside
+    (ap (λ one. glue_of_sides cut one (held_zone config cut.ns cut.cut)) zones.sides.refers
+    ∙ (ap (glue_of_sides cut (Some zones.sides.above)) zones.sides.serves
+    ∙ told_both (addresses zones.sides.above cut.ns) (addresses zones.sides.below cut.ns) zones.above zones.below zones.differ))
 
 pub glue_told : (config : Config) (cut : Cut) → wants_glue config cut ≡ true → WantsGlue config cut
 glue_told config cut e =

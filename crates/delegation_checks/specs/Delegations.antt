@@ -6,13 +6,14 @@ use Rattle.graph_form.specs.GraphOf.{IsExactIn, IsGraphOf}
 use Rattle.net_model.specs.Step.{Setting}
 use Rattle.net_model.specs.declared.config.Config.{Config}
 use Rattle.net_model.specs.declared.fault.Fault.{Fault}
-use Rattle.net_model.specs.declared.fault.Fault.TheVariants.{Lame, Differs, NoGlue, Cyclic, NoAddress}
+use Rattle.net_model.specs.declared.fault.Fault.TheVariants.{Lame, Differs, NoGlue, GlueDiffers, Cyclic, NoAddress}
 
--- a lame or differing delegation, missing glue, a cyclic dependency, or a name server without an address
+-- a lame or differing delegation, missing or differing glue, a cyclic dependency, or a name server without an address
 abbrev pub is_of_delegations : Fault → Bool
 is_of_delegations (Lame cut) = true
 is_of_delegations (Differs cut) = true
 is_of_delegations (NoGlue cut) = true
+is_of_delegations (GlueDiffers cut) = true
 is_of_delegations (Cyclic cut) = true
 is_of_delegations (NoAddress cut) = true
 is_of_delegations fault = false

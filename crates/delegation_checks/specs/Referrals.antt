@@ -1,11 +1,13 @@
 -- The faults of a referral to a name server and of an end behind it: for the contracts of their search alone.
-use Rattle.std.specs.Prelude.{Bool, false, ◌&&◌, not, List, [], ◌∷◌, ◌++◌, map, Option, Some, None, if◌then◌else◌}
+use Rattle.std.specs.Prelude.{Bool, false, ◌&&◌, not, List, [], ◌∷◌, ◌++◌, ◌==◌, map, length, Option, Some, None, if◌then◌else◌}
 use Rattle.std.specs.List.{find, flat_map, list_any}
 use Rattle.std.specs.Option.{option_map_or}
 use lib.Pointwise.{pointwise}
 use Rattle.dns_data.specs.Name.{Labels, name_eq, is_prefix}
+use Rattle.dns_data.specs.Rdata.{data_eq}
 use Rattle.dns_data.specs.RrType.{types}
 use Rattle.dns_data.specs.TypeSet.{has_bit}
+use Rattle.dns_data.specs.declared.rdata.Rdata.{Rdata}
 use Rattle.dns_data.specs.declared.rr_type.RrType.{RrType}
 use Rattle.graph_form.specs.declared.deps.Deps.{Deps}
 use Rattle.graph_form.specs.declared.node.Arm.{Arm}
@@ -15,7 +17,7 @@ use Rattle.graph_form.specs.declared.node.Node.{Node}
 use Rattle.graph_form.specs.declared.report.Seen.{Seen}
 use Rattle.net_model.specs.Nearest.{held_zone, is_configured, is_top}
 use Rattle.net_model.specs.Step.{has_glue}
-use Rattle.net_model.specs.Zone.{ns_names}
+use Rattle.net_model.specs.Zone.{addresses, ns_names}
 use Rattle.net_model.specs.declared.config.Config.{Config}
 use Rattle.net_model.specs.declared.config.Zone.{Zone}
 use Rattle.net_model.specs.declared.fault.Fault.{Fault}
@@ -44,6 +46,21 @@ sides_differ cut (Some above) (Some below) = not (names_eq (ns_names above cut.c
 abbrev pub zones_differ : Config → Cut → Bool
 zones_differ config cut = sides_differ cut (held_zone config cut.server cut.zone) (held_zone config cut.ns cut.cut)
 
+-- neither has no data, and they aren't the same
+abbrev pub both_differ : List Rdata → List Rdata → Bool
+both_differ above below = not (length above == 0) && not (length below == 0) && not (pointwise data_eq above below)
+
+-- both zones are there, and hold other addresses of the name server
+abbrev pub glue_of_sides : Cut → Option Zone → Option Zone → Bool
+glue_of_sides cut None below = false
+glue_of_sides cut (Some above) None = false
+glue_of_sides cut (Some above) (Some below) = both_differ (addresses above cut.ns) (addresses below cut.ns)
+
+-- the name server is at or below the cut, and both zones hold addresses of it, and not the same ones
+abbrev pub addresses_differ : Config → Cut → Bool
+addresses_differ config cut =
+    is_prefix cut.cut cut.ns && glue_of_sides cut (held_zone config cut.server cut.zone) (held_zone config cut.ns cut.cut)
+
 -- the name server is at or below the cut and has no glue
 abbrev pub wants_glue : Config → Cut → Bool
 wants_glue config cut = is_prefix cut.cut cut.ns && not (has_glue config cut)
@@ -62,7 +79,7 @@ if_shown shown fault = if shown then fault ∷ [] else []
 abbrev pub referral_faults : Config → Deps → Cut → List Fault
 referral_faults config deps cut =
     if_shown (zones_differ config cut) (faults.Differs cut) ++ if_shown (wants_glue config cut) (faults.NoGlue cut)
-    ++ if_shown (depends_on_itself config deps cut) (faults.Cyclic cut)
+    ++ if_shown (addresses_differ config cut) (faults.GlueDiffers cut) ++ if_shown (depends_on_itself config deps cut) (faults.Cyclic cut)
 
 -- those of a hop: a zone cut stands below the origin of its zone
 abbrev pub hop_faults : Config → Deps → Hop → List Fault

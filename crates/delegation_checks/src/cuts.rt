@@ -1,13 +1,16 @@
 //! What the zones hold of a delegation to a name server.
 
-ghost use Rattle.std.specs.Prelude.{◌≡◌, true, map};
+ghost use lib.Pointwise.{pointwise};
+ghost use Rattle.std.specs.Prelude.{◌≡◌, true, map, IfOk};
 ghost use Rattle.dns_data.specs.Name.{is_prefix};
-ghost use Rattle.delegation_checks.specs.Referrals.{depends_on_itself, is_among, names_eq, wants_glue, zones_differ};
-ghost use Rattle.net_model.specs.Zone.{ns_names};
+ghost use Rattle.dns_data.specs.Rdata.{data_eq};
+ghost use Rattle.delegation_checks.specs.Referrals.{addresses_differ, both_differ, depends_on_itself, is_among, names_eq, wants_glue, zones_differ};
+ghost use Rattle.net_model.specs.Zone.{addresses, ns_names};
 
-use dns_data::Name;
+use dns_data::{List, Name, NoMemory, Rdata};
 use graph_form::Deps;
 use net_model::Cut;
+use std::alloc::Global;
 use zone_lookup::Hosts;
 use zone_tree::Tree;
 
@@ -31,6 +34,29 @@ pub(crate) fn wants_glue(hosts: &Hosts<'_>, cut: &Cut) -> bool
     ensures { result ≡ wants_glue hosts.now cut.now }
 {
     cut.cut.is_prefix_of(&cut.ns) && !hosts.has_glue(cut)
+}
+
+/// Whether the name server is at or below the cut, and both zones hold addresses of it, and not the same ones.
+pub(crate) fn addresses_differ(
+    alloc: Global,
+    hosts: &Hosts<'_>,
+    cut: &Cut,
+) -> Result<bool, NoMemory>
+    requires { is_prefix cut.now.zone cut.now.cut ≡ true }
+    ensures { IfOk result (λ differ. differ ≡ addresses_differ hosts.now cut.now) }
+{
+    if !cut.cut.is_prefix_of(&cut.ns) {
+        return Ok(false);
+    }
+    let Some(above) = hosts.held_zone(&cut.server, &cut.zone) else {
+        return Ok(false);
+    };
+    let Some(below) = hosts.held_zone(&cut.ns, &cut.cut) else {
+        return Ok(false);
+    };
+    let glue = addresses_at(alloc, above, &cut.ns)?;
+    let own = addresses_at(alloc, below, &cut.ns)?;
+    Ok(both_differ(glue.items(), own.items()))
 }
 
 /// Whether the configured name server is no top server and has no glue, and its address is learnt only by way of name
@@ -62,6 +88,31 @@ fn servers_at<'t, 'a>(tree: &'t Tree<'a>, name: &Name) -> &'t [&'a Name]
         Some(node) => tree.name_servers(node),
         None => &[],
     }
+}
+
+/// The addresses that a name at or below the origin owns, in the order of their texts.
+fn addresses_at(alloc: Global, tree: &Tree<'_>, name: &Name) -> Result<List<Rdata>, NoMemory>
+    requires { is_prefix tree.now.zone.origin name.now ≡ true }
+    ensures { IfOk result (λ all. all ≡ addresses tree.now.zone name.now) }
+{
+    match tree.node_at(name) {
+        Some(node) => tree.addresses(alloc, node),
+        None => Ok(List::new(alloc)),
+    }
+}
+
+/// Whether neither has no data, and they aren't the same.
+fn both_differ(above: &[Rdata], below: &[Rdata]) -> bool
+    ensures { result ≡ both_differ above.now below.now }
+{
+    !above.is_empty() && !below.is_empty() && !same_data(above, below)
+}
+
+/// Whether two lists have the same data in the same order.
+fn same_data(a: &[Rdata], b: &[Rdata]) -> bool
+    ensures { result ≡ pointwise data_eq a.now b.now }
+{
+    a == b
 }
 
 /// Whether two lists have the same names in the same order.

@@ -4,6 +4,7 @@ ghost use Rattle.std.specs.Prelude.{◌≡◌, ◌++◌, OnOk, true};
 ghost use Rattle.std.specs.List.{flat_map};
 ghost use Rattle.dns_data.specs.Name.{is_prefix};
 ghost use Rattle.delegation_checks.specs.Referrals.{
+  addresses_differ,
   arm_faults,
   behind_faults,
   branch_faults,
@@ -19,7 +20,7 @@ ghost use Rattle.delegation_checks.specs.Referrals.{
 };
 ghost use Rattle.net_model.specs.declared.fault.Fault.TheVariants as faults;
 
-use crate::cuts::{depends_on_itself, is_among, wants_glue, zones_differ};
+use crate::cuts::{addresses_differ, depends_on_itself, is_among, wants_glue, zones_differ};
 use dns_data::{List, NoMemory, RrType};
 use graph_form::{Arm, Branch, Deps, Graph, Node, Seen};
 use net_model::{Cut, Fault, Hop, Leaf};
@@ -151,6 +152,7 @@ fn put_referral(
 {
     put_differs(alloc, hosts, cut, rtype, seen)?;
     put_no_glue(alloc, hosts, cut, rtype, seen)?;
+    put_glue_differs(alloc, hosts, cut, rtype, seen)?;
     put_cyclic(alloc, hosts, deps, cut, rtype, seen)
 }
 
@@ -185,6 +187,24 @@ fn put_no_glue(
 {
     if wants_glue(hosts, cut) {
         let fault = Fault::NoGlue(cut.copy(alloc)?);
+        return seen.push(Seen { fault, rtype });
+    }
+    Ok(())
+}
+
+/// That the zones of a referral hold other addresses of the name server, where they do.
+fn put_glue_differs(
+    alloc: Global,
+    hosts: &Hosts<'_>,
+    cut: &Cut,
+    rtype: RrType,
+    seen: &mut List<Seen>,
+) -> Result<(), NoMemory>
+    requires { is_prefix cut.now.zone cut.now.cut ≡ true }
+    ensures { OnOk result (seen.new ≡ seen.old ++ with_type rtype (if_shown (addresses_differ hosts.now cut.now) (faults.GlueDiffers cut.now))) }
+{
+    if addresses_differ(alloc, hosts, cut)? {
+        let fault = Fault::GlueDiffers(cut.copy(alloc)?);
         return seen.push(Seen { fault, rtype });
     }
     Ok(())
