@@ -1,14 +1,14 @@
--- Exactly one set of servers is in force.
-use Rattle.std.proofs.Common.{◌≡◌, ℕ, List, refl, sym, ◌∙◌}
+-- Exactly one set of servers is in force, as net_model's law has it.
+use Rattle.std.proofs.Common.{◌≡◌, ℕ, List}
 use Rattle.dns_data.specs.Name.{Labels}
 use Rattle.net_model.specs.declared.config.Config.{Config}
 use Rattle.net_model.specs.Learnt.{IsInForce}
-use Rattle.net_model.specs.Nearest.{server_names}
+use Rattle.net_model.proofs.InForce.{some_in_force, one_in_force}
 
 -- there is one
 pub set_exists : (config : Config) (rewrites : ℕ) → (followed : List Labels) × IsInForce config rewrites followed
-set_exists config rewrites = (server_names config, refl)
+set_exists = some_in_force
 
 -- and no other
 pub one_set : (config : Config) (rewrites : ℕ) (a b : List Labels) → IsInForce config rewrites a → IsInForce config rewrites b → a ≡ b
-one_set config rewrites a b one other = one ∙ sym other
+one_set = one_in_force

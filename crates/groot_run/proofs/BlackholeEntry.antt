@@ -33,7 +33,7 @@ use Rattle.groot_run.proofs.FirstBlackholes.{owns_blackhole, shown_is_alias, onl
 use Rattle.groot_run.proofs.FirstNearest.{config_for}
 use Rattle.groot_run.proofs.FirstRecords.{IsFirstZone}
 use Rattle.groot_run.proofs.FirstWalks.{setting_for}
-use Rattle.groot_run.proofs.InForce.{some_in_force}
+use Rattle.net_model.proofs.InForce.{some_in_force}
 use Rattle.groot_run.proofs.OnlyWalk.{IsOnlyWalk, shown_by_one}
 use Rattle.net_model.proofs.Naming.{among_named}
 use Rattle.dns_data.proofs.Membership.{has_later, map_has, flat_map_has}

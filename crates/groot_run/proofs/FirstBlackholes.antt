@@ -26,7 +26,7 @@ use Rattle.groot_run.proofs.FirstAliases.{OwnsAlias, alias_for, alias_tells, ali
 use Rattle.groot_run.proofs.FirstNearest.{config_for, nearest_inside}
 use Rattle.groot_run.proofs.FirstRecords.{IsFirstZone}
 use Rattle.groot_run.proofs.FirstWalks.{leaf_of, leaf_inside, leaf_at, setting_for, begun, led, plain_walk, alias_walk, only_plain, only_alias}
-use Rattle.groot_run.proofs.InForce.{some_in_force}
+use Rattle.net_model.proofs.InForce.{some_in_force}
 use Rattle.groot_run.proofs.OnlyWalk.{IsOnlyWalk, only_walk_shows}
 
 -- ---- ends

@@ -10,7 +10,6 @@ pub mod FirstNearest
 pub mod FirstRecords
 pub mod FirstTree
 pub mod FirstWalks
-pub mod InForce
 pub mod NameSearches
 pub mod OneAnswer
 pub mod OneClassList

@@ -21,7 +21,7 @@ use Rattle.groot_run.specs.Report.{ClassShows, IsEntry}
 use Rattle.net_model.proofs.FaultOrder.{classes_total, one_class, one_type}
 use Rattle.dns_data.proofs.OrderedLists.{exact_lists, neither_before}
 use Rattle.net_model.proofs.TrialOrder.{one_representative}
-use Rattle.groot_run.proofs.InForce.{one_in_force}
+use Rattle.net_model.proofs.InForce.{one_in_force}
 
 paths_total : IsTotalOrder paths_cmp
 paths_total = lists_total nat_list_cmp_total

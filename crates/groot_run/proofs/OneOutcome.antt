@@ -16,7 +16,7 @@ use Rattle.groot_run.specs.Outcome.{reported, listed, WithinNames, IsReported, I
 use Rattle.groot_run.proofs.OneReport.{one_report}
 use Rattle.groot_run.proofs.OneClassList.{one_class_list}
 use Rattle.groot_run.proofs.OneAnswer.{one_walks, one_first, none_is_first}
-use Rattle.net_model.proofs.LearntSets.{one_after_rounds}
+use Rattle.net_model.proofs.InForce.{one_in_force}
 
 -- a run gives one thing by whether the class tree has more names than the limit
 one_within : (config : Config) (limit : ℕ) (P Q : Type 0) (a b : Ending) → (P → Q → a ≡ b)
@@ -62,7 +62,7 @@ one_asked name rtype config a b (inr p) (inl (server, first, is)) =
 one_asked name rtype config a b (inr p) (inr q) =
     one_answer config q.followed name rtype a b
     (subst (λ (followed : List Labels). IsAnswered config followed name rtype a)
-    (one_after_rounds config ask_rewrites (length config.servers) [] p.followed q.followed p.in_force q.in_force) p.answer)
+    (one_in_force config ask_rewrites p.followed q.followed p.in_force q.in_force) p.answer)
     q.answer
 
 -- what is read gives one thing, where a configuration does

@@ -6,7 +6,7 @@ use Rattle.dns_data.specs.Spelling.{name_text}
 use Rattle.dns_data.specs.declared.rr_type.RrType.{RrType}
 use Rattle.net_model.specs.declared.config.Config.{Config}
 use Rattle.net_model.specs.declared.walk.Walk.{Walk}
-use Rattle.net_model.specs.Learnt.{IsLeast}
+use Rattle.net_model.specs.Learnt.{IsInForce}
 use Rattle.net_model.specs.Step.{following}
 use Rattle.net_model.specs.Walk.{AreWalks}
 use Rattle.net_model.specs.Reading.{ground_of}
@@ -169,7 +169,7 @@ IsAnswered config followed name rtype ending =
 -- the answer of the query with the set in force, in whose rounds no server's name has more walks than are followed
 pub record IsAsked (config : Config) (name : Labels) (rtype : RrType) (ending : Ending) : Type 0 where
   pub followed : List Labels
-  pub in_force : IsLeast config ask_rewrites followed
+  pub in_force : IsInForce config ask_rewrites followed
   pub few : NoneInRounds config ask_rewrites most_learning_walks [] (length config.servers)
   pub answer : IsAnswered config followed name rtype ending
 

@@ -33,7 +33,7 @@ use Rattle.net_model.specs.Step.{Setting, Branch, Go, End, referred, servers_aft
 use Rattle.net_model.specs.Walk.{led_on, branched, walk_from}
 use Rattle.net_model.specs.Zone.{is_of, owns, target_of, data_at, targets_at, ns_names}
 use Rattle.net_model.proofs.Branches.{LooksUp, IsDelegated, cut_at, place_in, each_branch}
-use Rattle.net_model.proofs.Followed.{item}
+use Rattle.net_model.proofs.WalkEnds.{item}
 use Rattle.net_model.proofs.StepBounds.{cut_refers, is_the_cut}
 use Rattle.net_model.proofs.UnnamedTails.{nearest_tells}
 

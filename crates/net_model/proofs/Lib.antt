@@ -1,6 +1,7 @@
 mod Drawn
 mod Representatives
 mod Showing
+mod ShownBy
 mod Words
 mod Worked
 pub mod AlikeSteps
@@ -17,6 +18,7 @@ pub mod FirstLabel
 pub mod Followed
 pub mod FreeLabel
 pub mod GivenSets
+pub mod InForce
 pub mod Leads
 pub mod LearntSets
 pub mod Naming

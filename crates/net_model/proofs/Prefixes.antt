@@ -1,5 +1,5 @@
 -- The prefixes of a name, and the shortest and the longest that passes a test, also where labels stand below the name.
-use Rattle.std.proofs.Common.{◌≡◌, ℕ, ◌+◌, Bool, true, false, cond, List, [], ◌∷◌, ◌++◌, map, reverse, length, Contains, Option, Some, None, find, sym, refl, ap, ◌∙◌, subst, inl, inr, arith}
+use Rattle.std.proofs.Common.{◌≡◌, ℕ, ◌+◌, Bool, false, List, [], ◌∷◌, ◌++◌, map, reverse, length, Contains, Option, Some, None, find, sym, refl, ap, ◌∙◌, subst, inl, inr, arith}
 use Rattle.std.specs.Option.{option_or}
 use Rattle.std.proofs.lemmas.List.{length-map, map-append, map-id, reverse-append}
 use Rattle.std.proofs.lemmas.List.Folds.{find-append}

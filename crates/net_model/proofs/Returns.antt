@@ -28,7 +28,7 @@ use Rattle.net_model.specs.Step.{Setting, following, Branch, Go, End, may_follow
 use Rattle.net_model.specs.Walk.{branched, walk_from, IsWalk}
 use Rattle.net_model.proofs.Branches.{cut_at, place_in}
 use Rattle.net_model.proofs.EndsSomewhere.{origin_labels, GoesDown, goes_down}
-use Rattle.net_model.proofs.Followed.{item}
+use Rattle.net_model.proofs.WalkEnds.{item}
 use Rattle.net_model.proofs.Leads.{Leads, walk_leads, leads_walk}
 use Rattle.net_model.proofs.Simulation.{begins_at, begun_walk}
 

@@ -1,53 +1,16 @@
 -- How a query is seen to show a fault, or not to.
-use Rattle.std.proofs.Common.{◌≡◌, ℕ, zero, suc, Bool, true, false, List, [], ◌∷◌, refl, ap, subst}
+use Rattle.std.proofs.Common.{◌≡◌, ℕ, zero, suc, Bool, true, false, List, [], ◌∷◌, subst}
 use Rattle.std.proofs.lemmas.Bool.{and_parts}
 use Rattle.std.specs.Prelude.{Some, slice_get}
-use Rattle.std.specs.List.{list_all, AllByRecursion}
+use Rattle.std.specs.List.{list_all}
 use Rattle.dns_data.specs.Name.{Labels}
 use Rattle.dns_data.specs.declared.rr_type.RrType.{RrType}
-use Rattle.net_model.specs.declared.class.Class.{Class}
-use Rattle.net_model.specs.declared.config.Config.{Config}
-use Rattle.net_model.specs.declared.fault.Fault.{Fault}
-use Rattle.net_model.specs.declared.fault.Fault.TheVariants.{Answers, Blackhole}
-use Rattle.net_model.specs.declared.place.Place.{Place}
 use Rattle.net_model.specs.declared.walk.Leaf.{Leaf}
-use Rattle.net_model.specs.declared.walk.Leaf.TheVariants as leaves
 use Rattle.net_model.specs.declared.walk.State.{State}
 use Rattle.net_model.specs.declared.walk.Walk.{Walk}
-use Rattle.net_model.specs.Class.{IsClassOf}
-use Rattle.net_model.specs.Nearest.{server_names}
-use Rattle.net_model.specs.Reading.{ground_of}
-use Rattle.net_model.specs.Shown.{FaultSetting, with_sets, MayShow, WalksShow, ShowsAnswers, ShowsIn}
 use Rattle.net_model.specs.Step.{Setting, Branch, Go, End, start, next}
-use Rattle.net_model.specs.Walk.{walk_along, IsWalk}
+use Rattle.net_model.specs.Walk.{IsWalk}
 use Rattle.net_model.proofs.WalkEnds.{LeadsSo, walk_ends}
-use Rattle.net_model.proofs.Words.{following_all}
-
--- a fault is shown by the walk with these numbers
-pub shown_by : (config : Config) (rewrites : ℕ) (query : Labels) (rtype : RrType) (fault : Fault) (numbers : List ℕ) (walk : Walk)
-    → walk_along (following_all config rewrites) query rtype numbers ≡ Some walk
-    → MayShow config query rtype fault
-    → WalksShow (with_sets (following_all config rewrites)) (walk ∷ []) fault
-    → ShowsIn config rewrites query rtype fault
-shown_by config rewrites query rtype fault numbers walk along may show =
-    record {
-      followed = server_names config;
-      in_force = refl;
-      shows = record { may = may; walks = walk ∷ []; are_walks = ((numbers, along), tt); show = show };
-    }
-
--- answers differ between the walks with these numbers
-pub shown_by_two : (config : Config) (rewrites : ℕ) (query : Labels) (rtype : RrType) (class : Class) (numbers others : List ℕ) (one other : Walk)
-    → walk_along (following_all config rewrites) query rtype numbers ≡ Some one
-    → walk_along (following_all config rewrites) query rtype others ≡ Some other
-    → IsClassOf (ground_of config) query class → ShowsAnswers one other
-    → ShowsIn config rewrites query rtype (Answers class rtype)
-shown_by_two config rewrites query rtype class numbers others one other along beside is differ =
-    record {
-      followed = server_names config;
-      in_force = refl;
-      shows = record { may = (refl, is); walks = one ∷ other ∷ []; are_walks = ((numbers, along), ((others, beside), tt)); show = differ };
-    }
 
 -- the branch ends in a leaf that passes, or leads to a state that does
 abbrev branch_passes : (Leaf → Bool) → (State → Bool) → Branch → Bool
@@ -91,29 +54,3 @@ walk_passes test setting query rtype depth all walk (numbers, along) =
         (depth, item_passes (branch_passes test (leaves_pass test setting rtype depth)) (next setting rtype state) number (Go hop to) pass is)
     steps state (suc depth, pass) number (End hop leaf) is =
         item_passes (branch_passes test (leaves_pass test setting rtype depth)) (next setting rtype state) number (End hop leaf) pass is
-
--- the leaf isn't that no such name exists
-abbrev pub isnt_nxdomain : Leaf → Bool
-isnt_nxdomain leaves.NxDomain = false
-isnt_nxdomain leaf = true
-
-no_walk_shows : (setting : FaultSetting) (query : Labels) (rtype : RrType) (place : Place) (walks : List Walk)
-    → ((walk : Walk) → IsWalk setting.walks query rtype walk → isnt_nxdomain walk.leaf ≡ true)
-    → AllByRecursion (IsWalk setting.walks query rtype) walks → WalksShow setting walks (Blackhole place) → ⊥
-no_walk_shows setting query rtype place [] none are show = show
-no_walk_shows setting query rtype place (walk ∷ []) none are show =
-    let exists : isnt_nxdomain walk.leaf ≡ true = none walk are.0 in
-    let ends : isnt_nxdomain walk.leaf ≡ false = ap isnt_nxdomain show.ends in cc
-no_walk_shows setting query rtype place (walk ∷ other ∷ []) none are show = show
-no_walk_shows setting query rtype place (walk ∷ other ∷ third ∷ walks) none are show = show
-
--- a query of which no walk ends in a name that doesn't exist shows no blackhole
-pub no_blackhole : (config : Config) (rewrites : ℕ) (query : Labels) (rtype : RrType) (place : Place) (depth : ℕ)
-    → all_leaves_pass isnt_nxdomain (following_all config rewrites) query rtype depth ≡ true
-    → ShowsIn config rewrites query rtype (Blackhole place) → ⊥
-no_blackhole config rewrites query rtype place depth all shown =
-    no_walk_shows _ query rtype place shown.shows.walks
-    (λ walk is. walk_passes isnt_nxdomain (following_all config rewrites) query rtype depth all walk
-    (subst (λ (names : List Labels). IsWalk (record { config = config; rewrites = rewrites; followed = names }) query rtype walk)
-    shown.in_force is))
-    shown.shows.are_walks shown.shows.show

@@ -29,7 +29,7 @@ use Rattle.net_model.proofs.AlikeSteps.{retailed_tail, map_same, Follows, follow
 use Rattle.net_model.proofs.AlikeWalks.{along_from, walk_kept, overlong_front, overlong_back}
 use Rattle.net_model.proofs.Counting.{more_images, no_more_than}
 use Rattle.net_model.proofs.EndsSomewhere.{ends_somewhere}
-use Rattle.net_model.proofs.Followed.{item}
+use Rattle.net_model.proofs.WalkEnds.{item}
 use Rattle.net_model.proofs.Leads.{GoesOn, EndsBy, branch_taken}
 use Rattle.net_model.proofs.UnnamedTails.{nearest_with_tail}
 

@@ -1,6 +1,7 @@
 -- What each end of a step has, the end of each walk has.
-use Rattle.std.proofs.Common.{◌≡◌, ℕ, ◌==◌, List, [], ◌∷◌, length, refl, subst, inl, inr}
+use Rattle.std.proofs.Common.{◌≡◌, ℕ, zero, suc, ◌==◌, List, [], ◌∷◌, length, refl, subst, inl, inr}
 use Rattle.std.specs.Prelude.{◌⊎◌, slice_get, Option, Some, None, option_and_then}
+use Rattle.std.specs.List.{AllByRecursion}
 use Rattle.dns_data.specs.Name.{Labels}
 use Rattle.dns_data.specs.declared.rr_type.RrType.{RrType}
 use Rattle.net_model.specs.declared.walk.Leaf.{Leaf}
@@ -9,6 +10,12 @@ use Rattle.net_model.specs.declared.walk.Walk.{Walk}
 use Rattle.net_model.specs.Step.{Setting, Branch, Go, End, next, start}
 use Rattle.net_model.specs.Walk.{walk_from, walk_along}
 use Rattle.net_model.proofs.Leads.{GoesOn, EndsBy, branch_taken}
+
+-- an item of a list is as all of them are
+pub item : {X : Type 0} (P : X → Type 0) (xs : List X) (number : ℕ) (x : X) → AllByRecursion P xs → slice_get xs number ≡ Some x → P x
+item P [] number x all e = cc
+item P (first ∷ xs) zero x all e = let same : first ≡ x = cc in subst P same all.0
+item P (first ∷ xs) (suc number) x all e = item P xs number x all.1 e
 
 -- the branch leads to a state of a kind, or ends in a leaf of a kind
 abbrev pub LeadsSo : (State → Type 0) → (Leaf → Type 0) → Branch → Type 0

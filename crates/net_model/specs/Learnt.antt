@@ -62,7 +62,7 @@ abbrev pub InGreatest : Config → ℕ → Labels → Type 0
 InGreatest config rewrites name =
     (learnt : List Labels) × IsGreatest config rewrites learnt × Contains learnt name
 
--- The set in force: the servers that may be followed though neither a top server nor glue gives their address.
--- Today these are all configured servers.
+-- the set in force: the servers that may be followed though neither a top server nor glue gives their address are those
+-- of the least set
 abbrev pub IsInForce : Config → ℕ → List Labels → Type 0
-IsInForce config rewrites followed = followed ≡ server_names config
+IsInForce config rewrites followed = IsLeast config rewrites followed

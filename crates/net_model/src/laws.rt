@@ -9,7 +9,6 @@ ghost use Rattle.net_model.specs.declared.config.Config.{Config};
 ghost use Rattle.net_model.specs.declared.fault.Fault.{Fault};
 ghost use Rattle.net_model.specs.declared.fault.Fault.TheVariants as faults;
 ghost use Rattle.net_model.specs.declared.place.Place.{Place};
-ghost use Rattle.net_model.specs.declared.walk.Leaf.TheVariants.{NoAddress};
 ghost use Rattle.net_model.specs.declared.walk.State.{State};
 ghost use Rattle.net_model.specs.declared.walk.Walk.{Walk};
 ghost use Rattle.net_model.specs.Class.{IsClassOf, IsRepresentative};
@@ -22,12 +21,11 @@ ghost use Rattle.net_model.specs.Tails.{AreTails, is_overlong, WalksAs};
 ghost use Rattle.net_model.specs.Tree.{IsReached, AreReached, HasMoreThan};
 ghost use Rattle.net_model.specs.Walk.{IsWalk};
 
-/// With the set in force, every configured name server is followed: no walk ends for want of its address.
-pub fn every_server_is_followed()
-    ensures { (config : Config) (rewrites : ℕ) (followed : List Labels) → IsInForce config rewrites followed
-        → (query : Labels) (rtype : RrType) (walk : Walk) (ns : Labels)
-        → IsWalk (record { config = config; rewrites = rewrites; followed = followed }) query rtype walk
-        → walk.leaf ≢ NoAddress ns }
+/// With so many rewrites a configuration has one set in force: there is one, and no other.
+pub fn one_in_force()
+    ensures exists { (config : Config) (rewrites : ℕ) → (followed : List Labels) × IsInForce config rewrites followed }
+    ensures one { (config : Config) (rewrites : ℕ) (one other : List Labels) → IsInForce config rewrites one
+        → IsInForce config rewrites other → one ≡ other }
 {}
 
 /// Of two names that differ in unnamed labels below one name, the one that isn't the longer walks as the other, whatever

@@ -9,7 +9,7 @@ use Rattle.net_model.specs.Reading.{ground_of}
 use Rattle.net_model.specs.Shown.{ShowsIn}
 use Rattle.net_model.proofs.Naming.{class_of_named, class_below}
 use Rattle.std.proofs.Common.{arith}
-use Rattle.net_model.proofs.Showing.{shown_by, shown_by_two}
+use Rattle.net_model.proofs.ShownBy.{shown_by, shown_by_two}
 use Rattle.net_model.proofs.Words.{rr, zone_at, server_at, with_tops, place_at, cut_at}
 use Rattle.dns_data.specs.declared.rr_type.RrType.TheVariants as types
 use Rattle.net_model.specs.declared.fault.Fault.TheVariants as faults
@@ -34,7 +34,7 @@ config_0 =
 
 shown_0 : ShowsIn config_0 1 (codes "b" ∷ codes "b" ∷ codes "b" ∷ codes "b" ∷ codes "www" ∷ []) types.A (faults.Blackhole (place_at (codes "b" ∷ codes "b" ∷ codes "n" ∷ []) (codes "b" ∷ codes "b" ∷ []) (codes "b" ∷ codes "b" ∷ codes "b" ∷ codes "b" ∷ [])))
 shown_0 =
-    shown_by config_0 1 (codes "b" ∷ codes "b" ∷ codes "b" ∷ codes "b" ∷ codes "www" ∷ []) types.A (faults.Blackhole (place_at (codes "b" ∷ codes "b" ∷ codes "n" ∷ []) (codes "b" ∷ codes "b" ∷ []) (codes "b" ∷ codes "b" ∷ codes "b" ∷ codes "b" ∷ []))) (0 ∷ 0 ∷ 0 ∷ []) _ refl tt
+    shown_by config_0 1 (codes "b" ∷ codes "b" ∷ codes "b" ∷ codes "b" ∷ codes "www" ∷ []) types.A (faults.Blackhole (place_at (codes "b" ∷ codes "b" ∷ codes "n" ∷ []) (codes "b" ∷ codes "b" ∷ []) (codes "b" ∷ codes "b" ∷ codes "b" ∷ codes "b" ∷ []))) (0 ∷ 0 ∷ 0 ∷ []) _ (λ followed. refl) tt
     (record { rewritten = record { before = _ ∷ []; last = _; states = refl; at_place = refl }; ends = refl })
 
 abbrev zone_1_0 : Zone
@@ -66,7 +66,7 @@ config_1 =
 shown_1 : ShowsIn config_1 1 (codes "b" ∷ codes "b" ∷ codes "b" ∷ codes "a" ∷ []) types.Aaaa (faults.Answers (Below (codes "b" ∷ codes "b" ∷ [])) types.Aaaa)
 unfolding digits
 shown_1 =
-    shown_by_two config_1 1 (codes "b" ∷ codes "b" ∷ codes "b" ∷ codes "a" ∷ []) types.Aaaa (Below (codes "b" ∷ codes "b" ∷ [])) (0 ∷ 0 ∷ []) (1 ∷ 0 ∷ []) _ _ refl refl
+    shown_by_two config_1 1 (codes "b" ∷ codes "b" ∷ codes "b" ∷ codes "a" ∷ []) types.Aaaa (Below (codes "b" ∷ codes "b" ∷ [])) (0 ∷ 0 ∷ []) (1 ∷ 0 ∷ []) _ _ (λ followed. refl) (λ followed. refl)
     (class_below 0 (ground_of config_1) ((codes "b" ∷ codes "b" ∷ codes "b" ∷ []) ∷ (codes "b" ∷ codes "b" ∷ codes "b" ∷ codes "a" ∷ []) ∷ []) (codes "b" ∷ codes "b" ∷ []) (codes "b" ∷ codes "a" ∷ []) refl refl)
     (record { first = refl; second = refl; differ = λ e. cc })
 
@@ -89,7 +89,7 @@ config_2 =
 shown_2 : ShowsIn config_2 3 (codes "b" ∷ codes "a" ∷ codes "a" ∷ []) types.Aaaa (faults.Lame (cut_at (codes "b" ∷ codes "m" ∷ []) (codes "b" ∷ []) (codes "b" ∷ codes "a" ∷ []) (codes "b" ∷ codes "m" ∷ [])))
 unfolding digits
 shown_2 =
-    shown_by config_2 3 (codes "b" ∷ codes "a" ∷ codes "a" ∷ []) types.Aaaa (faults.Lame (cut_at (codes "b" ∷ codes "m" ∷ []) (codes "b" ∷ []) (codes "b" ∷ codes "a" ∷ []) (codes "b" ∷ codes "m" ∷ []))) (0 ∷ 1 ∷ []) _ refl tt
+    shown_by config_2 3 (codes "b" ∷ codes "a" ∷ codes "a" ∷ []) types.Aaaa (faults.Lame (cut_at (codes "b" ∷ codes "m" ∷ []) (codes "b" ∷ []) (codes "b" ∷ codes "a" ∷ []) (codes "b" ∷ codes "m" ∷ []))) (0 ∷ 1 ∷ []) _ (λ followed. refl) tt
     (record { behind = ([], refl); ends = refl })
 
 abbrev zone_3_0 : Zone
@@ -110,7 +110,7 @@ config_3 =
 shown_3 : ShowsIn config_3 2 (codes "b" ∷ codes "b" ∷ codes "a" ∷ codes "b" ∷ []) types.Aaaa (faults.Blackhole (place_at (codes "x" ∷ codes "b" ∷ []) (codes "b" ∷ codes "b" ∷ []) (codes "b" ∷ codes "b" ∷ codes "a" ∷ codes "b" ∷ [])))
 unfolding digits
 shown_3 =
-    shown_by config_3 2 (codes "b" ∷ codes "b" ∷ codes "a" ∷ codes "b" ∷ []) types.Aaaa (faults.Blackhole (place_at (codes "x" ∷ codes "b" ∷ []) (codes "b" ∷ codes "b" ∷ []) (codes "b" ∷ codes "b" ∷ codes "a" ∷ codes "b" ∷ []))) (0 ∷ 0 ∷ 0 ∷ []) _ refl tt
+    shown_by config_3 2 (codes "b" ∷ codes "b" ∷ codes "a" ∷ codes "b" ∷ []) types.Aaaa (faults.Blackhole (place_at (codes "x" ∷ codes "b" ∷ []) (codes "b" ∷ codes "b" ∷ []) (codes "b" ∷ codes "b" ∷ codes "a" ∷ codes "b" ∷ []))) (0 ∷ 0 ∷ 0 ∷ []) _ (λ followed. refl) tt
     (record { rewritten = record { before = _ ∷ []; last = _; states = refl; at_place = refl }; ends = refl })
 
 abbrev zone_4_0 : Zone
@@ -139,7 +139,7 @@ config_4 =
 
 shown_4 : ShowsIn config_4 1 (codes "c" ∷ codes "c" ∷ codes "b" ∷ codes "*" ∷ []) types.A (faults.Blackhole (place_at (codes "x" ∷ codes "b" ∷ []) (codes "c" ∷ codes "c" ∷ []) (codes "c" ∷ codes "c" ∷ codes "b" ∷ [])))
 shown_4 =
-    shown_by config_4 1 (codes "c" ∷ codes "c" ∷ codes "b" ∷ codes "*" ∷ []) types.A (faults.Blackhole (place_at (codes "x" ∷ codes "b" ∷ []) (codes "c" ∷ codes "c" ∷ []) (codes "c" ∷ codes "c" ∷ codes "b" ∷ []))) (0 ∷ 0 ∷ 0 ∷ []) _ refl tt
+    shown_by config_4 1 (codes "c" ∷ codes "c" ∷ codes "b" ∷ codes "*" ∷ []) types.A (faults.Blackhole (place_at (codes "x" ∷ codes "b" ∷ []) (codes "c" ∷ codes "c" ∷ []) (codes "c" ∷ codes "c" ∷ codes "b" ∷ []))) (0 ∷ 0 ∷ 0 ∷ []) _ (λ followed. refl) tt
     (record { rewritten = record { before = _ ∷ []; last = _; states = refl; at_place = refl }; ends = refl })
 
 abbrev zone_5_0 : Zone
@@ -182,7 +182,7 @@ config_5 =
 
 shown_5 : ShowsIn config_5 2 (codes "p" ∷ []) types.Txt (faults.Answers (Exact (codes "p" ∷ [])) types.Txt)
 shown_5 =
-    shown_by_two config_5 2 (codes "p" ∷ []) types.Txt (Exact (codes "p" ∷ [])) (0 ∷ 0 ∷ []) (1 ∷ 0 ∷ []) _ _ refl refl
+    shown_by_two config_5 2 (codes "p" ∷ []) types.Txt (Exact (codes "p" ∷ [])) (0 ∷ 0 ∷ []) (1 ∷ 0 ∷ []) _ _ (λ followed. refl) (λ followed. refl)
     (class_of_named 0 (ground_of config_5) (codes "p" ∷ []) refl)
     (record { first = refl; second = refl; differ = λ e. cc })
 
@@ -205,7 +205,7 @@ config_6 =
 
 shown_6 : ShowsIn config_6 3 (codes "a" ∷ codes "a" ∷ codes "b" ∷ codes "b" ∷ []) types.Txt (faults.Lame (cut_at (codes "x" ∷ codes "n" ∷ codes "n" ∷ []) (codes "a" ∷ []) (codes "a" ∷ codes "b" ∷ []) (codes "x" ∷ codes "n" ∷ codes "n" ∷ [])))
 shown_6 =
-    shown_by config_6 3 (codes "a" ∷ codes "a" ∷ codes "b" ∷ codes "b" ∷ []) types.Txt (faults.Lame (cut_at (codes "x" ∷ codes "n" ∷ codes "n" ∷ []) (codes "a" ∷ []) (codes "a" ∷ codes "b" ∷ []) (codes "x" ∷ codes "n" ∷ codes "n" ∷ []))) (0 ∷ 0 ∷ 0 ∷ []) _ refl tt
+    shown_by config_6 3 (codes "a" ∷ codes "a" ∷ codes "b" ∷ codes "b" ∷ []) types.Txt (faults.Lame (cut_at (codes "x" ∷ codes "n" ∷ codes "n" ∷ []) (codes "a" ∷ []) (codes "a" ∷ codes "b" ∷ []) (codes "x" ∷ codes "n" ∷ codes "n" ∷ []))) (0 ∷ 0 ∷ 0 ∷ []) _ (λ followed. refl) tt
     (record { behind = (_ ∷ [], refl); ends = refl })
 
 abbrev zone_7_0 : Zone
@@ -236,7 +236,7 @@ config_7 =
 shown_7 : ShowsIn config_7 3 (codes "b" ∷ codes "a" ∷ codes "a" ∷ codes "b" ∷ codes "n" ∷ codes "b" ∷ []) types.Aaaa (faults.Limit (place_at (codes "b" ∷ codes "a" ∷ codes "a" ∷ codes "b" ∷ codes "n" ∷ []) (codes "b" ∷ codes "a" ∷ codes "a" ∷ []) (codes "b" ∷ codes "a" ∷ codes "a" ∷ [])))
 unfolding digits
 shown_7 =
-    shown_by config_7 3 (codes "b" ∷ codes "a" ∷ codes "a" ∷ codes "b" ∷ codes "n" ∷ codes "b" ∷ []) types.Aaaa (faults.Limit (place_at (codes "b" ∷ codes "a" ∷ codes "a" ∷ codes "b" ∷ codes "n" ∷ []) (codes "b" ∷ codes "a" ∷ codes "a" ∷ []) (codes "b" ∷ codes "a" ∷ codes "a" ∷ []))) (0 ∷ 0 ∷ 0 ∷ 0 ∷ 0 ∷ []) _ refl tt
+    shown_by config_7 3 (codes "b" ∷ codes "a" ∷ codes "a" ∷ codes "b" ∷ codes "n" ∷ codes "b" ∷ []) types.Aaaa (faults.Limit (place_at (codes "b" ∷ codes "a" ∷ codes "a" ∷ codes "b" ∷ codes "n" ∷ []) (codes "b" ∷ codes "a" ∷ codes "a" ∷ []) (codes "b" ∷ codes "a" ∷ codes "a" ∷ []))) (0 ∷ 0 ∷ 0 ∷ 0 ∷ 0 ∷ []) _ (λ followed. refl) tt
     refl
 
 abbrev zone_8_0 : Zone
@@ -279,7 +279,7 @@ config_8 =
 shown_8 : ShowsIn config_8 1 (codes "q" ∷ codes "a" ∷ codes "*" ∷ []) types.Aaaa (faults.Limit (place_at (codes "s0" ∷ []) (codes "p" ∷ []) (codes "p" ∷ [])))
 unfolding digits
 shown_8 =
-    shown_by config_8 1 (codes "q" ∷ codes "a" ∷ codes "*" ∷ []) types.Aaaa (faults.Limit (place_at (codes "s0" ∷ []) (codes "p" ∷ []) (codes "p" ∷ []))) (2 ∷ 0 ∷ 0 ∷ []) _ refl tt
+    shown_by config_8 1 (codes "q" ∷ codes "a" ∷ codes "*" ∷ []) types.Aaaa (faults.Limit (place_at (codes "s0" ∷ []) (codes "p" ∷ []) (codes "p" ∷ []))) (2 ∷ 0 ∷ 0 ∷ []) _ (λ followed. refl) tt
     refl
 
 abbrev zone_9_0 : Zone
@@ -322,7 +322,7 @@ config_9 =
 
 shown_9 : ShowsIn config_9 2 (codes "q" ∷ []) types.Txt (faults.Answers (Exact (codes "q" ∷ [])) types.Txt)
 shown_9 =
-    shown_by_two config_9 2 (codes "q" ∷ []) types.Txt (Exact (codes "q" ∷ [])) (2 ∷ 0 ∷ []) (3 ∷ 0 ∷ []) _ _ refl refl
+    shown_by_two config_9 2 (codes "q" ∷ []) types.Txt (Exact (codes "q" ∷ [])) (2 ∷ 0 ∷ []) (3 ∷ 0 ∷ []) _ _ (λ followed. refl) (λ followed. refl)
     (class_of_named 0 (ground_of config_9) (codes "q" ∷ []) refl)
     (record { first = refl; second = refl; differ = λ e. cc })
 
@@ -353,11 +353,11 @@ config_10 =
 
 shown_10 : ShowsIn config_10 1 (codes "a" ∷ codes "b" ∷ codes "c" ∷ codes "b" ∷ codes "a" ∷ codes "a" ∷ codes "c" ∷ []) types.A (faults.Lame (cut_at (codes "a" ∷ codes "b" ∷ codes "a" ∷ codes "n" ∷ []) (codes "a" ∷ codes "b" ∷ []) (codes "a" ∷ codes "b" ∷ codes "c" ∷ codes "b" ∷ codes "a" ∷ codes "a" ∷ []) (codes "a" ∷ codes "b" ∷ codes "a" ∷ codes "n" ∷ [])))
 shown_10 =
-    shown_by config_10 1 (codes "a" ∷ codes "b" ∷ codes "c" ∷ codes "b" ∷ codes "a" ∷ codes "a" ∷ codes "c" ∷ []) types.A (faults.Lame (cut_at (codes "a" ∷ codes "b" ∷ codes "a" ∷ codes "n" ∷ []) (codes "a" ∷ codes "b" ∷ []) (codes "a" ∷ codes "b" ∷ codes "c" ∷ codes "b" ∷ codes "a" ∷ codes "a" ∷ []) (codes "a" ∷ codes "b" ∷ codes "a" ∷ codes "n" ∷ []))) (0 ∷ 0 ∷ []) _ refl tt
+    shown_by config_10 1 (codes "a" ∷ codes "b" ∷ codes "c" ∷ codes "b" ∷ codes "a" ∷ codes "a" ∷ codes "c" ∷ []) types.A (faults.Lame (cut_at (codes "a" ∷ codes "b" ∷ codes "a" ∷ codes "n" ∷ []) (codes "a" ∷ codes "b" ∷ []) (codes "a" ∷ codes "b" ∷ codes "c" ∷ codes "b" ∷ codes "a" ∷ codes "a" ∷ []) (codes "a" ∷ codes "b" ∷ codes "a" ∷ codes "n" ∷ []))) (0 ∷ 0 ∷ []) _ (λ followed. refl) tt
     (record { behind = ([], refl); ends = refl })
 
 shown_11 : ShowsIn config_10 1 (codes "a" ∷ codes "b" ∷ codes "a" ∷ codes "b" ∷ []) types.Aaaa (faults.Differs (cut_at (codes "a" ∷ codes "b" ∷ codes "a" ∷ codes "n" ∷ []) (codes "a" ∷ codes "b" ∷ []) (codes "a" ∷ codes "b" ∷ codes "a" ∷ []) (codes "a" ∷ codes "b" ∷ codes "n" ∷ codes "n" ∷ [])))
 unfolding digits
 shown_11 =
-    shown_by config_10 1 (codes "a" ∷ codes "b" ∷ codes "a" ∷ codes "b" ∷ []) types.Aaaa (faults.Differs (cut_at (codes "a" ∷ codes "b" ∷ codes "a" ∷ codes "n" ∷ []) (codes "a" ∷ codes "b" ∷ []) (codes "a" ∷ codes "b" ∷ codes "a" ∷ []) (codes "a" ∷ codes "b" ∷ codes "n" ∷ codes "n" ∷ []))) (0 ∷ 0 ∷ 0 ∷ []) _ refl tt
+    shown_by config_10 1 (codes "a" ∷ codes "b" ∷ codes "a" ∷ codes "b" ∷ []) types.Aaaa (faults.Differs (cut_at (codes "a" ∷ codes "b" ∷ codes "a" ∷ codes "n" ∷ []) (codes "a" ∷ codes "b" ∷ []) (codes "a" ∷ codes "b" ∷ codes "a" ∷ []) (codes "a" ∷ codes "b" ∷ codes "n" ∷ codes "n" ∷ []))) (0 ∷ 0 ∷ 0 ∷ []) _ (λ followed. refl) tt
     (record { refers = (0, omega arith, refl); sides = record { above = _; below = _; refers = refl; serves = refl }; differ = λ e. cc })

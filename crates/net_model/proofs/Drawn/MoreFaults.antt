@@ -4,9 +4,11 @@ use Rattle.std.specs.Fmt.{digits}
 use Rattle.dns_data.specs.declared.rdata.Rdata.TheVariants.{A, Ns, Cname, Soa, Ptr, Txt, Dname}
 use Rattle.net_model.specs.declared.config.Config.{Config}
 use Rattle.net_model.specs.declared.config.Zone.{Zone}
+use Rattle.net_model.specs.Learnt.{IsInForce}
 use Rattle.net_model.specs.Shown.{ShowsIn}
 use Rattle.std.proofs.Common.{arith}
-use Rattle.net_model.proofs.Showing.{shown_by}
+use Rattle.net_model.proofs.LearntSets.{ByNone, is_round, after_same_rounds}
+use Rattle.net_model.proofs.ShownBy.{shown_while, shown_by}
 use Rattle.net_model.proofs.Words.{rr, zone_at, server_at, with_tops, place_at, cut_at}
 use Rattle.dns_data.specs.declared.rr_type.RrType.TheVariants as types
 use Rattle.net_model.specs.declared.fault.Fault.TheVariants as faults
@@ -52,7 +54,7 @@ config_11 =
 shown_0 : ShowsIn config_11 1 (codes "p" ∷ codes "b" ∷ []) types.Aaaa (faults.Limit (place_at (codes "s2" ∷ []) (codes "q" ∷ []) (codes "q" ∷ [])))
 unfolding digits
 shown_0 =
-    shown_by config_11 1 (codes "p" ∷ codes "b" ∷ []) types.Aaaa (faults.Limit (place_at (codes "s2" ∷ []) (codes "q" ∷ []) (codes "q" ∷ []))) (0 ∷ 1 ∷ 0 ∷ []) _ refl tt
+    shown_by config_11 1 (codes "p" ∷ codes "b" ∷ []) types.Aaaa (faults.Limit (place_at (codes "s2" ∷ []) (codes "q" ∷ []) (codes "q" ∷ []))) (0 ∷ 1 ∷ 0 ∷ []) _ (λ followed. refl) tt
     refl
 
 abbrev zone_12_0 : Zone
@@ -82,7 +84,7 @@ config_12 =
 
 shown_1 : ShowsIn config_12 3 (codes "a" ∷ codes "b" ∷ []) types.A (faults.Differs (cut_at (codes "a" ∷ codes "b" ∷ codes "b" ∷ codes "b" ∷ []) [] (codes "a" ∷ codes "b" ∷ []) (codes "a" ∷ codes "a" ∷ [])))
 shown_1 =
-    shown_by config_12 3 (codes "a" ∷ codes "b" ∷ []) types.A (faults.Differs (cut_at (codes "a" ∷ codes "b" ∷ codes "b" ∷ codes "b" ∷ []) [] (codes "a" ∷ codes "b" ∷ []) (codes "a" ∷ codes "a" ∷ []))) (1 ∷ 0 ∷ 0 ∷ []) _ refl tt
+    shown_by config_12 3 (codes "a" ∷ codes "b" ∷ []) types.A (faults.Differs (cut_at (codes "a" ∷ codes "b" ∷ codes "b" ∷ codes "b" ∷ []) [] (codes "a" ∷ codes "b" ∷ []) (codes "a" ∷ codes "a" ∷ []))) (1 ∷ 0 ∷ 0 ∷ []) _ (λ followed. refl) tt
     (record { refers = (0, omega arith, refl); sides = record { above = _; below = _; refers = refl; serves = refl }; differ = λ e. cc })
 
 abbrev zone_13_0 : Zone
@@ -103,7 +105,7 @@ config_13 =
 
 shown_2 : ShowsIn config_13 2 (codes "a" ∷ codes "b" ∷ codes "b" ∷ codes "c" ∷ []) types.Txt (faults.NoGlue (cut_at (codes "x" ∷ codes "b" ∷ codes "n" ∷ []) (codes "a" ∷ codes "b" ∷ []) (codes "a" ∷ codes "b" ∷ codes "b" ∷ []) (codes "a" ∷ codes "b" ∷ codes "b" ∷ codes "b" ∷ [])))
 shown_2 =
-    shown_by config_13 2 (codes "a" ∷ codes "b" ∷ codes "b" ∷ codes "c" ∷ []) types.Txt (faults.NoGlue (cut_at (codes "x" ∷ codes "b" ∷ codes "n" ∷ []) (codes "a" ∷ codes "b" ∷ []) (codes "a" ∷ codes "b" ∷ codes "b" ∷ []) (codes "a" ∷ codes "b" ∷ codes "b" ∷ codes "b" ∷ []))) (0 ∷ 0 ∷ []) _ refl tt
+    shown_by config_13 2 (codes "a" ∷ codes "b" ∷ codes "b" ∷ codes "c" ∷ []) types.Txt (faults.NoGlue (cut_at (codes "x" ∷ codes "b" ∷ codes "n" ∷ []) (codes "a" ∷ codes "b" ∷ []) (codes "a" ∷ codes "b" ∷ codes "b" ∷ []) (codes "a" ∷ codes "b" ∷ codes "b" ∷ codes "b" ∷ []))) (0 ∷ 0 ∷ []) _ (λ followed. refl) tt
     (record { refers = (0, omega arith, refl); inside = refl; no_glue = refl })
 
 abbrev zone_14_0 : Zone
@@ -125,7 +127,7 @@ config_14 =
 
 shown_3 : ShowsIn config_14 3 (codes "b" ∷ codes "c" ∷ codes "a" ∷ codes "b" ∷ codes "b" ∷ codes "*" ∷ []) types.A (faults.NoGlue (cut_at (codes "b" ∷ codes "c" ∷ codes "n" ∷ []) (codes "b" ∷ codes "c" ∷ []) (codes "b" ∷ codes "c" ∷ codes "a" ∷ []) (codes "b" ∷ codes "c" ∷ codes "a" ∷ [])))
 shown_3 =
-    shown_by config_14 3 (codes "b" ∷ codes "c" ∷ codes "a" ∷ codes "b" ∷ codes "b" ∷ codes "*" ∷ []) types.A (faults.NoGlue (cut_at (codes "b" ∷ codes "c" ∷ codes "n" ∷ []) (codes "b" ∷ codes "c" ∷ []) (codes "b" ∷ codes "c" ∷ codes "a" ∷ []) (codes "b" ∷ codes "c" ∷ codes "a" ∷ []))) (0 ∷ 0 ∷ []) _ refl tt
+    shown_by config_14 3 (codes "b" ∷ codes "c" ∷ codes "a" ∷ codes "b" ∷ codes "b" ∷ codes "*" ∷ []) types.A (faults.NoGlue (cut_at (codes "b" ∷ codes "c" ∷ codes "n" ∷ []) (codes "b" ∷ codes "c" ∷ []) (codes "b" ∷ codes "c" ∷ codes "a" ∷ []) (codes "b" ∷ codes "c" ∷ codes "a" ∷ []))) (0 ∷ 0 ∷ []) _ (λ followed. refl) tt
     (record { refers = (0, omega arith, refl); inside = refl; no_glue = refl })
 
 abbrev zone_15_0 : Zone
@@ -159,7 +161,10 @@ config_15 =
     ∷ server_at (codes "x" ∷ codes "n" ∷ []) (zone_15_1 ∷ zone_15_2 ∷ [])
     ∷ [])
 
+none_is_learnt : IsInForce config_15 1 []
+none_is_learnt = after_same_rounds config_15 1 2 [] (is_round config_15 1 [] [] (ByNone 3 ∷ ByNone 3 ∷ []) refl refl)
+
 shown_4 : ShowsIn config_15 1 (codes "c" ∷ []) types.A (faults.Differs (cut_at (codes "a" ∷ codes "n" ∷ []) [] (codes "c" ∷ []) (codes "x" ∷ codes "n" ∷ [])))
 shown_4 =
-    shown_by config_15 1 (codes "c" ∷ []) types.A (faults.Differs (cut_at (codes "a" ∷ codes "n" ∷ []) [] (codes "c" ∷ []) (codes "x" ∷ codes "n" ∷ []))) (0 ∷ 0 ∷ 0 ∷ []) _ refl tt
+    shown_while config_15 1 [] none_is_learnt (codes "c" ∷ []) types.A (faults.Differs (cut_at (codes "a" ∷ codes "n" ∷ []) [] (codes "c" ∷ []) (codes "x" ∷ codes "n" ∷ []))) (0 ∷ 0 ∷ []) _ refl tt
     (record { refers = (0, omega arith, refl); sides = record { above = _; below = _; refers = refl; serves = refl }; differ = λ e. cc })

@@ -10,7 +10,7 @@ use Rattle.net_model.specs.Learnt.{IsRound, IsLeast, IsGreatest}
 use Rattle.net_model.specs.Nearest.{server_names}
 use Rattle.net_model.specs.Shown.{ShowsIn}
 use Rattle.net_model.proofs.LearntSets.{ByWalk, ByNone, is_round, after_same_rounds, after_one_round, not_in_least}
-use Rattle.net_model.proofs.Showing.{shown_by}
+use Rattle.net_model.proofs.ShownBy.{shown_while}
 use Rattle.net_model.proofs.Words.{rr, zone_at, server_at, with_tops, cut_at}
 
 abbrev p : Labels
@@ -67,7 +67,7 @@ the_greatest_set = after_one_round circle 12 2 (server_names circle) both both_a
 -- each of the two delegations depends on the other
 a_cyclic_dependency : ShowsIn circle 12 p types.A (Cyclic (cut_at top [] p ns_q))
 a_cyclic_dependency =
-    shown_by circle 12 p types.A (Cyclic (cut_at top [] p ns_q)) (0 ∷ 0 ∷ 0 ∷ []) _ refl tt
+    shown_while circle 12 [] the_least_set p types.A (Cyclic (cut_at top [] p ns_q)) (0 ∷ 0 ∷ []) _ refl tt
     (record {
       refers = (0, omega arith, refl);
       configured = refl;

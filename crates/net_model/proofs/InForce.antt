@@ -1,0 +1,16 @@
+-- One set is in force.
+use Rattle.std.proofs.Common.{◌≡◌, ℕ, List, [], length}
+use Rattle.dns_data.specs.Name.{Labels}
+use Rattle.net_model.specs.declared.config.Config.{Config}
+use Rattle.net_model.specs.Learnt.{IsInForce}
+use Rattle.net_model.proofs.LearntSets.{one_after_rounds}
+use Rattle.net_model.proofs.RoundsExist.{rounds_exist}
+
+-- there is one
+pub some_in_force : (config : Config) (rewrites : ℕ) → (followed : List Labels) × IsInForce config rewrites followed
+some_in_force config rewrites = rounds_exist config rewrites (length config.servers) []
+
+-- and no other
+pub one_in_force : (config : Config) (rewrites : ℕ) (one other : List Labels) → IsInForce config rewrites one
+    → IsInForce config rewrites other → one ≡ other
+one_in_force config rewrites = one_after_rounds config rewrites (length config.servers) []
