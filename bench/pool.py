@@ -101,7 +101,7 @@ def measured(words):
     best = None
     for _ in range(RUNS):
         start = time.monotonic()
-        child = subprocess.Popen(words)
+        child = subprocess.Popen(words, stdout=subprocess.DEVNULL)
         _, status, usage = os.wait4(child.pid, 0)
         child.returncode = os.waitstatus_to_exitcode(status)
         if child.returncode:
