@@ -1,6 +1,6 @@
 -- Whether the class below a name has a representative is decided: some label is free, and the name with the first free one
 -- isn't too long.
-use Rattle.std.proofs.Common.{◌≡◌, ◌⊎◌, ℕ, ◌<◌, ◌≤◌, List, [], ◌∷◌, ◌++◌, Contains, Option, Some, None, refl, sym, ap, ◌∙◌, subst, inl, inr, arith}
+use Rattle.std.proofs.Common.{◌≡◌, ℕ, ◌<◌, ◌≤◌, List, [], ◌∷◌, ◌++◌, Contains, Option, Some, None, refl, ap, ◌∙◌, inl, inr, arith}
 use Rattle.std.proofs.lemmas.Bool.{cases_lt}
 use Rattle.dns_data.specs.Label.{IsLabel}
 use Rattle.dns_data.specs.Name.{Labels, IsName, wire_octets}
@@ -18,7 +18,7 @@ use Rattle.query_classes.specs.Members.{IsInOneClass}
 use Rattle.query_classes.proofs.FirstFree.{first_free}
 use Rattle.query_classes.proofs.Partition.{named_or_not}
 use Rattle.query_classes.proofs.SameGrounds.{same_back, represents_same}
-use Rattle.class_judge.specs.Verdict.{IsClassVerdict, IsBelowVerdict, IsNameVerdict}
+use Rattle.class_judge.specs.Verdict.{IsBelowVerdict, IsNameVerdict}
 use Rattle.class_judge.specs.declared.verdict.ClassVerdict.{ClassVerdict}
 use Rattle.class_judge.specs.declared.verdict.NameVerdict.{NameVerdict}
 use Rattle.class_judge.proofs.Decided.{Decided, by_test, turned, both, not_so, any_of}

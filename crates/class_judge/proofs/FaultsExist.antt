@@ -1,19 +1,15 @@
 -- The faults that a query shows are a list: each once with its first type, in fault order.
-use Rattle.std.proofs.Common.{◌≡◌, ◌⊎◌, ◌↔◌, ℕ, ◌≤◌, true, List, [], ◌∷◌, map, length, flat_map, Contains, AllPairs, refl, sym, ap, ◌∙◌, subst, inl, inr}
-use Rattle.std.specs.List.{AllByRecursion}
-use Rattle.std.specs.declared.cmp.Ordering.TheVariants.{Less, Equal}
+use Rattle.std.proofs.Common.{◌≡◌, ◌↔◌, ℕ, ◌≤◌, true, List, [], map, length, flat_map, Contains, refl, subst, inl, inr}
 use Rattle.dns_data.specs.Name.{Labels}
 use Rattle.dns_data.specs.RrType.{number_of, types}
 use Rattle.dns_data.specs.declared.rr_type.RrType.{RrType}
-use Rattle.dns_data.proofs.Membership.{none_in_nil, has_first, has_later, first_or_later, map_has, from_map, flat_map_has, from_flat_map, pairs_first, pairs_rest}
+use Rattle.dns_data.proofs.Membership.{map_has, from_map, flat_map_has, from_flat_map}
 use Rattle.graph_form.specs.Verdict.{AreFirstTypes, AreShownOf}
 use Rattle.graph_form.specs.declared.report.Seen.{Seen}
-use Rattle.graph_form.proofs.FirstTypes.{fault_itself}
 use Rattle.graph_form.proofs.Reached.{every_type}
 use Rattle.net_model.specs.declared.config.Config.{Config}
 use Rattle.net_model.specs.declared.fault.Fault.{Fault}
 use Rattle.net_model.specs.declared.walk.Walk.{Walk}
-use Rattle.net_model.specs.FaultOrder.{fault_cmp}
 use Rattle.net_model.specs.Learnt.{InLeast, InGreatest}
 use Rattle.net_model.specs.Nearest.{server_names}
 use Rattle.net_model.specs.Reading.{ground_of}
@@ -28,6 +24,7 @@ use Rattle.class_judge.proofs.Decided.{Decided, turned, among, chosen, same_name
 use Rattle.class_judge.proofs.ShowsDecided.{shows_take, shows_decided}
 use Rattle.class_judge.proofs.Candidates.{candidates, candidate_of_one, candidate_of_two}
 use Rattle.class_judge.proofs.FirstFound.{first_types_exist}
+use Rattle.graph_form.proofs.Verdicts.{along, one_entry}
 
 -- ---- all walks of a query
 
@@ -100,31 +97,6 @@ module _ (setting : Setting) (query : Labels) (of : IsInOneClass (ground_of sett
         flat_map_has all_with types seen.rtype seen (every_type seen.rtype)
         (map_has (seen_with seen.rtype) (shown_with seen.rtype).0 seen.fault (((shown_with seen.rtype).1 seen.fault).1 shows)),
   )
-
--- two with one fault are one, where faults rise
-one_entry : (shown : List Seen) → AllPairs (λ a b. fault_cmp a.fault b.fault ≡ Less) shown → (a b : Seen) → Contains shown a → Contains shown b
-    → a.fault ≡ b.fault → a ≡ b
-one_entry [] ordered a b has_a has_b same = absurd (none_in_nil a has_a)
-one_entry (x ∷ xs) ordered a b has_a has_b same =
-    by (first_or_later x xs a has_a) (first_or_later x xs b has_b)
-    (λ c d has_c has_d equal. one_entry xs (pairs_rest (λ a b. fault_cmp a.fault b.fault ≡ Less) x xs ordered) c d has_c has_d equal)
-  where
-    never : (c : Seen) → Contains xs c → x.fault ≡ c.fault → ⊥
-    never c has equal =
-        let less : fault_cmp x.fault c.fault ≡ Less = pairs_first (λ a b. fault_cmp a.fault b.fault ≡ Less) x xs ordered c has in
-        let tie : fault_cmp x.fault c.fault ≡ Equal = ap (fault_cmp x.fault) (sym equal) ∙ fault_itself x.fault in
-        cc
-
-    by : (x ≡ a) ⊎ Contains xs a → (x ≡ b) ⊎ Contains xs b → ((c d : Seen) → Contains xs c → Contains xs d → c.fault ≡ d.fault → c ≡ d) → a ≡ b
-    by (inl is_a) (inl is_b) rest = sym is_a ∙ is_b
-    by (inl is_a) (inr later) rest = absurd (never b later (ap (λ (s : Seen). s.fault) is_a ∙ same))
-    by (inr later) (inl is_b) rest = absurd (never a later (ap (λ (s : Seen). s.fault) is_b ∙ sym same))
-    by (inr later) (inr also) rest = rest a b later also same
-
--- what holds of each item holds along the list
-pub along : {X : Type 0} (P : X → Type 0) (xs : List X) → ((x : X) → Contains xs x → P x) → AllByRecursion P xs
-along P [] each = tt
-along P (x ∷ xs) each = (each x (has_first x xs), along P xs (λ y has. each y (has_later x xs y has)))
 
 -- the first types of all that the query shows are what it shows
 shown_of_first : (setting : FaultSetting) (query : Labels) (all first : List Seen) → ((seen : Seen) → Contains all seen ↔ Shows setting query seen.rtype seen.fault)

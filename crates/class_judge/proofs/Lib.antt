@@ -4,7 +4,6 @@ pub mod Carrying
 pub mod Decided
 pub mod FaultsExist
 pub mod FirstFound
-pub mod InForce
 pub mod OneVerdict
 pub mod ShowsDecided
 pub mod VerdictsExist

@@ -20,7 +20,7 @@ use Rattle.class_judge.specs.Verdict.{SomeServerPasses, AreFaultsOf, IsClassVerd
 use Rattle.class_judge.specs.declared.verdict.ClassVerdict.{ClassVerdict}
 use Rattle.class_judge.specs.declared.verdict.ClassVerdict.TheVariants.{Faults, StatesPassed}
 use Rattle.class_judge.proofs.Decided.{Decided}
-use Rattle.class_judge.proofs.InForce.{set_exists}
+use Rattle.net_model.proofs.InForce.{some_in_force}
 use Rattle.class_judge.proofs.VerdictsExist.{server_decided}
 
 -- what holds along a list holds of each item
@@ -58,7 +58,7 @@ module _ (config : Config) (rewrites states : ℕ) (query : Labels) where
     by : Decided (SomeServerPasses config rewrites states) → a ≡ b
     by (inl passes) = one.none_sought passes ∙ sym (two.none_sought passes)
     by (inr none) =
-        let (followed, is) = set_exists config rewrites in
+        let (followed, is) = some_in_force config rewrites in
         one_list (with_sets (following config rewrites followed)) query a b (one.sought none followed is) (two.sought none followed is)
 
   pub one_verdict : (a b : ClassVerdict) → IsClassVerdict config rewrites states query a → IsClassVerdict config rewrites states query b → a ≡ b

@@ -23,8 +23,9 @@ use Rattle.class_judge.specs.Verdict.{PassesStates, SomeServerPasses, AreFaultsO
 use Rattle.class_judge.specs.declared.verdict.ClassVerdict.{ClassVerdict}
 use Rattle.class_judge.specs.declared.verdict.ClassVerdict.TheVariants.{Faults, StatesPassed}
 use Rattle.class_judge.proofs.Decided.{Decided, turned, both, among, any_of, same_state, same_type}
-use Rattle.class_judge.proofs.FaultsExist.{along, walks_exist, faults_exist}
-use Rattle.class_judge.proofs.InForce.{set_exists, one_set}
+use Rattle.class_judge.proofs.FaultsExist.{walks_exist, faults_exist}
+use Rattle.graph_form.proofs.Verdicts.{along}
+use Rattle.net_model.proofs.InForce.{some_in_force, one_in_force}
 
 -- ---- the items of a list, each once
 
@@ -131,14 +132,14 @@ module _ (config : Config) (rewrites states : ℕ) where
     by : Decided (SomeServerPasses config rewrites states) → (shown : List Seen) × AreFaultsOf config rewrites states query shown
     by (inl passes) = ([], record { none_sought = λ some. refl; sought = λ none. absurd (none passes) })
     by (inr none) =
-        let (followed, is) = set_exists config rewrites in
+        let (followed, is) = some_in_force config rewrites in
         let (shown, are) = faults_exist (following config rewrites followed) query of in (
           shown,
           record {
             none_sought = λ some. absurd (none some);
             sought = λ clear names also.
                 subst (λ (set : List Labels). AreShownOf (with_sets (following config rewrites set)) query (λ fault. true) shown)
-                (one_set config rewrites followed names is also) are;
+                (one_in_force config rewrites followed names is also) are;
           },
         )
 

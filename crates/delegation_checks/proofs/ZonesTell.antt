@@ -8,13 +8,11 @@ use lib.Pointwise.{pointwise}
 use denote.Bor.{Bor}
 use Rattle.dns_data.specs.Name.{Labels, name_eq, name_cmp, is_prefix}
 use Rattle.dns_data.specs.Rdata.{data_eq}
-use Rattle.dns_data.specs.contracts.rdata.RdataPartialEq.TheImpl as data_impl
 use Rattle.dns_data.specs.declared.rr_type.RrType.{RrType}
 use Rattle.dns_data.specs.declared.rr_type.RrType.TheVariants as types
 use Rattle.dns_data.proofs.EqualData.{equal_is_same}
 use Rattle.dns_data.proofs.Names.{name_eq_decides}
 use Rattle.dns_data.proofs.Searches.{any_has, filter_none, from_any}
-use Rattle.graph_form.proofs.EqualAnswers.{same_lists}
 use Rattle.graph_form.specs.Trails.{AddressesDiffer, ZonesDiffer, WantsGlue, DependsOnItself}
 use Rattle.graph_form.specs.declared.deps.Deps.{Deps}
 use Rattle.net_model.specs.Nearest.{held_zone, is_configured, is_top}
@@ -56,10 +54,6 @@ none_listed zone name inside missing = sym (ap (λ (rrs : List Rr). in_order nam
 
   none : filter (is_of name types.Ns) zone.rrs ≡ []
   none = filter_none (is_of name types.Ns) zone.rrs (no_owner (owns zone name types.Ns) refl)
-
--- lists of data are compared as they are equal
-pub same_data_lists : (a b : List Rdata) → pointwise (data_impl.ghosts).eq a b ≡ pointwise data_eq a b
-same_data_lists a b = same_lists a b
 
 -- a name that isn't in the zone has no addresses there
 pub no_addresses : (zone : Zone) (name : Labels) → is_prefix zone.origin name ≡ true → exists_in zone name ≡ false → [] ≡ addresses zone name
