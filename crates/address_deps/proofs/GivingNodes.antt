@@ -1,16 +1,16 @@
 -- An address is learnt where a graph has a path by open hops to an end that gives one, and nodes that lead to one are marked.
-use Rattle.std.proofs.Common.{◌≡◌, ◌↔◌, ℕ, zero, suc, Bool, true, false, ◌&&◌, List, [], ◌∷◌, length, Contains, Option, Some, None, refl, sym, ap, ◌∙◌, subst, inl, inr, ◌==◌}
-use Rattle.std.specs.Prelude.{◌⊎◌, slice_get, is_some, option_map, option_and_then}
-use Rattle.std.specs.List.{list_any, AllZip}
+use Rattle.std.proofs.Common.{◌≡◌, ◌↔◌, ℕ, Bool, true, false, ◌&&◌, List, [], ◌∷◌, length, Contains, Option, Some, None, refl, sym, ap, ◌∙◌, subst, inl, inr, ◌==◌}
+use Rattle.std.specs.Prelude.{◌⊎◌, slice_get, is_some, option_and_then}
+use Rattle.std.specs.List.{list_any}
 use Rattle.std.specs.Option.{option_map_or}
 use Rattle.std.proofs.lemmas.Bool.{and_parts}
+use Rattle.std.proofs.Math.Bool.{and-false}
 use Rattle.dns_data.specs.Name.{Labels, name_eq}
 use Rattle.dns_data.specs.TypeSet.{has_bit}
 use Rattle.dns_data.specs.declared.rr_type.RrType.{RrType}
 use Rattle.dns_data.proofs.Searches.{from_any, any_has, found_there}
 use Rattle.net_model.specs.declared.config.Config.{Config}
 use Rattle.net_model.specs.declared.walk.Hop.{Hop}
-use Rattle.net_model.specs.declared.walk.Leaf.{Leaf}
 use Rattle.net_model.specs.declared.walk.Leaf.TheVariants.{NoAddress}
 use Rattle.net_model.specs.declared.walk.State.{State}
 use Rattle.net_model.specs.declared.walk.Walk.{Walk}
@@ -18,7 +18,7 @@ use Rattle.net_model.specs.Learnt.{gives_address, LearnsBy}
 use Rattle.net_model.specs.Nearest.{server_names}
 use Rattle.net_model.specs.Step.{following, start, next}
 use Rattle.net_model.specs.Step as step
-use Rattle.net_model.specs.Walk.{branched, led_on, walk_from, walk_along}
+use Rattle.net_model.specs.Walk.{branched, walk_from, walk_along}
 use Rattle.graph_form.specs.Graph.{PlainGraph, arm_of, branches_of}
 use Rattle.graph_form.specs.GraphOf.{IsArm, HasState, HasType, TellsStep, IsGraphOf}
 use Rattle.graph_form.specs.declared.node.Arm.{Arm}
@@ -29,10 +29,6 @@ use Rattle.graph_form.proofs.Paths.{same_item}
 use Rattle.graph_form.proofs.Places.{PairAt, pair_at, item_there, place_of_item}
 use Rattle.address_deps.specs.Giving.{is_open, is_marked, branch_gives, gives_by, node_gives, gives_from, AreGiving, AreComplete}
 use Rattle.address_deps.proofs.MoreFollowed.{Narrowed, next_narrowed, walk_gives, from_giving, gives_led, ended_gives}
-
-and_false : (b : Bool) → (b && false) ≡ false
-and_false true = refl
-and_false false = refl
 
 module _ (config : Config) (followed : List Labels) (graph : PlainGraph) (rtype : RrType) where
   abbrev by_branch : (ℕ → Bool) → Bool → Option Branch → Bool
@@ -90,7 +86,7 @@ module _ (config : Config) (followed : List Labels) (graph : PlainGraph) (rtype 
         split false mark m e = refl
         split true false m e = rest to m
         split true true m e = cc
-      one (End hop leaf) fail = ap (λ (b : Bool). (length numbers == 0) && b) fail ∙ and_false (length numbers == 0)
+      one (End hop leaf) fail = ap (λ (b : Bool). (length numbers == 0) && b) fail ∙ and-false (length numbers == 0)
 
     by : (node : Option Node) → slice_get graph.nodes at ≡ node → ((to : ℕ) → is_marked marks to ≡ false → from_node numbers to ≡ false)
         → by_node (from_node numbers) number (length numbers == 0) node ≡ false
@@ -136,7 +132,7 @@ module _ (config : Config) (rewrites : ℕ) (followed : List Labels)
           ap (λ (b : Bool). b && from_here numbers to) free ∙ later ∙ sym (gives_led state hop (few numbers next_state))
           ∙ sym (ap (λ (b : step.Branch). walk_gives (branched state (length numbers == 0) (few numbers) (Some b))) made)
       by later (inr (shut, (ns, made))) =
-          ap (λ (b : Bool). b && from_here numbers to) shut ∙ sym (and_false (length numbers == 0))
+          ap (λ (b : Bool). b && from_here numbers to) shut ∙ sym (and-false (length numbers == 0))
           ∙ sym (ended_gives state (few numbers) (length numbers == 0) (Some hop) (NoAddress ns))
           ∙ sym (ap (λ (b : step.Branch). walk_gives (branched state (length numbers == 0) (few numbers) (Some b))) made)
   one_branch numbers state (End hop leaf) other narrow tells narrowed goes rest =

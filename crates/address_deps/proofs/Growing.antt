@@ -1,7 +1,6 @@
 -- The states of the search for the least and for the greatest set.
-use Rattle.std.proofs.Common.{◌≡◌, ◌↔◌, ℕ, zero, suc, ◌+◌, ◌<◌, ◌≤◌, Bool, true, false, not, ◌||◌, ◌&&◌, List, [], ◌∷◌, ◌++◌, map, length, filter, get_or, Contains, Some, None, Result, Ok, Err, refl, sym, ap, ◌∙◌, subst, inl, inr, arith}
+use Rattle.std.proofs.Common.{◌≡◌, ◌↔◌, ℕ, zero, suc, ◌+◌, ◌<◌, ◌≤◌, Bool, true, false, not, ◌||◌, ◌&&◌, List, [], ◌∷◌, ◌++◌, map, length, filter, get_or, Contains, Some, refl, sym, ap, ◌∙◌, subst, inl, inr, arith}
 use Rattle.std.specs.Prelude.{◌⊎◌, slice_get}
-use Rattle.std.specs.Result.{IfOk}
 use Rattle.std.specs.Cmp.Lexicographic.{nat_list_eq_equiv, lists_equiv}
 use Rattle.std.specs.List.{list_any, sum_by, AllZip}
 use Rattle.std.proofs.lemmas.List.Elements.{Contains-get_or}
@@ -20,7 +19,7 @@ use Rattle.net_model.specs.Nearest.{server_names}
 use Rattle.net_model.specs.Step.{following}
 use Rattle.graph_form.specs.Graph.{PlainGraph}
 use Rattle.graph_form.specs.GraphOf.{IsGraphOf}
-use Rattle.graph_form.proofs.Places.{item_there, place_of_item}
+use Rattle.graph_form.proofs.Places.{place_of_item}
 use Rattle.address_deps.specs.Giving.{unset}
 use Rattle.address_deps.specs.Sets.{AreServerGraphs, is_in, absent, present, AreServers, IsGrowing, IsClosed, IsShrinking, AreLearnt, IsClosedAt, IsLearntAt}
 use Rattle.address_deps.proofs.TwoSets.{none_below, one_below, is_least, all_above, one_above, is_greatest}
@@ -217,11 +216,6 @@ module _ (config : Config) (graphs : List PlainGraph) (names : List Labels) wher
       (subst (λ (n : Labels). is_in names n ≡ true) (sym found.2) has))
 
 -- ---- what the code asks
-
--- what a clause says of an answer, further
-pub if_ok : {A E : Type 0} (P Q : A → Type 0) (r : Result A E) → IfOk r P → ((a : A) → P a → Q a) → IfOk r Q
-if_ok P Q (Ok a) one further = further a one
-if_ok P Q (Err e) one further = tt
 
 -- the items of two lists at a place are a pair
 pair_there : {A B : Type 0} (R : A → B → Type 0) (xs : List A) (ys : List B) (place : ℕ) (d : A) (e : B) → AllZip R xs ys → place < length xs

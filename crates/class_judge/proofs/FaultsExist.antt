@@ -3,7 +3,7 @@ use Rattle.std.proofs.Common.{◌≡◌, ◌↔◌, ℕ, ◌≤◌, true, List, 
 use Rattle.dns_data.specs.Name.{Labels}
 use Rattle.dns_data.specs.RrType.{number_of, types}
 use Rattle.dns_data.specs.declared.rr_type.RrType.{RrType}
-use Rattle.dns_data.proofs.Membership.{map_has, from_map, flat_map_has, from_flat_map}
+use Rattle.dns_data.proofs.Membership.{map_has, from_map, flat_map_has, from_flat_map, along}
 use Rattle.graph_form.specs.Verdict.{AreFirstTypes, AreShownOf}
 use Rattle.graph_form.specs.declared.report.Seen.{Seen}
 use Rattle.graph_form.proofs.Reached.{every_type}
@@ -24,7 +24,7 @@ use Rattle.class_judge.proofs.Decided.{Decided, turned, among, chosen, same_name
 use Rattle.class_judge.proofs.ShowsDecided.{shows_take, shows_decided}
 use Rattle.class_judge.proofs.Candidates.{candidates, candidate_of_one, candidate_of_two}
 use Rattle.class_judge.proofs.FirstFound.{first_types_exist}
-use Rattle.graph_form.proofs.Verdicts.{along, one_entry}
+use Rattle.graph_form.proofs.Verdicts.{one_entry}
 
 -- ---- all walks of a query
 

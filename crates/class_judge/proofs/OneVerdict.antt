@@ -1,12 +1,10 @@
 -- A class has one verdict.
 use Rattle.std.proofs.Common.{◌≡◌, ℕ, ◌≤◌, true, List, Contains, refl, sym, ap, ◌∙◌, subst, inl, inr, arith}
-use Rattle.std.specs.List.{AllByRecursion}
 use Rattle.std.proofs.lemmas.Cmp.{on_total}
-use Rattle.std.proofs.lemmas.List.Elements.{All-from_recursion, All-contains}
 use Rattle.dns_data.specs.Name.{Labels}
 use Rattle.dns_data.specs.RrType.{number_of}
 use Rattle.dns_data.specs.declared.rr_type.RrType.{RrType}
-use Rattle.dns_data.proofs.Membership.{from_map}
+use Rattle.dns_data.proofs.Membership.{from_map, each_along}
 use Rattle.dns_data.proofs.OrderedLists.{same_rising}
 use Rattle.graph_form.specs.Verdict.{AreShownOf}
 use Rattle.graph_form.specs.declared.report.Seen.{Seen}
@@ -23,23 +21,19 @@ use Rattle.class_judge.proofs.Decided.{Decided}
 use Rattle.net_model.proofs.InForce.{some_in_force}
 use Rattle.class_judge.proofs.VerdictsExist.{server_decided}
 
--- what holds along a list holds of each item
-each_item : {X : Type 0} (P : X → Type 0) (xs : List X) → AllByRecursion P xs → (x : X) → Contains xs x → P x
-each_item P xs all x has = All-contains P xs x (All-from_recursion P xs all) has
-
 module _ (setting : FaultSetting) (query : Labels) where
   -- what one list of the faults that the query shows has, another has
   has_too : (a b : List Seen) → AreShownOf setting query (λ fault. true) a → AreShownOf setting query (λ fault. true) b
       → (seen : Seen) → Contains a seen → Contains b seen
   has_too a b one two seen has =
-      let shows : Shows setting query seen.rtype seen.fault = each_item (λ seen. Shows setting query seen.rtype seen.fault) a one.each_shown seen has in
+      let shows : Shows setting query seen.rtype seen.fault = each_along (λ seen. Shows setting query seen.rtype seen.fault) a one.each_shown seen has in
       let other = from_map (λ (s : Seen). s.fault) b seen.fault (two.all_shown seen.fault seen.rtype refl shows) in
-      let also : Shows setting query other.0.rtype other.0.fault = each_item (λ seen. Shows setting query seen.rtype seen.fault) b two.each_shown other.0 other.1 in
+      let also : Shows setting query other.0.rtype other.0.fault = each_along (λ seen. Shows setting query seen.rtype seen.fault) b two.each_shown other.0 other.1 in
       let not_later : number_of seen.rtype ≤ number_of other.0.rtype =
-      each_item (λ seen. (rtype : RrType) → Shows setting query rtype seen.fault → number_of seen.rtype ≤ number_of rtype) a one.first_type seen has other.0.rtype
+      each_along (λ seen. (rtype : RrType) → Shows setting query rtype seen.fault → number_of seen.rtype ≤ number_of rtype) a one.first_type seen has other.0.rtype
       (subst (Shows setting query other.0.rtype) other.2 also) in
       let not_earlier : number_of other.0.rtype ≤ number_of seen.rtype =
-      each_item (λ seen. (rtype : RrType) → Shows setting query rtype seen.fault → number_of seen.rtype ≤ number_of rtype) b two.first_type other.0 other.1 seen.rtype
+      each_along (λ seen. (rtype : RrType) → Shows setting query rtype seen.fault → number_of seen.rtype ≤ number_of rtype) b two.first_type other.0 other.1 seen.rtype
       (subst (Shows setting query seen.rtype) (sym other.2) shows) in
       let rtype : other.0.rtype ≡ seen.rtype = one_type other.0.rtype seen.rtype (omega (arith, not_later, not_earlier)) in
       let same : other.0 ≡ seen =

@@ -5,7 +5,7 @@ use Rattle.std.proofs.lemmas.List.Kept.{AllPairs-cons}
 use Rattle.dns_data.specs.Name.{Labels}
 use Rattle.dns_data.specs.RrType.{types}
 use Rattle.dns_data.specs.declared.rr_type.RrType.{RrType}
-use Rattle.dns_data.proofs.Membership.{has_first, has_later, first_or_later, map_has, from_map, flat_map_has, from_flat_map, all_from_contains}
+use Rattle.dns_data.proofs.Membership.{has_first, has_later, first_or_later, map_has, from_map, flat_map_has, from_flat_map, all_from_contains, along}
 use Rattle.graph_form.specs.Verdict.{AreShownOf}
 use Rattle.graph_form.specs.declared.report.Seen.{Seen}
 use Rattle.graph_form.proofs.Reached.{every_type}
@@ -24,7 +24,6 @@ use Rattle.class_judge.specs.declared.verdict.ClassVerdict.{ClassVerdict}
 use Rattle.class_judge.specs.declared.verdict.ClassVerdict.TheVariants.{Faults, StatesPassed}
 use Rattle.class_judge.proofs.Decided.{Decided, turned, both, among, any_of, same_state, same_type}
 use Rattle.class_judge.proofs.FaultsExist.{walks_exist, faults_exist}
-use Rattle.graph_form.proofs.Verdicts.{along}
 use Rattle.net_model.proofs.InForce.{some_in_force, one_in_force}
 
 -- ---- the items of a list, each once

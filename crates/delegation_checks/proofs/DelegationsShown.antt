@@ -3,7 +3,7 @@ use Rattle.std.proofs.Common.{◌≡◌, ℕ, Bool, true, false, ◌&&◌, not, 
 use Rattle.std.specs.Prelude.{Contains, Option, if◌then◌else◌}
 use Rattle.std.specs.List.{AllByRecursion, find, flat_map}
 use Rattle.std.specs.Option.{option_to_list}
-use Rattle.std.proofs.lemmas.Bool.{and_from, and_parts}
+use Rattle.std.proofs.lemmas.Bool.{and_from, and_parts, not-true, not_from_false, false_from_ne_true}
 use Rattle.std.proofs.lemmas.List.Elements.{Contains-append_cases, Contains-append_left, Contains-append_right}
 use Rattle.dns_data.specs.Name.{Labels, name_eq, is_prefix}
 use Rattle.dns_data.specs.RrType.{types}
@@ -44,7 +44,7 @@ use Rattle.net_model.specs.declared.walk.Walk.{Walk}
 use Rattle.delegation_checks.specs.Delegations.{IsGraphIn, is_of_delegations}
 use Rattle.delegation_checks.specs.Referrals.{addresses_differ, behind_faults, branch_faults, depends_on_itself, hop_faults, if_shown, is_among, leaf_faults, node_faults, referral_faults, wants_glue, zones_differ}
 use Rattle.delegation_checks.proofs.Candidates.{from_candidates, is_candidate}
-use Rattle.delegation_checks.proofs.ZonesTell.{among_has, cyclic_told, differ_told, glue_told, has_among, other_addresses, told_addresses, told_cyclic, told_differ, told_glue, not_true, not_false, is_false}
+use Rattle.delegation_checks.proofs.ZonesTell.{among_has, cyclic_told, differ_told, glue_told, has_among, other_addresses, told_addresses, told_cyclic, told_differ, told_glue}
 use Rattle.delegation_checks.proofs.InsideZones.{BranchInside, HopInside, next_inside}
 
 -- a fault that is shown, or none
@@ -197,7 +197,7 @@ module _ (setting : Setting) (query : Labels) (deps : Deps) (graph : PlainGraph)
         show = record {
           behind = (by.hops_before, by.hops_are);
           ends = by.leaf_is ∙ ap (λ n. leaves.NoAddress n) (sym same);
-          not_at_most = λ among. true≢false (sym (has_among deps.greatest cut.ns among) ∙ not_true (is_among deps.greatest cut.ns) parts.1);
+          not_at_most = λ among. true≢false (sym (has_among deps.greatest cut.ns among) ∙ not-true (is_among deps.greatest cut.ns) parts.1);
         };
       })
   by_leaf rtype node cut leaf fault by has = absurd (none_in_nil fault has)
@@ -353,7 +353,7 @@ module _ (setting : Setting) (query : Labels) (deps : Deps) (graph : PlainGraph)
       of_end rtype cut (leaves.NoAddress cut.ns) (faults.NoAddress cut) walk is_walk show.behind.0 show.behind.1 show.ends refl
       (one_shown (name_eq cut.ns cut.ns && not (is_among deps.greatest cut.ns)) (faults.NoAddress cut)
       (and_from (name_eq cut.ns cut.ns) (not (is_among deps.greatest cut.ns)) ((name_eq_decides cut.ns cut.ns).1 refl)
-      (not_false (is_among deps.greatest cut.ns) (is_false (is_among deps.greatest cut.ns) (λ e. show.not_at_most (among_has deps.greatest cut.ns e))))))
+      (not_from_false (is_among deps.greatest cut.ns) (false_from_ne_true (is_among deps.greatest cut.ns) (λ e. show.not_at_most (among_has deps.greatest cut.ns e))))))
   by_kind rtype (faults.Differs cut) walk kind is_walk show =
       of_referral rtype cut (faults.Differs cut) (hop_of_walk graph rtype setting query is exact walk (Refer cut) is_walk show.refers)
       (in_differing cut (faults.Differs cut)

@@ -3,7 +3,7 @@ use Rattle.std.proofs.Common.{◌≡◌, ◌≢◌, Bool, true, false, ◌&&◌,
 use Rattle.std.specs.Prelude.{Contains, Option}
 use Rattle.std.specs.List.{filter, filter_map}
 use Rattle.std.specs.Cmp.Lexicographic.{pointwise_decides}
-use Rattle.std.proofs.lemmas.Bool.{and_from, and_parts, ne_eqb}
+use Rattle.std.proofs.lemmas.Bool.{and_from, and_parts, ne_eqb, not-true, not_from_false, false_from_ne_true}
 use lib.Pointwise.{pointwise}
 use denote.Bor.{Bor}
 use Rattle.dns_data.specs.Name.{Labels, name_eq, name_cmp, is_prefix}
@@ -70,18 +70,6 @@ no_addresses zone name inside missing =
 
 -- ---- what the zones show
 
-pub not_true : (b : Bool) → not b ≡ true → b ≡ false
-not_true true e = cc
-not_true false e = refl
-
-pub not_false : (b : Bool) → b ≡ false → not b ≡ true
-not_false true e = cc
-not_false false e = refl
-
-pub is_false : (b : Bool) → (b ≡ true → ⊥) → b ≡ false
-is_false true never = absurd (never refl)
-is_false false never = refl
-
 pub differ_told : (config : Config) (cut : Cut) → zones_differ config cut ≡ true → ZonesDiffer config cut
 differ_told config cut e = by (held_zone config cut.server cut.zone) refl (held_zone config cut.ns cut.cut) refl e where
   by : (one : Option Zone) → held_zone config cut.server cut.zone ≡ one → (other : Option Zone) → held_zone config cut.ns cut.cut ≡ other
@@ -92,15 +80,15 @@ differ_told config cut e = by (held_zone config cut.server cut.zone) refl (held_
       record {
         sides = record { above = above; below = below; refers = is; serves = also };
         differ = λ same. true≢false (sym ((names_decide (ns_names above cut.cut) (ns_names below cut.cut)).1 same)
-            ∙ not_true (names_eq (ns_names above cut.cut) (ns_names below cut.cut)) e);
+            ∙ not-true (names_eq (ns_names above cut.cut) (ns_names below cut.cut)) e);
       }
 
 pub told_differ : (config : Config) (cut : Cut) → ZonesDiffer config cut → zones_differ config cut ≡ true
 told_differ config cut zones =
     ap (λ one. sides_differ cut one (held_zone config cut.ns cut.cut)) zones.sides.refers
     ∙ (ap (sides_differ cut (Some zones.sides.above)) zones.sides.serves
-    ∙ not_false (names_eq (ns_names zones.sides.above cut.cut) (ns_names zones.sides.below cut.cut))
-    (is_false (names_eq (ns_names zones.sides.above cut.cut) (ns_names zones.sides.below cut.cut))
+    ∙ not_from_false (names_eq (ns_names zones.sides.above cut.cut) (ns_names zones.sides.below cut.cut))
+    (false_from_ne_true (names_eq (ns_names zones.sides.above cut.cut) (ns_names zones.sides.below cut.cut))
     (λ e. zones.differ ((names_decide (ns_names zones.sides.above cut.cut) (ns_names zones.sides.below cut.cut)).0 e))))
 
 -- data that aren't the same and are there
@@ -110,7 +98,7 @@ both_told above below e =
     let one = and_parts (not (length above == 0)) (not (length below == 0)) two.0 in (
       (λ none. true≢false (sym one.0 ∙ ap (λ (xs : List Rdata). not (length xs == 0)) none)),
       (λ none. true≢false (sym one.1 ∙ ap (λ (xs : List Rdata). not (length xs == 0)) none)),
-      (λ same. true≢false (sym ((data_decide above below).1 same) ∙ not_true (pointwise data_eq above below) two.1)),
+      (λ same. true≢false (sym ((data_decide above below).1 same) ∙ not-true (pointwise data_eq above below) two.1)),
     )
 
 some_there : (xs : List Rdata) → xs ≢ [] → not (length xs == 0) ≡ true
@@ -121,7 +109,7 @@ told_both : (above below : List Rdata) → above ≢ [] → below ≢ [] → abo
 told_both above below some others differ =
     and_from (not (length above == 0) && not (length below == 0)) (not (pointwise data_eq above below))
     (and_from (not (length above == 0)) (not (length below == 0)) (some_there above some) (some_there below others))
-    (not_false (pointwise data_eq above below) (is_false (pointwise data_eq above below) (λ e. differ ((data_decide above below).0 e))))
+    (not_from_false (pointwise data_eq above below) (false_from_ne_true (pointwise data_eq above below) (λ e. differ ((data_decide above below).0 e))))
 
 pub other_addresses : (config : Config) (cut : Cut) → addresses_differ config cut ≡ true → AddressesDiffer config cut
 other_addresses config cut e =
@@ -152,11 +140,11 @@ told_addresses config cut zones =
 pub glue_told : (config : Config) (cut : Cut) → wants_glue config cut ≡ true → WantsGlue config cut
 glue_told config cut e =
     let parts = and_parts (is_prefix cut.cut cut.ns) (not (has_glue config cut)) e in
-    record { inside = parts.0; no_glue = not_true (has_glue config cut) parts.1 }
+    record { inside = parts.0; no_glue = not-true (has_glue config cut) parts.1 }
 
 pub told_glue : (config : Config) (cut : Cut) → WantsGlue config cut → wants_glue config cut ≡ true
 told_glue config cut wants =
-    and_from (is_prefix cut.cut cut.ns) (not (has_glue config cut)) wants.inside (not_false (has_glue config cut) wants.no_glue)
+    and_from (is_prefix cut.cut cut.ns) (not (has_glue config cut)) wants.inside (not_from_false (has_glue config cut) wants.no_glue)
 
 -- a name is among others exactly where they have it
 pub among_has : (names : List Labels) (name : Labels) → is_among names name ≡ true → Contains names name
@@ -176,10 +164,10 @@ module _ (setting : Setting) (deps : Deps) (cut : Cut) where
       let one = and_parts (is_configured setting.config cut.ns) (not (is_top setting.config cut.ns)) two.0 in
       record {
         configured = one.0;
-        no_top = not_true (is_top setting.config cut.ns) one.1;
-        no_glue = not_true (has_glue setting.config cut) two.1;
+        no_top = not-true (is_top setting.config cut.ns) one.1;
+        no_glue = not-true (has_glue setting.config cut) two.1;
         learnt_at_most = among_has deps.greatest cut.ns three.1;
-        not_at_least = λ has. true≢false (sym (has_among deps.least cut.ns has) ∙ not_true (is_among deps.least cut.ns) four.1);
+        not_at_least = λ has. true≢false (sym (has_among deps.least cut.ns has) ∙ not-true (is_among deps.least cut.ns) four.1);
       }
 
   pub told_cyclic : DependsOnItself (with_lists setting deps.least deps.greatest) cut → depends_on_itself setting.config deps cut ≡ true
@@ -187,6 +175,6 @@ module _ (setting : Setting) (deps : Deps) (cut : Cut) where
       and_from (is_configured setting.config cut.ns && not (is_top setting.config cut.ns) && not (has_glue setting.config cut) && is_among deps.greatest cut.ns) (not (is_among deps.least cut.ns))
       (and_from (is_configured setting.config cut.ns && not (is_top setting.config cut.ns) && not (has_glue setting.config cut)) (is_among deps.greatest cut.ns)
       (and_from (is_configured setting.config cut.ns && not (is_top setting.config cut.ns)) (not (has_glue setting.config cut))
-      (and_from (is_configured setting.config cut.ns) (not (is_top setting.config cut.ns)) depends.configured (not_false (is_top setting.config cut.ns) depends.no_top))
-      (not_false (has_glue setting.config cut) depends.no_glue)) (has_among deps.greatest cut.ns depends.learnt_at_most))
-      (not_false (is_among deps.least cut.ns) (is_false (is_among deps.least cut.ns) (λ e. depends.not_at_least (among_has deps.least cut.ns e))))
+      (and_from (is_configured setting.config cut.ns) (not (is_top setting.config cut.ns)) depends.configured (not_from_false (is_top setting.config cut.ns) depends.no_top))
+      (not_from_false (has_glue setting.config cut) depends.no_glue)) (has_among deps.greatest cut.ns depends.learnt_at_most))
+      (not_from_false (is_among deps.least cut.ns) (false_from_ne_true (is_among deps.least cut.ns) (λ e. depends.not_at_least (among_has deps.least cut.ns e))))

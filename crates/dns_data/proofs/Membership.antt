@@ -2,7 +2,7 @@
 use Rattle.std.proofs.Common.{◌≡◌, ℕ, suc, ◌<◌, Bool, zero, true, false, cond, ◌⊎◌, List, [], ◌∷◌, ◌++◌, map, length, get_or, Contains, All, AllPairs, filter, flat_map, sym, refl, ap, ◌∙◌, subst, inl, inr, arith, true≢false}
 use Rattle.std.specs.List.{AllByRecursion}
 use Rattle.std.proofs.lemmas.List.{length-map, get_or-map}
-use Rattle.std.proofs.lemmas.List.Elements.{Contains-append_left, Contains-append_right, Contains-append_cases, Contains-get_or}
+use Rattle.std.proofs.lemmas.List.Elements.{Contains-append_left, Contains-append_right, Contains-append_cases, Contains-get_or, All-contains, All-from_recursion}
 
 module _ {X : Type 0} where
   -- no item is in the empty list
@@ -25,6 +25,15 @@ module _ {X : Type 0} where
     by (suc k) below is = inr (k, omega arith, is)
 
   -- what holds of each item that a list has holds along the list
+  pub along : (P : X → Type 0) (xs : List X) → ((x : X) → Contains xs x → P x) → AllByRecursion P xs
+  along P [] each = tt
+  along P (x ∷ xs) each = (each x (has_first x xs), along P xs (λ y has. each y (has_later x xs y has)))
+
+  -- and what holds along a list holds of each item that it has
+  pub each_along : (P : X → Type 0) (xs : List X) → AllByRecursion P xs → (x : X) → Contains xs x → P x
+  each_along P xs all x has = All-contains P xs x (All-from_recursion P xs all) has
+
+  -- at each place, too
   pub all_from_contains : (P : X → Type 0) (xs : List X) → ((x : X) → Contains xs x → P x) → All P xs
   all_from_contains P xs each k d below = each (get_or xs k d) (Contains-get_or xs k d below)
 

@@ -3,7 +3,7 @@ use Rattle.std.proofs.Common.{◌≡◌, ℕ, suc, ◌<◌, ◌≤◌, ◌+◌, 
 use Rattle.std.specs.Prelude.{if◌then◌else◌, ◌==◌, reverse}
 use Rattle.std.specs.List.{AllByRecursion, flat_map, list_all}
 use Rattle.std.specs.Cmp.Lexicographic.{pointwise, bytes_decides}
-use Rattle.std.proofs.lemmas.Bool.{and_parts}
+use Rattle.std.proofs.lemmas.Bool.{and_parts, false_from_ne_true}
 use Rattle.std.proofs.lemmas.Bool.Decides.{nat_tests}
 use Rattle.std.proofs.lemmas.List.{append-nil, append_assoc, reverse-append, reverse-reverse, length-reverse, length_push, nil_from_length}
 use Rattle.dns_data.specs.declared.fault.NameFault.{NameFault}
@@ -94,10 +94,6 @@ all_reverse {X} P (x ∷ xs) h =
     let Holds : List X → Type 0 = AllByRecursion P in
     subst Holds (sym (reverse-append (x ∷ []) xs)) (all_push P (reverse xs) x (all_reverse P xs h.1) h.0)
 
-is_false : (b : Bool) → (b ≡ true → ⊥) → b ≡ false
-is_false true h = absurd (h refl)
-is_false false h = refl
-
 labels_in : Result Spelled NameFault → Labels
 labels_in (Ok said) = said.labels
 labels_in (Err fault) = []
@@ -115,11 +111,11 @@ text_reads text labels origin some said =
     let same_labels : at text ≡ labels = ap labels_in said in
     let same_end : ends text ≡ true = ap is_absolute said in
     let not_none : (length text == 0) ≡ false =
-    is_false _ (λ e. let n : length text ≡ 0 = grind (arith, nat_tests) in let k : [] ≡ labels = ap at (sym (nil_from_length text n)) ∙ same_labels in omega (arith, ap length k)) in
+    false_from_ne_true _ (λ e. let n : length text ≡ 0 = grind (arith, nat_tests) in let k : [] ≡ labels = ap at (sym (nil_from_length text n)) ∙ same_labels in omega (arith, ap length k)) in
     let not_dot : pointwise nat_eq text (codes ".") ≡ false =
-    is_false _ (λ e. let k : false ≡ true = ap ends (sym ((bytes_decides text (codes ".")).0 e)) ∙ same_end in cc) in
+    false_from_ne_true _ (λ e. let k : false ≡ true = ap ends (sym ((bytes_decides text (codes ".")).0 e)) ∙ same_end in cc) in
     let not_at : pointwise nat_eq text (codes "@") ≡ false =
-    is_false _ (λ e. let k : false ≡ true = ap ends (sym ((bytes_decides text (codes "@")).0 e)) ∙ same_end in cc) in
+    false_from_ne_true _ (λ e. let k : false ≡ true = ap ends (sym ((bytes_decides text (codes "@")).0 e)) ∙ same_end in cc) in
     ap (λ b. if b then Err EmptyLabel else (if pointwise nat_eq text (codes ".") then Ok [] else (if pointwise nat_eq text (codes "@") then Ok origin else placed origin (spelled [] (signs text))))) not_none ∙ ap (λ b. if b then Ok [] else (if pointwise nat_eq text (codes "@") then Ok origin else placed origin (spelled [] (signs text)))) not_dot ∙ ap (λ b. if b then Ok origin else placed origin (spelled [] (signs text))) not_at ∙ ap (placed origin) said
 
 name_fits : (octets : ℕ) → octets ≤ 255 → nat_le octets 255 ≡ true

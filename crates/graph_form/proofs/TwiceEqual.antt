@@ -1,9 +1,10 @@
 -- Whether two items of a list are equal, item by item.
-use Rattle.std.proofs.Common.{◌≡◌, ℕ, ◌+◌, ◌<◌, Bool, true, false, not, ◌||◌, ◌&&◌, List, [], ◌∷◌, ◌++◌, map, length, take, drop, get_or, refl, sym, ap, ◌∙◌}
+use Rattle.std.proofs.Common.{◌≡◌, ℕ, ◌+◌, ◌<◌, Bool, true, false, ◌||◌, ◌&&◌, List, [], ◌∷◌, ◌++◌, map, length, take, drop, get_or, refl, sym, ap, ◌∙◌}
 use Rattle.std.specs.List.{list_any}
 use Rattle.std.proofs.lemmas.Bool.{or_left, or_right}
 use Rattle.std.proofs.lemmas.List.{take_more, take-append-drop}
 use Rattle.std.proofs.lemmas.List.Folds.{list_any-append}
+use Rattle.std.proofs.Math.Bool.{or-false}
 use Rattle.dns_data.specs.Name.{name_eq}
 use Rattle.net_model.specs.declared.walk.State.{State}
 use Rattle.graph_form.specs.Repeated.{equal_twice, name_at, place_at}
@@ -18,16 +19,12 @@ any_of_four false true true d = refl
 any_of_four false true false d = refl
 any_of_four false false c d = refl
 
-or_none : (a : Bool) → (a || false) ≡ a
-or_none true = refl
-or_none false = refl
-
 module _ {A : Type 0} (eq : A → A → Bool) (turned : (x y : A) → eq x y ≡ eq y x) where
   -- one more item
   pub twice_more : (xs : List A) (x : A) → equal_twice eq (xs ++ x ∷ []) ≡ (equal_twice eq xs || list_any (eq x) xs)
   twice_more [] x = refl
   twice_more (y ∷ ys) x =
-      ap (λ b. b || equal_twice eq (ys ++ x ∷ [])) (list_any-append (eq y) ys (x ∷ []) ∙ ap (λ b. list_any (eq y) ys || b) (or_none (eq y x) ∙ turned y x))
+      ap (λ b. b || equal_twice eq (ys ++ x ∷ [])) (list_any-append (eq y) ys (x ∷ []) ∙ ap (λ b. list_any (eq y) ys || b) (or-false (eq y x) ∙ turned y x))
       ∙ (ap (λ b. (list_any (eq y) ys || eq x y) || b) (twice_more ys x)
       ∙ any_of_four (list_any (eq y) ys) (eq x y) (equal_twice eq ys) (list_any (eq x) ys))
 
@@ -76,18 +73,6 @@ twice_asked (q ∷ questions) (s ∷ states) e =
     (λ j. asks_there q s first questions states rest j || twice_asked questions states rest j)
 
 -- ---- tests
-
--- what isn't new was there
-pub not_new : (b : Bool) → not b ≡ false → b ≡ true
-not_new true e = refl
-not_new false e = cc
-
-pub is_new : (b : Bool) → not b ≡ true → b ≡ false
-is_new true e = cc
-is_new false e = refl
-
-pub or_holds : (a b : Bool) → b ≡ true → (a || b) ≡ true
-or_holds a b e = or_right a b e
 
 pub both_fail : (a b : Bool) → a ≡ false → b ≡ false → (a || b) ≡ false
 both_fail true b e f = cc

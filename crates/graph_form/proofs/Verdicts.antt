@@ -2,7 +2,7 @@
 -- and the first type of each fault.
 use Rattle.std.proofs.Common.{◌≡◌, ℕ, ◌+◌, ◌<◌, ◌≤◌, Bool, true, false, List, [], ◌∷◌, ◌++◌, length, map, take, get_or, sym, ap, ◌∙◌, subst, inl, inr, Some, arith, append_assoc, append-nil, true≢false}
 use Rattle.std.specs.Prelude.{◌⊎◌, AllPairs, Contains, slice_get}
-use Rattle.std.specs.List.{AllByRecursion, flat_map}
+use Rattle.std.specs.List.{flat_map}
 use Rattle.std.specs.Option.{option_map_or, unwrap_or}
 use Rattle.std.specs.declared.cmp.Ordering.TheVariants.{Less, Equal}
 use Rattle.std.proofs.lemmas.Bool.{cases_order}
@@ -13,7 +13,7 @@ use Rattle.dns_data.specs.Name.{Labels}
 use Rattle.dns_data.specs.RrType.{number_of}
 use Rattle.dns_data.specs.TypeSet.{has_bit}
 use Rattle.dns_data.specs.declared.rr_type.RrType.{RrType}
-use Rattle.dns_data.proofs.Membership.{none_in_nil, has_first, has_later, first_or_later, map_has, pairs_first, pairs_rest}
+use Rattle.dns_data.proofs.Membership.{none_in_nil, first_or_later, map_has, pairs_first, pairs_rest, along}
 use Rattle.dns_data.proofs.Searches.{find_some, found_there}
 use Rattle.net_model.specs.FaultOrder.{fault_cmp}
 use Rattle.net_model.specs.Shown.{FaultSetting, Shows}
@@ -101,11 +101,6 @@ branch_for graph at node arm branch rtype here is_arm has =
         there = ap (λ found. slice_get (option_map_or (λ (a : Arm). a.branches) found []) place.0) is_arm ∙ place.1;
       },
     )
-
--- what holds of each item holds along the list
-pub along : {X : Type 0} (P : X → Type 0) (xs : List X) → ((x : X) → Contains xs x → P x) → AllByRecursion P xs
-along P [] each = tt
-along P (x ∷ xs) each = (each x (has_first x xs), along P xs (λ y has. each y (has_later x xs y has)))
 
 -- ---- one entry a fault
 

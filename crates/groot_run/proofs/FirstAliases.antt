@@ -5,6 +5,7 @@ use Rattle.std.specs.List.{list_any, filter_map}
 use Rattle.std.specs.Prelude.{if◌then◌else◌}
 use Rattle.std.proofs.lemmas.Bool.{cases_Bool, and_parts, and_from}
 use Rattle.std.proofs.lemmas.Option.{same_Some}
+use Rattle.net_model.proofs.UnnamedTails.{first_is_one}
 use Rattle.dns_data.specs.Name.{Labels, name_eq}
 use Rattle.dns_data.specs.Rdata.{has_type}
 use Rattle.dns_data.specs.RrType.{type_eq}
@@ -22,7 +23,7 @@ use Rattle.net_model.specs.Zone.{is_of, owns, exists_in, target_of, data_at, tar
 use Rattle.groot_run.specs.FirstShape.{records_at}
 use Rattle.groot_run.proofs.FirstLookup.{own_records_decide, owner_exists}
 use Rattle.groot_run.proofs.FirstRecords.{IsFirstZone}
-use Rattle.dns_data.proofs.Membership.{none_in_nil, has_first, from_filter, filter_has, from_map, map_has}
+use Rattle.dns_data.proofs.Membership.{none_in_nil, from_filter, filter_has, from_map, map_has}
 use Rattle.dns_data.proofs.Searches.{any_has, filter_none, filter_map_has, from_filter_map, same_if_alone}
 use Rattle.dns_data.proofs.Names.{name_eq_decides}
 
@@ -46,11 +47,6 @@ pub record OwnsAlias (zone : Zone) (name target : Labels) : Type 0 where
 alias_data : (rdata : Rdata) (target : Labels) → target_of rdata ≡ Some target → has_type types.Cname rdata ≡ true → rdata ≡ Cname target
 alias_data (Cname other) target gives is = ap Cname (same_Some other target gives)
 alias_data _ target gives is = cc
-
--- the first of some names is one of them
-first_is_one : (names : List Labels) (name : Labels) → first_name names ≡ Some name → Contains names name
-first_is_one [] name e = cc
-first_is_one (one ∷ names) name e = subst (Contains (one ∷ names)) (same_Some one name e) (has_first one names)
 
 -- where there is a name there is a first
 some_first : (names : List Labels) (name : Labels) → Contains names name → (one : Labels) × (first_name names ≡ Some one)

@@ -1,20 +1,15 @@
 -- What the size of a class tree says of how many names are in it.
-use Rattle.std.proofs.Common.{◌≡◌, ℕ, ◌<◌, ◌≤◌, List, [], ◌∷◌, Contains, get_or, subst, arith}
-use Rattle.std.specs.List.{AllByRecursion}
+use Rattle.std.proofs.Common.{◌≡◌, ℕ, ◌<◌, ◌≤◌, [], ◌∷◌, get_or, subst, arith}
 use Rattle.std.specs.declared.cmp.Ordering.TheVariants.{Less}
 use Rattle.dns_data.specs.Name.{Labels, name_cmp}
 use Rattle.net_model.specs.Reading.{Ground}
 use Rattle.net_model.specs.Tree.{HasMoreThan}
 use Rattle.query_classes.specs.Children.{IsInTree}
 use Rattle.groot_run.specs.Report.{IsTreeSize}
-use Rattle.dns_data.proofs.Membership.{has_first, has_later}
+use Rattle.dns_data.proofs.Membership.{along}
 use Rattle.dns_data.proofs.NameOrder.{names_total}
 use Rattle.dns_data.proofs.OrderedLists.{never_before_itself}
 use Rattle.net_model.proofs.Counting.{no_more_than}
-
-each_item : {X : Type 0} (P : X → Type 0) (xs : List X) → ((x : X) → Contains xs x → P x) → AllByRecursion P xs
-each_item P [] each = tt
-each_item P (x ∷ xs) each = (each x (has_first x xs), each_item P xs (λ y has. each y (has_later x xs y has)))
 
 module _ (ground : Ground) (names classes limit : ℕ) (size : IsTreeSize ground names classes) where
   -- where there are more names than the limit, the tree has them
@@ -26,7 +21,7 @@ module _ (ground : Ground) (names classes limit : ℕ) (size : IsTreeSize ground
         differ = λ i j d before within same.
             never_before_itself name_cmp names_total (get_or size.tree j d)
             (subst (λ (n : Labels). name_cmp n (get_or size.tree j d) ≡ Less) same (size.is_tree.ordered i j d before within));
-        each = each_item (IsInTree ground) size.tree (λ name has. (size.is_tree.all name).0 has);
+        each = along (IsInTree ground) size.tree (λ name has. (size.is_tree.all name).0 has);
       }
 
   -- where there are no more, it has no more

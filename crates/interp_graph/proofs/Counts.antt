@@ -1,13 +1,13 @@
 -- The pairs that come to drafts: how many they are, and that they differ.
 use Rattle.std.proofs.Common.{◌≡◌, ◌≢◌, ℕ, ◌+◌, ◌<◌, Bool, true, false, cond, ◌||◌, List, [], ◌∷◌, map, length, get_or, subst, refl, sym, ap, ◌∙◌, Some, arith, true≢false, length-append, filter}
 use Rattle.std.specs.Prelude.{Contains, AllPairs, slice_get}
-use Rattle.std.specs.List.{AllByRecursion, flat_map, sum_by}
+use Rattle.std.specs.List.{flat_map, sum_by}
 use Rattle.std.proofs.lemmas.List.{length-map}
 use Rattle.std.proofs.lemmas.List.Sums.{sum_by-cons}
 use Rattle.dns_data.specs.TypeSet.{has_bit}
 use Rattle.dns_data.specs.RrType.{types}
 use Rattle.dns_data.specs.declared.rr_type.RrType.{RrType}
-use Rattle.dns_data.proofs.Membership.{has_first, has_later, map_has, from_map, filter_has, from_filter, flat_map_has, from_flat_map}
+use Rattle.dns_data.proofs.Membership.{map_has, from_map, filter_has, from_filter, flat_map_has, from_flat_map, along}
 use Rattle.net_model.specs.Step.{Setting}
 use Rattle.net_model.specs.Tree.{HasMoreThan}
 use Rattle.net_model.specs.declared.walk.State.{State}
@@ -105,10 +105,6 @@ each_comes setting begin drafts are pair has =
     let wanted = (from_filter (has_bit of.0.wanted) types typed.0 typed.1).1 in
     subst (λ (p : State × RrType). Comes setting begin p.1 p.0) typed.2 (are.comes at.0 of.0 typed.0 at.1 wanted)
 
-each_of : {X : Type 0} (P : X → Type 0) (xs : List X) → ((x : X) → Contains xs x → P x) → AllByRecursion P xs
-each_of P [] each = tt
-each_of P (x ∷ xs) each = (each x (has_first x xs), each_of P xs (λ y has. each y (has_later x xs y has)))
-
 -- so where more are counted than are allowed, more are reached
 pub more_reached : (setting : Setting) (begin : List State) (drafts : List Draft) (limit : ℕ) → AreDrafts setting begin drafts
     → AllPairs (λ (a b : Draft). a.state ≢ b.state) drafts → limit < pair_count drafts
@@ -118,5 +114,5 @@ more_reached setting begin drafts limit are once more P reached =
       items = wanted_pairs drafts;
       more = omega (arith, many_pairs drafts, more);
       differ = pairs_differ drafts once;
-      each = each_of P (wanted_pairs drafts) (λ pair has. reached pair (each_comes setting begin drafts are pair has));
+      each = along P (wanted_pairs drafts) (λ pair has. reached pair (each_comes setting begin drafts are pair has));
     }

@@ -3,7 +3,7 @@ use Rattle.std.proofs.Common.{◌≡◌, ◌≢◌, ℕ, ◌+◌, ◌<◌, Bool,
 use Rattle.std.specs.Prelude.{◌&&◌, ◌||◌, Contains, AllPairs, IfSome, slice_get, if◌then◌else◌}
 use Rattle.std.specs.List.{IsDistinct, list_any}
 use Rattle.std.specs.Option.{option_to_list}
-use Rattle.std.proofs.lemmas.Bool.{and_parts, and_from, or_left, or_right}
+use Rattle.std.proofs.lemmas.Bool.{and_parts, and_from, or_left, or_right, not-true}
 use Rattle.std.proofs.lemmas.List.{length-map}
 use Rattle.std.proofs.lemmas.List.Elements.{All-from_recursion, All-contains, Contains-append_right}
 use Rattle.std.proofs.lemmas.List.Kept.{AllPairs-cons}
@@ -80,14 +80,6 @@ module _ (keys after : List State) (drafts : List Draft) (value : State) (at : �
         from_mapped (λ (draft : Draft). draft.state) drafts at value
         (ap (λ (ks : List State). slice_get ks at) (sym keyed) ∙ (ap (λ (ks : List State). slice_get ks at) (sym keys_stay) ∙ stored_there))
 
-pub not_true : (b : Bool) → not b ≡ true → b ≡ false
-not_true true e = absurd (true≢false (sym e))
-not_true false e = refl
-
-pub not_false : (b : Bool) → not b ≡ false → b ≡ true
-not_false true e = refl
-not_false false e = absurd (true≢false e)
-
 -- ---- types that are new to a draft
 
 -- a set of the types that pass a test
@@ -112,7 +104,7 @@ module _ (work : Work) (at : ℕ) (set_of newly : List Bool) (old : Draft) (is :
 
   pub not_wanted : (rtype : RrType) → has_bit newly rtype ≡ true → has_bit old.wanted rtype ≡ false
   not_wanted rtype new =
-      not_true (has_bit old.wanted rtype) (and_parts (has_bit set_of rtype) (not (has_bit old.wanted rtype)) (sym (minus rtype) ∙ new)).1
+      not-true (has_bit old.wanted rtype) (and_parts (has_bit set_of rtype) (not (has_bit old.wanted rtype)) (sym (minus rtype) ∙ new)).1
 
   -- where none is new, all came before
   pub none_new : size_of newly ≡ 0 → Took work work at set_of

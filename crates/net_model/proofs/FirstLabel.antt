@@ -45,12 +45,12 @@ first_not_longer a b e =
 -- ---- lists of octets
 
 -- the numbers below a number
-numbers_below : ℕ → List ℕ
+pub numbers_below : ℕ → List ℕ
 numbers_below zero = []
 numbers_below (suc n) = n ∷ numbers_below n
 
 -- a number below it is among these
-numbers_below_have : (n k : ℕ) → k < n → Contains (numbers_below n) k
+pub numbers_below_have : (n k : ℕ) → k < n → Contains (numbers_below n) k
 unfolding numbers_below
 numbers_below_have zero k below = absurd (omega arith)
 numbers_below_have (suc n) k below =

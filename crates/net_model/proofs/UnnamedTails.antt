@@ -172,7 +172,7 @@ dname_data (Dname other) target gives is owner =
 dname_data _ target gives is owner = cc
 
 -- the first of some names is one of them
-first_is_one : (names : List Labels) (name : Labels) → first_name names ≡ Some name → Contains names name
+pub first_is_one : (names : List Labels) (name : Labels) → first_name names ≡ Some name → Contains names name
 first_is_one [] name e = cc
 first_is_one (one ∷ names) name e = let same : one ≡ name = cc in subst (Contains (one ∷ names)) same (has_first one names)
 

@@ -7,6 +7,7 @@ use Rattle.std.proofs.lemmas.List.{append-nil, length-set, length-replicate, tak
 use Rattle.std.proofs.lemmas.List.Elements.{filter_map-append, Contains-append_left, Contains-push}
 use Rattle.std.proofs.lemmas.List.Sums.{sum_by_push}
 use Rattle.std.proofs.lemmas.Option.{slice_get_within}
+use Rattle.std.proofs.Math.Bool.{or-false}
 use Rattle.pool_core.specs.declared.event.Event.{Event}
 use Rattle.pool_core.specs.declared.event.Event.TheVariants.{Claim, File, Stop}
 use Rattle.pool_core.specs.declared.event.StopCause.{StopCause}
@@ -16,7 +17,7 @@ use Rattle.pool_core.specs.declared.spot.Spot.TheVariants.{Issued, Claimed, File
 use Rattle.pool_core.specs.History.{children_of, claims, files, issued_in, is_claimed_in, is_filed_in, first_stop, all_may_follow}
 use Rattle.pool_core.specs.Shadow.{history_entry, shadow}
 use Rattle.pool_core.specs.Law.{is_claim_of, is_filing_of, spot_is_claimed, spot_is_filed}
-use Rattle.pool_core.proofs.Lists.{slice_get-set_same, slice_get-set_other, slice_get_push_cases, stays_at_set, stays_at_append, count_by_push, list_any_push, or-false}
+use Rattle.pool_core.proofs.Lists.{slice_get-set_same, slice_get-set_other, slice_get_push_cases, stays_at_set, stays_at_append, count_by_push, list_any_push}
 use Rattle.pool_core.proofs.Histories.{all_follow_push, first_stop_push}
 
 -- the ticket is claimed by the worker, and not filed

@@ -1,11 +1,11 @@
 -- What follows for the list of faults: an overlong rewrite that is told is met by each member of the class, and a walk that
 -- comes back to a server and a name is told as a rewrite limit.
-use Rattle.std.proofs.Common.{◌≡◌, Bool, true, List, [], ◌∷◌, ◌++◌, map, refl, sym, ap, ◌∙◌, subst, inl, inr}
+use Rattle.std.proofs.Common.{◌≡◌, Bool, true, List, [], ◌∷◌, ◌++◌, map, refl, sym, ap, ◌∙◌, subst}
 use Rattle.std.specs.Prelude.{Contains}
 use Rattle.std.specs.List.{AllByRecursion}
 use Rattle.dns_data.specs.Name.{Labels, IsName}
 use Rattle.dns_data.specs.declared.rr_type.RrType.{RrType}
-use Rattle.dns_data.proofs.Membership.{none_in_nil, first_or_later}
+use Rattle.dns_data.proofs.Membership.{each_along}
 use Rattle.graph_form.specs.Graph.{PlainGraph}
 use Rattle.graph_form.specs.Verdict.{AreShownOf}
 use Rattle.graph_form.specs.declared.report.Seen.{Seen}
@@ -25,12 +25,6 @@ use Rattle.net_model.proofs.ClassTails.{one_class, tails_in_class}
 use Rattle.net_model.proofs.Returns.{limit_between}
 use Rattle.net_model.proofs.Simulation.{overlong_too}
 use Rattle.rewrite_checks.specs.Rewrites.{IsGraphFor, is_of_rewrites}
-
--- ---- what each item of a list is
-
-each : {X : Type 0} (P : X → Type 0) (xs : List X) → AllByRecursion P xs → (x : X) → Contains xs x → P x
-each P [] all x has = absurd (none_in_nil x has)
-each P (y ∷ xs) all x has = elim (first_or_later y xs x has) [ inl same ↦ subst P same all.0 | inr later ↦ each P xs all.1 x later ]
 
 module _ (setting : Setting) (query : Labels) (class : Class) (represents : Bool) (graph : PlainGraph) (for : IsGraphFor setting query class represents graph)
     (shown : List Seen) (are : AreShownOf (with_sets setting) query is_of_rewrites shown) where
@@ -72,7 +66,7 @@ module _ (setting : Setting) (query : Labels) (class : Class) (represents : Bool
       → (walk : Walk) × IsWalk setting member seen.rtype walk × (is_overlong walk.leaf ≡ true)
   members_meet seen has place is member is_name of_class =
       let shows : Shows (with_sets setting) query seen.rtype (faults.Overlong place) =
-      subst (Shows (with_sets setting) query seen.rtype) is (each (λ (s : Seen). Shows (with_sets setting) query s.rtype s.fault) shown are.each_shown seen has) in
+      subst (Shows (with_sets setting) query seen.rtype) is (each_along (λ (s : Seen). Shows (with_sets setting) query s.rtype s.fault) shown are.each_shown seen has) in
       let stands : IsRepresentative (ground_of setting.config) class query =
       subst (λ c. IsRepresentative (ground_of setting.config) c query) (one_class (ground_of setting.config) query class shows.may.0 for.of_class shows.may.1) shows.may.2 in
       let long = of_member seen.rtype member class is_name of_class for.of_class stands (of_query seen.rtype place shows.walks shows.are_walks shows.show) in

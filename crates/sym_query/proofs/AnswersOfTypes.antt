@@ -3,6 +3,7 @@ use Rattle.std.proofs.Common.{◌≡◌, Bool, true, false, not, ◌&&◌, ◌||
 use Rattle.std.specs.List.{AllByRecursion, list_any}
 use Rattle.std.proofs.lemmas.Bool.{or_cases, false_from_ne_true}
 use Rattle.std.proofs.lemmas.List.Folds.{list_any-append}
+use Rattle.std.proofs.Math.Bool.{or-false}
 use Rattle.dns_data.specs.RrType.{type_eq}
 use Rattle.dns_data.specs.TypeSet.{has_bit}
 use Rattle.dns_data.specs.declared.rr_type.RrType.{RrType}
@@ -17,11 +18,6 @@ use Rattle.sym_query.specs.Answers.{IsAnswered, AreAnswers, IsOneAnswer}
 use Rattle.sym_query.specs.TypedFound.{answers_type, AreApart, HasSome, AnswersSome, IsOpenExactly}
 use Rattle.sym_query.specs.declared.typed_found.TypedFound.{TypedFound}
 use Rattle.dns_data.proofs.Membership.{pairs_more}
-
--- a test or nothing is the test
-or_false : (b : Bool) → (b || false) ≡ b
-or_false true = refl
-or_false false = refl
 
 module _ (zone : Zone) (name : SymName) (decides : Deciding) where
   -- no answers, where no type is asked for
@@ -39,7 +35,7 @@ module _ (zone : Zone) (name : SymName) (decides : Deciding) where
       → ((rtype : RrType) → has_bit asked rtype ≡ true → found ≡ answered zone (whole name) rtype decides)
       → AreAnswers zone name decides (has_bit asked) answers
   one_are asked found answers one some is = record {
-    together = λ rtype. ap (λ (xs : List TypedFound). answers_type xs rtype) one.is ∙ or_false (has_bit one.answer.types rtype) ∙ ap (λ (set : List Bool). has_bit set rtype) one.for_types;
+    together = λ rtype. ap (λ (xs : List TypedFound). answers_type xs rtype) one.is ∙ or-false (has_bit one.answer.types rtype) ∙ ap (λ (set : List Bool). has_bit set rtype) one.for_types;
     apart = subst AreApart (sym one.is) (λ i j d before within. absurd (omega arith));
     some = subst (AllByRecursion AnswersSome) (sym one.is) (subst HasSome (sym one.for_types) some, tt);
     found = subst (AllByRecursion (IsAnswered zone (whole name) decides)) (sym one.is)
@@ -65,7 +61,7 @@ module _ (zone : Zone) (name : SymName) (decides : Deciding) where
     more_are answer new some is opens more both = record {
       together = λ rtype. list_any-append (λ (a : TypedFound). has_bit a.types rtype) answers (answer ∷ [])
           ∙ ap (λ (b : Bool). b || (has_bit answer.types rtype || false)) (are.together rtype)
-          ∙ ap (λ (b : Bool). among rtype || b) (or_false (has_bit answer.types rtype))
+          ∙ ap (λ (b : Bool). among rtype || b) (or-false (has_bit answer.types rtype))
           ∙ sym (both rtype);
       apart = pairs_more (λ (a b : TypedFound). (rtype : RrType) → has_bit a.types rtype ≡ true → has_bit b.types rtype ≡ false) answers answer are.apart
           (λ old has rtype bit. false_from_ne_true (has_bit answer.types rtype)
@@ -101,5 +97,5 @@ passed_or_this passed rtypes this rtype is has =
     elim (or_cases (list_any (λ other. type_eq other rtype) passed) (type_eq this rtype || false)
     (sym (ap (list_any (λ other. type_eq other rtype)) is ∙ list_any-append (λ other. type_eq other rtype) passed (this ∷ [])) ∙ has)) [
       | inl before ↦ inl before
-      | inr now ↦ inr (sym (or_false (type_eq this rtype)) ∙ now)
+      | inr now ↦ inr (sym (or-false (type_eq this rtype)) ∙ now)
     ]

@@ -1,22 +1,22 @@
 -- What a book keeps, and what its changes keep.
 use Rattle.std.proofs.Common.{◌≡◌, ℕ, zero, suc, ◌+◌, ◌<◌, ◌≤◌, Bool, true, false, ◌||◌, List, [], ◌∷◌, ◌++◌, length, map, get_or, set, Option, Some, None, slice_get, refl, sym, ◌∙◌, ap, subst, arith, ⊎_elim, cond, length-append}
-use Rattle.std.specs.Prelude.{slice_index_or, nat_lt, nat_le, count_by, All}
+use Rattle.std.specs.Prelude.{slice_index_or, nat_le, count_by, All}
 use Rattle.std.specs.Option.{option_or, IfSome}
 use Rattle.std.specs.Cmp.{Equal-is}
 use Rattle.std.specs.Ordering.{is_eq}
 use Rattle.std.specs.declared.cmp.Ordering.{Ordering}
-use Rattle.std.specs.declared.cmp.Ordering.TheVariants.{Less, Equal, Greater}
+use Rattle.std.specs.declared.cmp.Ordering.TheVariants.{Equal}
 use Rattle.std.proofs.lemmas.Option.{slice_get_within, slice_get-get_or, slice_get_cases, get_or_from_slice_get}
 use Rattle.std.proofs.lemmas.List.{length-map, map-append, length-set}
 use Rattle.std.proofs.lemmas.List.Sums.{count_by-le-length}
-use Rattle.std.proofs.Math.Bool.{or-true}
-use Rattle.std.proofs.lemmas.Bool.{cases_eq, ne_eqb, eq-eqb, and_parts, and_from, ltb-true, lt-ltb, leb-true, le-leb}
+use Rattle.std.proofs.Math.Bool.{or-true, or-false}
+use Rattle.std.proofs.lemmas.Bool.{cases_eq, ne_eqb, eq-eqb, and_parts, and_from, lt-ltb, leb-true, le-leb, le-ltb}
 use Rattle.pool_core.specs.declared.entry.Entry.{Entry}
 use Rattle.pool_core.specs.declared.entry.Entry.TheVariants.{Claim, File, Stop}
 use Rattle.pool_core.specs.declared.event.StopCause.{StopCause}
 use Rattle.pool_core.specs.declared.event.StopCause.TheVariants.{Full}
 use Rattle.pool_core.specs.History.{issued_in, is_claimed_in, is_filed_in, first_stop, may_come_next, all_may_follow}
-use Rattle.pool_core.proofs.Lists.{slice_get-set_same, slice_get-set_other, count_by_push, count_by-append, count_by-cons, or-false}
+use Rattle.pool_core.proofs.Lists.{slice_get-set_same, slice_get-set_other, count_by_push, count_by-append, count_by-cons}
 use Rattle.pool_core.proofs.Histories.{issued_push, claimed_push, filed_push, all_follow_push, first_stop_push}
 use Rattle.verdict_book.specs.Items.{Reached, ParentsApart, AreReachedItems, ReachesExactly, ReachesMore, item_step, items_from, items_of, item_of, CountsRight, AllCountRight}
 use Rattle.verdict_book.specs.Books.{EachOnce, CountsTickets, Pages, kept_in, claims_in, unfiled_in, is_claim, is_filing, is_stop}
@@ -78,9 +78,6 @@ claimed_means Unknown is = absurd cc
 claimed_means KeptIssued is = absurd cc
 claimed_means KeptClaimed is = refl
 claimed_means KeptFiled is = absurd cc
-
-not_below : (a b : ℕ) → b ≤ a → nat_lt a b ≡ false
-not_below a b le = elim (nat_lt a b) as (λ (x : Bool). nat_lt a b ≡ x → x ≡ false) [ true ↦ (λ e. let lt : a < b = ltb-true a b e in absurd (omega arith)) | false ↦ (λ e. refl) ] refl
 
 -- a history with no cause has no stop
 no_stop : (h : List Entry) → first_stop h ≡ None → count_by is_stop h ≡ 0
@@ -164,7 +161,7 @@ module _ {I V : Type 0} (first : I) (children : I → List I) (verdict_of : I �
     kept_right t =
         ⊎_elim
         (λ here. rw (here.2, lt-ltb t (issued_in h) (omega (arith, here.1, rows_are))) (by_state t here.0.item here.0.state _ _ (kept.states t here.0 here.2)))
-        (λ past. rw (past.1, not_below t (issued_in h) (omega (arith, past.0, rows_are))) refl)
+        (λ past. rw (past.1, le-ltb t (issued_in h) (omega (arith, past.0, rows_are))) refl)
         (slice_get_cases rows t).1
 
     -- at most as many tickets are filed as are claimed, and at most as many claimed as issued

@@ -1,10 +1,11 @@
 -- A book whose tickets are claimed and filed in number order.
 use Rattle.std.proofs.Common.{◌≡◌, ℕ, ◌+◌, ◌<◌, ◌≤◌, false, List, [], ◌∷◌, ◌++◌, None, refl, sym, ◌∙◌, subst, arith, append_assoc}
 use Rattle.std.proofs.lemmas.Bool.{ne_eqb, lt-ltb}
+use Rattle.std.proofs.Math.Bool.{or-false}
 use Rattle.pool_core.specs.declared.entry.Entry.{Entry}
 use Rattle.pool_core.specs.declared.entry.Entry.TheVariants.{Claim, File}
 use Rattle.pool_core.specs.History.{issued_in, is_claimed_in, is_filed_in, first_stop}
-use Rattle.pool_core.proofs.Lists.{count_by_push, or-false}
+use Rattle.pool_core.proofs.Lists.{count_by_push}
 use Rattle.pool_core.proofs.Histories.{issued_push, claimed_push, filed_push, first_stop_push}
 use Rattle.verdict_book.specs.Books.{filings_in, unfiled_in, is_filing}
 use Rattle.verdict_book.specs.Refusals.{claim_refusal}

@@ -1,6 +1,6 @@
 -- Of several items with one name the first, in a map that is filled from the last item to the first, and in a list in the
 -- order of names.
-use Rattle.std.proofs.Common.{◌≡◌, ℕ, zero, suc, ◌+◌, ◌-◌, ◌<◌, ◌≤◌, Bool, true, false, cond, List, [], ◌∷◌, map, length, drop, get_or, Contains, AllPairs, Option, Some, None, Result, Ok, Err, find, Bor, Ordering, Less, Equal, Greater, is_eq, is_lt, sym, refl, ap, ◌∙◌, subst, inl, inr, arith}
+use Rattle.std.proofs.Common.{◌≡◌, ℕ, zero, suc, ◌+◌, ◌-◌, ◌<◌, ◌≤◌, Bool, true, false, cond, List, [], ◌∷◌, map, length, drop, get_or, Option, Some, None, Result, Ok, Err, find, Bor, Ordering, Less, Equal, Greater, is_eq, is_lt, sym, refl, ap, ◌∙◌, subst, inl, inr, arith}
 use Rattle.std.specs.BTreeMap.{BTreeMap, insert_entry, Updates}
 use Rattle.std.specs.Cmp.Lexicographic.{lists_ties, texts_ties, lists_equiv, nat_list_eq_equiv}
 use Rattle.std.specs.List.{AllByRecursion}
@@ -8,7 +8,7 @@ use Rattle.std.specs.List.Sorted.{IsStrictlySortedBy, IsSearchInRange, IsBinaryS
 use Rattle.std.specs.Map.{lookup, keys_of, values_of}
 use Rattle.std.specs.Option.{option_map}
 use Rattle.std.specs.Ordering.{match_ordering, ordering_reverse}
-use Rattle.std.specs.Result.{MatchResult, IfOk}
+use Rattle.std.specs.Result.{MatchResult}
 use Rattle.std.proofs.lemmas.Bool.{cases_lt}
 use Rattle.std.proofs.lemmas.List.{drop_more, get_or-map, length-map}
 use Rattle.std.proofs.lemmas.List.Sorted.{searchable_from_sorted}
@@ -172,8 +172,3 @@ pub told : {X Y : Type 0} (tell : X → Y) (r : Option (Bor X)) (found : Option 
     → option_map (λ (x : Bor X). tell x.now) r ≡ option_map tell found
 told tell None found e = ap (option_map tell) e
 told tell (Some x) found e = ap (option_map tell) e
-
--- what a clause says of an answer, further
-pub if_ok : {A E : Type 0} (P Q : A → Type 0) (r : Result A E) → IfOk r P → ((a : A) → P a → Q a) → IfOk r Q
-if_ok P Q (Ok a) one further = further a one
-if_ok P Q (Err e) one further = tt

@@ -6,6 +6,7 @@ use Rattle.std.proofs.lemmas.List.{take_more}
 use Rattle.std.proofs.lemmas.List.Elements.{All-head, All-tail, All-weaker}
 use Rattle.std.specs.List.{list_any}
 use Rattle.std.specs.Option.{option_or, option_map}
+use Rattle.std.proofs.lemmas.Bool.{or_left, or_right, false_from_ne_true}
 use Rattle.dns_data.specs.Name.{Labels, name_eq}
 use Rattle.dns_data.specs.declared.rdata.Rr.{Rr}
 use Rattle.dns_data.specs.declared.rr_type.RrType.TheVariants as types
@@ -19,20 +20,6 @@ use Rattle.zone_rules.specs.declared.fault.RuleFault.TheVariants.{At}
 use Rattle.zone_rules.specs.declared.rules.Before.{Before}
 
 -- ---- a record that has no rival at its owner
-
--- one of two tests
-or-first : (a b : Bool) → a ≡ true → (a || b) ≡ true
-or-first true b e = refl
-or-first false b e = cc
-
-or-last : (a b : Bool) → b ≡ true → (a || b) ≡ true
-or-last true b e = refl
-or-last false b e = e
-
--- a test that can't hold
-isnt : (b : Bool) → (b ≡ true → ⊥) → b ≡ false
-isnt true never = absurd (never refl)
-isnt false never = refl
 
 -- no record of the owner passes the test
 none-at : (test : Rr → Bool) (owner : Labels) (before : List Rr) → All (λ other. owner ≡ other.owner → test other ≡ false) before → list_any (λ other. name_eq owner other.owner && test other) before ≡ false
@@ -49,13 +36,13 @@ module _ (may_have : Labels → Bool) (rr : Rr) (none : may_have rr.owner ≡ fa
   alone : (test : Rr → Bool) → is_type types.Cname rr ≡ true → list_any (λ other. name_eq rr.owner other.owner && test other) before ≡ false
   alone test cname = none-at test rr.owner before
       (All-weaker (λ other. other.owner ≡ rr.owner → (is_type types.Cname other || is_type types.Cname rr) ≡ true → may_have rr.owner ≡ true) (λ other. rr.owner ≡ other.owner → test other ≡ false)
-      (λ other rival same. let may = rival (sym same) (or-last (is_type types.Cname other) (is_type types.Cname rr) cname) in cc) before rivals)
+      (λ other rival same. let may = rival (sym same) (or_right (is_type types.Cname other) (is_type types.Cname rr) cname) in cc) before rivals)
 
   -- no CNAME record before is of the owner of this record
   no-cname : had_at types.Cname rr.owner before ≡ false
   no-cname = none-at (is_type types.Cname) rr.owner before
       (All-weaker (λ other. other.owner ≡ rr.owner → (is_type types.Cname other || is_type types.Cname rr) ≡ true → may_have rr.owner ≡ true) (λ other. rr.owner ≡ other.owner → is_type types.Cname other ≡ false)
-      (λ other rival same. isnt (is_type types.Cname other) (λ e. let may = rival (sym same) (or-first (is_type types.Cname other) (is_type types.Cname rr) e) in cc)) before rivals)
+      (λ other rival same. false_from_ne_true (is_type types.Cname other) (λ e. let may = rival (sym same) (or_left (is_type types.Cname other) (is_type types.Cname rr) e) in cc)) before rivals)
 
   -- so it breaks no rule on them
   pub no-second : is_second_cname before rr ≡ false

@@ -1,6 +1,6 @@
 -- Records as they are compared, and a set of those that were seen.
 use Rattle.std.proofs.Common.{◌≡◌, Bool, true, false, ◌&&◌, ◌||◌, List, [], ◌∷◌, All, refl, ap, sym, ◌∙◌}
-use Rattle.std.proofs.Math.Bool.{and_comm}
+use Rattle.std.proofs.Math.Bool.{and_comm, and-false}
 use Rattle.std.proofs.lemmas.List.Elements.{All-head, All-tail}
 use Rattle.std.specs.BTreeSet as tree
 use Rattle.std.specs.Hash.FoldHasher.{initial, finish}
@@ -19,11 +19,6 @@ use Rattle.zone_rules.specs.contracts.identical.IdentityOrd.TheImpl as identity_
 use Rattle.zone_rules.specs.contracts.identical.IdentityPartialEq.TheImpl as identity_impl
 use Rattle.zone_rules.specs.declared.buckets.Bucket.{Bucket}
 use Rattle.zone_rules.specs.declared.identical.Identity.{Identity}
-
--- no test holds together with one that fails
-and-no : (a : Bool) → (a && false) ≡ false
-and-no true = refl
-and-no false = refl
 
 -- what is seen has the identity of the record
 abbrev pub sees : Identity → Rr → Bool
@@ -55,7 +50,7 @@ module _ (buckets : List Bucket) (rr : Rr) where
   -- one that is identical to a record that may have a rival may have one
   both-may : (other : Rr) (b : Bool) → may rr ≡ true → is_identical rr other ≡ b → (may other && b) ≡ b
   both-may other true is_so e = ap (λ may. may && true) (ap (has_rival buckets) (one_number other e) ∙ is_so)
-  both-may other false is_so e = and-no (may other)
+  both-may other false is_so e = and-false (may other)
 
   -- of those that may have a rival one is identical where any is
   among-rivals : (before : List Rr) → may rr ≡ true → list_any (λ other. may other && is_identical rr other) before ≡ list_any (is_identical rr) before

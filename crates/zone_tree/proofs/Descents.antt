@@ -2,7 +2,7 @@
 use Rattle.std.proofs.Common.{◌≡◌, ℕ, zero, suc, ◌+◌, ◌<◌, ◌≤◌, Bool, true, false, cond, ◌&&◌, List, [], ◌∷◌, ◌++◌, length, get_or, take, drop, ◌-◌, Option, Some, None, nat_lt, nat_le, sym, refl, ap, ◌∙◌, subst, arith, append_assoc, length-append}
 use Rattle.std.proofs.lemmas.List.{take_more, drop_more, take-append-drop, take-append-le, take_all}
 use Rattle.std.proofs.lemmas.Bool.Decides.{nat_tests}
-use Rattle.std.proofs.lemmas.Bool.{ltb-true, and_from, and_left, and_right, or_left}
+use Rattle.std.proofs.lemmas.Bool.{ltb-true, and_from, and_left, and_right, or_left, le-ltb}
 use Rattle.dns_data.specs.Name.{Labels, name_eq, is_prefix}
 use Rattle.dns_data.specs.declared.rr_type.RrType.TheVariants as types
 use Rattle.net_model.specs.declared.config.Zone.{Zone}
@@ -79,9 +79,6 @@ pub record Undecided (zone : Zone) (name above : Labels) : Type 0 where
 less : (a b : ℕ) → a < b → nat_lt a b ≡ true
 less a b h = grind (arith, nat_tests)
 
-not_less : (a b : ℕ) → b ≤ a → nat_lt a b ≡ false
-not_less a b h = grind (arith, nat_tests)
-
 up_to : (a b : ℕ) → a ≤ b → nat_le a b ≡ true
 up_to a b h = grind (arith, nat_tests)
 
@@ -91,7 +88,7 @@ not_up_to a b h = grind (arith, nat_tests)
 -- a name with as many labels as the origin, or fewer, is no zone cut
 short_cut : (zone : Zone) (above : Labels) → length above ≤ length zone.origin → cuts zone above ≡ false
 short_cut zone above short =
-    and_left (nat_lt (length zone.origin) (length above)) (owns zone above types.Ns) (not_less (length zone.origin) (length above) short)
+    and_left (nat_lt (length zone.origin) (length above)) (owns zone above types.Ns) (le-ltb (length zone.origin) (length above) short)
 
 -- one with fewer redirects none
 short_redirection : (zone : Zone) (name above : Labels) → length above < length zone.origin → redirects zone name above ≡ false
@@ -151,7 +148,7 @@ by_cut zone name above tail cut is first none short =
     by None e = refl
     by (Some owner) e =
         let beyond : length above < length owner = found_beyond (redirects zone name) above none tail owner (ap (shortest (redirects zone name)) is ∙ e) in
-        ap (λ (b : Bool). cond b (by_dname zone owner) (ByCut cut)) (not_less (length owner) (length cut) (omega arith))
+        ap (λ (b : Bool). cond b (by_dname zone owner) (ByCut cut)) (le-ltb (length owner) (length cut) (omega arith))
 
 module _ (zone : Zone) (name : Labels) (inside : is_prefix zone.origin name ≡ true) where
   -- no prefix of the origin is a zone cut

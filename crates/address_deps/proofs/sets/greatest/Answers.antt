@@ -1,7 +1,8 @@
 use Rattle.std.proofs.Common.{sym, subst, ◌∙◌}
+use Rattle.std.proofs.lemmas.Result.{IfOk-weaker}
 use Rattle.net_model.specs.Learnt.{IsGreatest}
 use Rattle.net_model.specs.Nearest.{server_names}
-use Rattle.address_deps.proofs.Growing.{if_ok, greatest_told, shrinks_from_all, in_tells}
+use Rattle.address_deps.proofs.Growing.{greatest_told, shrinks_from_all, in_tells}
 use Rattle.address_deps.proofs.sets.greatest.Goals as goal
 
 pub dropping-init : goal.dropping-init
@@ -12,7 +13,8 @@ dropping-init c =
 
 pub returns : goal.returns
 returns c =
-    if_ok _ _ c.in_order.result c.in_order.ensures
+    IfOk-weaker c.in_order.result _ _
     (λ names are rewrites graphs.
     subst (IsGreatest c.args.hosts.now rewrites) (sym are)
     (greatest_told c.args.hosts.now c.args.graphs.now c.drop_more.new.known c.in_ok-drop_more.ensures.shrinking (c.in_ok-drop_more.ensures.learnt c.if-branch.false) rewrites graphs))
+    c.in_order.ensures
