@@ -39,7 +39,7 @@ impl<'a> Trees<'a> {
     }
 
     /// The servers by their names.
-    pub(crate) fn hosts(&self) -> &Hosts<'a>
+    pub fn hosts(&self) -> &Hosts<'a>
         ensures { result.now ≡ self.now }
     {
         &self.hosts
