@@ -1,2 +1,7 @@
+mod ClapLine
+mod ClapRows
+mod ClapSteps
+pub mod Parsed
+pub mod StatedNumbers
 pub mod StatedRewrites
 mod Worked

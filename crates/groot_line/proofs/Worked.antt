@@ -75,6 +75,15 @@ other_command = refl
 help : check (codes "--help" ∷ []) ≡ Err Usage
 help = refl
 
+one_dash : said (codes "check") (codes "-" ∷ []) ≡ Err Usage
+one_dash = refl
+
+no_name_of_an_option : check (codes "--=5" ∷ []) ≡ Err Usage
+no_name_of_an_option = refl
+
+short : check (codes "-w" ∷ codes "3" ∷ []) ≡ Err Usage
+short = refl
+
 two_dashes : said (codes "check") (codes "--" ∷ codes "m.json" ∷ []) ≡ Err Usage
 two_dashes = refl
 

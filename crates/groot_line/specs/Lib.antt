@@ -2,6 +2,8 @@ pub mod Number
 pub mod LineOption
 pub mod Command
 pub mod Arguments
+pub mod Matches
+pub mod Line
 pub mod Operands
 pub mod Job
 pub mod Usage

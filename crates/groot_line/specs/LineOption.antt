@@ -1,23 +1,25 @@
 -- The options. The value of each is a number from 1 on.
-use Rattle.std.specs.Prelude.{ℕ, List, [], ◌∷◌, ◌++◌, codes}
+use Rattle.std.specs.Prelude.{ℕ, List, [], ◌∷◌, codes}
 use Rattle.groot_line.specs.declared.line_option.LineOption.{LineOption}
 use Rattle.groot_line.specs.declared.line_option.LineOption.TheVariants.{Workers, Classes, Rewrites}
 
--- the word of an option
-abbrev pub option_word : LineOption → List ℕ
-option_word Workers = codes "--workers"
-option_word Classes = codes "--classes"
-option_word Rewrites = codes "--rewrites"
-
--- what stands before a value in the option's own word: the option and an equals sign
-abbrev pub option_front : LineOption → List ℕ
-option_front option = option_word option ++ codes "="
+-- the name of an option, which stands behind two dashes
+abbrev pub option_name : LineOption → List ℕ
+option_name Workers = codes "workers"
+option_name Classes = codes "classes"
+option_name Rewrites = codes "rewrites"
 
 -- the most that the number of an option may be
 abbrev pub most_of : LineOption → ℕ
 most_of Workers = 64
 most_of Classes = 1000000
 most_of Rewrites = 64
+
+-- the number where the words don't say it
+abbrev pub default_of : LineOption → ℕ
+default_of Workers = 4
+default_of Classes = 100000
+default_of Rewrites = 12
 
 -- the options
 abbrev pub line_options : List LineOption

@@ -2,23 +2,17 @@
 
 ghost use Rattle.std.specs.Prelude.{map};
 ghost use Rattle.dns_data.specs.Answers.{AnswersOr};
+ghost use Rattle.groot_line.specs.Matches.{said_by};
 ghost use Rattle.groot_line.specs.Job.{job_of, job_by, asked};
 
-use crate::arguments::{Arguments, read_arguments};
+use crate::arguments::{number, read_arguments};
 use crate::command::Command;
 use crate::fault::LineFault;
+use crate::line_option::LineOption;
 use crate::operands::{asked_meta, asked_name, asked_type, drill_number, only_meta};
+use clap::ArgMatches;
 use dns_data::{Name, RrType, Text};
 use std::alloc::Global;
-
-/// The workers of a run whose words don't say how many.
-const DEFAULT_WORKERS: u32 = 4;
-
-/// The most names in the class tree where the words don't say how many.
-const DEFAULT_CLASSES: u32 = 100_000;
-
-/// The rewrites that a query may use where the words don't say how many.
-const DEFAULT_REWRITES: u32 = 12;
 
 /// What the words of the command line ask for.
 #[derive(Debug, Drop)]
@@ -58,39 +52,37 @@ pub fn read_words(alloc: Global, words: &[&str]) -> Result<Job, LineFault>
     let Some(command) = Command::from_word(first.as_bytes()) else {
         return Err(LineFault::Usage);
     };
-    let arguments = read_arguments(alloc, command, words)?;
-    job_by(alloc, command, &arguments)
+    let matches = read_arguments(alloc, command, words)?;
+    job_by(alloc, command, &matches)
 }
 
 /// The job of a command and the words behind it.
-fn job_by(alloc: Global, command: Command, arguments: &Arguments) -> Result<Job, LineFault>
-    ensures { AnswersOr LineFault.NoMemory result (job_by command arguments.now) }
+fn job_by(alloc: Global, command: Command, matches: &ArgMatches<'_>) -> Result<Job, LineFault>
+    ensures { AnswersOr LineFault.NoMemory result (job_by command (said_by matches.now)) }
 {
-    let operands = arguments.operands.items();
-    let workers = arguments.workers.unwrap_or(DEFAULT_WORKERS);
-    let classes = arguments.classes.unwrap_or(DEFAULT_CLASSES);
+    let operands = matches.get_strs("operands").unwrap_or(&[]);
     match command {
         Command::Check => Ok(Job::Check {
             meta: only_meta(alloc, operands)?,
-            workers,
-            classes,
-            rewrites: arguments.rewrites.unwrap_or(DEFAULT_REWRITES),
+            workers: number(matches, LineOption::Workers)?,
+            classes: number(matches, LineOption::Classes)?,
+            rewrites: number(matches, LineOption::Rewrites)?,
         }),
         Command::Ask => asked(alloc, operands),
         Command::Classes => Ok(Job::Classes {
             meta: only_meta(alloc, operands)?,
-            classes,
+            classes: number(matches, LineOption::Classes)?,
         }),
         Command::Drill => Ok(Job::Drill {
             n: drill_number(operands)?,
-            workers,
+            workers: number(matches, LineOption::Workers)?,
         }),
     }
 }
 
 /// The query that operands ask.
-fn asked(alloc: Global, operands: &[Text]) -> Result<Job, LineFault>
-    ensures { AnswersOr LineFault.NoMemory result (asked operands.now) }
+fn asked(alloc: Global, operands: &[&str]) -> Result<Job, LineFault>
+    ensures { AnswersOr LineFault.NoMemory result (asked (map (λ word. word.now) operands.now)) }
 {
     let [meta, name, rtype] = operands else {
         return Err(LineFault::Usage);

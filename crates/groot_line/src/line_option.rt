@@ -1,7 +1,7 @@
 //! The options.
 
 ghost use Rattle.std.specs.Prelude.{◌≡◌};
-ghost use Rattle.groot_line.specs.LineOption.{option_word, option_front, most_of};
+ghost use Rattle.groot_line.specs.LineOption.{option_name, most_of, default_of};
 
 /// A number that a run may be given.
 #[derive(Clone, Copy, Debug, PartialEq, Eq)]
@@ -15,32 +15,14 @@ pub(crate) enum LineOption {
 }
 
 impl LineOption {
-    /// The options.
-    pub const ALL: [LineOption; 3] = [
-        LineOption::Workers,
-        LineOption::Classes,
-        LineOption::Rewrites,
-    ];
-
-    /// The option's word.
-    pub fn word(&self) -> &'static str
-        ensures { result.now ≡ option_word self.now }
+    /// The option's name, which stands behind two dashes.
+    pub fn name<'a>(&self) -> &'a str
+        ensures { result.now ≡ option_name self.now }
     {
         match self {
-            LineOption::Workers => "--workers",
-            LineOption::Classes => "--classes",
-            LineOption::Rewrites => "--rewrites",
-        }
-    }
-
-    /// The option's word and an equals sign.
-    pub fn front(&self) -> &'static str
-        ensures { result.now ≡ option_front self.now }
-    {
-        match self {
-            LineOption::Workers => "--workers=",
-            LineOption::Classes => "--classes=",
-            LineOption::Rewrites => "--rewrites=",
+            LineOption::Workers => "workers",
+            LineOption::Classes => "classes",
+            LineOption::Rewrites => "rewrites",
         }
     }
 
@@ -52,6 +34,17 @@ impl LineOption {
             LineOption::Workers => 64,
             LineOption::Classes => 1_000_000,
             LineOption::Rewrites => 64,
+        }
+    }
+
+    /// The number where the words don't say it.
+    pub fn unsaid(&self) -> u32
+        ensures { result ≡ default_of self.now }
+    {
+        match self {
+            LineOption::Workers => 4,
+            LineOption::Classes => 100_000,
+            LineOption::Rewrites => 12,
         }
     }
 }
