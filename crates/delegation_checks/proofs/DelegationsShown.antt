@@ -1,5 +1,5 @@
 -- The branches of a graph of a query show their faults, and each fault of a delegation is shown by one.
-use Rattle.std.proofs.Common.{◌≡◌, ℕ, Bool, true, false, ◌&&◌, not, List, [], ◌∷◌, ◌++◌, refl, sym, ap, ◌∙◌, subst, inl, inr, Some, None, true≢false}
+use Rattle.std.proofs.Common.{◌≡◌, ℕ, Bool, true, false, ◌&&◌, not, List, [], ◌∷◌, ◌++◌, refl, sym, ap, ◌∙◌, subst, inl, inr, Some, None, true≢false, arith}
 use Rattle.std.specs.Prelude.{Contains, Option, if◌then◌else◌}
 use Rattle.std.specs.List.{AllByRecursion, find, flat_map}
 use Rattle.std.specs.Option.{option_to_list}
@@ -42,8 +42,9 @@ use Rattle.net_model.specs.declared.walk.Leaf.{Leaf}
 use Rattle.net_model.specs.declared.walk.Leaf.TheVariants as leaves
 use Rattle.net_model.specs.declared.walk.Walk.{Walk}
 use Rattle.delegation_checks.specs.Delegations.{IsGraphIn, is_of_delegations}
-use Rattle.delegation_checks.specs.Referrals.{addresses_differ, behind_faults, branch_faults, depends_on_itself, hop_faults, if_shown, is_among, leaf_faults, node_faults, referral_faults, wants_glue, zones_differ}
-use Rattle.delegation_checks.proofs.Candidates.{from_candidates, is_candidate}
+use Rattle.delegation_checks.specs.Met.{AreOfReferrals}
+use Rattle.delegation_checks.specs.Referrals.{addresses_differ, depends_on_itself, if_shown, is_among, leaf_faults, node_referrals, referral_faults, wants_glue, zones_differ}
+use Rattle.delegation_checks.proofs.Candidates.{behind_faults, branch_faults, candidate, hop_faults, referral_met}
 use Rattle.delegation_checks.proofs.ZonesTell.{among_has, cyclic_told, differ_told, glue_told, has_among, other_addresses, told_addresses, told_cyclic, told_differ, told_glue}
 use Rattle.delegation_checks.proofs.InsideZones.{BranchInside, HopInside, next_inside}
 
@@ -56,7 +57,8 @@ one_shown : (b : Bool) (fault : Fault) → b ≡ true → Contains (if_shown b f
 one_shown true fault e = has_first fault []
 one_shown false fault e = cc
 
-module _ (setting : Setting) (query : Labels) (deps : Deps) (graph : PlainGraph) (is : IsGraphOf setting query graph) (exact : IsExactIn setting query graph) where
+module _ (setting : Setting) (query : Labels) (deps : Deps) (graph : PlainGraph) (is : IsGraphOf setting query graph) (exact : IsExactIn setting query graph)
+    (seen : List Seen) (are : AreOfReferrals setting.config deps (flat_map node_referrals graph.nodes) seen) where
   -- the query shows the fault with the type
   abbrev Shown : RrType → Fault → Type 0
   Shown rtype fault = Shows (with_lists setting deps.least deps.greatest) query rtype fault
@@ -219,13 +221,13 @@ module _ (setting : Setting) (query : Labels) (deps : Deps) (graph : PlainGraph)
       ]
 
   -- a fault that was collected is shown with its type
-  candidate_shown : (seen : Seen) → Contains (flat_map (node_faults setting.config deps) graph.nodes) seen → Shown seen.rtype seen.fault
-  candidate_shown seen has =
-      let of = from_candidates setting.config deps graph seen has in
-      let typed : has_bit of.arm.types seen.rtype ≡ true = (found_there (has_bit of.arm.types) types seen.rtype of.first).1 in
-      let arm = one_arm of.node of.arm seen.rtype (is.apart of.at of.node of.here) of.has_arm typed in
-      let branch = branch_for graph of.at of.node of.arm of.branch seen.rtype of.here arm of.has_branch in
-      by_branch seen.rtype of.at branch.0 of.node of.branch seen.fault branch.1 of.has_fault
+  candidate_shown : (one : Seen) → Contains seen one → Shown one.rtype one.fault
+  candidate_shown one has =
+      let of = candidate setting.config deps graph one (are.from one has) in
+      let typed : has_bit of.arm.types one.rtype ≡ true = (found_there (has_bit of.arm.types) types one.rtype of.first).1 in
+      let arm = one_arm of.node of.arm one.rtype (is.apart of.at of.node of.here) of.has_arm typed in
+      let branch = branch_for graph of.at of.node of.arm of.branch one.rtype of.here arm of.has_branch in
+      by_branch one.rtype of.at branch.0 of.node of.branch one.fault branch.1 of.has_fault
 
   -- ---- its kind
 
@@ -261,15 +263,15 @@ module _ (setting : Setting) (query : Labels) (deps : Deps) (graph : PlainGraph)
       ]
   of_branch_kind (End (Some (Rewrite place by_dname to)) leaf) fault has = absurd (none_in_nil fault has)
 
-  candidate_kind : (seen : Seen) → Contains (flat_map (node_faults setting.config deps) graph.nodes) seen → is_of_delegations seen.fault ≡ true
-  candidate_kind seen has =
-      let of = from_candidates setting.config deps graph seen has in
-      of_branch_kind of.branch seen.fault of.has_fault
+  candidate_kind : (one : Seen) → Contains seen one → is_of_delegations one.fault ≡ true
+  candidate_kind one has =
+      let of = candidate setting.config deps graph one (are.from one has) in
+      of_branch_kind of.branch one.fault of.has_fault
 
   -- ---- what is shown is the fault of a branch
 
   abbrev Covered : RrType → Fault → Type 0
-  Covered rtype fault = IsCovered (flat_map (node_faults setting.config deps) graph.nodes) (record { fault = fault; rtype = rtype })
+  Covered rtype fault = IsCovered seen (record { fault = fault; rtype = rtype })
 
   collected : (rtype : RrType) (fault : Fault) (at number : ℕ) (node : Node) (branch : Branch) → HasBranch graph rtype at number node branch
       → Contains (branch_faults setting.config deps branch) fault → Covered rtype fault
@@ -277,13 +279,11 @@ module _ (setting : Setting) (query : Labels) (deps : Deps) (graph : PlainGraph)
     by : (of : OfArm setting query graph rtype is at node number branch) (first : Option RrType) → find (has_bit of.arm.types) types ≡ first → Covered rtype fault
     by of None none = absurd (true≢false (sym of.typed ∙ (first_none (has_bit of.arm.types) None (sym none)).0 refl rtype))
     by of (Some first) found =
-        record {
-          by = record { fault = fault; rtype = first };
-          has = is_candidate setting.config deps graph at node of.arm branch first fault of.in_graph.is_node of.in_graph.has_arm found
-              (item_there of.arm.branches number branch of.there) among;
-          fault_is = refl;
-          not_later = first_least (has_bit of.arm.types) (Some first) (sym found) rtype of.typed;
-        }
+        let met = referral_met setting.config deps graph at node of.arm branch first fault of.in_graph.is_node of.in_graph.has_arm found
+        (item_there of.arm.branches number branch of.there) among in
+        let one = are.covers met.at first fault met.has met.has_fault in
+        let least = first_least (has_bit of.arm.types) (Some first) (sym found) rtype of.typed in
+        record { by = one.by; has = one.has; fault_is = one.fault_is; not_later = omega (arith, one.not_later, least) }
 
   -- a referral of the graph stands in a zone above its cut
   inside : (rtype : RrType) (cut : Cut) (at : HopAt graph rtype (Refer cut)) → is_prefix cut.zone cut.cut ≡ true
@@ -387,18 +387,14 @@ module _ (setting : Setting) (query : Labels) (deps : Deps) (graph : PlainGraph)
       let one = one_walk fault kind shows.walks shows.show in
       by_kind rtype fault one.0 kind (subst (AllByRecursion (IsWalk setting query rtype)) one.1 shows.are_walks).0 one.2
 
-  pub all_shown : (shown : List Seen) → AreFirstTypes (flat_map (node_faults setting.config deps) graph.nodes) shown
-      → AreShownOf (with_lists setting deps.least deps.greatest) query is_of_delegations shown
+  pub all_shown : (shown : List Seen) → AreFirstTypes seen shown → AreShownOf (with_lists setting deps.least deps.greatest) query is_of_delegations shown
   all_shown shown firsts =
-      all_shown_of (with_lists setting deps.least deps.greatest) query is_of_delegations (flat_map (node_faults setting.config deps) graph.nodes) shown firsts
-      candidate_kind candidate_shown shown_collected
+      all_shown_of (with_lists setting deps.least deps.greatest) query is_of_delegations seen shown firsts candidate_kind candidate_shown shown_collected
 
 -- in the configuration of the graph
-pub wholly : (config : Config) (deps : Deps) (graph : PlainGraph) (none seen shown : List Seen) → none ≡ []
-    → seen ≡ none ++ flat_map (node_faults config deps) graph.nodes → AreFirstTypes seen shown
-    → (setting : Setting) (query : Labels) → IsGraphIn config setting query graph
+pub wholly : (config : Config) (deps : Deps) (graph : PlainGraph) (seen shown : List Seen) → AreOfReferrals config deps (flat_map node_referrals graph.nodes) seen
+    → AreFirstTypes seen shown → (setting : Setting) (query : Labels) → IsGraphIn config setting query graph
     → AreShownOf (with_lists setting deps.least deps.greatest) query is_of_delegations shown
-wholly config deps graph none seen shown is_none put firsts setting query for =
-    let all : Config → List Seen = λ c. flat_map (node_faults c deps) graph.nodes in
-    let is : seen ≡ all setting.config = put ∙ (ap (λ (xs : List Seen). xs ++ all config) is_none ∙ ap all (sym for.config_is)) in
-    all_shown setting query deps graph for.is_graph for.exact shown (subst (λ (xs : List Seen). AreFirstTypes xs shown) is firsts)
+wholly config deps graph seen shown are firsts setting query for =
+    all_shown setting query deps graph for.is_graph for.exact seen
+    (subst (λ (c : Config). AreOfReferrals c deps (flat_map node_referrals graph.nodes) seen) (sym for.config_is) are) shown firsts

@@ -1,4 +1,5 @@
-pub mod ZonesTell
-pub mod InsideZones
 pub mod Candidates
 pub mod DelegationsShown
+pub mod InsideZones
+pub mod LookedInto
+pub mod ZonesTell

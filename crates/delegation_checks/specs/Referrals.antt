@@ -81,10 +81,9 @@ referral_faults config deps cut =
     if_shown (zones_differ config cut) (faults.Differs cut) ++ if_shown (wants_glue config cut) (faults.NoGlue cut)
     ++ if_shown (addresses_differ config cut) (faults.GlueDiffers cut) ++ if_shown (depends_on_itself config deps cut) (faults.Cyclic cut)
 
--- those of a hop: a zone cut stands below the origin of its zone
-abbrev pub hop_faults : Config → Deps → Hop → List Fault
-hop_faults config deps (Refer cut) = if is_prefix cut.zone cut.cut then referral_faults config deps cut else []
-hop_faults config deps (Rewrite place by_dname to) = []
+-- where its zone cut is at or below its zone's origin, as that of every referral on a walk is
+abbrev pub cut_faults : Config → Deps → Cut → List Fault
+cut_faults config deps cut = if is_prefix cut.zone cut.cut then referral_faults config deps cut else []
 
 -- those of an end behind a referral
 abbrev pub leaf_faults : Deps → Cut → Leaf → List Fault
@@ -92,25 +91,37 @@ leaf_faults deps cut (leaves.Lame ns) = if_shown (name_eq cut.ns ns) (faults.Lam
 leaf_faults deps cut (leaves.NoAddress ns) = if_shown (name_eq cut.ns ns && not (is_among deps.greatest cut.ns)) (faults.NoAddress cut)
 leaf_faults deps cut leaf = []
 
-abbrev pub behind_faults : Deps → Hop → Leaf → List Fault
-behind_faults deps (Refer cut) leaf = leaf_faults deps cut leaf
-behind_faults deps (Rewrite place by_dname to) leaf = []
+-- if the branch ends there
+abbrev pub end_faults : Deps → Cut → Option Leaf → List Fault
+end_faults deps cut None = []
+end_faults deps cut (Some leaf) = leaf_faults deps cut leaf
 
--- those of a branch
-abbrev pub branch_faults : Config → Deps → Branch → List Fault
-branch_faults config deps (Go hop to) = hop_faults config deps hop
-branch_faults config deps (End None leaf) = []
-branch_faults config deps (End (Some hop) leaf) = hop_faults config deps hop ++ behind_faults deps hop leaf
+-- a referral on a branch: the name server of the cut, and the end behind it, if the branch is one
+abbrev pub hop_referrals : Hop → Option Leaf → List (Cut × Option Leaf)
+hop_referrals (Refer cut) end = (cut, end) ∷ []
+hop_referrals (Rewrite place by_dname to) end = []
+
+abbrev pub branch_referrals : Branch → List (Cut × Option Leaf)
+branch_referrals (Go hop to) = hop_referrals hop None
+branch_referrals (End None leaf) = []
+branch_referrals (End (Some hop) leaf) = hop_referrals hop (Some leaf)
+
+-- the faults of a referral
+abbrev pub faults_at : Config → Deps → Cut × Option Leaf → List Fault
+faults_at config deps at = cut_faults config deps at.0 ++ end_faults deps at.0 at.1
 
 -- with a type
+abbrev pub typed : {X : Type 0} → RrType → List X → List (X × RrType)
+typed rtype all = map (λ one. (one, rtype)) all
+
 abbrev pub with_type : RrType → List Fault → List Seen
 with_type rtype all = map (λ fault. record { fault = fault; rtype = rtype }) all
 
 -- those of an arm, with its first type
-abbrev pub arm_faults : Config → Deps → Arm → List Seen
-arm_faults config deps arm =
-    option_map_or (λ rtype. flat_map (λ branch. with_type rtype (branch_faults config deps branch)) arm.branches) (find (has_bit arm.types) types) []
+abbrev pub arm_referrals : Arm → List ((Cut × Option Leaf) × RrType)
+arm_referrals arm =
+    option_map_or (λ rtype. flat_map (λ branch. typed rtype (branch_referrals branch)) arm.branches) (find (has_bit arm.types) types) []
 
 -- those of a node
-abbrev pub node_faults : Config → Deps → Node → List Seen
-node_faults config deps node = flat_map (arm_faults config deps) node.arms
+abbrev pub node_referrals : Node → List ((Cut × Option Leaf) × RrType)
+node_referrals node = flat_map arm_referrals node.arms

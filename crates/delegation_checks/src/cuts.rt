@@ -7,8 +7,8 @@ ghost use Rattle.dns_data.specs.Rdata.{data_eq};
 ghost use Rattle.delegation_checks.specs.Referrals.{addresses_differ, both_differ, depends_on_itself, is_among, names_eq, wants_glue, zones_differ};
 ghost use Rattle.net_model.specs.Zone.{addresses, ns_names};
 
+use crate::learnt_sets::LearntSets;
 use dns_data::{List, Name, NoMemory, Rdata};
-use graph_form::Deps;
 use net_model::Cut;
 use std::alloc::Global;
 use zone_lookup::Hosts;
@@ -61,19 +61,19 @@ pub(crate) fn addresses_differ(
 
 /// Whether the configured name server is no top server and has no glue, and its address is learnt only by way of name
 /// servers of which the same is true.
-pub(crate) fn depends_on_itself(hosts: &Hosts<'_>, deps: &Deps, cut: &Cut) -> bool
+pub(crate) fn depends_on_itself(hosts: &Hosts<'_>, sets: &LearntSets, cut: &Cut) -> bool
     requires { is_prefix cut.now.zone cut.now.cut ≡ true }
-    ensures { result ≡ depends_on_itself hosts.now deps.now cut.now }
+    ensures { result ≡ depends_on_itself hosts.now sets.now cut.now }
 {
     hosts.host(&cut.ns).is_some()
         && !is_among(hosts.config().tops.items(), &cut.ns)
         && !hosts.has_glue(cut)
-        && is_among(deps.greatest.items(), &cut.ns)
-        && !is_among(deps.least.items(), &cut.ns)
+        && sets.has_greatest(&cut.ns)
+        && !sets.has_least(&cut.ns)
 }
 
 /// Whether the name is among these.
-pub(crate) fn is_among(names: &[Name], name: &Name) -> bool
+fn is_among(names: &[Name], name: &Name) -> bool
     ensures { result ≡ is_among names.now name.now }
 {
     names.iter().any(|other| *name == *other)

@@ -7,14 +7,17 @@ ghost use Rattle.graph_form.specs.Verdict.{AreShownOf};
 ghost use Rattle.net_model.specs.Shown.{with_lists};
 ghost use Rattle.net_model.specs.Step.{Setting};
 
-use crate::referrals::put_graph;
+use crate::learnt_sets::LearntSets;
+use crate::referral_faults::faults_of;
+use crate::referrals::referrals_of;
 use dns_data::{List, NoMemory};
 use graph_form::{Deps, Graph, Seen, first_types};
 use std::alloc::Global;
 use zone_lookup::Hosts;
 
 /// The faults of delegations that the query of a graph shows in the configuration of the servers, each once and with its
-/// first type, in fault order. The two lists stand in the place of the least and the greatest set of learnt addresses.
+/// first type, in fault order. The two lists stand in the place of the least and the greatest set of learnt addresses. It
+/// makes sets of them; for many graphs make them once, and ask `LearntSets`.
 pub fn delegation_faults(
     alloc: Global,
     hosts: &Hosts<'_>,
@@ -24,8 +27,29 @@ pub fn delegation_faults(
     ensures { IfOk result (λ shown. (setting : Setting) (query : Labels) → IsGraphIn hosts.now setting query graph.now
         → AreShownOf (with_lists setting deps.now.least deps.now.greatest) query is_of_delegations shown) }
 {
-    let mut seen = List::new(alloc);
-    put_graph(alloc, hosts, deps, graph, &mut seen)?;
-    let shown = first_types(alloc, seen)?;
-    Ok(shown)
+    let lists = Deps {
+        least: deps.least.copy(alloc)?,
+        greatest: deps.greatest.copy(alloc)?,
+    };
+    let sets = LearntSets::build(alloc, lists)?;
+    sets.delegation_faults(alloc, hosts, graph)
+}
+
+impl LearntSets {
+    /// The faults of delegations that the query of a graph shows in the configuration of the servers, each once and with
+    /// its first type, in fault order. The two sets stand in the place of the least and the greatest set of learnt addresses.
+    pub fn delegation_faults(
+        &self,
+        alloc: Global,
+        hosts: &Hosts<'_>,
+        graph: &Graph,
+    ) -> Result<List<Seen>, NoMemory>
+        ensures { IfOk result (λ shown. (setting : Setting) (query : Labels) → IsGraphIn hosts.now setting query graph.now
+            → AreShownOf (with_lists setting self.now.least self.now.greatest) query is_of_delegations shown) }
+    {
+        let met = referrals_of(alloc, graph)?;
+        let seen = faults_of(alloc, hosts, self, met)?;
+        let shown = first_types(alloc, seen)?;
+        Ok(shown)
+    }
 }

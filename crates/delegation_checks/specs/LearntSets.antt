@@ -1,0 +1,14 @@
+-- The sets of learnt addresses, as sets of names: for the contracts of their search alone.
+use Rattle.std.specs.Prelude.{◌≡◌, List}
+use Rattle.std.specs.BTreeSet as tree
+use Rattle.dns_data.specs.Name.{Labels, name_cmp}
+use Rattle.graph_form.specs.declared.deps.Deps.{Deps}
+use Rattle.delegation_checks.specs.Referrals.{is_among}
+
+-- the set has the names of the list
+abbrev pub IsSetOf : List Labels → tree.BTreeSet Labels → Type 0
+IsSetOf names set = (name : Labels) → tree.contains name_cmp set name ≡ is_among names name
+
+-- the sets have the names of the two lists
+abbrev pub AreSetsOf : Deps → tree.BTreeSet Labels → tree.BTreeSet Labels → Type 0
+AreSetsOf deps least greatest = IsSetOf deps.least least × IsSetOf deps.greatest greatest
