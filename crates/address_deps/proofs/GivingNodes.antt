@@ -197,6 +197,51 @@ module _ (config : Config) (rewrites : ℕ) (followed : List Labels)
           (next_narrowed config rewrites followed (server_names config) within rtype node.state) number)
           (is.closed at node arm rtype in_graph found.1) rest
 
+  -- whether the path from a start with these numbers gives an address
+  abbrev path_gives : List ℕ → Bool
+  path_gives [] = false
+  path_gives (number ∷ numbers) = option_map_or (from_here numbers) (slice_get graph.starts number) false
+
+  -- it gives what the walk gives
+  same_along : (numbers : List ℕ) → path_gives numbers ≡ walk_gives (walk_along (following config rewrites followed) query rtype numbers)
+  same_along [] = refl
+  same_along (number ∷ numbers) = by (pair_at (HasState graph) graph.starts (start config query) is.starts number) where
+    by : Pairs (HasState graph) graph.starts (start config query) number
+        → option_map_or (from_here numbers) (slice_get graph.starts number) false ≡ walk_gives (option_and_then (few numbers) (slice_get (start config query) number))
+    by (inl none) =
+        ap (λ (at : Option ℕ). option_map_or (from_here numbers) at false) none.0
+        ∙ sym (ap (λ (s : Option State). walk_gives (option_and_then (few numbers) s)) none.1)
+    by (inr pair) =
+        let node = pair.paired.0 in
+        let typed = is.all_types pair.one pair.has rtype in
+        let one : typed.0 ≡ node = same_item (slice_get graph.nodes pair.one) typed.0 node typed.1 pair.paired.1 in
+        ap (λ (at : Option ℕ). option_map_or (from_here numbers) at false) pair.at_one
+        ∙ (same_rest numbers pair.one node pair.paired.1 (subst (λ (n : Node). is_some (arm_of n rtype) ≡ true) one typed.2)
+        ∙ (ap (λ (s : State). walk_gives (few numbers s)) pair.paired.2
+        ∙ sym (ap (λ (s : Option State). walk_gives (option_and_then (few numbers) s)) pair.at_other)))
+
+  -- so an address is learnt exactly where a path from a start gives one
+  pub record GivingPath : Type 0 where
+    pub at : ℕ
+    pub numbers : List ℕ
+    pub starts : Contains graph.starts at
+    pub gives : from_here numbers at ≡ true
+
+  pub path_learns : GivingPath → LearnsBy (following config rewrites followed) query rtype
+  path_learns path =
+      let place = place_of_item graph.starts path.at path.starts in
+      from_giving (following config rewrites followed) query rtype (place.0 ∷ path.numbers)
+      (sym (same_along (place.0 ∷ path.numbers)) ∙ (ap (λ (at : Option ℕ). option_map_or (from_here path.numbers) at false) place.1 ∙ path.gives))
+
+  pub learns_path : LearnsBy (following config rewrites followed) query rtype → GivingPath
+  learns_path learns = by learns.is_walk.0 (same_along learns.is_walk.0 ∙ (ap walk_gives learns.is_walk.1 ∙ learns.ends)) where
+    by : (numbers : List ℕ) → path_gives numbers ≡ true → GivingPath
+    by [] e = cc
+    by (number ∷ numbers) e = at_start (slice_get graph.starts number) refl e where
+      at_start : (at : Option ℕ) → slice_get graph.starts number ≡ at → option_map_or (from_here numbers) at false ≡ true → GivingPath
+      at_start None there e = cc
+      at_start (Some at) there e = record { at = at; numbers = numbers; starts = item_there graph.starts number at there; gives = e }
+
   -- an address is learnt exactly where a start is marked
   pub starts_tell : (marks : List Bool) → AreGiving config followed graph rtype marks → AreComplete config followed graph rtype marks
       → (list_any (is_marked marks) graph.starts ≡ true) ↔ LearnsBy (following config rewrites followed) query rtype
@@ -204,42 +249,15 @@ module _ (config : Config) (rewrites : ℕ) (followed : List Labels)
     there : list_any (is_marked marks) graph.starts ≡ true → LearnsBy (following config rewrites followed) query rtype
     there some =
         let found = from_any (is_marked marks) graph.starts some in
-        let place = place_of_item graph.starts found.0 found.1 in
         let path = giving found.0 found.2 in
-        by place.0 found.0 place.1 path.0 path.1 (pair_at (HasState graph) graph.starts (start config query) is.starts place.0)
-      where
-        by : (number at : ℕ) → slice_get graph.starts number ≡ Some at → (numbers : List ℕ) → from_here numbers at ≡ true
-            → Pairs (HasState graph) graph.starts (start config query) number → LearnsBy (following config rewrites followed) query rtype
-        by number at here numbers gives (inl none) = let no : None ≡ Some at = sym none.0 ∙ here in cc
-        by number at here numbers gives (inr pair) =
-            let same : pair.one ≡ at = same_item (slice_get graph.starts number) pair.one at pair.at_one here in
-            let node = pair.paired.0 in
-            let typed = is.all_types pair.one pair.has rtype in
-            let one : typed.0 ≡ node = same_item (slice_get graph.nodes pair.one) typed.0 node typed.1 pair.paired.1 in
-            from_giving (following config rewrites followed) query rtype (number ∷ numbers)
-            (ap (λ (s : Option State). walk_gives (option_and_then (few numbers) s)) pair.at_other
-            ∙ ap (λ (s : State). walk_gives (few numbers s)) (sym pair.paired.2)
-            ∙ sym (same_rest numbers pair.one node pair.paired.1 (subst (λ (n : Node). is_some (arm_of n rtype) ≡ true) one typed.2))
-            ∙ ap (from_here numbers) same ∙ gives)
+        path_learns (record { at = found.0; numbers = path.0; starts = found.1; gives = path.1 })
 
     back : LearnsBy (following config rewrites followed) query rtype → list_any (is_marked marks) graph.starts ≡ true
-    back learns = by learns.is_walk.0 (ap walk_gives learns.is_walk.1 ∙ learns.ends) where
-      by : (numbers : List ℕ) → walk_gives (walk_along (following config rewrites followed) query rtype numbers) ≡ true → list_any (is_marked marks) graph.starts ≡ true
-      by [] e = cc
-      by (number ∷ numbers) e = at_start (pair_at (HasState graph) graph.starts (start config query) is.starts number) where
-        at_start : Pairs (HasState graph) graph.starts (start config query) number → list_any (is_marked marks) graph.starts ≡ true
-        at_start (inl none) =
-            let no : false ≡ true = sym (ap (λ (s : Option State). walk_gives (option_and_then (few numbers) s)) none.1) ∙ e in cc
-        at_start (inr pair) =
-            let node = pair.paired.0 in
-            let typed = is.all_types pair.one pair.has rtype in
-            let one : typed.0 ≡ node = same_item (slice_get graph.nodes pair.one) typed.0 node typed.1 pair.paired.1 in
-            let gives : from_here numbers pair.one ≡ true =
-            same_rest numbers pair.one node pair.paired.1 (subst (λ (n : Node). is_some (arm_of n rtype) ≡ true) one typed.2)
-            ∙ ap (λ (s : State). walk_gives (few numbers s)) pair.paired.2
-            ∙ sym (ap (λ (s : Option State). walk_gives (option_and_then (few numbers) s)) pair.at_other) ∙ e in
-            any_has (is_marked marks) graph.starts pair.one pair.has (marked (is_marked marks pair.one) refl gives)
-          where
-            marked : (b : Bool) → is_marked marks pair.one ≡ b → from_here numbers pair.one ≡ true → b ≡ true
-            marked true m gives = refl
-            marked false m gives = let no : false ≡ true = sym (barren config followed graph rtype marks complete numbers pair.one m) ∙ gives in cc
+    back learns =
+        let path = learns_path learns in
+        any_has (is_marked marks) graph.starts path.at path.starts (marked path (is_marked marks path.at) refl)
+      where
+        marked : (path : GivingPath) (b : Bool) → is_marked marks path.at ≡ b → b ≡ true
+        marked path true m = refl
+        marked path false m =
+            let no : false ≡ true = sym (barren config followed graph rtype marks complete path.numbers path.at m) ∙ path.gives in cc

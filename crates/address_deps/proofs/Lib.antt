@@ -1,6 +1,10 @@
-mod GivingNodes
-mod Growing
-mod Marks
-mod MoreFollowed
-mod ServerSets
-mod TwoSets
+pub mod Awaited
+pub mod GivingNodes
+pub mod Growing
+pub mod Listing
+pub mod Marks
+pub mod MoreFollowed
+pub mod Rounds
+pub mod ServerSets
+pub mod TwoSets
+pub mod Waking

@@ -1,4 +1,5 @@
 pub use Rattle.net_model.specs.Learnt
 pub use Rattle.graph_form.specs.GraphOf
+pub mod Dependents
 pub mod Giving
 pub mod Sets

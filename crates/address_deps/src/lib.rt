@@ -3,11 +3,12 @@
 //! The layer above may rest on this: `dependencies` gives the two sets of the definitions, which take as many rounds as
 //! there are servers, where the graphs are those of the servers' names.
 //!
-//! Costs: a server is added to the least set, or taken from the greatest, as soon as it is found; the servers are passed
-//! over until nothing changes. A graph is passed over until no node more leads to an address, from its last node to its
-//! first.
+//! Costs: a server is added to the least set, or taken from the greatest, as soon as it is found. A server is looked at once,
+//! and again only when a name server was added or taken away for whose address its graph waits. Then its graph is passed over
+//! until no node more leads to an address, from its last node to its first.
 #![tactic(auto)]
 
+mod dependents;
 mod giving;
 mod server_set;
 mod sets;

@@ -1,4 +1,4 @@
-use Rattle.std.proofs.Common.{◌≡◌, ◌<◌, ℕ, true, false, not, ◌&&◌, List, length, get_or, sym, ap, ◌∙◌, subst, arith, rules}
+use Rattle.std.proofs.Common.{◌≡◌, ◌<◌, true, false, not, ◌&&◌, List, length, get_or, sym, ap, ◌∙◌, subst, arith}
 use Rattle.dns_data.specs.Name.{Labels, name_eq}
 use Rattle.net_model.specs.declared.config.Config.{Config}
 use Rattle.net_model.specs.declared.config.Server.{Server}
@@ -50,3 +50,14 @@ returns-clause-fewer c = λ e.
     let taken : (other : Labels) → is_in c.take.new.self other ≡ (not (name_eq item.name other) && is_in names other) =
     λ other. subst (λ (s : Server). is_in c.take.new.self other ≡ (not (name_eq s.name other) && is_in names other)) (sym c.index-items-place.is) (c.take.ensures other) in
     shrunk_less config graphs names c.take.new.self item.name (item_named config graphs names c.args.place item within is) there taken
+
+pub returns-clause-gone : goal.returns-clause-gone
+returns-clause-gone c = λ e server there name.
+    let config = c.args.hosts.now in
+    let graphs = c.args.graphs.now in
+    let names = c.args.known.now in
+    let item = c.index-items-place.result in
+    let servers : c.items.result.now ≡ config.servers = c.items.ensures ∙ ap (λ (x : Config). x.servers) c.config.ensures in
+    let within : c.args.place < length config.servers = omega (arith, c.requires.within, c.requires.many) in
+    let is : item ≡ get_or config.servers c.args.place item = c.index-items-place.is ∙ ap (λ (ss : List Server). get_or ss c.args.place item) servers in
+    subst (λ (s : Server). is_in c.take.new.self name ≡ (not (name_eq s.name name) && is_in names name)) (sym c.index-items-place.is ∙ same_server config graphs names c.args.place item within is server there) (c.take.ensures name)

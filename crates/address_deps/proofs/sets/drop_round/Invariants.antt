@@ -1,13 +1,8 @@
-use Rattle.std.proofs.Common.{◌≡◌, ℕ, ◌<◌, true, false}
-use Rattle.address_deps.specs.Sets.{present}
-use Rattle.address_deps.specs.Sets.{IsShrinking, IsLearntAt}
-use Rattle.address_deps.proofs.sets.drop_more.Given as goal
+use Rattle.address_deps.specs.Sets.{IsLearntAt, IsShrinking, present}
+use Rattle.address_deps.proofs.Rounds.{IsRoundAt}
+use Rattle.address_deps.proofs.sets.drop_round.Given as goal
 
--- the servers that were looked at
+-- the servers so far were looked at
 abbrev pub invariant-loop-place : goal.invariant-loop-place
-invariant-loop-place l = record {
-  shrinking : IsShrinking l.hosts l.graphs l.known;
-  same : l.more ≡ false → l.known ≡ l.initial.known;
-  fewer : l.more ≡ true → present l.hosts.servers l.known < present l.hosts.servers l.initial.known;
-  each : l.more ≡ false → (k : ℕ) → k < l.place → IsLearntAt l.hosts l.graphs l.known k;
-}
+invariant-loop-place l =
+    IsRoundAt (IsShrinking l.hosts l.graphs) (IsLearntAt l.hosts l.graphs) (present l.hosts.servers) l.graphs l.waiting l.fn.known l.place-index l.known l.next

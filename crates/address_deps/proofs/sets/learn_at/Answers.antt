@@ -1,4 +1,4 @@
-use Rattle.std.proofs.Common.{◌≡◌, ◌<◌, ℕ, true, false, ◌||◌, List, length, get_or, sym, ap, ◌∙◌, subst, arith, rules}
+use Rattle.std.proofs.Common.{◌≡◌, ◌<◌, true, false, ◌||◌, List, length, get_or, sym, ap, ◌∙◌, subst, arith}
 use Rattle.dns_data.specs.Name.{Labels, name_eq}
 use Rattle.net_model.specs.declared.config.Config.{Config}
 use Rattle.net_model.specs.declared.config.Server.{Server}
@@ -49,3 +49,14 @@ returns-clause-fewer c = λ e.
     let put : (other : Labels) → is_in c.put.new.self other ≡ (name_eq item.name other || is_in names other) =
     λ other. subst (λ (s : Server). is_in c.put.new.self other ≡ (name_eq s.name other || is_in names other)) (sym c.index-items-place.is) (c.in_ok-put.ensures other) in
     grown_less config graphs names c.put.new.self item.name (item_named config graphs names c.args.place item within is) missing put
+
+pub returns-clause-put : goal.returns-clause-put
+returns-clause-put c = λ e server there name.
+    let config = c.args.hosts.now in
+    let graphs = c.args.graphs.now in
+    let names = c.args.learnt.now in
+    let item = c.index-items-place.result in
+    let servers : c.items.result.now ≡ config.servers = c.items.ensures ∙ ap (λ (x : Config). x.servers) c.config.ensures in
+    let within : c.args.place < length config.servers = omega (arith, c.requires.within, c.requires.many) in
+    let is : item ≡ get_or config.servers c.args.place item = c.index-items-place.is ∙ ap (λ (ss : List Server). get_or ss c.args.place item) servers in
+    subst (λ (s : Server). is_in c.put.new.self name ≡ (name_eq s.name name || is_in names name)) (sym c.index-items-place.is ∙ same_server config graphs names c.args.place item within is server there) (c.in_ok-put.ensures name)

@@ -1,13 +1,8 @@
-use Rattle.std.proofs.Common.{◌≡◌, ℕ, ◌<◌, true, false}
-use Rattle.address_deps.specs.Sets.{absent}
-use Rattle.address_deps.specs.Sets.{IsGrowing, IsClosedAt}
-use Rattle.address_deps.proofs.sets.learn_more.Given as goal
+use Rattle.address_deps.specs.Sets.{IsClosedAt, IsGrowing, absent}
+use Rattle.address_deps.proofs.Rounds.{IsRoundAt}
+use Rattle.address_deps.proofs.sets.learn_round.Given as goal
 
--- the servers that were looked at
+-- the servers so far were looked at
 abbrev pub invariant-loop-place : goal.invariant-loop-place
-invariant-loop-place l = record {
-  growing : IsGrowing l.hosts l.graphs l.learnt;
-  same : l.more ≡ false → l.learnt ≡ l.initial.learnt;
-  fewer : l.more ≡ true → absent l.hosts.servers l.learnt < absent l.hosts.servers l.initial.learnt;
-  each : l.more ≡ false → (k : ℕ) → k < l.place → IsClosedAt l.hosts l.graphs l.learnt k;
-}
+invariant-loop-place l =
+    IsRoundAt (IsGrowing l.hosts l.graphs) (IsClosedAt l.hosts l.graphs) (absent l.hosts.servers) l.graphs l.waiting l.fn.learnt l.place-index l.learnt l.next

@@ -1,0 +1,105 @@
+-- What a graph's walks give depends on the name servers alone for whose addresses it waits.
+use Rattle.std.proofs.Common.{◌≡◌, ℕ, Bool, true, false, ◌&&◌, ◌||◌, List, [], ◌∷◌, length, Contains, Option, Some, None, refl, sym, ap, ◌∙◌, subst, inl, inr, ◌==◌}
+use Rattle.std.specs.Prelude.{slice_get, if◌then◌else◌}
+use Rattle.std.specs.List.{list_any}
+use Rattle.std.specs.Option.{option_map_or}
+use Rattle.dns_data.specs.Name.{Labels, name_eq}
+use Rattle.dns_data.specs.TypeSet.{has_bit}
+use Rattle.dns_data.specs.declared.rr_type.RrType.{RrType}
+use Rattle.dns_data.specs.declared.rr_type.RrType.TheVariants as types
+use Rattle.dns_data.proofs.Membership.{flat_map_has, has_first, none_in_nil}
+use Rattle.dns_data.proofs.Names.{name_eq_decides}
+use Rattle.dns_data.proofs.Searches.{found_there}
+use Rattle.net_model.specs.declared.config.Config.{Config}
+use Rattle.net_model.specs.declared.walk.Hop.{Hop}
+use Rattle.net_model.specs.declared.walk.Hop.TheVariants.{Refer, Rewrite}
+use Rattle.net_model.specs.Learnt.{Learns, LearnsBy}
+use Rattle.net_model.specs.Nearest.{is_top, server_names}
+use Rattle.net_model.specs.Step.{following, has_glue}
+use Rattle.graph_form.specs.Graph.{PlainGraph, arm_of, branches_of}
+use Rattle.graph_form.specs.GraphOf.{IsGraphOf}
+use Rattle.graph_form.specs.declared.node.Arm.{Arm}
+use Rattle.graph_form.specs.declared.node.Branch.{Branch}
+use Rattle.graph_form.specs.declared.node.Branch.TheVariants.{Go, End}
+use Rattle.graph_form.specs.declared.node.Node.{Node}
+use Rattle.graph_form.proofs.Places.{item_there}
+use Rattle.address_deps.specs.Dependents.{arm_awaits, branch_awaits, graph_awaits, hop_awaits, node_awaits}
+use Rattle.address_deps.specs.Giving.{gives_by, gives_from, is_open, node_gives}
+use Rattle.address_deps.specs.Sets.{AreServers, is_in}
+use Rattle.address_deps.proofs.GivingNodes.{learns_path, path_learns}
+
+-- the branches of a node for a type are those of one of its arms
+in_arm : (node : Node) (rtype : RrType) (branch : Branch) → Contains (branches_of node rtype) branch → (arm : Arm) × Contains node.arms arm × Contains arm.branches branch
+in_arm node rtype branch has = by (arm_of node rtype) refl has where
+  by : (arm : Option Arm) → arm_of node rtype ≡ arm → Contains (option_map_or (λ a. a.branches) arm []) branch → (arm : Arm) × Contains node.arms arm × Contains arm.branches branch
+  by None is has = absurd (none_in_nil branch has)
+  by (Some arm) is has = (arm, (found_there (λ (a : Arm). has_bit a.types rtype) node.arms arm is).0, has)
+
+-- two sets of servers that are one but for this name, for which the graph doesn't wait
+pub record AreAlike (config : Config) (graph : PlainGraph) (one other : List Labels) : Type 0 where
+  pub name : Labels
+  pub apart : (server : Labels) → name_eq name server ≡ false → is_in one server ≡ is_in other server
+  pub not_awaited : Contains (graph_awaits config graph) name → ⊥
+
+-- the other way round
+pub alike_back : (config : Config) (graph : PlainGraph) (one other : List Labels) → AreAlike config graph one other → AreAlike config graph other one
+alike_back config graph one other alike =
+    record { name = alike.name; apart = λ server differs. sym (alike.apart server differs); not_awaited = alike.not_awaited }
+
+module _ (config : Config) (graph : PlainGraph) (one other : List Labels) (alike : AreAlike config graph one other) where
+  -- a hop of the graph is open for both
+  same_open : (node : Node) (rtype : RrType) (hop : Hop) (to : ℕ) → Contains graph.nodes node → Contains (branches_of node rtype) (Go hop to)
+      → is_open config one hop ≡ is_open config other hop
+  same_open node rtype (Rewrite place by_dname name) to has among = refl
+  same_open node rtype (Refer cut) to has among = by (is_top config cut.ns || has_glue config cut) refl where
+    awaited : (is_top config cut.ns || has_glue config cut) ≡ false → Contains (graph_awaits config graph) cut.ns
+    awaited closed =
+        let arm = in_arm node rtype (Go (Refer cut) to) among in
+        let here : Contains (hop_awaits config (Refer cut)) cut.ns =
+        subst (λ (b : Bool). Contains (if b || false then [] else cut.ns ∷ []) cut.ns) (sym closed) (has_first cut.ns []) in
+        flat_map_has (node_awaits config) graph.nodes node cut.ns has
+        (flat_map_has (arm_awaits config) node.arms arm.0 cut.ns arm.1 (flat_map_has (branch_awaits config) arm.0.branches (Go (Refer cut) to) cut.ns arm.2 here))
+
+    differs : (is_top config cut.ns || has_glue config cut) ≡ false → (b : Bool) → name_eq alike.name cut.ns ≡ b → b ≡ false
+    differs closed false e = refl
+    differs closed true e =
+        absurd (alike.not_awaited (subst (Contains (graph_awaits config graph)) (sym ((name_eq_decides alike.name cut.ns).0 e)) (awaited closed)))
+
+    by : (b : Bool) → (is_top config cut.ns || has_glue config cut) ≡ b → (b || list_any (name_eq cut.ns) one) ≡ (b || list_any (name_eq cut.ns) other)
+    by true closed = refl
+    by false closed = alike.apart cut.ns (differs closed (name_eq alike.name cut.ns) refl)
+
+  -- so each path gives the same
+  same_path : (rtype : RrType) (numbers : List ℕ) (at : ℕ) → gives_from config one graph rtype numbers at ≡ gives_from config other graph rtype numbers at
+  same_path rtype [] at = refl
+  same_path rtype (number ∷ numbers) at = by_node (slice_get graph.nodes at) refl (same_path rtype numbers) where
+    by_branch : (node : Node) → Contains graph.nodes node → (branch : Option Branch) → slice_get (branches_of node rtype) number ≡ branch
+        → ((to : ℕ) → gives_from config one graph rtype numbers to ≡ gives_from config other graph rtype numbers to)
+        → gives_by config one graph rtype (gives_from config one graph rtype numbers) (length numbers == 0) branch
+        ≡ gives_by config other graph rtype (gives_from config other graph rtype numbers) (length numbers == 0) branch
+    by_branch node has None there rest = refl
+    by_branch node has (Some (Go hop to)) there rest =
+        ap (λ (b : Bool). b && gives_from config one graph rtype numbers to)
+        (same_open node rtype hop to has (item_there (branches_of node rtype) number (Go hop to) there))
+        ∙ ap (λ (b : Bool). is_open config other hop && b) (rest to)
+    by_branch node has (Some (End hop leaf)) there rest = refl
+
+    by_node : (node : Option Node) → slice_get graph.nodes at ≡ node
+        → ((to : ℕ) → gives_from config one graph rtype numbers to ≡ gives_from config other graph rtype numbers to)
+        → node_gives config one graph rtype (gives_from config one graph rtype numbers) number (length numbers == 0) node
+        ≡ node_gives config other graph rtype (gives_from config other graph rtype numbers) number (length numbers == 0) node
+    by_node None here rest = refl
+    by_node (Some node) here rest =
+        by_branch node (item_there graph.nodes at node here) (slice_get (branches_of node rtype) number) refl rest
+
+  module _ (rewrites : ℕ) (query : Labels) (is : IsGraphOf (following config rewrites (server_names config)) query graph)
+      (of_one : AreServers config one) (of_other : AreServers config other) where
+    same_learnt_by : (rtype : RrType) → LearnsBy (following config rewrites one) query rtype → LearnsBy (following config rewrites other) query rtype
+    same_learnt_by rtype learns =
+        let path = learns_path config rewrites one of_one query graph rtype is learns in
+        path_learns config rewrites other of_other query graph rtype is
+        (record { at = path.at; numbers = path.numbers; starts = path.starts; gives = sym (same_path rtype path.numbers path.at) ∙ path.gives })
+
+    -- and the same is learnt
+    pub same_learnt : Learns (following config rewrites one) query → Learns (following config rewrites other) query
+    same_learnt learns = elim learns [ inl four ↦ inl (same_learnt_by types.A four) | inr six ↦ inr (same_learnt_by types.Aaaa six) ]

@@ -1,0 +1,74 @@
+-- Who waits for the address of a name server, and the servers that wait for another look. The contracts of inner calls alone
+-- cite it.
+use Rattle.std.specs.Prelude.{◌≡◌, ◌⊎◌, ◌↔◌, ℕ, ◌<◌, List, [], ◌∷◌, length, Some, Contains, slice_get, unwrap_or, if◌then◌else◌}
+use Rattle.std.specs.BTreeMap as map
+use Rattle.std.specs.List.{flat_map}
+use Rattle.dns_data.specs.Name.{Labels, name_cmp}
+use Rattle.net_model.specs.Step.{may_follow}
+use Rattle.net_model.specs.declared.config.Config.{Config}
+use Rattle.net_model.specs.declared.walk.Hop.{Hop}
+use Rattle.net_model.specs.declared.walk.Hop.TheVariants.{Refer, Rewrite}
+use Rattle.graph_form.specs.Graph.{PlainGraph}
+use Rattle.graph_form.specs.declared.node.Arm.{Arm}
+use Rattle.graph_form.specs.declared.node.Branch.{Branch}
+use Rattle.graph_form.specs.declared.node.Branch.TheVariants.{Go, End}
+use Rattle.graph_form.specs.declared.node.Node.{Node}
+use Rattle.address_deps.specs.Sets.{IsClosedAt, IsGrowing, IsLearntAt, IsShrinking}
+
+-- the name server of a hop that is followed only where its address is learnt
+abbrev pub hop_awaits : Config → Hop → List Labels
+hop_awaits config (Refer cut) = if may_follow config cut [] then [] else cut.ns ∷ []
+hop_awaits config (Rewrite place by_dname to) = []
+
+-- and that of a branch that goes on
+abbrev pub branch_awaits : Config → Branch → List Labels
+branch_awaits config (Go hop to) = hop_awaits config hop
+branch_awaits config (End hop leaf) = []
+
+abbrev pub arm_awaits : Config → Arm → List Labels
+arm_awaits config arm = flat_map (branch_awaits config) arm.branches
+
+abbrev pub node_awaits : Config → Node → List Labels
+node_awaits config node = flat_map (arm_awaits config) node.arms
+
+-- those of a graph
+abbrev pub graph_awaits : Config → PlainGraph → List Labels
+graph_awaits config graph = flat_map (node_awaits config) graph.nodes
+
+-- the places that are listed for a name
+abbrev pub places_of : map.BTreeMap Labels (List ℕ) → Labels → List ℕ
+places_of places name = unwrap_or (map.get name_cmp places name) []
+
+-- a place is listed for more names
+pub record IsListed (place : ℕ) (names : List Labels) (old new : map.BTreeMap Labels (List ℕ)) : Type 0 where
+  pub listed : (name : Labels) → Contains names name → Contains (places_of new name) place
+  pub stays : (name : Labels) (other : ℕ) → Contains (places_of old name) other → Contains (places_of new name) other
+  pub only : (name : Labels) (other : ℕ) → Contains (places_of new name) other → Contains (places_of old name) other ⊎ (other ≡ place)
+
+-- of the servers before the bound each is listed for the names of the name servers for whose addresses its graph waits
+pub record AreDependents (config : Config) (graphs : List PlainGraph) (bound : ℕ) (places : map.BTreeMap Labels (List ℕ)) : Type 0 where
+  pub listed : (place : ℕ) (graph : PlainGraph) → place < bound → slice_get graphs place ≡ Some graph
+      → (name : Labels) → Contains (graph_awaits config graph) name → Contains (places_of places name) place
+  pub within : (name : Labels) (place : ℕ) → Contains (places_of places name) place → place < bound
+
+-- each place is one of a server
+abbrev pub AreWithin : List PlainGraph → List ℕ → Type 0
+AreWithin graphs places = (place : ℕ) → Contains places place → place < length graphs
+
+-- the places are those below the bound
+abbrev pub AreAllPlaces : ℕ → List ℕ → Type 0
+AreAllPlaces bound places = (place : ℕ) → Contains places place ↔ (place < bound)
+
+-- Between two rounds of a search: something holds of its set of names, and something else of each place that doesn't wait.
+pub record IsRound (Good : List Labels → Type 0) (At : List Labels → ℕ → Type 0) (graphs : List PlainGraph) (names : List Labels) (waiting : List ℕ) : Type 0 where
+  pub good : Good names
+  pub others : (place : ℕ) → place < length graphs → Contains waiting place ⊎ At names place
+  pub within : AreWithin graphs waiting
+
+-- of the search for the least set: each server that doesn't wait is learnt, or can't be
+abbrev pub IsLearning : Config → List PlainGraph → List Labels → List ℕ → Type 0
+IsLearning config graphs learnt waiting = IsRound (IsGrowing config graphs) (IsClosedAt config graphs) graphs learnt waiting
+
+-- of the search for the greatest set: each server that doesn't wait is taken away, or can be learnt
+abbrev pub IsDropping : Config → List PlainGraph → List Labels → List ℕ → Type 0
+IsDropping config graphs known waiting = IsRound (IsShrinking config graphs) (IsLearntAt config graphs) graphs known waiting

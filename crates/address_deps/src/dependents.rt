@@ -1,0 +1,175 @@
+//! Who waits for the address of a name server.
+
+ghost use Rattle.std.specs.Prelude.{◌≡◌, ◌⊎◌, ◌++◌, ◌∷◌, [], ℕ, true, false, Contains, IfOk, OnOk, length, map};
+ghost use Rattle.dns_data.specs.Name.{Labels, name_eq};
+ghost use Rattle.address_deps.specs.Dependents.{
+  AreDependents,
+  IsListed,
+  arm_awaits,
+  branch_awaits,
+  graph_awaits,
+  hop_awaits,
+  node_awaits,
+  places_of,
+};
+
+use dns_data::{List, Name, NoMemory};
+use graph_form::{Arm, Branch, Graph, Node};
+use net_model::Hop;
+use std::alloc::Global;
+use std::collections::BTreeMap;
+use zone_lookup::Hosts;
+
+/// For each name server the places of the servers that wait for its address: a walk of their names goes on by a referral to
+/// it that is followed only where its address is learnt.
+#[derive(Debug, Drop)]
+pub(crate) struct Dependents {
+    places: BTreeMap<Name, List<usize>>,
+}
+
+impl Dependents {
+    /// Those of the graphs of the servers' names. Each branch is passed over once.
+    pub fn of(alloc: Global, hosts: &Hosts<'_>, graphs: &[Graph]) -> Result<Dependents, NoMemory>
+        ensures { IfOk result (λ dependents. AreDependents hosts.now graphs.now (length graphs.now) dependents.places) }
+    {
+        let mut dependents = Dependents {
+            places: BTreeMap::new(alloc),
+        };
+        for place in 0..graphs.len() {
+            let names = names_awaited(alloc, hosts, &graphs[place])?;
+            dependents.put_all(alloc, names.as_slice(), place)?;
+        }
+        Ok(dependents)
+    }
+
+    /// The places of those that wait for the name server's address. It takes no memory.
+    pub fn on(&self, name: &Name) -> &[usize]
+        ensures { result.now ≡ places_of self.now.places name.now }
+    {
+        match self.places.get(name) {
+            Some(places) => places.items(),
+            None => &[],
+        }
+    }
+
+    /// Lists a place for each of the names.
+    fn put_all(&mut self, alloc: Global, names: &[&Name], place: usize) -> Result<(), NoMemory>
+        ensures { OnOk result (IsListed place (map (λ name. name.now) names.now) self.old.places self.new.places) }
+    {
+        for name in names {
+            self.put(alloc, name, place)?;
+        }
+        Ok(())
+    }
+
+    /// Lists a place for the name.
+    fn put(&mut self, alloc: Global, name: &Name, place: usize) -> Result<(), NoMemory>
+        ensures { OnOk result (IsListed place (name.now ∷ []) self.old.places self.new.places) }
+    {
+        let mut listed = self.take(alloc, name);
+        put_once(&mut listed, place)?;
+        self.places.insert(name.copy(alloc)?, listed)?;
+        Ok(())
+    }
+
+    /// Takes the places of the name out.
+    fn take(&mut self, alloc: Global, name: &Name) -> List<usize>
+        ensures taken { result ≡ places_of self.old.places name.now }
+        ensures others { (other : Labels) → name_eq name.now other ≡ false → places_of self.new.places other ≡ places_of self.old.places other }
+    {
+        match self.places.remove(name) {
+            Some(listed) => listed,
+            None => List::new(alloc),
+        }
+    }
+}
+
+/// Puts a place behind the others, unless it is the last.
+fn put_once(listed: &mut List<usize>, place: usize) -> Result<(), NoMemory>
+    ensures there { OnOk result (Contains listed.new place) }
+    ensures stays { OnOk result ((other : ℕ) → Contains listed.old other → Contains listed.new other) }
+    ensures only { OnOk result ((other : ℕ) → Contains listed.new other → Contains listed.old other ⊎ (other ≡ place)) }
+{
+    if is_last(listed.items(), place) {
+        return Ok(());
+    }
+    listed.push(place)
+}
+
+/// Whether the place is the last of the list.
+fn is_last(listed: &[usize], place: usize) -> bool
+    ensures { result ≡ true → Contains listed.now place }
+{
+    match listed.last() {
+        Some(last) => *last == place,
+        None => false,
+    }
+}
+
+/// The names of the name servers for whose addresses a graph waits, branch by branch.
+fn names_awaited<'g>(
+    alloc: Global,
+    hosts: &Hosts<'_>,
+    graph: &'g Graph,
+) -> Result<Vec<&'g Name>, NoMemory>
+    ensures { IfOk result (λ names. map (λ name. name.now) names.items ≡ graph_awaits hosts.now graph.now) }
+{
+    let mut names = Vec::new(alloc);
+    for i in 0..graph.nodes() {
+        put_node(hosts, graph.node(i), &mut names)?;
+    }
+    Ok(names)
+}
+
+/// Puts those of a node behind the others.
+fn put_node<'g>(
+    hosts: &Hosts<'_>,
+    node: &'g Node,
+    names: &mut Vec<&'g Name>,
+) -> Result<(), NoMemory>
+    ensures { OnOk result (map (λ name. name.now) names.new.items ≡ map (λ name. name.now) names.old.items ++ node_awaits hosts.now node.now) }
+{
+    for arm in node.arms.items() {
+        put_arm(hosts, arm, names)?;
+    }
+    Ok(())
+}
+
+/// Those of an arm.
+fn put_arm<'g>(hosts: &Hosts<'_>, arm: &'g Arm, names: &mut Vec<&'g Name>) -> Result<(), NoMemory>
+    ensures { OnOk result (map (λ name. name.now) names.new.items ≡ map (λ name. name.now) names.old.items ++ arm_awaits hosts.now arm.now) }
+{
+    for branch in arm.branches.items() {
+        put_branch(hosts, branch, names)?;
+    }
+    Ok(())
+}
+
+/// That of a branch, if it has one.
+fn put_branch<'g>(
+    hosts: &Hosts<'_>,
+    branch: &'g Branch,
+    names: &mut Vec<&'g Name>,
+) -> Result<(), NoMemory>
+    ensures { OnOk result (map (λ name. name.now) names.new.items ≡ map (λ name. name.now) names.old.items ++ branch_awaits hosts.now branch.now) }
+{
+    match branch {
+        Branch::Go { hop, .. } => put_hop(hosts, hop, names),
+        Branch::End { .. } => Ok(()),
+    }
+}
+
+/// That of a hop, if it has one.
+fn put_hop<'g>(hosts: &Hosts<'_>, hop: &'g Hop, names: &mut Vec<&'g Name>) -> Result<(), NoMemory>
+    ensures { OnOk result (map (λ name. name.now) names.new.items ≡ map (λ name. name.now) names.old.items ++ hop_awaits hosts.now hop.now) }
+{
+    match hop {
+        Hop::Refer(cut) => {
+            if !hosts.may_follow(cut, &[]) {
+                names.push(&cut.ns)?;
+            }
+            Ok(())
+        }
+        Hop::Rewrite { .. } => Ok(()),
+    }
+}
