@@ -1,7 +1,7 @@
 -- The files of a drill: a root zone that delegates to so many zones, each on a server of its own with glue, and in each
 -- zone an alias into the next one. Of ten zones one has an alias to a name that doesn't exist, and one an address of its
 -- name server that isn't the one of the glue.
-use Rattle.std.specs.Prelude.{ℕ, ◌+◌, ◌-◌, ◌/◌, ◌%◌, nat_lt, List, [], ◌∷◌, ◌++◌, map, codes, if◌then◌else◌, ◌==◌}
+use Rattle.std.specs.Prelude.{ℕ, ◌+◌, ◌/◌, ◌%◌, nat_lt, List, [], ◌∷◌, ◌++◌, map, codes, if◌then◌else◌, ◌==◌}
 use Rattle.std.specs.Fmt.{decimal}
 use Rattle.std.specs.List.{flat_map, range_with_len}
 use Rattle.io_edges.specs.MemoryFiles.{FilesInMemory, no_files, with_file}

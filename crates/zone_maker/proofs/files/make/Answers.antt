@@ -1,5 +1,5 @@
 -- The file of one zone more is put in behind the others.
-use Rattle.std.proofs.Common.{◌≡◌, [], codes, ap, sym, ◌∙◌}
+use Rattle.std.proofs.Common.{[], codes, sym}
 use Rattle.io_edges.specs.MemoryFiles.{no_files, with_file}
 use Rattle.zone_maker.specs.Drill.{meta_text, root_text, zone_file, zone_text}
 use Rattle.zone_maker.proofs.Numbers.{files_more}

@@ -1,5 +1,5 @@
 -- The delegation of one zone more stands at the end.
-use Rattle.std.proofs.Common.{◌≡◌, ◌++◌, codes, ap, sym, ◌∙◌}
+use Rattle.std.proofs.Common.{codes, sym}
 use Rattle.zone_maker.specs.Drill.{referral_lines}
 use Rattle.zone_maker.proofs.Numbers.{gives_more}
 use Rattle.zone_maker.proofs.texts.root_text.Goals as goal
