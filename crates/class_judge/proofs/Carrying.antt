@@ -1,30 +1,26 @@
 -- Where each name is in a class for which a name stands, the representatives show what queries show.
-use Rattle.std.proofs.Common.{◌≡◌, ◌↔◌, ℕ, [], true, sym, refl, ap, ◌∙◌, subst}
+use Rattle.std.proofs.Common.{◌≡◌, ◌↔◌, ℕ, [], true, sym, refl, subst}
 use Rattle.dns_data.specs.Name.{Labels, IsName, is_prefix}
 use Rattle.dns_data.proofs.NameFronts.{is_prefix_told}
 use Rattle.dns_data.proofs.Names.{prefix_is_name}
-use Rattle.graph_form.specs.Report.{Subject, IsClass, IsShown}
+use Rattle.graph_form.specs.Report.{IsClass, IsShown}
 use Rattle.net_model.specs.declared.class.Class.{Class}
 use Rattle.net_model.specs.declared.class.Class.TheVariants.{Exact, Below}
 use Rattle.net_model.specs.declared.config.Config.{Config}
 use Rattle.net_model.specs.declared.fault.Fault.{Fault}
 use Rattle.net_model.specs.Class.{IsClassOf, IsRepresentative}
-use Rattle.net_model.specs.Reading.{Ground, IsNamed, ground_of}
+use Rattle.net_model.specs.Reading.{IsNamed, ground_of}
 use Rattle.net_model.proofs.Carrying.{carried}
 use Rattle.query_classes.specs.Members.{IsInOneClass}
-use Rattle.class_judge.specs.Carried.{IsWhole, SomeClassShows}
-
--- a configuration as a whole
-abbrev whole : Config → ℕ → Subject
-whole config rewrites = record { config = config; rewrites = rewrites; ground = ground_of config; below = [] }
+use Rattle.class_judge.specs.Carried.{whole, SomeClassShows}
 
 module _ (config : Config) (rewrites : ℕ) (classes : (query : Labels) → IsName query → IsInOneClass (ground_of config) query) where
   -- each name is below the root
-  below_root : (name : Labels) → is_prefix [] name ≡ true
+  pub below_root : (name : Labels) → is_prefix [] name ≡ true
   below_root name = is_prefix_told [] name (name, refl)
 
   -- the class of a name is one of the tree
-  class_of_name : (class : Class) (query : Labels) → IsName query → IsClassOf (ground_of config) query class → IsClass (whole config rewrites) class
+  pub class_of_name : (class : Class) (query : Labels) → IsName query → IsClassOf (ground_of config) query class → IsClass (whole config rewrites) class
   class_of_name (Exact alone) query is (same, named) =
       record {
         named = subst (IsNamed (ground_of config)) (sym same) named;
@@ -54,7 +50,7 @@ module _ (config : Config) (rewrites : ℕ) (classes : (query : Labels) → IsNa
       )
 
   -- the representative of a class of the tree is a name
-  is_name_of : (class : Class) (name : Labels) → IsClass (whole config rewrites) class → IsRepresentative (ground_of config) class name → IsName name
+  pub is_name_of : (class : Class) (name : Labels) → IsClass (whole config rewrites) class → IsRepresentative (ground_of config) class name → IsName name
   is_name_of (Exact alone) name is same = subst IsName (sym same) is.is_name
   is_name_of (Below above) name is stands = stands.is_name
 
@@ -69,16 +65,5 @@ module _ (config : Config) (rewrites : ℕ) (classes : (query : Labels) → IsNa
         shows = shows.shows;
       }
 
-  whole_by_classes : (fault : Fault) → IsShown (whole config rewrites) fault ↔ SomeClassShows (whole config rewrites) fault
+  pub whole_by_classes : (fault : Fault) → IsShown (whole config rewrites) fault ↔ SomeClassShows (whole config rewrites) fault
   whole_by_classes fault = (class_shows fault, query_shows fault)
-
--- and so for each subject that is one
-pub shown_by_classes : (subject : Subject) → IsWhole subject → ((query : Labels) → IsName query → IsInOneClass (ground_of subject.config) query)
-    → (fault : Fault) → IsShown subject fault ↔ SomeClassShows subject fault
-shown_by_classes subject is classes fault =
-    subst (λ (s : Subject). IsShown s fault ↔ SomeClassShows s fault) (sym same) (whole_by_classes subject.config subject.rewrites classes fault)
-  where
-    same : subject ≡ whole subject.config subject.rewrites
-    same =
-        ap (λ (g : Ground). record subject { ground = g }) is.own
-        ∙ ap (λ (below : Labels). record subject { ground = ground_of subject.config; below = below }) is.all_names

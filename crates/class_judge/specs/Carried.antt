@@ -1,16 +1,20 @@
 -- The faults that the classes of a whole configuration show.
-use Rattle.std.specs.Prelude.{◌≡◌, []}
+use Rattle.std.specs.Prelude.{ℕ, []}
 use Rattle.dns_data.specs.Name.{Labels}
 use Rattle.dns_data.specs.declared.rr_type.RrType.{RrType}
 use Rattle.graph_form.specs.Report.{Subject, ClassShows}
 use Rattle.net_model.specs.declared.class.Class.{Class}
+use Rattle.net_model.specs.declared.config.Config.{Config}
 use Rattle.net_model.specs.declared.fault.Fault.{Fault}
-use Rattle.net_model.specs.Reading.{ground_of}
+use Rattle.net_model.specs.Reading.{Ground, ground_of}
 
--- a whole configuration is looked at: by its own ground, and at all names
-pub record IsWhole (subject : Subject) : Type 0 where
-  pub own : subject.ground ≡ ground_of subject.config
-  pub all_names : subject.below ≡ []
+-- a configuration, looked at by this ground and at all names
+abbrev pub at_all_names : (config : Config) (rewrites : ℕ) (ground : Ground) → Subject
+at_all_names config rewrites ground = record { config = config; rewrites = rewrites; ground = ground; below = [] }
+
+-- a whole configuration: by its own ground
+abbrev pub whole : Config → ℕ → Subject
+whole config rewrites = at_all_names config rewrites (ground_of config)
 
 -- the representative of some class shows the fault with some type
 abbrev pub SomeClassShows : Subject → Fault → Type 0

@@ -1,47 +1,44 @@
-//! What the faults of representatives tell of all queries, and that classes have verdicts.
+//! What the faults of representatives tell of all queries, and what the children and the verdicts of names are.
 
-ghost use Rattle.std.specs.Prelude.{◌≡◌, ◌↔◌, ℕ};
-ghost use Rattle.class_judge.specs.Carried.{IsWhole, SomeClassShows};
-ghost use Rattle.class_judge.specs.Verdict.{IsClassVerdict, IsNameVerdict};
+ghost use Rattle.std.specs.Prelude.{◌≡◌, ◌↔◌, ◌++◌, ℕ, List, []};
+ghost use Rattle.class_judge.specs.Carried.{whole, SomeClassShows};
+ghost use Rattle.class_judge.specs.Values.{AreValues};
+ghost use Rattle.class_judge.specs.Verdict.{IsClassVerdict};
 ghost use Rattle.class_judge.specs.declared.verdict.ClassVerdict.{ClassVerdict};
 ghost use Rattle.class_judge.specs.declared.verdict.NameVerdict.{NameVerdict};
 ghost use Rattle.dns_data.specs.Name.{Labels, IsName};
-ghost use Rattle.graph_form.specs.Report.{Subject, IsShown};
-ghost use Rattle.label_graph.specs.Pairs.{AreSame};
-ghost use Rattle.net_model.specs.Reading.{ground_of};
+ghost use Rattle.graph_form.specs.Report.{IsShown};
+ghost use Rattle.net_model.specs.Reading.{ground_of, IsNamed};
+ghost use Rattle.net_model.specs.Tree.{HasMoreThan};
 ghost use Rattle.net_model.specs.declared.config.Config.{Config};
 ghost use Rattle.net_model.specs.declared.fault.Fault.{Fault};
+ghost use Rattle.query_classes.specs.Children.{AreChildren, IsInTree};
+ghost use Rattle.query_classes.specs.Members.{IsInOneClass};
+ghost use Rattle.verdict_book.specs.Items.{ReachesMore};
 
-use label_graph::LabelGraph;
-use label_graph::laws::{graph_is_closed, names_have_live_sets};
-use query_classes::laws::partition;
+/// Some query shows a fault exactly where the representative of some class does.
+pub fn carrying()
+    ensures { (config : Config) (rewrites : ℕ) (fault : Fault) → IsShown (whole config rewrites) fault ↔ SomeClassShows (whole config rewrites) fault }
+{}
 
-/// Where the graph has the base names and the DNAME records of a configuration, some query shows a fault exactly where the
-/// representative of some class does.
-pub fn carrying(graph: &LabelGraph)
-    ensures { (subject : Subject) → IsWhole subject → AreSame graph.now (ground_of subject.config)
-        → (fault : Fault) → IsShown subject fault ↔ SomeClassShows subject fault }
-{
-    partition(graph);
-}
+/// Each name is in one class of a configuration, for which a name of it stands that is no longer than any other; and of a named
+/// name all prefixes are named.
+pub fn classes_are_told()
+    ensures one { (config : Config) (query : Labels) → IsName query → IsInOneClass (ground_of config) query }
+    ensures prefixes { (config : Config) (above below : Labels) → IsNamed (ground_of config) (above ++ below) → IsNamed (ground_of config) above }
+{}
 
-/// Where the graph has them, each name has a verdict as the representative of a class.
-pub fn verdicts_exist(graph: &LabelGraph)
-    ensures { (config : Config) (rewrites states : ℕ) → AreSame graph.now (ground_of config)
-        → (query : Labels) → IsName query → (verdict : ClassVerdict) × IsClassVerdict config rewrites states query verdict }
-{
-    partition(graph);
-}
+/// Each name of a class tree has children and a verdict.
+pub fn values_exist()
+    ensures { (config : Config) (rewrites states : ℕ) → (children_of : Labels → List Labels) × (verdict_of : Labels → NameVerdict)
+        × AreValues config rewrites states children_of verdict_of }
+{}
 
-/// And so has each name of the class tree: of itself alone, and of the class below it.
-pub fn name_verdicts_exist(graph: &LabelGraph)
-    ensures { (config : Config) (rewrites states : ℕ) → AreSame graph.now (ground_of config)
-        → (name : Labels) → IsName name → (verdict : NameVerdict) × IsNameVerdict config rewrites states name verdict }
-{
-    graph_is_closed(graph);
-    names_have_live_sets(graph);
-    partition(graph);
-}
+/// More than so many items are reached from the root exactly where the class tree has more names.
+pub fn tree_is_reached()
+    ensures { (config : Config) (children_of : Labels → List Labels) → ((name : Labels) → AreChildren (ground_of config) name (children_of name))
+        → (limit : ℕ) → ReachesMore [] children_of limit ↔ HasMoreThan (IsInTree (ground_of config)) limit }
+{}
 
 /// A class has one verdict.
 pub fn one_verdict()

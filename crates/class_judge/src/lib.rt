@@ -1,10 +1,22 @@
-//! The classes of a configuration, judged: which faults each class shows.
+//! The judge of the class tree of a configuration: which faults each class shows.
 //!
 //! The layer above may rest on this: some query shows a fault exactly where the representative of some class does
-//! (`laws::carrying`), so a report of representatives is one of all queries.
+//! (`laws::carrying`), so a report of representatives is one of all queries; and `Judge` is a work whose items are the names of
+//! the class tree, whose children are those of the tree and whose verdicts are the one that each name has.
+//!
+//! Costs: `prepare` makes the trees of all zones, the graph of base names and a graph of each server's name, once. Judging a
+//! name makes a graph for each of its classes, which is dropped when its faults are found: a verdict keeps no walk.
 #![tactic(auto)]
 
+mod classes;
+mod faults;
+mod judge;
 pub mod laws;
+mod naming;
+mod prepare;
+mod setup;
 mod verdict;
 
+pub use judge::Judge;
+pub use naming::Naming;
 pub use verdict::{ClassVerdict, NameVerdict};

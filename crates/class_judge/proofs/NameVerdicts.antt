@@ -1,0 +1,74 @@
+-- The verdict of each name of a class tree, as a value of the configuration: it is the only one.
+use Rattle.std.proofs.Common.{◌≡◌, ◌∙◌, ℕ, Bool, true, false, [], ◌∷◌, Option, Some, None, refl, sym, ap, subst, true≢false}
+use Rattle.std.specs.Prelude.{nat_le}
+use Rattle.std.specs.List.{AllByRecursion, list_all}
+use Rattle.std.proofs.lemmas.Bool.{and_from, le-leb}
+use Rattle.dns_data.specs.Label.{IsLabel}
+use Rattle.dns_data.specs.Name.{Labels, IsName, wire_octets}
+use Rattle.dns_data.proofs.Names.{is_label, is_label_told, is_name, is_name_tells}
+use Rattle.net_model.specs.declared.class.Class.TheVariants.{Below}
+use Rattle.net_model.specs.declared.config.Config.{Config}
+use Rattle.net_model.specs.Reading.{ground_of}
+use Rattle.net_model.proofs.TrialOrder.{one_representative}
+use Rattle.query_classes.specs.Members.{IsInOneClass}
+use Rattle.query_classes.proofs.Partition.{in_one_class}
+use Rattle.class_judge.specs.Verdict.{IsClassVerdict, IsBelowVerdict, IsNameVerdict}
+use Rattle.class_judge.specs.declared.verdict.ClassVerdict.{ClassVerdict}
+use Rattle.class_judge.specs.declared.verdict.ClassVerdict.TheVariants.{Faults}
+use Rattle.class_judge.specs.declared.verdict.NameVerdict.{NameVerdict}
+use Rattle.class_judge.proofs.BelowDecided.{name_verdict_exists}
+use Rattle.class_judge.proofs.LiveSetsExist.{ground_closed, live_set_of}
+use Rattle.class_judge.proofs.OneVerdict.{one_verdict}
+
+-- each name is in one class
+pub in_class : (config : Config) (query : Labels) → IsName query → IsInOneClass (ground_of config) query
+in_class config query is = in_one_class (ground_of config) (ground_closed config) (live_set_of config) query is
+
+-- a name passes the test of names
+labels_told : (labels : Labels) → AllByRecursion IsLabel labels → list_all is_label labels ≡ true
+labels_told [] each = refl
+labels_told (label ∷ labels) each = and_from (is_label label) (list_all is_label labels) (is_label_told label each.0) (labels_told labels each.1)
+
+name_told : (name : Labels) → IsName name → is_name name ≡ true
+name_told name is =
+    and_from (list_all is_label name) (nat_le (wire_octets name) 255) (labels_told name is.labels) (le-leb (wire_octets name) 255 is.short)
+
+module _ (config : Config) (rewrites states : ℕ) where
+  exists : (name : Labels) → IsName name → (verdict : NameVerdict) × IsNameVerdict config rewrites states name verdict
+  exists name is =
+      name_verdict_exists config rewrites states (ground_of config) (ground_closed config) (live_set_of config)
+      (record { names = λ n. ((λ has. has), (λ has. has)); redirections = λ r. ((λ has. has), (λ has. has)) })
+      (in_class config) name is
+
+  by_test : (name : Labels) (test : Bool) → is_name name ≡ test → NameVerdict
+  by_test name true e = (exists name (is_name_tells name e)).0
+  by_test name false e = record { exact = Faults []; below = None }
+
+  -- the verdict of a name; what isn't a name shows nothing
+  pub verdict_of : Labels → NameVerdict
+  verdict_of name = by_test name (is_name name) refl
+
+  tested : (name : Labels) (test : Bool) (e : is_name name ≡ test) → IsName name → IsNameVerdict config rewrites states name (by_test name test e)
+  unfolding by_test
+  tested name true e is = (exists name (is_name_tells name e)).1
+  tested name false e is = let told : is_name name ≡ true = name_told name is in absurd (true≢false (sym told ∙ e))
+
+  pub verdict_is : (name : Labels) → IsName name → IsNameVerdict config rewrites states name (verdict_of name)
+  unfolding verdict_of
+  verdict_is name is = tested name (is_name name) refl is
+
+  -- ---- a name has one verdict
+
+  one_below : (name : Labels) (a b : Option ClassVerdict) → IsBelowVerdict config rewrites states name a → IsBelowVerdict config rewrites states name b → a ≡ b
+  one_below name None None one other = refl
+  one_below name None (Some verdict) none (query, represents, is) = absurd (none query represents)
+  one_below name (Some verdict) None (query, represents, is) none = absurd (none query represents)
+  one_below name (Some a) (Some b) (query, represents, is) (also, stands, other) =
+      let same : also ≡ query = one_representative (ground_of config) (Below name) also query stands represents in
+      ap (λ (v : ClassVerdict). Some v)
+      (one_verdict config rewrites states query a b is (subst (λ (n : Labels). IsClassVerdict config rewrites states n b) same other))
+
+  pub one_name_verdict : (name : Labels) (a b : NameVerdict) → IsNameVerdict config rewrites states name a → IsNameVerdict config rewrites states name b → a ≡ b
+  one_name_verdict name a b one other =
+      ap (λ (v : ClassVerdict). record a { exact = v }) (one_verdict config rewrites states name a.exact b.exact one.exact other.exact)
+      ∙ ap (λ (v : Option ClassVerdict). record b { below = v }) (one_below name a.below b.below one.below other.below)

@@ -1,0 +1,7 @@
+use Rattle.class_judge.proofs.NameVerdicts.{verdict_of}
+use Rattle.class_judge.proofs.TreeItems.{children_of}
+use Rattle.class_judge.proofs.TreeValues.{values}
+use Rattle.class_judge.proofs.laws.values_exist.Goals as goal
+
+pub returns : goal.returns
+returns c = λ config rewrites states. (children_of config, verdict_of config rewrites states, values config rewrites states)

@@ -1,0 +1,11 @@
+use Rattle.std.proofs.Common.{◌∙◌, List, length, sym, ap}
+use Rattle.graph_form.specs.Graph.{PlainGraph}
+use Rattle.net_model.specs.declared.config.Config.{Config}
+use Rattle.class_judge.proofs.ServerGraphs.{as_many}
+use Rattle.class_judge.proofs.prepare.sets_of.Goals as goal
+
+pub dependencies-requires : goal.dependencies-requires
+dependencies-requires c =
+    ap (λ (graphs : List PlainGraph). length graphs) c.items.ensures
+    ∙ (as_many c.args.trees.now c.args.rewrites c.args.states c.in-Ok.graphs c.in-Ok.ensures.graphs
+    ∙ ap (λ (config : Config). length config.servers) (sym c.config.ensures))

@@ -1,0 +1,41 @@
+-- What the classes of a configuration are judged with: for the contracts of inner calls alone.
+use Rattle.std.specs.Prelude.{◌≡◌, ℕ, Contains, MatchOption}
+use Rattle.class_judge.specs.Verdict.{PassesStates, SomeServerPasses}
+use Rattle.class_judge.specs.declared.setup.Setup.{Setup}
+use Rattle.dns_data.specs.Name.{Labels, IsName}
+use Rattle.graph_form.specs.declared.deps.Deps.{Deps}
+use Rattle.label_graph.specs.Pairs.{AreSame}
+use Rattle.net_model.specs.declared.class.Class.{Class}
+use Rattle.net_model.specs.declared.config.Config.{Config}
+use Rattle.net_model.specs.Class.{IsClassOf, IsRepresentative}
+use Rattle.net_model.specs.Learnt.{IsLeast, IsGreatest}
+use Rattle.net_model.specs.Nearest.{server_names}
+use Rattle.net_model.specs.Reading.{ground_of}
+
+-- the lists are the two sets, and no server's name reaches too many pairs
+pub record AreSets (config : Config) (rewrites states : ℕ) (deps : Deps) : Type 0 where
+  pub none_passes : SomeServerPasses config rewrites states → ⊥
+  pub least : IsLeast config rewrites deps.least
+  pub greatest : IsGreatest config rewrites deps.greatest
+
+-- some server's name, which is one, reaches too many
+abbrev pub SomeNamePasses : Config → ℕ → ℕ → Type 0
+SomeNamePasses config rewrites states =
+    (name : Labels) × Contains (server_names config) name × (IsName name × PassesStates config rewrites states name)
+
+-- the graph is that of the configuration of the trees, and the sets are its sets
+pub record IsSetup (setup : Setup) : Type 0 where
+  pub graph : AreSame setup.graph (ground_of setup.trees)
+  pub sets : MatchOption setup.deps (SomeNamePasses setup.trees setup.rewrites setup.states) (AreSets setup.trees setup.rewrites setup.states)
+
+-- it is that of the configuration, with these limits
+pub record IsSetupFor (config : Config) (rewrites states : ℕ) (setup : Setup) : Type 0 where
+  pub is_setup : IsSetup setup
+  pub config_is : setup.trees ≡ config
+  pub rewrites_are : setup.rewrites ≡ rewrites
+  pub states_are : setup.states ≡ states
+
+-- the query is of the class, and its representative
+pub record StandsFor (config : Config) (class : Class) (query : Labels) : Type 0 where
+  pub of_class : IsClassOf (ground_of config) query class
+  pub represents : IsRepresentative (ground_of config) class query

@@ -1,0 +1,79 @@
+//! The verdicts of the classes of a name.
+
+ghost use Rattle.std.specs.Prelude.{IfOk};
+ghost use Rattle.class_judge.specs.Setup.{IsSetup, StandsFor};
+ghost use Rattle.class_judge.specs.Verdict.{IsClassVerdict, IsBelowVerdict, IsNameVerdict};
+ghost use Rattle.net_model.specs.Reading.{IsNamed, ground_of};
+ghost use Rattle.query_classes.specs.Children.{IsBelow, IsInTree};
+
+use crate::faults::faults_of;
+use crate::prepare::graph_of;
+use crate::setup::Setup;
+use crate::verdict::{ClassVerdict, NameVerdict};
+use dns_data::{Name, NoMemory};
+use interp_graph::GraphFault;
+use net_model::Class;
+use query_classes::LiveName;
+
+/// The verdict of a name of the class tree: of the class of the name alone, and of the class below it.
+pub(crate) fn judge_name(setup: &Setup<'_>, name: &Name) -> Result<NameVerdict, NoMemory>
+    requires setup { IsSetup setup.now }
+    requires in_tree { IsInTree (ground_of setup.now.trees) name.now }
+    ensures { IfOk result (IsNameVerdict setup.now.trees setup.now.rewrites setup.now.states name.now) }
+{
+    let class = Class::Exact(name.copy(setup.alloc)?);
+    Ok(NameVerdict {
+        exact: judge_class(setup, &class, name)?,
+        below: judge_below(setup, name)?,
+    })
+}
+
+/// The verdict of the class below a name of the class tree, or `None` where it is empty.
+fn judge_below(setup: &Setup<'_>, above: &Name) -> Result<Option<ClassVerdict>, NoMemory>
+    requires setup { IsSetup setup.now }
+    requires in_tree { IsInTree (ground_of setup.now.trees) above.now }
+    ensures { IfOk result (IsBelowVerdict setup.now.trees setup.now.rewrites setup.now.states above.now) }
+{
+    match representative_below(setup, above)? {
+        Some(query) => {
+            let class = Class::Below(above.copy(setup.alloc)?);
+            Ok(Some(judge_class(setup, &class, &query)?))
+        }
+        None => Ok(None),
+    }
+}
+
+/// The representative of the class below a name of the class tree, or `None` where it is empty.
+pub(crate) fn representative_below(
+    setup: &Setup<'_>,
+    above: &Name,
+) -> Result<Option<Name>, NoMemory>
+    requires setup { IsSetup setup.now }
+    requires named { IsNamed (ground_of setup.now.trees) above.now }
+    ensures { IfOk result (IsBelow (ground_of setup.now.trees) above.now) }
+{
+    let live = LiveName::of(setup.alloc, &setup.graph, above)?;
+    live.below(setup.alloc, &setup.graph)
+}
+
+/// The verdict of the class that the query represents.
+fn judge_class(setup: &Setup<'_>, class: &Class, query: &Name) -> Result<ClassVerdict, NoMemory>
+    requires setup { IsSetup setup.now }
+    requires stands { StandsFor setup.now.trees class.now query.now }
+    ensures { IfOk result (IsClassVerdict setup.now.trees setup.now.rewrites setup.now.states query.now) }
+{
+    match graph_of(
+        setup.alloc,
+        &setup.trees,
+        query,
+        setup.rewrites,
+        setup.states,
+    ) {
+        Ok(graph) => {
+            let shown = faults_of(setup, class, &graph)?;
+            Ok(ClassVerdict::Faults(shown))
+        }
+        Err(GraphFault::StatesPassed) => Ok(ClassVerdict::StatesPassed),
+        Err(GraphFault::NoMemory) => Err(NoMemory),
+    }
+}

@@ -1,0 +1,88 @@
+//! The judge of the class tree of a configuration: a work whose items are the names of the tree.
+
+ghost use Rattle.std.specs.Prelude.{◌≡◌, []};
+ghost use Rattle.class_judge.specs.Setup.{IsSetupFor};
+ghost use Rattle.class_judge.specs.Values.{AreValues};
+ghost use Rattle.dns_data.proofs.Names.{same_names};
+
+use crate::classes::judge_name;
+use crate::naming::Naming;
+use crate::setup::Setup;
+use crate::verdict::NameVerdict;
+use dns_data::{List, Name, NoMemory};
+use query_classes::children;
+use std::marker::{Model, PhantomData};
+use verdict_book::{JudgeShare, Work};
+
+/// A judge of the class tree of a configuration. Contracts see the configuration.
+#[derive(Drop)]
+pub struct Judge<'a, N: Naming> {
+    setup: Setup<'a>,
+    of: PhantomData<N>,
+}
+
+impl<'a, N: Naming> Model for Judge<'a, N> {
+    ghost use Rattle.net_model.specs.declared.config.Config.{Config};
+    ghost use Rattle.class_judge.specs.Setup.{IsSetupFor};
+    ghost use Rattle.class_judge.specs.Values.{AreValues};
+
+    ghost Value = { Config };
+
+    ghost view = { λ judge. judge.setup.trees };
+
+    ghost invariant = { λ judge. IsSetupFor N.config N.rewrites N.states judge.setup × AreValues N.config N.rewrites N.states N.children_of N.verdict_of };
+}
+
+impl<'a, N: Naming> Work for Judge<'a, N> {
+    type Item = Name;
+
+    type Verdict = NameVerdict;
+
+    ghost first_item = { [] };
+
+    ghost children_of = { N.children_of };
+
+    ghost verdict_of = { N.verdict_of };
+
+    fn first(&self) -> Result<Name, NoMemory> {
+        Ok(Name::root())
+    }
+
+    fn children(&self, item: &Name) -> Result<List<Name>, NoMemory> {
+        children(self.setup.alloc, &self.setup.graph, item)
+    }
+
+    fn judge(&self, item: &Name, share: &mut JudgeShare) -> Result<NameVerdict, NoMemory> {
+        share.raise();
+        judge_name(&self.setup, item)
+    }
+
+    fn copy_item(&self, item: &Name) -> Result<Name, NoMemory> {
+        item.copy(self.setup.alloc)
+    }
+
+    ghost parents_apart = { N.apart };
+
+    ghost equal_is_same = { same_names };
+}
+
+impl<'a, N: Naming> Judge<'a, N> {
+    /// What the classes are judged with.
+    pub(crate) fn setup(&self) -> &Setup<'a>
+        ensures setup { IsSetupFor N.config N.rewrites N.states result.now }
+        ensures values { AreValues N.config N.rewrites N.states N.children_of N.verdict_of }
+    {
+        &self.setup
+    }
+
+    /// The judge with what was made for it.
+    pub(crate) fn of(setup: Setup<'a>) -> Judge<'a, N>
+        requires setup { IsSetupFor N.config N.rewrites N.states setup }
+        requires values { AreValues N.config N.rewrites N.states N.children_of N.verdict_of }
+    {
+        Judge {
+            setup,
+            of: PhantomData,
+        }
+    }
+}

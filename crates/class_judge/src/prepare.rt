@@ -1,0 +1,134 @@
+//! What the classes of a configuration are judged with, made once.
+
+ghost use Rattle.std.specs.Prelude.{◌≡◌, IfOk, OnOk, IsErrOf, MatchOption};
+ghost use Rattle.address_deps.specs.Sets.{AreServerGraphs};
+ghost use Rattle.class_judge.specs.Setup.{AreSets, IsSetup, SomeNamePasses};
+ghost use Rattle.class_judge.specs.Values.{AreValues};
+ghost use Rattle.class_judge.specs.Verdict.{PassesStates, SomeServerPasses};
+ghost use Rattle.interp_graph.specs.Asked.{IsBuilt};
+ghost use Rattle.label_graph.specs.Pairs.{AreSame};
+ghost use Rattle.net_model.specs.Reading.{ground_of};
+
+use crate::judge::Judge;
+use crate::naming::Naming;
+use crate::setup::Setup;
+use address_deps::dependencies;
+use dns_data::{List, Name, NoMemory};
+use graph_form::{Deps, Graph};
+use interp_graph::{GraphFault, Trees, build};
+use label_graph::{LabelGraph, base_of};
+use name_rules::SymName;
+use net_model::Config;
+use std::alloc::Global;
+
+impl<'a, N: Naming> Judge<'a, N> {
+    /// The judge of the class tree of a configuration, whose queries may use so many rewrites, and of each of which no more
+    /// pairs of state and type are looked at than so many. The trees of all zones and the graph of each server's name are made
+    /// here, once.
+    pub fn prepare(
+        alloc: Global,
+        config: &'a Config,
+        rewrites: u32,
+        states: u32,
+    ) -> Result<Judge<'a, N>, NoMemory>
+        requires config { config.now ≡ N.config }
+        requires rewrites { rewrites ≡ N.rewrites }
+        requires states { states ≡ N.states }
+        requires values { AreValues N.config N.rewrites N.states N.children_of N.verdict_of }
+    {
+        Ok(Judge::of(setup_of(alloc, config, rewrites, states)?))
+    }
+}
+
+/// What the classes of a configuration are judged with.
+fn setup_of<'a>(
+    alloc: Global,
+    config: &'a Config,
+    rewrites: u32,
+    states: u32,
+) -> Result<Setup<'a>, NoMemory>
+    ensures setup { IfOk result IsSetup }
+    ensures config { IfOk result (λ setup. setup.trees ≡ config.now) }
+    ensures rewrites { IfOk result (λ setup. setup.rewrites ≡ rewrites) }
+    ensures states { IfOk result (λ setup. setup.states ≡ states) }
+{
+    let graph = name_graph(alloc, config)?;
+    let trees = Trees::build(alloc, config)?;
+    let deps = sets_of(alloc, &trees, rewrites, states)?;
+    Ok(Setup {
+        alloc,
+        trees,
+        graph,
+        rewrites,
+        states,
+        deps,
+    })
+}
+
+/// The graph of a configuration's base names and DNAME records.
+fn name_graph(alloc: Global, config: &Config) -> Result<LabelGraph, NoMemory>
+    ensures { IfOk result (λ graph. AreSame graph (ground_of config.now)) }
+{
+    let base = base_of(alloc, config)?;
+    let graph = LabelGraph::build(alloc, base.names.items(), base.dnames.items())?;
+    Ok(graph)
+}
+
+/// The two sets of learnt addresses, or `None` where the name of some server reaches too many pairs of state and type.
+fn sets_of(
+    alloc: Global,
+    trees: &Trees<'_>,
+    rewrites: u32,
+    states: u32,
+) -> Result<Option<Deps>, NoMemory>
+    ensures { IfOk result (λ deps. MatchOption deps (SomeNamePasses trees.now rewrites states) (AreSets trees.now rewrites states)) }
+{
+    match server_graphs(alloc, trees, rewrites, states) {
+        Ok(graphs) => {
+            let deps = dependencies(alloc, trees.config(), graphs.items())?;
+            Ok(Some(deps))
+        }
+        Err(GraphFault::StatesPassed) => Ok(None),
+        Err(GraphFault::NoMemory) => Err(NoMemory),
+    }
+}
+
+/// The graph of the name of each server, in their order.
+fn server_graphs(
+    alloc: Global,
+    trees: &Trees<'_>,
+    rewrites: u32,
+    states: u32,
+) -> Result<List<Graph>, GraphFault>
+    ensures graphs { IfOk result (AreServerGraphs trees.now rewrites) }
+    ensures few { OnOk result (SomeServerPasses trees.now rewrites states → ⊥) }
+    ensures passed { IsErrOf result GraphFault.StatesPassed → SomeNamePasses trees.now rewrites states }
+{
+    let mut graphs = List::new(alloc);
+    for server in trees.config().servers.items() {
+        let _ = server.name.labels();
+        let graph = graph_of(alloc, trees, &server.name, rewrites, states)?;
+        graphs.push(graph)?;
+    }
+    Ok(graphs)
+}
+
+/// The graph of the walks of a query while every configured server is followed. It is `StatesPassed` where the query reaches
+/// more pairs of state and type than so many.
+pub(crate) fn graph_of(
+    alloc: Global,
+    trees: &Trees<'_>,
+    query: &Name,
+    rewrites: u32,
+    states: u32,
+) -> Result<Graph, GraphFault>
+    ensures built { IfOk result (IsBuilt trees.now rewrites query.now) }
+    ensures few { OnOk result (PassesStates trees.now rewrites states query.now → ⊥) }
+    ensures passed { IsErrOf result GraphFault.StatesPassed → PassesStates trees.now rewrites states query.now }
+{
+    let name = SymName {
+        known: query.copy(alloc)?,
+        tail: None,
+    };
+    build(alloc, trees, &name, rewrites, states)
+}
