@@ -213,6 +213,14 @@ def differences(expected, got):
     return [line.rstrip("\n")[:2000] for line in lines]
 
 
+def ways_it_is_wrong(program, case):
+    """A line for each way in which a run of the program goes another way than the case says."""
+    try:
+        return differences(case.expected(), run(program, case))
+    except subprocess.TimeoutExpired:
+        return [f"it didn't end within {SECONDS} seconds"]
+
+
 def check_the_checker():
     """A case that is made wrong in its status, on out or on err is told."""
     right = (1, b"a\n", b"b\n")
@@ -242,7 +250,7 @@ def main(words):
     if wrong:
         print(f"two cases have one name: {sorted(name for name in set(names) if names.count(name) > 1)}")
     for case in cases:
-        lines = differences(case.expected(), run(program, case))
+        lines = ways_it_is_wrong(program, case)
         if lines:
             wrong += 1
             print(f"WRONG {case.name}: {shlex.join(os.fsdecode(word) for word in case.words)}")
