@@ -79,6 +79,7 @@ impl<'a, N: Naming> Judge<'a, N> {
     pub(crate) fn of(setup: Setup<'a>) -> Judge<'a, N>
         requires setup { IsSetupFor N.config N.rewrites N.states setup }
         requires values { AreValues N.config N.rewrites N.states N.children_of N.verdict_of }
+        ensures { result ≡ setup.entry.trees }
     {
         Judge {
             setup,

@@ -35,6 +35,7 @@ impl<'a, N: Naming> Judge<'a, N> {
         requires rewrites { rewrites ≡ N.rewrites }
         requires states { states ≡ N.states }
         requires values { AreValues N.config N.rewrites N.states N.children_of N.verdict_of }
+        ensures config { IfOk result (λ judge. judge ≡ config.now) }
     {
         Ok(Judge::of(setup_of(alloc, config, rewrites, states)?))
     }
