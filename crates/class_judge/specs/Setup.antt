@@ -26,7 +26,7 @@ SomeNamePasses config rewrites states =
 -- the graph is that of the configuration of the trees, and the sets are its sets
 pub record IsSetup (setup : Setup) : Type 0 where
   pub graph : AreSame setup.graph (ground_of setup.trees)
-  pub sets : MatchOption setup.deps (SomeNamePasses setup.trees setup.rewrites setup.states) (AreSets setup.trees setup.rewrites setup.states)
+  pub sets : MatchOption setup.sets (SomeNamePasses setup.trees setup.rewrites setup.states) (AreSets setup.trees setup.rewrites setup.states)
 
 -- it is that of the configuration, with these limits
 pub record IsSetupFor (config : Config) (rewrites states : ℕ) (setup : Setup) : Type 0 where

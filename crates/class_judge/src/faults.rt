@@ -12,9 +12,9 @@ ghost use Rattle.net_model.specs.Shown.{with_sets};
 ghost use Rattle.net_model.specs.Step.{following};
 
 use crate::setup::Setup;
-use delegation_checks::delegation_faults;
+use delegation_checks::LearntSets;
 use dns_data::{List, NoMemory};
-use graph_form::{Deps, Graph, Seen, first_types};
+use graph_form::{Graph, Seen, first_types};
 use interp_graph::restrict;
 use net_model::Class;
 use rewrite_checks::rewrite_faults;
@@ -34,10 +34,11 @@ pub(crate) fn faults_of(
     ensures { IfOk result (λ shown. (query : Labels) → IsBuilt setup.now.trees setup.now.rewrites query graph.now
         → StandsFor setup.now.trees class.now query → AreFaultsOf setup.now.trees setup.now.rewrites setup.now.states query shown) }
 {
-    match &setup.deps {
-        Some(deps) => {
-            let restricted = restrict(setup.alloc, &setup.trees, graph, deps.least.items())?;
-            shown_in(setup, deps, class, &restricted)
+    match &setup.sets {
+        Some(sets) => {
+            let least = &sets.deps().least;
+            let restricted = restrict(setup.alloc, &setup.trees, graph, least.items())?;
+            shown_in(setup, sets, class, &restricted)
         }
         None => Ok(List::new(setup.alloc)),
     }
@@ -47,17 +48,17 @@ pub(crate) fn faults_of(
 /// the servers of the least set are followed.
 fn shown_in(
     setup: &Setup<'_>,
-    deps: &Deps,
+    sets: &LearntSets,
     class: &Class,
     graph: &Graph,
 ) -> Result<List<Seen>, NoMemory>
-    ensures { IfOk result (λ shown. (rewrites : ℕ) (query : Labels) → IsLeast setup.now.trees rewrites deps.now.least → IsGreatest setup.now.trees rewrites deps.now.greatest
-        → IsGraphOf (following setup.now.trees rewrites deps.now.least) query graph.now → IsExactIn (following setup.now.trees rewrites deps.now.least) query graph.now
-        → StandsFor setup.now.trees class.now query → AreShownOf (with_sets (following setup.now.trees rewrites deps.now.least)) query (λ fault. true) shown) }
+    ensures { IfOk result (λ shown. (rewrites : ℕ) (query : Labels) → IsLeast setup.now.trees rewrites sets.now.least → IsGreatest setup.now.trees rewrites sets.now.greatest
+        → IsGraphOf (following setup.now.trees rewrites sets.now.least) query graph.now → IsExactIn (following setup.now.trees rewrites sets.now.least) query graph.now
+        → StandsFor setup.now.trees class.now query → AreShownOf (with_sets (following setup.now.trees rewrites sets.now.least)) query (λ fault. true) shown) }
 {
     let alloc = setup.alloc;
     let of_rewrites = rewrite_faults(alloc, class, true, graph)?;
-    let of_delegations = delegation_faults(alloc, setup.trees.hosts(), deps, graph)?;
+    let of_delegations = sets.delegation_faults(alloc, setup.trees.hosts(), graph)?;
     let all = joined(of_rewrites, of_delegations)?;
     let shown = first_types(alloc, all)?;
     Ok(shown)

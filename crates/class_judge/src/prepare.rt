@@ -13,8 +13,9 @@ use crate::judge::Judge;
 use crate::naming::Naming;
 use crate::setup::Setup;
 use address_deps::dependencies;
+use delegation_checks::LearntSets;
 use dns_data::{List, Name, NoMemory};
-use graph_form::{Deps, Graph};
+use graph_form::Graph;
 use interp_graph::{GraphFault, Trees, build};
 use label_graph::{LabelGraph, base_of};
 use name_rules::SymName;
@@ -55,14 +56,14 @@ fn setup_of<'a>(
 {
     let graph = name_graph(alloc, config)?;
     let trees = Trees::build(alloc, config)?;
-    let deps = sets_of(alloc, &trees, rewrites, states)?;
+    let sets = sets_of(alloc, &trees, rewrites, states)?;
     Ok(Setup {
         alloc,
         trees,
         graph,
         rewrites,
         states,
-        deps,
+        sets,
     })
 }
 
@@ -81,13 +82,14 @@ fn sets_of(
     trees: &Trees<'_>,
     rewrites: u32,
     states: u32,
-) -> Result<Option<Deps>, NoMemory>
-    ensures { IfOk result (λ deps. MatchOption deps (SomeNamePasses trees.now rewrites states) (AreSets trees.now rewrites states)) }
+) -> Result<Option<LearntSets>, NoMemory>
+    ensures { IfOk result (λ sets. MatchOption sets (SomeNamePasses trees.now rewrites states) (AreSets trees.now rewrites states)) }
 {
     match server_graphs(alloc, trees, rewrites, states) {
         Ok(graphs) => {
             let deps = dependencies(alloc, trees.config(), graphs.items())?;
-            Ok(Some(deps))
+            let sets = LearntSets::build(alloc, deps)?;
+            Ok(Some(sets))
         }
         Err(GraphFault::StatesPassed) => Ok(None),
         Err(GraphFault::NoMemory) => Err(NoMemory),

@@ -1,6 +1,6 @@
 //! What the classes of a configuration are judged with.
 
-use graph_form::Deps;
+use delegation_checks::LearntSets;
 use interp_graph::Trees;
 use label_graph::LabelGraph;
 use std::alloc::Global;
@@ -15,5 +15,5 @@ pub(crate) struct Setup<'a> {
     pub graph: LabelGraph,
     pub rewrites: u32,
     pub states: u32,
-    pub deps: Option<Deps>,
+    pub sets: Option<LearntSets>,
 }

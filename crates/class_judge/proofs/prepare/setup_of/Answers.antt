@@ -8,5 +8,5 @@ pub returns-clause-setup : goal.returns-clause-setup
 returns-clause-setup c =
     record {
       graph = subst (λ (config : Config). AreSame c.in_ok-graph.graph (ground_of config)) (sym c.in_ok-trees.ensures) c.in_ok-graph.ensures;
-      sets = c.in_ok-deps.ensures;
+      sets = c.in_ok-sets.ensures;
     }
