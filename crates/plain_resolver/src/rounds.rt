@@ -30,9 +30,24 @@ pub fn learnt(
     ensures passed { (name : Labels) → IsErrOf result (LearntFault.WalksPassed name) → IsFirstWithTooMany config.now rewrites most from.now name }
 {
     let hosts = Hosts::build(alloc, config)?;
+    learnt_at(alloc, &hosts, rewrites, from, most)
+}
+
+/// The same with the trees of the configuration's zones.
+pub fn learnt_at(
+    alloc: Global,
+    hosts: &Hosts<'_>,
+    rewrites: u32,
+    from: &[Name],
+    most: u32,
+) -> Result<List<Name>, LearntFault>
+    ensures rounds { IfOk result (λ learnt. AfterRounds hosts.now rewrites (length hosts.now.servers) from.now learnt) }
+    ensures few { OnOk result (NoneInRounds hosts.now rewrites most from.now (length hosts.now.servers)) }
+    ensures passed { (name : Labels) → IsErrOf result (LearntFault.WalksPassed name) → IsFirstWithTooMany hosts.now rewrites most from.now name }
+{
     let mut followed = copies(alloc, from)?;
-    for _round in 0..config.servers.items().len() {
-        let learnt = learnt_while(alloc, &hosts, rewrites, followed.items(), most)?;
+    for _round in 0..hosts.config().servers.items().len() {
+        let learnt = learnt_while(alloc, hosts, rewrites, followed.items(), most)?;
         if learnt == followed {
             return Ok(followed);
         }

@@ -35,7 +35,24 @@ pub fn resolve(
     ensures passed { IsErrOf result ResolveFault.WalksPassed → HasMoreWalks (following config.now rewrites followed.now) name.now t most }
 {
     let hosts = Hosts::build(alloc, config)?;
-    let resolver = Resolver::new(&hosts, rewrites, followed, t);
+    resolve_at(alloc, &hosts, rewrites, followed, name, t, most)
+}
+
+/// The same with the trees of the configuration's zones.
+pub fn resolve_at(
+    alloc: Global,
+    hosts: &Hosts<'_>,
+    rewrites: u32,
+    followed: &[Name],
+    name: &Name,
+    t: RrType,
+    most: u32,
+) -> Result<List<Walk>, ResolveFault>
+    ensures walks { IfOk result (λ walks. AreWalks (following hosts.now rewrites followed.now) name.now t walks) }
+    ensures few { OnOk result (HasMoreWalks (following hosts.now rewrites followed.now) name.now t most → ⊥) }
+    ensures passed { IsErrOf result ResolveFault.WalksPassed → HasMoreWalks (following hosts.now rewrites followed.now) name.now t most }
+{
+    let resolver = Resolver::new(hosts, rewrites, followed, t);
     let walks = all_walks(alloc, &resolver, name, most)?;
     Ok(List::from_vec(walks))
 }

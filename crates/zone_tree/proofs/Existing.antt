@@ -1,15 +1,16 @@
 -- The names of a tree are those that exist in its zone.
-use Rattle.std.proofs.Common.{◌≡◌, true, ◌&&◌, List, ◌∷◌, ◌++◌, map, Contains, filter, IsPermutation, IsSorted, sym, refl, ap, ◌∙◌, subst, inl, inr, append_assoc, arith}
+use Rattle.std.proofs.Common.{◌≡◌, Bool, true, false, cond, ◌&&◌, List, [], ◌∷◌, ◌++◌, map, Contains, filter, IsPermutation, IsSorted, sym, refl, ap, ◌∙◌, subst, inl, inr, append_assoc, arith}
 use Rattle.std.specs.List.{list_any}
 use Rattle.std.proofs.lemmas.Bool.{and_parts, and_from, or_cases, or_left, or_right}
-use Rattle.std.proofs.lemmas.List.Sorted.{IsPermutation-sym, Contains-permutation}
+use Rattle.std.proofs.lemmas.List.Sorted.{IsPermutation-sym, IsPermutation-map, Contains-permutation}
 use Rattle.dns_data.specs.Name.{Labels, name_eq, name_cmp, is_prefix}
 use Rattle.dns_data.specs.declared.rdata.Rr.{Rr}
 use Rattle.net_model.specs.declared.config.Zone.{Zone}
 use Rattle.net_model.specs.Zone.{exists_in}
 use Rattle.zone_tree.specs.Names.{tree_after, AreExisting}
+use Rattle.zone_tree.specs.Owners.{AreByOwner}
 use Rattle.dns_data.proofs.Membership.{has_first, has_later, first_or_later, filter_has, from_filter, map_has, from_map}
-use Rattle.dns_data.proofs.NameFronts.{Begins, is_prefix_tells, is_prefix_told, two_fronts}
+use Rattle.dns_data.proofs.NameFronts.{Begins, is_prefix_tells, is_prefix_told, begins_itself, two_fronts}
 use Rattle.dns_data.proofs.NameOrder.{UpTo, Before, prefix_up_to, before_up_to, names_total, pairs_from_rising}
 use Rattle.dns_data.proofs.Names.{name_eq_decides}
 use Rattle.dns_data.proofs.OrderedLists.{never_before_itself}
@@ -27,6 +28,16 @@ begins_up_to a b (x, e) = subst (UpTo a) e (prefix_up_to a x)
 -- names that begin each other are one
 pub begin_each_other : (a b : Labels) → Begins a b → Begins b a → a ≡ b
 begin_each_other a b there back = both_up_to a b (begins_up_to a b there) (begins_up_to b a back)
+
+-- the owners of records that pass a test of their owners
+owners_kept : (test : Labels → Bool) (rrs : List Rr) → map (λ (rr : Rr). rr.owner) (filter (λ rr. test rr.owner) rrs) ≡ filter test (map (λ (rr : Rr). rr.owner) rrs)
+owners_kept test [] = refl
+owners_kept test (rr ∷ rrs) = by (test rr.owner) (owners_kept test rrs) where
+  by : (b : Bool) → map (λ (r : Rr). r.owner) (filter (λ r. test r.owner) rrs) ≡ filter test (map (λ (r : Rr). r.owner) rrs)
+      → map (λ (r : Rr). r.owner) (cond b (rr ∷ filter (λ r. test r.owner) rrs) (filter (λ r. test r.owner) rrs))
+      ≡ cond b (rr.owner ∷ filter test (map (λ (r : Rr). r.owner) rrs)) (filter test (map (λ (r : Rr). r.owner) rrs))
+  by true rest = ap (λ (xs : List Labels). rr.owner ∷ xs) rest
+  by false rest = rest
 
 module _ (zone : Zone) (owners : List Labels) (same : IsPermutation (filter (is_prefix zone.origin) (map (λ rr. rr.owner) zone.rrs)) owners)
     (sorted : IsSorted name_cmp owners) where
@@ -98,10 +109,44 @@ module _ (zone : Zone) (owners : List Labels) (same : IsPermutation (filter (is_
       at_origin : zone.origin ≡ name → Contains names name
       at_origin e = subst (Contains names) e (has_first zone.origin (tree_after zone.origin owners))
 
-  pub are_existing : AreExisting zone names
-  are_existing = record {
+  existing : AreExisting zone names
+  existing = record {
     ordered = pairs_from_rising names (λ later has. tree_stands_after zone.origin owners later order has, rising_after zone.origin owners order);
     some = omega arith;
     origin_first = refl;
     all = λ name. (exists_there name, there_if_exists name);
   }
+
+-- the origin, and what the owners of the zone's records in order add
+pub are_existing : (zone : Zone) (rrs : List Rr) → AreByOwner zone rrs → AreExisting zone (zone.origin ∷ tree_after zone.origin (map (λ rr. rr.owner) rrs))
+are_existing zone rrs are =
+    existing zone (map (λ (rr : Rr). rr.owner) rrs)
+    (subst (λ (xs : List Labels). IsPermutation xs (map (λ (rr : Rr). rr.owner) rrs)) (owners_kept (is_prefix zone.origin) zone.rrs)
+    (IsPermutation-map (λ (rr : Rr). rr.owner) (filter (λ (rr : Rr). is_prefix zone.origin rr.owner) zone.rrs) rrs are.same))
+    are.sorted
+
+-- an existing name is at or below the origin
+pub existing_within : (zone : Zone) (name : Labels) → exists_in zone name ≡ true → is_prefix zone.origin name ≡ true
+existing_within zone name exists =
+    elim (or_cases (name_eq name zone.origin) (is_prefix zone.origin name && list_any (λ rr. is_prefix name rr.owner) zone.rrs) exists) [
+      | inl origin ↦ (
+          let same : name ≡ zone.origin = (name_eq_decides name zone.origin).0 origin in
+          subst (λ (x : Labels). is_prefix zone.origin x ≡ true) (sym same) (begins_itself zone.origin))
+      | inr beneath ↦ (and_parts (is_prefix zone.origin name) (list_any (λ rr. is_prefix name rr.owner) zone.rrs) beneath).0
+    ]
+
+-- an owner at or below the origin exists
+pub owner_exists : (zone : Zone) (rr : Rr) → Contains zone.rrs rr → is_prefix zone.origin rr.owner ≡ true → exists_in zone rr.owner ≡ true
+owner_exists zone rr has within =
+    or_right (name_eq rr.owner zone.origin) (is_prefix zone.origin rr.owner && list_any (λ one. is_prefix rr.owner one.owner) zone.rrs)
+    (and_from (is_prefix zone.origin rr.owner) (list_any (λ one. is_prefix rr.owner one.owner) zone.rrs) within
+    (any_has (λ (one : Rr). is_prefix rr.owner one.owner) zone.rrs rr has (begins_itself rr.owner)))
+
+-- so the owners of records in order are among the names
+pub owners_among : (zone : Zone) (rrs : List Rr) (all : List Labels) → AreByOwner zone rrs → AreExisting zone all
+    → (rr : Rr) → Contains rrs rr → Contains all rr.owner
+owners_among zone rrs all are there rr has =
+    let found = from_filter (λ (one : Rr). is_prefix zone.origin one.owner) zone.rrs rr
+    (Contains-permutation rrs (filter (λ (one : Rr). is_prefix zone.origin one.owner) zone.rrs) rr
+    (IsPermutation-sym (filter (λ (one : Rr). is_prefix zone.origin one.owner) zone.rrs) rrs are.same) has) in
+    (there.all rr.owner).1 (owner_exists zone rr found.0 found.1)

@@ -4,6 +4,7 @@ mod Existing
 mod Merged
 mod NameData
 mod NamesBelow
+mod Owned
 mod Pairs
 pub mod Prefixes
 mod SearchedNames

@@ -8,11 +8,11 @@ use Rattle.dns_data.proofs.NameFronts.{is_prefix_tells, is_prefix_told}
 use Rattle.net_model.specs.declared.config.Zone.{Zone}
 use Rattle.net_model.specs.Lookup.{deciding}
 use Rattle.net_model.proofs.Descent.{prefix_of_prefix}
-use Rattle.zone_tree.specs.Decider.{IsBelow, at_end}
+use Rattle.zone_tree.specs.Decider.{IsTailIf, at_end}
 use Rattle.zone_tree.proofs.Descents.{Undecided, records_decide, source_decides}
 
 -- so many labels of the name are fewer than those of the name with the others
-same_test : (zone : Zone) (name : Labels) (open_below : Bool) (below : Labels) (count : ℕ) → IsBelow zone name open_below below
+same_test : (zone : Zone) (name : Labels) (open_below : Bool) (below : Labels) (count : ℕ) → IsTailIf zone name open_below below
     → count ≤ length name → (open_below || nat_lt count (length name)) ≡ nat_lt count (length (name ++ below))
 same_test zone name false below count none short =
     ap (λ (x : Labels). nat_lt count (length x)) (sym (ap (λ (b : Labels). name ++ b) none ∙ append-nil name))
@@ -20,7 +20,7 @@ same_test zone name true below count opens short =
     sym (lt-ltb count (length (name ++ below))
     (omega (arith, short, ap (λ (b : Labels). length b) opens.is, length-append name below)))
 
-module _ (zone : Zone) (name : Labels) (open_below : Bool) (below : Labels) (stands : IsBelow zone name open_below below)
+module _ (zone : Zone) (name : Labels) (open_below : Bool) (below : Labels) (stands : IsTailIf zone name open_below below)
     (count labels : ℕ) (short : count ≤ length name) (many : labels ≡ length name) (test : Bool) (is : test ≡ (open_below || nat_lt count labels)) where
   tested : test ≡ nat_lt count (length (name ++ below))
   tested = is ∙ ap (λ (n : ℕ). open_below || nat_lt count n) many ∙ same_test zone name open_below below count stands short
@@ -41,7 +41,7 @@ inside_below origin name below inside =
     is_prefix_told origin (name ++ below) (prefix_of_prefix origin name (name ++ below) (is_prefix_tells origin name inside) (below, refl))
 
 -- where nothing decides along the name, its own records do, or its source of synthesis
-pub at_end_decides : (zone : Zone) (name : Labels) (open_below : Bool) (below : Labels) → IsBelow zone name open_below below
+pub at_end_decides : (zone : Zone) (name : Labels) (open_below : Bool) (below : Labels) → IsTailIf zone name open_below below
     → Undecided zone (name ++ below) name → deciding zone (name ++ below) ≡ at_end zone name open_below
 at_end_decides zone name false below none so_far =
     let itself : name ++ below ≡ name = ap (λ (b : Labels). name ++ b) none ∙ append-nil name in

@@ -114,7 +114,8 @@ both_up_to a b le back = by (name_cmp a b) refl le where
 one_up : (k : ℕ) → suc k + 1 ≡ suc (k + 1)
 one_up k = omega arith
 
-in_order_after : (first : Labels) (names : List Labels) → IsSorted name_cmp (first ∷ names) → InOrder first names
+-- sorted names stand in order behind the first
+pub in_order_after : (first : Labels) (names : List Labels) → IsSorted name_cmp (first ∷ names) → InOrder first names
 in_order_after first [] sorted = tt
 in_order_after first (next ∷ names) sorted = (
   ap is_gt (names_total.antisymm first next) ∙ sym (turned (name_cmp next first))

@@ -23,9 +23,9 @@ IsOfTree tree (Records node) = IsNode tree node
 IsOfTree tree Nothing = Unit {0}
 
 -- the labels stand below the name: none, or an open tail. The contracts of inner calls alone cite what follows.
-abbrev pub IsBelow : Zone → Labels → Bool → Labels → Type 0
-IsBelow zone name false below = below ≡ []
-IsBelow zone name true below = IsOpenTail zone name below
+abbrev pub IsTailIf : Zone → Labels → Bool → Labels → Type 0
+IsTailIf zone name false below = below ≡ []
+IsTailIf zone name true below = IsOpenTail zone name below
 
 -- what decides where nothing above does: an existing name's own records, or its source of synthesis below it
 abbrev pub at_end : Zone → Labels → Bool → Deciding

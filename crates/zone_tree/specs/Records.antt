@@ -1,7 +1,6 @@
 -- What a name owns. The contracts of inner calls alone cite it.
-use Rattle.std.specs.Prelude.{◌≡◌, ℕ, ◌<◌, List, [], ◌∷◌, map, length, slice_index_or, if◌then◌else◌}
-use Rattle.std.specs.List.{filter, filter_map, list_any}
-use Rattle.std.specs.Option.{option_map}
+use Rattle.std.specs.Prelude.{◌≡◌, ℕ, ◌<◌, Bool, true, ◌||◌, List, [], ◌∷◌, map, length, slice_index_or, Option, Some, None, if◌then◌else◌}
+use Rattle.std.specs.List.{filter, filter_map, list_any, AllByRecursion}
 use Rattle.dns_data.specs.Name.{Labels, name_eq, name_cmp}
 use Rattle.dns_data.specs.Rdata.{has_type}
 use Rattle.dns_data.specs.RrType.{type_eq}
@@ -11,7 +10,6 @@ use Rattle.dns_data.specs.declared.rdata.Rr.{Rr}
 use Rattle.dns_data.specs.declared.rr_type.RrType.{RrType}
 use Rattle.dns_data.specs.declared.rr_type.RrType.TheVariants as rr_type
 use Rattle.net_model.specs.declared.config.Zone.{Zone}
-use Rattle.net_model.specs.Lookup.{first_name}
 use Rattle.net_model.specs.Order.{in_order}
 use Rattle.net_model.specs.Zone.{target_of, data_cmp}
 use Rattle.zone_tree.specs.declared.records.Records.{Records}
@@ -26,18 +24,49 @@ data_of rrs name = map (λ rr. rr.rdata) (filter (λ rr. name_eq rr.owner name) 
 abbrev pub targets_of : List Rdata → RrType → List Labels
 targets_of all rtype = filter_map target_of (filter (has_type rtype) all)
 
+-- the data of a set: the first, or all where there are several
+abbrev pub all_of : Rdata → List Rdata → List Rdata
+all_of first [] = first ∷ []
+all_of first (one ∷ more) = one ∷ more
+
+abbrev pub all_in : Set → List Rdata
+all_in set = all_of set.first.now set.several
+
 -- the data of a type among sets
 abbrev pub data_in : List Set → RrType → List Rdata
 data_in [] rtype = []
-data_in (set ∷ sets) rtype = if type_eq set.rtype rtype then set.data else data_in sets rtype
+data_in (set ∷ sets) rtype = if type_eq set.rtype rtype then all_in set else data_in sets rtype
+
+-- the first data of a type among sets
+abbrev pub first_in : List Set → RrType → Option Rdata
+first_in [] rtype = None
+first_in (set ∷ sets) rtype = if type_eq set.rtype rtype then Some set.first.now else first_in sets rtype
+
+-- the first of some data
+abbrev pub first_of : List Rdata → Option Rdata
+first_of [] = None
+first_of (one ∷ more) = Some one
+
+-- the types are those of all data
+abbrev pub TellsTypes : List Rdata → List Bool → Type 0
+TellsTypes all types = (rtype : RrType) → has_bit types rtype ≡ list_any (has_type rtype) all
+
+-- the set is that of its type among all data
+pub record IsSetOf (all : List Rdata) (set : Set) : Type 0 where
+  pub first : first_of (filter (has_type set.rtype) all) ≡ Some set.first.now
+  pub whole : all_in set ≡ in_order data_cmp (filter (has_type set.rtype) all)
+
+-- the sets are those of their types, and each type that has data, but for the types left, has one
+pub record AreSets (all : List Rdata) (left : List RrType) (sets : List Set) : Type 0 where
+  pub each : AllByRecursion (IsSetOf all) sets
+  pub every : (rtype : RrType) → list_any (has_type rtype) all ≡ true
+      → (list_any (λ other. type_eq other rtype) left || list_any (λ set. type_eq set.rtype rtype) sets) ≡ true
 
 -- the records tell of all data of a name
 pub record Tells (all : List Rdata) (records : Records) : Type 0 where
-  pub types : (rtype : RrType) → has_bit records.types rtype ≡ list_any (has_type rtype) all
-  pub alias : option_map (λ target. target.now) records.alias ≡ first_name (targets_of all rr_type.Cname)
-  pub redirection : option_map (λ target. target.now) records.redirection ≡ first_name (targets_of all rr_type.Dname)
-  pub servers : map (λ server. server.now) records.servers.items ≡ in_order name_cmp (targets_of all rr_type.Ns)
-  pub sets : (rtype : RrType) → data_in records.sets.items rtype ≡ in_order data_cmp (filter (has_type rtype) all)
+  pub types : TellsTypes all records.types
+  pub servers : map (λ server. server.now) records.servers ≡ in_order name_cmp (targets_of all rr_type.Ns)
+  pub sets : AreSets all [] records.sets
 
 -- the names are those that exist in the zone, and beside each stands what tells of its data
 pub record IsTree (zone : Zone) (names : List Labels) (records : List Records) : Type 0 where

@@ -4,7 +4,7 @@ ghost use Rattle.std.specs.Prelude.{◌≡◌, true, ◌||◌, nat_lt, ◌++◌,
 ghost use Rattle.dns_data.specs.Name.{Labels, is_prefix};
 ghost use Rattle.net_model.specs.Lookup.{deciding, synthesized};
 ghost use Rattle.net_model.specs.OpenTail.{IsOpenTail};
-ghost use Rattle.zone_tree.specs.Decider.{deciding_by, IsOfTree, IsBelow, at_end};
+ghost use Rattle.zone_tree.specs.Decider.{deciding_by, IsOfTree, IsTailIf, at_end};
 ghost use Rattle.zone_tree.specs.Tree.{IsNode, name_of};
 
 use crate::enclosers::source_below;
@@ -44,7 +44,7 @@ pub fn open_deciding(tree: &Tree<'_>, known: &Name) -> Decider
 fn decider_along(tree: &Tree<'_>, name: &Name, open_below: bool) -> Decider
     requires { is_prefix tree.now.zone.origin name.now ≡ true }
     ensures node { IsOfTree tree.now result }
-    ensures decides { (below : Labels) → IsBelow tree.now.zone name.now open_below below → deciding tree.now.zone (name.now ++ below) ≡ deciding_by tree.now result }
+    ensures decides { (below : Labels) → IsTailIf tree.now.zone name.now open_below below → deciding tree.now.zone (name.now ++ below) ≡ deciding_by tree.now result }
 {
     let mut at = tree.apex();
     let above = tree.zone().origin.len() as usize;

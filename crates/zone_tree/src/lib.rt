@@ -4,16 +4,19 @@
 //! among them, and what a node tells of its name is what the definitions say of it in the zone. So is what decides at a
 //! name, and at a name with an open tail. No condition is put on the zone.
 //!
-//! Costs: a tree sorts references to the owners of its zone once, and copies the data of the twelve types into sets. A
-//! name is found among the existing ones in as many comparisons of names as the logarithm of their number; what decides
-//! at a name is looked for along its labels, from the origin down to what decides or to its closest encloser.
+//! Costs: a tree sorts references to the records of its zone by their owners once, and then passes over them once. It
+//! keeps each name, and of a single record of a type a reference; only data of several records of one name and type are
+//! copied. A name is found among the existing ones in as many comparisons of names as the logarithm of their number;
+//! what decides at a name is looked for along its labels, from the origin down to what decides or to its closest encloser.
 #![tactic(auto)]
 
 mod decider;
 mod enclosers;
+mod few;
 mod names;
 mod node;
 mod order;
+mod owners;
 mod places;
 mod records;
 mod tree;

@@ -1,55 +1,33 @@
 //! The existing names of a zone.
 
-ghost use Rattle.std.specs.Prelude.{◌≡◌, ◌∷◌, ◌++◌, take, map, IfOk, OnOk, IsPermutation, IsSorted};
-ghost use Rattle.std.specs.List.{filter};
-ghost use Rattle.dns_data.specs.Name.{name_cmp, is_prefix};
+ghost use Rattle.std.specs.Prelude.{◌≡◌, ◌∷◌, ◌++◌, take, map, IfOk, OnOk};
 ghost use Rattle.zone_tree.specs.Names.{new_prefixes, tree_after, AreExisting};
+ghost use Rattle.zone_tree.specs.Owners.{AreByOwner};
 
-use dns_data::{JoinFault, Name, NoMemory};
+use dns_data::{JoinFault, Name, NoMemory, Rr};
 use net_model::Zone;
 use std::alloc::Global;
 
-/// The names that exist in the zone, in order.
-pub(crate) fn existing_names(alloc: Global, zone: &Zone) -> Result<Vec<Name>, NoMemory>
+/// The names that exist in the zone, in order, by its records in the order of their owners.
+pub(crate) fn existing_names(alloc: Global, zone: &Zone, rrs: &[&Rr]) -> Result<Vec<Name>, NoMemory>
+    requires { AreByOwner zone.now (map (λ rr. rr.now) rrs.now) }
     ensures { IfOk result (λ names. AreExisting zone.now names.items) }
 {
-    let owners = owners_in_order(alloc, zone)?;
-    names_above(alloc, &zone.origin, owners.as_slice())
+    let mut names = names_above(alloc, &zone.origin, rrs)?;
+    names.shrink_to_fit();
+    Ok(names)
 }
 
-/// The owners at or below the origin in the order of names, each as often as it has records.
-fn owners_in_order<'a>(alloc: Global, zone: &'a Zone) -> Result<Vec<&'a Name>, NoMemory>
-    ensures same { IfOk result (λ owners. IsPermutation (filter (is_prefix zone.now.origin) (map (λ rr. rr.owner) zone.now.rrs)) (map (λ owner. owner.now) owners.items)) }
-    ensures sorted { IfOk result (λ owners. IsSorted name_cmp (map (λ owner. owner.now) owners.items)) }
-{
-    let mut owners = owners_within(alloc, zone)?;
-    owners.sort()?;
-    Ok(owners)
-}
-
-/// The owners at or below the origin in file order.
-fn owners_within<'a>(alloc: Global, zone: &'a Zone) -> Result<Vec<&'a Name>, NoMemory>
-    ensures { IfOk result (λ owners. map (λ owner. owner.now) owners.items ≡ filter (is_prefix zone.now.origin) (map (λ rr. rr.owner) zone.now.rrs)) }
-{
-    let mut owners = Vec::new(alloc);
-    for rr in zone.rrs.items() {
-        if zone.origin.is_prefix_of(&rr.owner) {
-            owners.push(&rr.owner)?;
-        }
-    }
-    Ok(owners)
-}
-
-/// The origin, and the prefixes of each owner that don't begin the name before it.
-fn names_above(alloc: Global, origin: &Name, owners: &[&Name]) -> Result<Vec<Name>, NoMemory>
-    ensures { IfOk result (λ names. names.items ≡ origin.now ∷ tree_after origin.now (map (λ owner. owner.now) owners.now)) }
+/// The origin, and the prefixes of each owner that don't begin the owner before it.
+fn names_above(alloc: Global, origin: &Name, rrs: &[&Rr]) -> Result<Vec<Name>, NoMemory>
+    ensures { IfOk result (λ names. names.items ≡ origin.now ∷ tree_after origin.now (map (λ rr. rr.owner) (map (λ rr. rr.now) rrs.now))) }
 {
     let mut names = Vec::new(alloc);
     names.push(origin.copy(alloc)?)?;
     let mut before = origin;
-    for owner in owners {
-        push_new(alloc, &mut names, before, owner)?;
-        before = *owner;
+    for rr in rrs {
+        push_new(alloc, &mut names, before, &rr.owner)?;
+        before = &rr.owner;
     }
     Ok(names)
 }

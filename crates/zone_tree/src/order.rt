@@ -11,35 +11,49 @@ ghost use Rattle.net_model.specs.Zone.{data_cmp};
 ghost use Rattle.zone_tree.specs.Merged.{put_each};
 ghost use Rattle.zone_tree.specs.Records.{targets_of};
 
-use crate::records::{is_of_type, target_of};
-use dns_data::{List, Name, NoMemory, Octets, Rdata, RrType, rdata_text};
+use crate::few::Few;
+use crate::records::{first_of_type, is_of_type, target_of};
+use dns_data::{List, Name, NoMemory, Octets, Rdata, Rr, RrType, rdata_text};
 use std::alloc::Global;
 use std::collections::{BTreeMap, BTreeSet};
 
 /// The names of the name servers in the order of names.
-pub(crate) fn servers_in_order<'a>(
-    alloc: Global,
-    all: &[&'a Rdata],
-) -> Result<Vec<&'a Name>, NoMemory>
-    ensures { IfOk result (λ servers. map (λ server. server.now) servers.items ≡ in_order name_cmp (targets_of (map (λ rdata. rdata.now) all.now) types.Ns)) }
+pub(crate) fn servers_of<'a>(alloc: Global, own: &[&'a Rr]) -> Result<Few<&'a Name>, NoMemory>
+    ensures { IfOk result (λ servers. map (λ server. server.now) servers ≡ in_order name_cmp (targets_of (map (λ rr. rr.now.rdata) own.now) types.Ns)) }
 {
-    let set = server_set(alloc, all)?;
-    let mut servers: Vec<&'a Name> = set.into_iter().collect(alloc)?;
-    servers.shrink_to_fit();
-    Ok(servers)
+    let Some((first, later)) = first_of_type(own, RrType::Ns) else {
+        return Ok(Few::new());
+    };
+    if first_of_type(later, RrType::Ns).is_some() {
+        return servers_in_order(alloc, own);
+    }
+    match target_of(first) {
+        Some(server) => Few::new().with(alloc, server),
+        None => Ok(Few::new()),
+    }
 }
 
-/// The names of the name servers. The last data are looked at first.
-fn server_set<'a>(alloc: Global, all: &[&'a Rdata]) -> Result<BTreeSet<&'a Name>, NoMemory>
-    ensures { IfOk result (λ servers. map (λ server. server.now) servers.keys ≡ in_order name_cmp (targets_of (map (λ rdata. rdata.now) all.now) types.Ns)) }
+/// The same of any number of them.
+fn servers_in_order<'a>(alloc: Global, own: &[&'a Rr]) -> Result<Few<&'a Name>, NoMemory>
+    ensures { IfOk result (λ servers. map (λ server. server.now) servers ≡ in_order name_cmp (targets_of (map (λ rr. rr.now.rdata) own.now) types.Ns)) }
+{
+    let set = server_set(alloc, own)?;
+    let mut servers: Vec<&'a Name> = set.into_iter().collect(alloc)?;
+    servers.shrink_to_fit();
+    Ok(Few::from_vec(servers))
+}
+
+/// The names of the name servers. The last records are looked at first.
+fn server_set<'a>(alloc: Global, own: &[&'a Rr]) -> Result<BTreeSet<&'a Name>, NoMemory>
+    ensures { IfOk result (λ servers. map (λ server. server.now) servers.keys ≡ in_order name_cmp (targets_of (map (λ rr. rr.now.rdata) own.now) types.Ns)) }
 {
     let mut servers = BTreeSet::new(alloc);
-    let mut left = all.len();
+    let mut left = own.len();
     while left > 0 {
         left -= 1;
-        let rdata = all[left];
-        if is_of_type(rdata, RrType::Ns) {
-            if let Some(server) = target_of(rdata) {
+        let rr = own[left];
+        if is_of_type(&rr.rdata, RrType::Ns) {
+            if let Some(server) = target_of(&rr.rdata) {
                 servers.insert(server)?;
             }
         }
@@ -50,32 +64,28 @@ fn server_set<'a>(alloc: Global, all: &[&'a Rdata]) -> Result<BTreeSet<&'a Name>
 /// The data of a type in the order of their texts.
 pub(crate) fn set_in_order(
     alloc: Global,
-    all: &[&Rdata],
+    own: &[&Rr],
     rtype: RrType,
 ) -> Result<List<Rdata>, NoMemory>
-    ensures { IfOk result (λ set. set ≡ in_order data_cmp (filter (has_type rtype) (map (λ rdata. rdata.now) all.now))) }
+    ensures { IfOk result (λ set. set ≡ in_order data_cmp (filter (has_type rtype) (map (λ rr. rr.now.rdata) own.now))) }
 {
-    let set = text_map(alloc, all, rtype)?;
+    let set = text_map(alloc, own, rtype)?;
     let mut data: Vec<Rdata> = set.into_values().collect(alloc)?;
     data.shrink_to_fit();
     Ok(List::from_vec(data))
 }
 
 /// The data of a type by their texts. The last data are looked at first, and stay where others have their text.
-fn text_map(
-    alloc: Global,
-    all: &[&Rdata],
-    rtype: RrType,
-) -> Result<BTreeMap<Octets, Rdata>, NoMemory>
-    ensures { IfOk result (λ set. map (λ entry. entry.1) set.entries ≡ in_order data_cmp (filter (has_type rtype) (map (λ rdata. rdata.now) all.now))) }
+fn text_map(alloc: Global, own: &[&Rr], rtype: RrType) -> Result<BTreeMap<Octets, Rdata>, NoMemory>
+    ensures { IfOk result (λ set. map (λ entry. entry.1) set.entries ≡ in_order data_cmp (filter (has_type rtype) (map (λ rr. rr.now.rdata) own.now))) }
 {
     let mut set = BTreeMap::new(alloc);
-    let mut left = all.len();
+    let mut left = own.len();
     while left > 0 {
         left -= 1;
-        let rdata = all[left];
-        if is_of_type(rdata, rtype) {
-            put_by_text(alloc, &mut set, rdata)?;
+        let rr = own[left];
+        if is_of_type(&rr.rdata, rtype) {
+            put_by_text(alloc, &mut set, &rr.rdata)?;
         }
     }
     Ok(set)

@@ -1,12 +1,10 @@
 //! Where names stand among the existing ones.
 
-ghost use Rattle.std.specs.Prelude.{◌≡◌, ℕ, ◌<◌, [], ◌∷◌, ◌++◌, map, length, slice_index_or, Contains, IfSome, IfNone, IfOk};
+ghost use Rattle.std.specs.Prelude.{◌≡◌, ◌<◌, [], ◌∷◌, ◌++◌, length, slice_index_or, Contains, IfSome, IfNone};
 ghost use Rattle.dns_data.specs.Name.{name_cmp};
 ghost use Rattle.zone_tree.specs.Names.{Ordered};
-ghost use Rattle.zone_tree.specs.Records.{data_of};
 
-use dns_data::{Labels, Name, NoMemory, Rdata, Rr};
-use std::alloc::Global;
+use dns_data::{Labels, Name};
 use std::cmp::Ordering;
 
 /// The place among names in order of the name with these labels.
@@ -69,35 +67,4 @@ fn compare_below(labels: &Labels<'_>, above: &Labels<'_>, label: &[u8]) -> Order
         Some(_) => Ordering::Greater,
         None => Ordering::Equal,
     }
-}
-
-/// The data of each of the names, which stand in order, in file order.
-pub(crate) fn data_by_name<'a>(
-    alloc: Global,
-    names: &[Name],
-    rrs: &'a [Rr],
-) -> Result<Vec<Vec<&'a Rdata>>, NoMemory>
-    requires { Ordered names.now }
-    ensures many { IfOk result (λ lists. length lists.items ≡ length names.now) }
-    ensures each { IfOk result (λ lists. (k : ℕ) (d : _) → k < length names.now → map (λ rdata. rdata.now) (slice_index_or lists.items k d).items ≡ data_of rrs.now (slice_index_or names.now k [])) }
-{
-    let mut lists = empty_lists(alloc, names.len())?;
-    for rr in rrs {
-        if let Some(place) = place_among(names, &rr.owner.labels()) {
-            lists[place].push(&rr.rdata)?;
-        }
-    }
-    Ok(lists)
-}
-
-/// So many empty lists.
-fn empty_lists<'a>(alloc: Global, count: usize) -> Result<Vec<Vec<&'a Rdata>>, NoMemory>
-    ensures many { IfOk result (λ lists. length lists.items ≡ count) }
-    ensures empty { IfOk result (λ lists. (k : ℕ) (d : _) → k < count → (slice_index_or lists.items k d).items ≡ []) }
-{
-    let mut lists = Vec::with_capacity(alloc, count)?;
-    while lists.len() < count {
-        lists.push(Vec::new(alloc))?;
-    }
-    Ok(lists)
 }

@@ -1,89 +1,127 @@
 //! What a name owns.
 
-ghost use Rattle.std.specs.Prelude.{◌≡◌, ℕ, ◌<◌, map, length, slice_index_or, IfOk};
+ghost use Rattle.std.specs.Prelude.{◌≡◌, map, [], ◌∷◌, IfOk, IfSome, IfNone, IsNone};
 ghost use Rattle.std.specs.List.{filter, list_any};
 ghost use Rattle.std.specs.Option.{option_map};
 ghost use Rattle.dns_data.specs.Rdata.{has_type};
 ghost use Rattle.dns_data.specs.TypeSet.{has_bit};
 ghost use Rattle.dns_data.specs.declared.rr_type.RrType.{RrType};
-ghost use Rattle.net_model.specs.Lookup.{first_name};
+ghost use Rattle.dns_data.specs.declared.rr_type.RrType.TheVariants as rr_types;
 ghost use Rattle.net_model.specs.Zone.{target_of, data_cmp};
 ghost use Rattle.net_model.specs.Order.{in_order};
-ghost use Rattle.zone_tree.specs.Records.{targets_of, data_in, Tells};
+ghost use Rattle.zone_tree.specs.Records.{targets_of, all_in, data_in, first_in, Tells, IsSetOf, AreSets, TellsTypes};
 
-use crate::order::{servers_in_order, set_in_order};
-use dns_data::{List, Name, NoMemory, Rdata, RrType, TypeSet};
+use crate::few::Few;
+use crate::order::{servers_of, set_in_order};
+use dns_data::{List, Name, NoMemory, Rdata, Rr, RrType, TypeSet};
 use std::alloc::Global;
+use std::slice;
 
-/// What a name owns: its types; the first targets of its CNAME and DNAME records in file order, whose number a zone
-/// may leave open; its name servers in the order of names; and the data of each type in the order of their texts.
+/// What a name owns: its types, its name servers in the order of names, and the data of each type.
 #[derive(Debug, Drop)]
 pub(crate) struct Records<'a> {
     pub types: TypeSet,
-    pub alias: Option<&'a Name>,
-    pub redirection: Option<&'a Name>,
-    pub servers: Vec<&'a Name>,
-    pub sets: Vec<Set>,
+    pub servers: Few<&'a Name>,
+    pub sets: Few<Set<'a>>,
 }
 
-/// The data of a type.
+/// The data of a type: the first in file order, whose number a zone may leave open; and where there are several all of
+/// them in the order of their texts.
 #[derive(Debug, Drop)]
-pub(crate) struct Set {
+pub(crate) struct Set<'a> {
     pub rtype: RrType,
-    pub data: List<Rdata>,
+    pub first: &'a Rdata,
+    pub several: List<Rdata>,
 }
 
-/// What tells of all data of a name.
-pub(crate) fn records_of<'a>(alloc: Global, all: &[&'a Rdata]) -> Result<Records<'a>, NoMemory>
-    ensures { IfOk result (λ records. Tells (map (λ rdata. rdata.now) all.now) records) }
+impl<'a> Set<'a> {
+    /// The data in the order of their texts.
+    fn items(&self) -> &[Rdata]
+        ensures { result.now ≡ all_in self.now }
+    {
+        if self.several.items().is_empty() {
+            return slice::from_ref(self.first);
+        }
+        self.several.items()
+    }
+}
+
+/// What tells of the records that a name owns, which are in file order.
+pub(crate) fn records_of<'a>(alloc: Global, own: &[&'a Rr]) -> Result<Records<'a>, NoMemory>
+    ensures { IfOk result (λ records. Tells (map (λ rr. rr.now.rdata) own.now) records) }
 {
-    let types = types_of(all);
+    let types = types_of(own);
     Ok(Records {
         types,
-        alias: first_target(all, RrType::Cname),
-        redirection: first_target(all, RrType::Dname),
-        servers: servers_in_order(alloc, all)?,
-        sets: sets_of(alloc, all)?,
+        servers: servers_of(alloc, own)?,
+        sets: sets_of(alloc, own, types)?,
     })
 }
 
-/// What tells of each list of data.
-pub(crate) fn all_records<'a>(
-    alloc: Global,
-    lists: &[Vec<&'a Rdata>],
-) -> Result<Vec<Records<'a>>, NoMemory>
-    ensures many { IfOk result (λ all. length all.items ≡ length lists.now) }
-    ensures each { IfOk result (λ all. (k : ℕ) (l : _) (d : _) → k < length lists.now → Tells (map (λ rdata. rdata.now) (slice_index_or lists.now k l).items) (slice_index_or all.items k d)) }
-{
-    let mut all = Vec::with_capacity(alloc, lists.len())?;
-    for list in lists {
-        all.push(records_of(alloc, list.as_slice())?)?;
-    }
-    Ok(all)
-}
-
-/// The types of data.
-fn types_of(all: &[&Rdata]) -> TypeSet
-    ensures { (rtype : RrType) → has_bit result rtype ≡ list_any (has_type rtype) (map (λ rdata. rdata.now) all.now) }
+/// The types of records.
+fn types_of(own: &[&Rr]) -> TypeSet
+    ensures { TellsTypes (map (λ rr. rr.now.rdata) own.now) result }
 {
     let mut types = TypeSet::empty();
-    for rdata in all {
-        if let Some(rtype) = rdata.rtype() {
+    for rr in own {
+        if let Some(rtype) = rr.rtype() {
             types = types.union(TypeSet::one(rtype));
         }
     }
     types
 }
 
-/// The first target of a type.
-fn first_target<'a>(all: &[&'a Rdata], rtype: RrType) -> Option<&'a Name>
-    ensures { option_map (λ target. target.now) result ≡ first_name (targets_of (map (λ rdata. rdata.now) all.now) rtype) }
+/// The data of each of the types.
+fn sets_of<'a>(alloc: Global, own: &[&'a Rr], types: TypeSet) -> Result<Few<Set<'a>>, NoMemory>
+    requires { TellsTypes (map (λ rr. rr.now.rdata) own.now) types }
+    ensures { IfOk result (λ sets. AreSets (map (λ rr. rr.now.rdata) own.now) [] sets) }
 {
-    for rdata in all {
-        if is_of_type(rdata, rtype) {
-            if let Some(target) = target_of(rdata) {
-                return Some(target);
+    let mut sets = Few::new();
+    for rtype in RrType::ALL {
+        if types.has(rtype) {
+            if let Some((first, later)) = first_of_type(own, rtype) {
+                let set = set_of(alloc, own, rtype, first, later)?;
+                sets = sets.with(alloc, set)?;
             }
+        }
+    }
+    Ok(sets)
+}
+
+/// The data of a type, of which these are the first and those records stand behind them.
+fn set_of<'a>(
+    alloc: Global,
+    own: &[&'a Rr],
+    rtype: RrType,
+    first: &'a Rdata,
+    later: &[&'a Rr],
+) -> Result<Set<'a>, NoMemory>
+    requires { filter (has_type rtype) (map (λ rr. rr.now.rdata) own.now) ≡ first.now ∷ filter (has_type rtype) (map (λ rr. rr.now.rdata) later.now) }
+    ensures rtype { IfOk result (λ set. set.rtype ≡ rtype) }
+    ensures data { IfOk result (λ set. IsSetOf (map (λ rr. rr.now.rdata) own.now) set) }
+{
+    let several = match first_of_type(later, rtype) {
+        Some(_) => set_in_order(alloc, own, rtype)?,
+        None => List::new(alloc),
+    };
+    Ok(Set {
+        rtype,
+        first,
+        several,
+    })
+}
+
+/// The first data of a type, and the records behind them.
+pub(crate) fn first_of_type<'r, 'a>(
+    own: &'r [&'a Rr],
+    rtype: RrType,
+) -> Option<(&'a Rdata, &'r [&'a Rr])>
+    ensures some { IfSome result (λ both. filter (has_type rtype) (map (λ rr. rr.now.rdata) own.now) ≡ both.0.now ∷ filter (has_type rtype) (map (λ rr. rr.now.rdata) both.1.now)) }
+    ensures none { IfNone result (filter (has_type rtype) (map (λ rr. rr.now.rdata) own.now) ≡ []) }
+{
+    for (place, rr) in own.iter().enumerate() {
+        if is_of_type(&rr.rdata, rtype) {
+            return Some((&rr.rdata, &own[place + 1..]));
         }
     }
     None
@@ -111,29 +149,26 @@ pub(crate) fn target_of<'a>(rdata: &'a Rdata) -> Option<&'a Name>
     }
 }
 
-/// The data of each type that has some.
-fn sets_of(alloc: Global, all: &[&Rdata]) -> Result<Vec<Set>, NoMemory>
-    ensures { IfOk result (λ sets. (rtype : RrType) → data_in sets.items rtype ≡ in_order data_cmp (filter (has_type rtype) (map (λ rdata. rdata.now) all.now))) }
-{
-    let mut sets = Vec::new(alloc);
-    for rtype in RrType::ALL {
-        let data = set_in_order(alloc, all, rtype)?;
-        if !data.items().is_empty() {
-            sets.push(Set { rtype, data })?;
-        }
-    }
-    sets.shrink_to_fit();
-    Ok(sets)
-}
-
-/// The data of a type among sets.
-pub(crate) fn data_in(sets: &[Set], rtype: RrType) -> &[Rdata]
+/// The data of a type among sets, in the order of their texts.
+pub(crate) fn data_in<'s>(sets: &'s [Set<'_>], rtype: RrType) -> &'s [Rdata]
     ensures { result.now ≡ data_in sets.now rtype }
 {
     for set in sets {
         if set.rtype.number() == rtype.number() {
-            return set.data.items();
+            return set.items();
         }
     }
     &[]
+}
+
+/// The first data of a type in file order among sets.
+pub(crate) fn first_in<'a>(sets: &[Set<'a>], rtype: RrType) -> Option<&'a Rdata>
+    ensures { option_map (λ rdata. rdata.now) result ≡ first_in sets.now rtype }
+{
+    for set in sets {
+        if set.rtype.number() == rtype.number() {
+            return Some(set.first);
+        }
+    }
+    None
 }

@@ -16,8 +16,9 @@ ghost use Rattle.zone_tree.specs.Tree.{IsNode, name_of};
 use crate::names::existing_names;
 use crate::node::NodeId;
 use crate::order::merged;
-use crate::places::{data_by_name, place_among, place_below};
-use crate::records::{Records, all_records, data_in};
+use crate::owners::{records_by_name, rrs_in_order};
+use crate::places::{place_among, place_below};
+use crate::records::{Records, data_in, first_in, target_of};
 use dns_data::{Label, Labels, List, Name, NoMemory, Rdata, RrType, TypeSet};
 use net_model::Zone;
 use std::alloc::Global;
@@ -48,9 +49,10 @@ impl<'a> Tree<'a> {
     pub fn build(alloc: Global, zone: &'a Zone) -> Result<Tree<'a>, NoMemory>
         ensures { IfOk result (λ tree. tree.zone ≡ zone.now) }
     {
-        let names = existing_names(alloc, zone)?;
-        let lists = data_by_name(alloc, names.as_slice(), zone.rrs.items())?;
-        let records = all_records(alloc, lists.as_slice())?;
+        let sorted = rrs_in_order(alloc, zone)?;
+        let rrs = sorted.as_slice();
+        let names = existing_names(alloc, zone, rrs)?;
+        let records = records_by_name(alloc, names.as_slice(), rrs)?;
         Ok(Tree {
             zone,
             names,
@@ -139,7 +141,7 @@ impl<'a> Tree<'a> {
         requires { IsNode self.now node }
         ensures { result.now ≡ in_order data_cmp (data_at self.now.zone (name_of self.now node) t) }
     {
-        data_in(self.records(node).sets.as_slice(), t)
+        data_in(self.records(node).sets.items(), t)
     }
 
     /// The addresses of both types that a node's name owns, in the order of their texts, each once.
@@ -159,7 +161,7 @@ impl<'a> Tree<'a> {
         requires { IsNode self.now node }
         ensures { option_map (λ target. target.now) result ≡ first_name (targets_at self.now.zone (name_of self.now node) rr_type.Cname) }
     {
-        self.records(node).alias
+        target_of(first_in(self.records(node).sets.items(), RrType::Cname)?)
     }
 
     /// The target of the DNAME record that a node's name owns, the first in file order.
@@ -167,7 +169,7 @@ impl<'a> Tree<'a> {
         requires { IsNode self.now node }
         ensures { option_map (λ target. target.now) result ≡ first_name (targets_at self.now.zone (name_of self.now node) rr_type.Dname) }
     {
-        self.records(node).redirection
+        target_of(first_in(self.records(node).sets.items(), RrType::Dname)?)
     }
 
     /// The names of the name servers that a node's name owns, in the order of names.
@@ -175,7 +177,7 @@ impl<'a> Tree<'a> {
         requires { IsNode self.now node }
         ensures { map (λ server. server.now) result.now ≡ ns_names self.now.zone (name_of self.now node) }
     {
-        self.records(node).servers.as_slice()
+        self.records(node).servers.items()
     }
 
     /// What tells of all data of a node's name.

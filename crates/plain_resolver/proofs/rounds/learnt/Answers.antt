@@ -1,54 +1,19 @@
-use Rattle.std.proofs.Common.{◌≡◌, ◌≤◌, List, length, sym, ap, ◌∙◌, subst, arith}
-use Rattle.std.specs.Cmp.Lexicographic.{pointwise_decides}
+use Rattle.std.proofs.Common.{IfOk, OnOk, IsErrOf, length, subst}
 use Rattle.dns_data.specs.Name.{Labels}
-use Rattle.dns_data.proofs.Names.{name_eq_decides}
 use Rattle.net_model.specs.declared.config.Config.{Config}
-use Rattle.net_model.specs.declared.config.Server.{Server}
-use Rattle.net_model.specs.Learnt.{AfterRounds, IsRound}
-use Rattle.plain_resolver.specs.Passed.{NoneHasTooMany, NoneInRounds}
-use Rattle.plain_resolver.proofs.Learning.{stays, next_round, next_few, all_more}
+use Rattle.net_model.specs.Learnt.{AfterRounds}
+use Rattle.plain_resolver.specs.Passed.{NoneInRounds, IsFirstWithTooMany}
+use Rattle.plain_resolver.specs.declared.fault.LearntFault.TheVariants.{WalksPassed}
 use Rattle.plain_resolver.proofs.rounds.learnt.Goals as goal
 
-pub returns-then-eq-clause-rounds : goal.returns-then-eq-clause-rounds
-returns-then-eq-clause-rounds c =
-    let config = c.args.config.now in
-    let followed = c.loop-round.followed in
-    let same : c.in_ok-learnt.learnt ≡ followed = (pointwise_decides name_eq_decides c.in_ok-learnt.learnt followed).0 (sym c.eq.ensures ∙ c.if-eq.true) in
-    let one = subst (λ (x : Config). IsRound x c.args.rewrites c.items.result.now c.in_ok-learnt.learnt) c.in_ok-hosts.ensures c.in_ok-learnt.ensures.round in
-    let two = subst (λ (names : List Labels). IsRound config c.args.rewrites names c.in_ok-learnt.learnt) c.items.ensures one in
-    let round : IsRound config c.args.rewrites followed followed = subst (IsRound config c.args.rewrites followed) same two in
-    stays config c.args.rewrites c.args.from.now followed round c.loop-round._round (length config.servers)
-    (omega (arith, c.loop-round-test.true, ap (λ (ss : List Server). length ss) c.items-round-end.ensures)) c.loop-round.invariant.after
-
-pub returns-then-eq-clause-few : goal.returns-then-eq-clause-few
-returns-then-eq-clause-few c =
-    let config = c.args.config.now in
-    let followed = c.loop-round.followed in
-    let same : c.in_ok-learnt.learnt ≡ followed = (pointwise_decides name_eq_decides c.in_ok-learnt.learnt followed).0 (sym c.eq.ensures ∙ c.if-eq.true) in
-    let one = subst (λ (x : Config). IsRound x c.args.rewrites c.items.result.now c.in_ok-learnt.learnt) c.in_ok-hosts.ensures c.in_ok-learnt.ensures.round in
-    let two = subst (λ (names : List Labels). IsRound config c.args.rewrites names c.in_ok-learnt.learnt) c.items.ensures one in
-    let round : IsRound config c.args.rewrites followed followed = subst (IsRound config c.args.rewrites followed) same two in
-    let few = subst (λ (x : Config). NoneHasTooMany x c.args.rewrites c.args.most c.items.result.now) c.in_ok-hosts.ensures c.in_ok-learnt.ensures.few in
-    let none = subst (NoneHasTooMany config c.args.rewrites c.args.most) c.items.ensures few in
-    all_more config c.args.rewrites c.args.most c.args.from.now followed c.loop-round._round (length config.servers)
-    c.loop-round.invariant.few c.loop-round.invariant.after none round
-
-pub loop-round-preserved : goal.loop-round-preserved
-loop-round-preserved c =
-    let config = c.args.config.now in
-    let followed = c.loop-round.followed in
-    let index = c.loop-round._round in
-    let one = subst (λ (x : Config). IsRound x c.args.rewrites c.items.result.now c.in_ok-learnt.learnt) c.in_ok-hosts.ensures c.in_ok-learnt.ensures.round in
-    let round = subst (λ (names : List Labels). IsRound config c.args.rewrites names c.in_ok-learnt.learnt) c.items.ensures one in
-    let few = subst (λ (x : Config). NoneHasTooMany x c.args.rewrites c.args.most c.items.result.now) c.in_ok-hosts.ensures c.in_ok-learnt.ensures.few in
-    let none = subst (NoneHasTooMany config c.args.rewrites c.args.most) c.items.ensures few in
-    record {
-      after = next_round config c.args.rewrites c.args.from.now followed c.in_ok-learnt.learnt index c.loop-round.invariant.after round;
-      few = next_few config c.args.rewrites c.args.most c.args.from.now followed index c.loop-round.invariant.few c.loop-round.invariant.after none;
-    }
+pub returns-clause-rounds : goal.returns-clause-rounds
+returns-clause-rounds c =
+    subst (λ (x : Config). IfOk c.learnt_at.result (λ learnt. AfterRounds x c.args.rewrites (length x.servers) c.args.from.now learnt)) c.in_ok-hosts.ensures c.learnt_at.ensures.rounds
 
 pub returns-clause-few : goal.returns-clause-few
 returns-clause-few c =
-    subst (NoneInRounds c.args.config.now c.args.rewrites c.args.most c.args.from.now)
-    (let end : c.loop-round._round ≡ length c.args.config.now.servers = omega (arith, c.loop-round-test.false, c.loop-round.auto._round-end, ap (λ (ss : List Server). length ss) c.items-round-end.ensures) in end)
-    c.loop-round.invariant.few
+    subst (λ (x : Config). OnOk c.learnt_at.result (NoneInRounds x c.args.rewrites c.args.most c.args.from.now (length x.servers))) c.in_ok-hosts.ensures c.learnt_at.ensures.few
+
+pub returns-clause-passed : goal.returns-clause-passed
+returns-clause-passed c =
+    subst (λ (x : Config). (name : Labels) → IsErrOf c.learnt_at.result (WalksPassed name) → IsFirstWithTooMany x c.args.rewrites c.args.most c.args.from.now name) c.in_ok-hosts.ensures c.learnt_at.ensures.passed

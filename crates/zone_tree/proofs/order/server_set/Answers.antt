@@ -4,6 +4,7 @@ use Rattle.std.proofs.lemmas.List.{drop_more}
 use Rattle.dns_data.specs.Name.{Labels, name_cmp}
 use Rattle.dns_data.specs.Rdata.{has_type}
 use Rattle.dns_data.specs.declared.rdata.Rdata.{Rdata}
+use Rattle.dns_data.specs.declared.rdata.Rr.{Rr}
 use Rattle.dns_data.specs.declared.rr_type.RrType.{RrType}
 use Rattle.dns_data.specs.declared.rr_type.RrType.TheVariants as types
 use Rattle.net_model.specs.Order.{in_order, put_in_order}
@@ -18,19 +19,19 @@ target_first rtype rdata rest target is has = rw is (ap (λ (o : Option Labels).
 
 pub loop-left-preserved-in_ok-insert : goal.loop-left-preserved-in_ok-insert
 loop-left-preserved-in_ok-insert c =
-    let all = c.args.all.now in
+    let all = c.args.own.now in
     let before = c.loop-left.left - 1 in
-    let item = c.index-all-left.result in
+    let item = c.index-own-left.result in
     let server = c.in-Some.server in
     let up : before + 1 ≡ c.loop-left.left = omega arith in
     let within : before < length all = omega (arith, c.loop-left.invariant.within) in
-    let rest : List Rdata = map (λ (rdata : Bor Rdata). rdata.now) (drop c.loop-left.left all) in
-    let opened : map (λ (rdata : Bor Rdata). rdata.now) (drop before all) ≡ item.now ∷ rest =
-    ap (map (λ (rdata : Bor Rdata). rdata.now))
-    (drop_more all before item within ∙ ap (λ (x : Bor Rdata). x ∷ drop (before + 1) all) (sym c.index-all-left.is)
+    let rest : List Rdata = map (λ (rr : Bor Rr). rr.now.rdata) (drop c.loop-left.left all) in
+    let opened : map (λ (rr : Bor Rr). rr.now.rdata) (drop before all) ≡ item.now.rdata ∷ rest =
+    ap (map (λ (rr : Bor Rr). rr.now.rdata))
+    (drop_more all before item within ∙ ap (λ (x : Bor Rr). x ∷ drop (before + 1) all) (sym c.index-own-left.is)
     ∙ ap (λ (n : ℕ). item ∷ drop n all) up) in
-    let targets : targets_of (item.now ∷ rest) types.Ns ≡ server.now ∷ targets_of rest types.Ns =
-    target_first types.Ns item.now rest server.now (sym c.if-is_of_type.ensures) (sym c.in-Some.ensures) in
+    let targets : targets_of (item.now.rdata ∷ rest) types.Ns ≡ server.now ∷ targets_of rest types.Ns =
+    target_first types.Ns item.now.rdata rest server.now (sym c.if-is_of_type.ensures) (sym c.in-Some.ensures) in
     record {
       within = omega (arith, c.loop-left.invariant.within);
       servers =

@@ -8,8 +8,8 @@ use Rattle.zone_tree.proofs.order.server_set.Given as goal
 -- the name servers of the data looked at
 abbrev pub invariant-loop-left : goal.invariant-loop-left
 invariant-loop-left l = record {
-  within : l.left ≤ length l.all;
-  servers : map (λ server. server.now) l.servers.keys ≡ in_order name_cmp (targets_of (map (λ rdata. rdata.now) (drop l.left l.all)) types.Ns);
+  within : l.left ≤ length l.own;
+  servers : map (λ server. server.now) l.servers.keys ≡ in_order name_cmp (targets_of (map (λ rr. rr.now.rdata) (drop l.left l.own)) types.Ns);
 }
 
 abbrev pub decreases-loop-left : goal.decreases-loop-left

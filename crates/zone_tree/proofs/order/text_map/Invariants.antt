@@ -9,10 +9,10 @@ use Rattle.zone_tree.proofs.order.text_map.Given as goal
 -- the data looked at, by their texts
 abbrev pub invariant-loop-left : goal.invariant-loop-left
 invariant-loop-left l = record {
-  within : l.left ≤ length l.all;
+  within : l.left ≤ length l.own;
   keyed : AllByRecursion (λ entry. entry.0 ≡ data_text entry.1) l.set.entries;
   items : map (λ entry. entry.1) l.set.entries
-      ≡ in_order data_cmp (filter (has_type l.rtype) (map (λ rdata. rdata.now) (drop l.left l.all)));
+      ≡ in_order data_cmp (filter (has_type l.rtype) (map (λ rr. rr.now.rdata) (drop l.left l.own)));
 }
 
 abbrev pub decreases-loop-left : goal.decreases-loop-left

@@ -6,8 +6,8 @@ use Rattle.dns_data.specs.declared.rr_type.RrType.{RrType}
 use Rattle.zone_tree.proofs.records.types_of.Given as goal
 
 -- a type is in the set so far or among the other data
-abbrev pub invariant-loop-rdata : goal.invariant-loop-rdata
-invariant-loop-rdata l =
+abbrev pub invariant-loop-rr : goal.invariant-loop-rr
+invariant-loop-rr l =
     (rtype : RrType)
-    → (has_bit l.types rtype || list_any (has_type rtype) (map (λ rdata. rdata.now) (drop l.rdata-index l.all)))
-    ≡ list_any (has_type rtype) (map (λ rdata. rdata.now) l.all)
+    → (has_bit l.types rtype || list_any (has_type rtype) (map (λ rr. rr.now.rdata) (drop l.rr-index l.own)))
+    ≡ list_any (has_type rtype) (map (λ rr. rr.now.rdata) l.own)

@@ -1,14 +1,19 @@
-use Rattle.std.proofs.Common.{sym, ap, ◌∙◌}
+use Rattle.std.proofs.Common.{List, sym, ap, ◌∙◌}
+use Rattle.dns_data.specs.declared.rdata.Rdata.{Rdata}
 use Rattle.net_model.specs.Order.{in_order}
 use Rattle.net_model.specs.Zone.{data_cmp}
-use Rattle.zone_tree.specs.Records.{data_in}
+use Rattle.zone_tree.specs.declared.records.Set.{Set}
+use Rattle.zone_tree.specs.Records.{data_in, data_of}
 use Rattle.zone_tree.specs.Tree.{name_of}
 use Rattle.zone_tree.proofs.NameData.{data_of_type}
+use Rattle.zone_tree.proofs.Types.{sets_tell}
 use Rattle.zone_tree.proofs.tree.Tree.set.Goals as goal
 
 pub returns : goal.returns
 returns c =
+    let zone = c.args.self.now.zone in
+    let name = name_of c.args.self.now c.args.node in
     c.data_in.ensures
-    ∙ ap (λ sets. data_in sets c.args.t) c.as_slice.ensures.value
-    ∙ c.records.ensures.sets c.args.t
-    ∙ ap (in_order data_cmp) (sym (data_of_type (name_of c.args.self.now c.args.node) c.args.t c.args.self.now.zone.rrs))
+    ∙ ap (λ (sets : List Set). data_in sets c.args.t) c.items.ensures
+    ∙ (sets_tell (data_of zone.rrs name) c.records.result.now.sets c.records.ensures.sets c.args.t).0
+    ∙ ap (in_order data_cmp) (sym (data_of_type name c.args.t zone.rrs))

@@ -1,0 +1,94 @@
+//! Items that are mostly few.
+
+ghost use Rattle.std.specs.Prelude.{◌≡◌, [], ◌∷◌, ◌++◌, IfOk};
+ghost use Rattle.std.specs.Mem.{FitsInMemory};
+ghost use Rattle.zone_tree.specs.Few.{items_in};
+
+use dns_data::NoMemory;
+use std::alloc::Global;
+use std::marker::Model;
+use std::slice;
+
+/// Where items are kept: one in the value, more in a vector.
+#[derive(Debug, Drop)]
+enum Storage<T> {
+    Empty,
+    One(T),
+    More(Vec<T>),
+}
+
+/// Items in order, of which none or one takes no memory of its own.
+#[derive(Debug, Drop)]
+pub(crate) struct Few<T> {
+    storage: Storage<T>,
+}
+
+impl<T> Model for Few<T> {
+    ghost use Rattle.std.specs.Prelude.{List};
+    ghost use Rattle.zone_tree.specs.Few.{items_in};
+
+    ghost Value = { List T };
+
+    ghost view = { λ few. items_in few.storage };
+}
+
+impl<T: Drop> Few<T> {
+    /// No item.
+    pub fn new() -> Few<T>
+        ensures { result ≡ [] }
+    {
+        Few {
+            storage: Storage::Empty,
+        }
+    }
+
+    /// The items of a vector.
+    pub fn from_vec(items: Vec<T>) -> Few<T>
+        ensures { result ≡ items.items }
+    {
+        Few {
+            storage: Storage::More(items),
+        }
+    }
+
+    /// The items.
+    pub fn items(&self) -> &[T]
+        requires { FitsInMemory T.row }
+        ensures { result.now ≡ self.now }
+    {
+        match &self.storage {
+            Storage::Empty => &[],
+            Storage::One(only) => slice::from_ref(only),
+            Storage::More(items) => items.as_slice(),
+        }
+    }
+
+    /// Where the items are kept.
+    fn into_storage(self) -> Storage<T>
+        ensures { items_in result ≡ self }
+    {
+        self.storage
+    }
+
+    /// The items with another one behind them.
+    pub fn with(self, alloc: Global, item: T) -> Result<Few<T>, NoMemory>
+        ensures { IfOk result (λ few. few ≡ self ++ item ∷ []) }
+    {
+        match self.into_storage() {
+            Storage::Empty => Ok(Few {
+                storage: Storage::One(item),
+            }),
+            Storage::One(only) => {
+                let mut items = Vec::with_capacity(alloc, 2)?;
+                items.push(only)?;
+                items.push(item)?;
+                Ok(Few::from_vec(items))
+            }
+            Storage::More(items) => {
+                let mut items = items;
+                items.push(item)?;
+                Ok(Few::from_vec(items))
+            }
+        }
+    }
+}

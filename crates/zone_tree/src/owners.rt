@@ -1,0 +1,74 @@
+//! The records of a zone by their owners.
+
+ghost use Rattle.std.specs.Prelude.{◌≡◌, ℕ, ◌<◌, ◌≤◌, [], map, length, slice_index_or, Contains, IsSorted, IfOk};
+ghost use Rattle.std.specs.List.{filter};
+ghost use Rattle.dns_data.specs.Name.{name_cmp, is_prefix};
+ghost use Rattle.dns_data.specs.declared.rdata.Rr.{Rr};
+ghost use Rattle.zone_tree.specs.Names.{Ordered};
+ghost use Rattle.zone_tree.specs.Owners.{AreByOwner, leading};
+ghost use Rattle.zone_tree.specs.Records.{data_of, Tells};
+
+use crate::records::{Records, records_of};
+use dns_data::{Name, NoMemory, Rr};
+use net_model::Zone;
+use std::alloc::Global;
+
+/// The records at or below the origin in the order of their owners, those of one owner in file order.
+pub(crate) fn rrs_in_order<'a>(alloc: Global, zone: &'a Zone) -> Result<Vec<&'a Rr>, NoMemory>
+    ensures { IfOk result (λ rrs. AreByOwner zone.now (map (λ rr. rr.now) rrs.items)) }
+{
+    let mut rrs = rrs_within(alloc, zone)?;
+    rrs.sort_by(|a, b| a.owner.compare(&b.owner))?;
+    Ok(rrs)
+}
+
+/// The records at or below the origin in file order.
+fn rrs_within<'a>(alloc: Global, zone: &'a Zone) -> Result<Vec<&'a Rr>, NoMemory>
+    ensures { IfOk result (λ rrs. map (λ rr. rr.now) rrs.items ≡ filter (λ rr. is_prefix zone.now.origin rr.owner) zone.now.rrs) }
+{
+    let mut rrs = Vec::with_capacity(alloc, zone.rrs.items().len())?;
+    for rr in zone.rrs.items() {
+        if zone.origin.is_prefix_of(&rr.owner) {
+            rrs.push(rr)?;
+        }
+    }
+    Ok(rrs)
+}
+
+/// What each of the names owns, by records in the order of their owners, which are among the names.
+pub(crate) fn records_by_name<'a>(
+    alloc: Global,
+    names: &[Name],
+    rrs: &[&'a Rr],
+) -> Result<Vec<Records<'a>>, NoMemory>
+    requires names { Ordered names.now }
+    requires sorted { IsSorted name_cmp (map (λ rr. rr.owner) (map (λ rr. rr.now) rrs.now)) }
+    requires among { (rr : Rr) → Contains (map (λ rr. rr.now) rrs.now) rr → Contains names.now rr.owner }
+    ensures many { IfOk result (λ all. length all.items ≡ length names.now) }
+    ensures each { IfOk result (λ all. (k : ℕ) (d : _) → k < length names.now → Tells (data_of (map (λ rr. rr.now) rrs.now) (slice_index_or names.now k [])) (slice_index_or all.items k d)) }
+{
+    let mut all = Vec::with_capacity(alloc, names.len())?;
+    let mut at = 0;
+    for name in names {
+        let left = &rrs[at..];
+        let (own, _) = left.split_at(leading(left, name));
+        all.push(records_of(alloc, own)?)?;
+        at += own.len();
+    }
+    Ok(all)
+}
+
+/// How many records at the front have this owner.
+fn leading(rrs: &[&Rr], name: &Name) -> usize
+    ensures value { result ≡ leading name.now (map (λ rr. rr.now) rrs.now) }
+    ensures within { result ≤ length rrs.now }
+{
+    let mut count = 0;
+    for rr in rrs {
+        if rr.owner != *name {
+            return count;
+        }
+        count += 1;
+    }
+    count
+}
