@@ -8,9 +8,10 @@ use crate::line::Line;
 use crate::status::Status;
 use dns_data::{List, Name, NoMemory, RrType};
 use net_model::{Config, Walk};
-use plain_resolver::{LearntFault, ResolveFault, learnt, resolve};
+use plain_resolver::{LearntFault, ResolveFault, learnt_at, resolve_at};
 use report_json::ask_text;
 use std::alloc::Global;
+use zone_lookup::Hosts;
 
 /// How many rewrites a walk may use.
 const REWRITES: u32 = 12;
@@ -25,19 +26,29 @@ const MOST_LEARNING_WALKS: u32 = 10_000;
 pub(crate) fn ask(alloc: Global, config: &Config, name: &Name, rtype: RrType) -> Ending
     ensures { Asks name.now rtype config.now result ⊎ (result ≡ no_memory) }
 {
+    match Hosts::build(alloc, config) {
+        Ok(hosts) => ask_at(alloc, &hosts, name, rtype),
+        Err(NoMemory) => Ending::no_memory(),
+    }
+}
+
+/// The same with the trees of the configuration's zones.
+fn ask_at(alloc: Global, hosts: &Hosts<'_>, name: &Name, rtype: RrType) -> Ending
+    ensures { Asks name.now rtype hosts.now result ⊎ (result ≡ no_memory) }
+{
     let none = List::new(alloc);
-    match learnt(alloc, config, REWRITES, none.items(), MOST_LEARNING_WALKS) {
-        Ok(followed) => answer(alloc, config, followed.items(), name, rtype),
+    match learnt_at(alloc, hosts, REWRITES, none.items(), MOST_LEARNING_WALKS) {
+        Ok(followed) => answer(alloc, hosts, followed.items(), name, rtype),
         Err(LearntFault::WalksPassed(server)) => Ending::too_many_to_learn(alloc, &server),
         Err(LearntFault::NoMemory) => Ending::no_memory(),
     }
 }
 
 /// All walks of the query while these servers are followed, unless there are too many.
-fn answer(alloc: Global, config: &Config, followed: &[Name], name: &Name, rtype: RrType) -> Ending
-    ensures { IsAnswered config.now followed.now name.now rtype result ⊎ (result ≡ no_memory) }
+fn answer(alloc: Global, hosts: &Hosts<'_>, followed: &[Name], name: &Name, rtype: RrType) -> Ending
+    ensures { IsAnswered hosts.now followed.now name.now rtype result ⊎ (result ≡ no_memory) }
 {
-    match resolve(alloc, config, REWRITES, followed, name, rtype, MOST_WALKS) {
+    match resolve_at(alloc, hosts, REWRITES, followed, name, rtype, MOST_WALKS) {
         Ok(walks) => answered(alloc, name, rtype, walks.items()),
         Err(ResolveFault::WalksPassed) => Ending::too_many_walks(),
         Err(ResolveFault::NoMemory) => Ending::no_memory(),

@@ -1,0 +1,53 @@
+-- The servers that are followed are learnt from none.
+use Rattle.std.proofs.Common.{◌≡◌, ◌∙◌, List, [], length, Result, Err, inl, inr, sym, ap, subst}
+use Rattle.dns_data.specs.Name.{Labels}
+use Rattle.net_model.specs.declared.config.Config.{Config}
+use Rattle.net_model.specs.Learnt.{AfterRounds, IsLeast}
+use Rattle.plain_resolver.specs.Passed.{NoneInRounds, IsFirstWithTooMany}
+use Rattle.plain_resolver.specs.declared.fault.LearntFault.{LearntFault}
+use Rattle.groot_run.specs.Outcome.{ask_rewrites, most_learning_walks, too_many_to_learn}
+use Rattle.groot_run.proofs.ask.ask_at.Goals as goal
+
+learnt_from_none : (config : Config) (begin followed viewed : List Labels) → begin ≡ [] → followed ≡ viewed
+    → AfterRounds config ask_rewrites (length config.servers) begin viewed → IsLeast config ask_rewrites followed
+learnt_from_none config begin followed viewed none same rounds =
+    subst (IsLeast config ask_rewrites) (sym same)
+    (subst (λ (names : List Labels). AfterRounds config ask_rewrites (length config.servers) names viewed) none rounds)
+
+few_from_none : (config : Config) (begin : List Labels) → begin ≡ []
+    → NoneInRounds config ask_rewrites most_learning_walks begin (length config.servers) → NoneInRounds config ask_rewrites most_learning_walks [] (length config.servers)
+few_from_none config begin none few =
+    subst (λ (names : List Labels). NoneInRounds config ask_rewrites most_learning_walks names (length config.servers)) none few
+
+first_from_none : (config : Config) (begin : List Labels) (server : Labels) → begin ≡ []
+    → IsFirstWithTooMany config ask_rewrites most_learning_walks begin server → IsFirstWithTooMany config ask_rewrites most_learning_walks [] server
+first_from_none config begin server none first =
+    subst (λ (names : List Labels). IsFirstWithTooMany config ask_rewrites most_learning_walks names server) none first
+
+pub returns-in-Ok : goal.returns-in-Ok
+returns-in-Ok c =
+    let none : c.items.result.now ≡ [] = c.items.ensures ∙ c.new-none.ensures in
+    elim c.answer.ensures [
+      | inl is ↦ inl (inr (record {
+        followed = c.items-in-Ok.result.now;
+        in_force =
+            learnt_from_none c.args.hosts.now c.items.result.now c.items-in-Ok.result.now _ none c.items-in-Ok.ensures c.in-Ok.ensures.rounds;
+        few = few_from_none c.args.hosts.now c.items.result.now none c.in-Ok.ensures.few;
+        answer = is;
+      }))
+      | inr ran_out ↦ inr ran_out
+    ]
+
+pub returns-in-Err-WalksPassed : goal.returns-in-Err-WalksPassed
+returns-in-Err-WalksPassed c =
+    let none : c.items.result.now ≡ [] = c.items.ensures ∙ c.new-none.ensures in
+    elim c.too_many_to_learn.ensures [
+      | inl ends ↦ inl (inl (
+        c.in-Err-WalksPassed.server,
+        first_from_none c.args.hosts.now c.items.result.now c.in-Err-WalksPassed.server none
+            (c.in-Err-WalksPassed.ensures.passed c.in-Err-WalksPassed.server
+            (ap {B = Result (List Labels) LearntFault} (λ (fault : LearntFault). Err fault) c.in-Err-WalksPassed.field-0-is)),
+        let same : c.too_many_to_learn.result ≡ too_many_to_learn c.in-Err-WalksPassed.server = cc ends in same,
+      ))
+      | inr ran_out ↦ inr ran_out
+    ]
