@@ -2,6 +2,9 @@ pub use Rattle.graph_form.specs.Report
 pub use Rattle.verdict_book.specs.Items
 pub use Rattle.verdict_book.specs.Lists
 pub mod Carried
+pub mod Entries
+pub mod Passed
+pub mod Rows
 pub mod Setup
 pub mod Values
 pub mod Verdict

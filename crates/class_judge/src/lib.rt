@@ -9,14 +9,20 @@
 #![tactic(auto)]
 
 mod classes;
+mod entries;
 mod faults;
+mod found;
 mod judge;
 pub mod laws;
 mod naming;
+mod passed;
 mod prepare;
+mod report;
+mod rows;
 mod setup;
 mod verdict;
 
 pub use judge::Judge;
 pub use naming::Naming;
+pub use report::ReportFault;
 pub use verdict::{ClassVerdict, NameVerdict};

@@ -1,0 +1,29 @@
+use Rattle.std.proofs.Common.{◌∙◌, sym, subst}
+use Rattle.std.proofs.lemmas.Result.{IfOk-weaker}
+use Rattle.net_model.specs.Reading.{ground_of}
+use Rattle.query_classes.specs.Children.{IsBelow}
+use Rattle.class_judge.specs.Rows.{IsFirstPassedAt, IsPassedAt}
+use Rattle.class_judge.proofs.ReportPassed.{exact_passes, below_found, none_passes_at}
+use Rattle.class_judge.proofs.passed.passed_at.Goals as goal
+
+pub returns-then-passes : goal.returns-then-passes
+returns-then-passes c =
+    let setup = c.args.setup.now in
+    let row = c.args.row.now in
+    subst (IsFirstPassedAt setup.trees setup.rewrites setup.states row.name) (sym c.in_ok-copy.ensures)
+    (exact_passes setup.trees setup.rewrites setup.states row.name c.requires.in_tree row.verdict.exact c.requires.verdict.exact (sym c.passes.ensures ∙ c.if-passes.true))
+
+pub returns-then-passes_below : goal.returns-then-passes_below
+returns-then-passes_below c =
+    let setup = c.args.setup.now in
+    let row = c.args.row.now in
+    IfOk-weaker c.representative_below.result (IsBelow (ground_of setup.trees) row.name) (IsPassedAt setup.trees setup.rewrites setup.states row.name)
+    (below_found setup.trees setup.rewrites setup.states row.name c.requires.in_tree row.verdict.exact row.verdict.below c.requires.verdict.exact c.requires.verdict.below
+    (sym c.passes.ensures ∙ c.if-passes.false) (sym c.passes_below.ensures ∙ c.if-passes_below.true)) c.representative_below.ensures
+
+pub returns : goal.returns
+returns c =
+    let setup = c.args.setup.now in
+    let row = c.args.row.now in
+    none_passes_at setup.trees setup.rewrites setup.states row.name c.requires.in_tree row.verdict.exact row.verdict.below c.requires.verdict.exact c.requires.verdict.below
+    (sym c.passes.ensures ∙ c.if-passes.false) (sym c.passes_below.ensures ∙ c.if-passes_below.false)

@@ -1,0 +1,108 @@
+-- The names of a class tree with their verdicts, and what is found in them: for the contracts of inner calls alone.
+use Rattle.std.specs.Prelude.{◌≡◌, ◌≢◌, ℕ, Bool, true, false, not, List, [], ◌++◌, map, length, Contains, All, AllPairs, Option, Some, None, is_some, MatchOption}
+use Rattle.std.specs.List.{filter, flat_map}
+use Rattle.std.specs.Option.{option_map_or}
+use Rattle.std.specs.Ordering.{is_eq, ordering_then}
+use Rattle.std.specs.declared.cmp.Ordering.{Ordering}
+use Rattle.std.specs.declared.cmp.Ordering.TheVariants.{Less}
+use Rattle.class_judge.specs.Passed.{ClassPasses}
+use Rattle.class_judge.specs.Verdict.{IsNameVerdict}
+use Rattle.class_judge.specs.declared.found.Found.{Found}
+use Rattle.class_judge.specs.declared.rows.Row.{Row}
+use Rattle.class_judge.specs.declared.verdict.ClassVerdict.{ClassVerdict}
+use Rattle.class_judge.specs.declared.verdict.ClassVerdict.TheVariants.{Faults, StatesPassed}
+use Rattle.dns_data.specs.Name.{Labels, name_cmp}
+use Rattle.graph_form.specs.Report.{class_name}
+use Rattle.graph_form.specs.declared.report.Seen.{Seen}
+use Rattle.net_model.specs.declared.class.Class.{Class}
+use Rattle.net_model.specs.declared.class.Class.TheVariants.{Exact, Below}
+use Rattle.net_model.specs.declared.config.Config.{Config}
+use Rattle.net_model.specs.Class.{class_cmp}
+use Rattle.net_model.specs.FaultOrder.{fault_cmp}
+use Rattle.net_model.specs.Reading.{ground_of}
+use Rattle.net_model.specs.Tree.{IsClassTree}
+
+-- the names of rows
+abbrev pub row_names : List Row → List Labels
+row_names rows = map (λ row. row.name) rows
+
+-- each name stands before the later ones
+abbrev pub AreInTreeOrder : List Row → Type 0
+AreInTreeOrder rows = AllPairs (λ a b. name_cmp a.name b.name ≡ Less) rows
+
+-- the rows are the names of the class tree in order, each with its verdict
+pub record AreRows (config : Config) (rewrites states : ℕ) (rows : List Row) : Type 0 where
+  pub ordered : AreInTreeOrder rows
+  pub tree : IsClassTree (ground_of config) (row_names rows)
+  pub verdicts : All (λ row. IsNameVerdict config rewrites states row.name row.verdict) rows
+
+-- the class below the name isn't empty
+abbrev pub has_below : Row → Bool
+has_below row = is_some row.verdict.below
+
+-- how many classes the rows have that aren't empty
+abbrev pub below_count : List Row → ℕ
+below_count rows = length (filter has_below rows)
+
+-- the representative of the class reaches more pairs of state and type than are looked at
+abbrev pub passes : ClassVerdict → Bool
+passes (Faults shown) = false
+passes StatesPassed = true
+
+-- the representative of no class of the name does
+abbrev pub NonePassesAt : Config → ℕ → ℕ → Labels → Type 0
+NonePassesAt config rewrites states name =
+    (class : Class) (query : Labels) → class_name class ≡ name → ClassPasses config rewrites states class query → ⊥
+
+-- it is the first representative of the classes of the name that does
+pub record IsFirstPassedAt (config : Config) (rewrites states : ℕ) (name query : Labels) : Type 0 where
+  pub class : Class
+  pub of_name : class_name class ≡ name
+  pub passes : ClassPasses config rewrites states class query
+  pub first : (other : Class) (also : Labels) → class_name other ≡ name → ClassPasses config rewrites states other also → class_cmp other class ≢ Less
+
+abbrev pub IsPassedAt : Config → ℕ → ℕ → Labels → Option Labels → Type 0
+IsPassedAt config rewrites states name found =
+    MatchOption found (NonePassesAt config rewrites states name) (IsFirstPassedAt config rewrites states name)
+
+-- faults with their class
+abbrev pub with_class : Class → List Seen → List Found
+with_class class shown = map (λ seen. record { seen = seen; class = class }) shown
+
+-- the faults of a class
+abbrev pub found_in : Class → ClassVerdict → List Found
+found_in class (Faults shown) = with_class class shown
+found_in class StatesPassed = []
+
+abbrev pub found_below : Labels → Option ClassVerdict → List Found
+found_below name None = []
+found_below name (Some verdict) = found_in (Below name) verdict
+
+-- those of the classes of a name
+abbrev pub found_at : Row → List Found
+found_at row = found_in (Exact row.name) row.verdict.exact ++ found_below row.name row.verdict.below
+
+-- those of all classes
+abbrev pub found_of : List Row → List Found
+found_of rows = flat_map found_at rows
+
+-- the fault is in the list, with this class or one before it
+pub record IsFoundBy (found : List Found) (one : Found) : Type 0 where
+  pub by : Found
+  pub has : Contains found by
+  pub fault_is : by.seen.fault ≡ one.seen.fault
+  pub not_later : class_cmp one.class by.class ≢ Less
+
+-- of each fault of a list the first class, in fault order
+pub record AreFirstClasses (all first : List Found) : Type 0 where
+  pub ordered : AllPairs (λ a b. fault_cmp a.seen.fault b.seen.fault ≡ Less) first
+  pub from : (found : Found) → Contains first found → Contains all found
+  pub covers : (found : Found) → Contains all found → IsFoundBy first found
+
+-- the order of faults, and of classes with one fault
+abbrev pub found_cmp : Found → Found → Ordering
+found_cmp a b = ordering_then (fault_cmp a.seen.fault b.seen.fault) (class_cmp a.class b.class)
+
+-- the next has another fault than the last, if there is one
+abbrev pub is_new_fault : Option Found → Found → Bool
+is_new_fault last next = option_map_or (λ found. not (is_eq (fault_cmp found.seen.fault next.seen.fault))) last true

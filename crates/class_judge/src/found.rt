@@ -1,0 +1,157 @@
+//! The faults that classes show, and of each fault the first class that shows it.
+
+ghost use Rattle.std.specs.Prelude.{◌≡◌, ◌-◌, ◌∷◌, ◌++◌, [], IfOk, OnOk, if◌then◌else◌, length, slice_get};
+ghost use Rattle.class_judge.specs.Rows.{AreFirstClasses, found_at, found_below, found_cmp, found_in, found_of, is_new_fault, with_class};
+
+use crate::rows::Row;
+use crate::verdict::{ClassVerdict, NameVerdict};
+use dns_data::{List, Name, NoMemory};
+use graph_form::Seen;
+use net_model::Class;
+use std::alloc::Global;
+use std::cmp::Ordering;
+use std::collections::VecDeque;
+
+/// A fault with its first type, and a class that shows it.
+#[derive(Drop)]
+pub(crate) struct Found {
+    pub seen: Seen,
+    pub class: Class,
+}
+
+/// The faults of the rows, each with its class.
+pub(crate) fn found_of(alloc: Global, rows: Vec<Row>) -> Result<List<Found>, NoMemory>
+    ensures { IfOk result (λ found. found ≡ found_of rows.items) }
+{
+    let mut left = VecDeque::from_vec(rows);
+    let mut found = List::new(alloc);
+    while let Some(row) = left.pop_front() {
+        put_row(alloc, row, &mut found)?;
+    }
+    Ok(found)
+}
+
+/// Puts the faults of the classes of a name at the end.
+fn put_row(alloc: Global, row: Row, found: &mut List<Found>) -> Result<(), NoMemory>
+    ensures { OnOk result (found.new ≡ found.old ++ found_at row) }
+{
+    let class = Class::Exact(row.name.copy(alloc)?);
+    let Row { name, verdict } = row;
+    put_classes(alloc, &class, name, verdict, found)
+}
+
+/// Puts the faults of a class and those of the class below a name at the end.
+fn put_classes(
+    alloc: Global,
+    class: &Class,
+    name: Name,
+    verdict: NameVerdict,
+    found: &mut List<Found>,
+) -> Result<(), NoMemory>
+    ensures { OnOk result (found.new ≡ found.old ++ (found_in class.now verdict.exact ++ found_below name verdict.below)) }
+{
+    let NameVerdict { exact, below } = verdict;
+    put_class(alloc, class, exact, found)?;
+    put_below(alloc, name, below, found)
+}
+
+/// Puts the faults of the class below a name at the end, if it isn't empty.
+fn put_below(
+    alloc: Global,
+    name: Name,
+    below: Option<ClassVerdict>,
+    found: &mut List<Found>,
+) -> Result<(), NoMemory>
+    ensures { OnOk result (found.new ≡ found.old ++ found_below name below) }
+{
+    match below {
+        Some(verdict) => put_class(alloc, &Class::Below(name), verdict, found),
+        None => Ok(()),
+    }
+}
+
+/// Puts the faults of a class at the end.
+fn put_class(
+    alloc: Global,
+    class: &Class,
+    verdict: ClassVerdict,
+    found: &mut List<Found>,
+) -> Result<(), NoMemory>
+    ensures { OnOk result (found.new ≡ found.old ++ found_in class.now verdict) }
+{
+    match verdict {
+        ClassVerdict::Faults(shown) => put_all(alloc, class, shown, found),
+        ClassVerdict::StatesPassed => Ok(()),
+    }
+}
+
+/// Puts faults with their class at the end.
+fn put_all(
+    alloc: Global,
+    class: &Class,
+    shown: List<Seen>,
+    found: &mut List<Found>,
+) -> Result<(), NoMemory>
+    ensures { OnOk result (found.new ≡ found.old ++ with_class class.now shown) }
+{
+    let mut left = VecDeque::from_vec(shown.into_vec());
+    while let Some(seen) = left.pop_front() {
+        let class = copied(alloc, class)?;
+        found.push(Found { seen, class })?;
+    }
+    Ok(())
+}
+
+/// An equal class.
+fn copied(alloc: Global, class: &Class) -> Result<Class, NoMemory>
+    ensures { IfOk result (λ copy. copy ≡ class.now) }
+{
+    match class {
+        Class::Exact(name) => Ok(Class::Exact(name.copy(alloc)?)),
+        Class::Below(name) => Ok(Class::Below(name.copy(alloc)?)),
+    }
+}
+
+/// Of each fault the first class that shows it, in fault order. The list is sorted and then passed over once.
+pub(crate) fn first_classes(alloc: Global, found: List<Found>) -> Result<List<Found>, NoMemory>
+    ensures { IfOk result (AreFirstClasses found) }
+{
+    let mut sorted = found.into_vec();
+    sorted.sort_by(|a, b| compare(a, b))?;
+    let mut left = VecDeque::from_vec(sorted);
+    let mut first = List::new(alloc);
+    while let Some(next) = left.pop_front() {
+        put_next(&mut first, next)?;
+    }
+    Ok(first)
+}
+
+/// Puts the next one behind the others, unless the last of them has the same fault.
+fn put_next(first: &mut List<Found>, next: Found) -> Result<(), NoMemory>
+    ensures { OnOk result (first.new ≡ (if is_new_fault (slice_get first.old (length first.old - 1)) next then first.old ++ next ∷ [] else first.old)) }
+{
+    if is_new_fault(first.items(), &next) {
+        return first.push(next);
+    }
+    Ok(())
+}
+
+/// How two stand to each other: by fault, then by class.
+fn compare(a: &Found, b: &Found) -> Ordering
+    ensures { result ≡ found_cmp a.now b.now }
+{
+    a.seen
+        .fault
+        .compare(&b.seen.fault)
+        .then_with(|| a.class.compare(&b.class))
+}
+
+/// Whether the next one has another fault than the last of the list.
+fn is_new_fault(first: &[Found], next: &Found) -> bool
+    ensures { result ≡ is_new_fault (slice_get first.now (length first.now - 1)) next.now }
+{
+    match first.last() {
+        Some(last) => last.seen.fault.compare(&next.seen.fault) != Ordering::Equal,
+        None => true,
+    }
+}

@@ -1,0 +1,111 @@
+//! The report of a configuration, from the verdicts of the names of its class tree.
+
+ghost use Rattle.std.specs.Prelude.{◌≡◌, ◌<◌, ◌^◌, [], length, IfOk, IfErr, OnOk, vec_len};
+ghost use Rattle.class_judge.specs.Carried.{whole};
+ghost use Rattle.class_judge.specs.Passed.{SomeClassPasses, IsReportFault};
+ghost use Rattle.class_judge.specs.Rows.{AreRows};
+ghost use Rattle.class_judge.specs.Setup.{AreSets, IsSetup};
+ghost use Rattle.dns_data.specs.Name.{name_cmp};
+ghost use Rattle.graph_form.specs.Report.{IsReport};
+ghost use Rattle.verdict_book.specs.Lists.{IsWholeTree};
+
+use crate::entries::entries_of;
+use crate::found::{first_classes, found_of};
+use crate::judge::Judge;
+use crate::naming::Naming;
+use crate::passed::first_passed;
+use crate::rows::{Row, below_count, rows_of};
+use crate::setup::Setup;
+use dns_data::{List, Name, NoMemory};
+use graph_form::{Deps, Report};
+use thiserror::Error;
+use verdict_book::Filed;
+
+/// Why a report isn't given.
+#[derive(Debug, Drop, Error)]
+pub enum ReportFault {
+    /// The representative of some class reaches more pairs of state and type than are looked at; this one is the first.
+    #[error("more states than are looked at")]
+    StatesPassed(Name),
+    #[error("no memory")]
+    NoMemory,
+}
+
+impl From<NoMemory> for ReportFault {
+    ghost from_gives = { λ _ fault. fault ≡ NoMemory };
+
+    ghost use Rattle.class_judge.specs.declared.report.ReportFault.TheVariants.{NoMemory};
+
+    fn from(_fault: NoMemory) -> ReportFault {
+        ReportFault::NoMemory
+    }
+}
+
+impl<'a, N: Naming> Judge<'a, N> {
+    /// The report of the configuration, from the verdicts of all names of its class tree: the faults that some query shows,
+    /// each with its first query and type, and the first walk or pair of walks. Where the representative of some class reaches
+    /// more pairs of state and type than are looked at, it is `StatesPassed` with the first such one.
+    pub fn report(&self, filed: List<Filed<Judge<'a, N>>>) -> Result<Report, ReportFault>
+        requires whole { IsWholeTree name_cmp [] N.children_of N.verdict_of filed }
+        requires few { length filed < 2 ^ 31 }
+        ensures report { IfOk result (IsReport (whole N.config N.rewrites)) }
+        ensures none_passes { OnOk result (SomeClassPasses N.config N.rewrites N.states → ⊥) }
+        ensures fault { IfErr result (IsReportFault N.config N.rewrites N.states) }
+    {
+        let setup = self.setup();
+        let rows = rows_of(setup.alloc, filed)?;
+        report_of(setup, rows)
+    }
+}
+
+/// The report from the rows of the class tree.
+fn report_of(setup: &Setup<'_>, rows: Vec<Row>) -> Result<Report, ReportFault>
+    requires setup { IsSetup setup.now }
+    requires rows { AreRows setup.now.trees setup.now.rewrites setup.now.states rows.items }
+    requires few { vec_len rows < 2 ^ 31 }
+    ensures report { IfOk result (IsReport (whole setup.now.trees setup.now.rewrites)) }
+    ensures none_passes { OnOk result (SomeClassPasses setup.now.trees setup.now.rewrites setup.now.states → ⊥) }
+    ensures fault { IfErr result (IsReportFault setup.now.trees setup.now.rewrites setup.now.states) }
+{
+    let passed = first_passed(setup, rows.as_slice())?;
+    match passed {
+        Some(query) => Err(ReportFault::StatesPassed(query)),
+        None => Ok(report_with_sets(setup, rows)?),
+    }
+}
+
+/// The report from the rows, where no class passes the limit: so there are the two sets of learnt addresses.
+fn report_with_sets(setup: &Setup<'_>, rows: Vec<Row>) -> Result<Report, NoMemory>
+    requires setup { IsSetup setup.now }
+    requires rows { AreRows setup.now.trees setup.now.rewrites setup.now.states rows.items }
+    requires none_passes { SomeClassPasses setup.now.trees setup.now.rewrites setup.now.states → ⊥ }
+    requires few { vec_len rows < 2 ^ 31 }
+    ensures { IfOk result (IsReport (whole setup.now.trees setup.now.rewrites)) }
+{
+    match &setup.sets {
+        Some(sets) => report_with(setup, sets.deps(), rows),
+        None => unreachable!(),
+    }
+}
+
+/// The report from the rows and the two sets of learnt addresses, where no class passes the limit.
+fn report_with(setup: &Setup<'_>, deps: &Deps, rows: Vec<Row>) -> Result<Report, NoMemory>
+    requires setup { IsSetup setup.now }
+    requires sets { AreSets setup.now.trees setup.now.rewrites setup.now.states deps.now }
+    requires rows { AreRows setup.now.trees setup.now.rewrites setup.now.states rows.items }
+    requires none_passes { SomeClassPasses setup.now.trees setup.now.rewrites setup.now.states → ⊥ }
+    requires few { vec_len rows < 2 ^ 31 }
+    ensures { IfOk result (IsReport (whole setup.now.trees setup.now.rewrites)) }
+{
+    let names = rows.len();
+    let below = below_count(rows.as_slice());
+    let found = found_of(setup.alloc, rows)?;
+    let firsts = first_classes(setup.alloc, found)?;
+    let entries = entries_of(setup, deps, firsts)?;
+    Ok(Report {
+        classes: (names + below) as u32,
+        names: names as u32,
+        rewrites: setup.rewrites,
+        entries,
+    })
+}
