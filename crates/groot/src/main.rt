@@ -1,47 +1,61 @@
 //! The program: the top call over the disk, the standard streams and the words of the command line.
 #![tactic(auto)]
 
+use dns_data::NoMemory;
 use groot_run::{Status, groot};
-use io_edges::{DiskFiles, FreeGate, OutSink};
+use io_edges::{DiskFiles, Files, FreeGate, OutSink, Sink};
 use std::alloc::{AllocError, Global};
 use std::io::{self, ErrorKind};
 use std::process::ExitCode;
+use std::sync::Wait;
+use std::thread::Threads;
 
 fn main(rt: HostRuntime) -> ExitCode {
-    ExitCode::from(run(&rt).number())
-}
-
-/// Runs the top call with the program's words.
-fn run(rt: &HostRuntime) -> Status {
-    let alloc = rt.alloc();
-    let words = match words(rt) {
-        Ok(words) => words,
-        Err(error) => return without_words(rt, error.kind()),
+    let mut files = DiskFiles::new(&rt);
+    let mut out = OutSink::new(rt.stdout());
+    let mut err = OutSink::new(rt.stderr());
+    let status = match words(&rt) {
+        Ok(words) => run(
+            &rt,
+            rt.alloc(),
+            words.as_slice(),
+            &mut files,
+            &mut out,
+            &mut err,
+        ),
+        Err(NoMemory) => Status::NoMemory,
     };
-    let Ok(words) = borrowed(alloc, words.as_slice()) else {
-        return Status::NoMemory;
-    };
-    with_words(rt, words.as_slice())
-}
-
-/// Ends a run whose words can't be had: memory ran out, or a word isn't UTF-8 and so is no word of a job.
-fn without_words(rt: &HostRuntime, cause: ErrorKind) -> Status {
-    match cause {
-        ErrorKind::OutOfMemory => Status::NoMemory,
-        _ => with_words(rt, &[]),
-    }
+    ExitCode::from(status.number())
 }
 
 /// Runs the top call with these words.
-fn with_words(rt: &HostRuntime, words: &[&str]) -> Status {
-    let mut files = DiskFiles::new(rt);
-    let mut out = OutSink::new(rt.stdout());
-    let mut err = OutSink::new(rt.stderr());
-    groot(rt.alloc(), words, &mut files, &mut out, &mut err, &FreeGate)
+fn run<F: Files, O: Sink, E: Sink, R: Threads + Wait + Sync>(
+    rt: &R,
+    alloc: Global,
+    words: &[String],
+    files: &mut F,
+    out: &mut O,
+    err: &mut E,
+) -> Status {
+    match borrowed(alloc, words) {
+        Ok(words) => groot(rt, alloc, words.as_slice(), files, out, err, &FreeGate),
+        Err(AllocError) => Status::NoMemory,
+    }
+}
+
+/// The words of a job: those after the program's name, or none where one of them isn't UTF-8.
+fn words(rt: &HostRuntime) -> Result<Vec<String>, NoMemory> {
+    match all_words(rt) {
+        Ok(words) => Ok(words),
+        Err(error) => match error.kind() {
+            ErrorKind::OutOfMemory => Err(NoMemory),
+            _ => Ok(Vec::new(rt.alloc())),
+        },
+    }
 }
 
 /// The words after the program's name. A word that isn't UTF-8 is an error.
-fn words(rt: &HostRuntime) -> io::Result<Vec<String>> {
+fn all_words(rt: &HostRuntime) -> io::Result<Vec<String>> {
     let mut words = Vec::new(rt.alloc());
     for word in std::env::args(rt)?.skip(1) {
         words.push(word)?;

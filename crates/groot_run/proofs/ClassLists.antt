@@ -16,12 +16,12 @@ use Rattle.net_model.specs.Tree.{IsClassTree, AreBelowClasses, HasMoreThan}
 use Rattle.query_classes.specs.declared.tree.ClassRow.{ClassRow}
 use Rattle.label_graph.specs.Pairs.{AreSame}
 use Rattle.query_classes.specs.Children.{IsInTree, IsBelow}
+use Rattle.query_classes.specs.Members.{class_name}
 use Rattle.query_classes.specs.Rows.{tree_names, if_some, below_names}
 use Rattle.groot_run.specs.declared.ending.Ending.{Ending}
 use Rattle.groot_run.specs.declared.status.Status.TheVariants.{Clean}
 use Rattle.groot_run.specs.ClassList.{ListedClass, IsListed, AreListed, class_line, class_list_text}
 use Rattle.groot_run.specs.Outcome.{listed, ListsClasses}
-use Rattle.groot_run.specs.Report.{IsClass}
 use Rattle.groot_run.specs.ClassRows.{class_below, classes_of_row, classes_of_rows, rows_text}
 use Rattle.dns_data.proofs.Membership.{none_in_nil, has_first, has_later, first_or_later, all_from_contains, map_has, from_map, flat_map_has, from_flat_map, pairs_first, pairs_rest}
 use Rattle.dns_data.proofs.NameOrder.{names_total}
@@ -39,29 +39,24 @@ text_by_rows (row ∷ rows) =
 
 -- ---- the order
 
--- the name by which a class goes
-abbrev name_in : Class → Labels
-name_in (Exact name) = name
-name_in (Below name) = name
-
 -- the classes of a row go by its name
-of_its_name : (row : ClassRow) (listed : ListedClass) → Contains (classes_of_row row) listed → name_in listed.class ≡ row.name
+of_its_name : (row : ClassRow) (listed : ListedClass) → Contains (classes_of_row row) listed → class_name listed.class ≡ row.name
 of_its_name row listed has =
     elim (first_or_later (record { class = Exact row.name; representative = row.name }) (class_below row.name row.below) listed has) [
-      | inl same ↦ ap (λ (x : ListedClass). name_in x.class) (sym same)
+      | inl same ↦ ap (λ (x : ListedClass). class_name x.class) (sym same)
       | inr later ↦ below row.below later
     ]
   where
-    below : (found : Option Labels) → Contains (class_below row.name found) listed → name_in listed.class ≡ row.name
+    below : (found : Option Labels) → Contains (class_below row.name found) listed → class_name listed.class ≡ row.name
     below None later = absurd (none_in_nil listed later)
     below (Some representative) later =
         elim (first_or_later (record { class = Below row.name; representative = representative }) [] listed later) [
-          | inl same ↦ ap (λ (x : ListedClass). name_in x.class) (sym same)
+          | inl same ↦ ap (λ (x : ListedClass). class_name x.class) (sym same)
           | inr none ↦ absurd (none_in_nil listed none)
         ]
 
 -- classes stand as the names by which they go
-by_names : (a b : Class) → name_cmp (name_in a) (name_in b) ≡ Less → class_cmp a b ≡ Less
+by_names : (a b : Class) → name_cmp (class_name a) (class_name b) ≡ Less → class_cmp a b ≡ Less
 by_names (Exact a) (Exact b) before = before
 by_names (Exact a) (Below b) before = ap (λ o. ordering_then o Less) before
 by_names (Below a) (Exact b) before = ap (λ o. ordering_then o Greater) before
@@ -77,14 +72,14 @@ Before a b = class_cmp a.class b.class ≡ Less
 
 -- each class of a row stands before those of the later rows
 before_later : (row : ClassRow) (rows : List ClassRow) → AllPairs (λ a b. name_cmp a b ≡ Less) (tree_names (row ∷ rows))
-    → (listed : ListedClass) → name_in listed.class ≡ row.name → All (Before listed) (classes_of_rows rows)
+    → (listed : ListedClass) → class_name listed.class ≡ row.name → All (Before listed) (classes_of_rows rows)
 before_later row rows ordered listed own = all_from_contains (Before listed) (classes_of_rows rows) each where
   each : (other : ListedClass) → Contains (classes_of_rows rows) other → Before listed other
   each other has =
       let found = from_flat_map classes_of_row rows other has in
       let before : name_cmp row.name found.0.name ≡ Less =
       pairs_first (λ (a b : Labels). name_cmp a b ≡ Less) row.name (tree_names rows) ordered found.0.name (map_has (λ (r : ClassRow). r.name) rows found.0 found.1) in
-      let name : name_in other.class ≡ found.0.name = of_its_name found.0 other found.2 in
+      let name : class_name other.class ≡ found.0.name = of_its_name found.0 other found.2 in
       by_names listed.class other.class (rw (own, name) before)
 
 -- so the classes stand in class order
@@ -123,7 +118,7 @@ module _ (config : Config) (rows : List ClassRow) (tree : IsClassTree (ground_of
         | inr later ↦ of_below row.below (All-contains (λ (r : ClassRow). IsBelow (ground_of config) r.name r.below) rows row represented among) later
       ]
     where
-      in_tree : IsNamed (ground_of config) row.name × IsName row.name
+      in_tree : IsInTree (ground_of config) row.name
       in_tree = (tree.all row.name).0 (map_has (λ (r : ClassRow). r.name) rows row among)
 
       of_below : (found : Option Labels) → IsBelow (ground_of config) row.name found → Contains (class_below row.name found) listed → IsListed config listed
@@ -175,7 +170,7 @@ module _ (config : Config) (rows : List ClassRow) (tree : IsClassTree (ground_of
   -- so each class that isn't empty is listed
   is_among : (listed : ListedClass) → IsListed config listed → Contains (classes_of_rows rows) listed
   is_among listed (is_class, represents) = by listed.class is_class represents where
-    by : (class : Class) → IsClass config class → IsRepresentative (ground_of config) class listed.representative
+    by : (class : Class) → IsInTree (ground_of config) (class_name class) → IsRepresentative (ground_of config) class listed.representative
         → Contains (classes_of_rows rows) (record { class = class; representative = listed.representative })
     by (Exact name) in_tree same =
         subst (λ (n : Labels). Contains (classes_of_rows rows) (record { class = Exact name; representative = n })) (sym same)
@@ -216,6 +211,6 @@ lists_classes config limit graph rows viewed text line same is tree represented 
             (λ row has. below_same graph (ground_of config) same row.name row.below
             (All-contains (λ (r : ClassRow). IsBelow graph r.name r.below) viewed row represented has)))
             (below_classes_same graph (ground_of config) same (tree_names viewed) (below_names viewed) below);
-        whole = with_rows viewed text line (lines ∙ ap rows_text is) none;
+        as_text = with_rows viewed text line (lines ∙ ap rows_text is) none;
       },
     )

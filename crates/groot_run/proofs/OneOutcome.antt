@@ -1,19 +1,20 @@
 -- A job has at most one outcome: what the files give is one, a configuration has one class tree and one report.
-use Rattle.std.proofs.Common.{◌≡◌, ℕ, Bool, true, false, List, Result, Ok, Err, [], length, subst, sym, ap, ◌∙◌, inl, inr}
+use Rattle.std.proofs.Common.{◌≡◌, ℕ, List, Result, Ok, Err, [], length, subst, sym, ap, ◌∙◌, inl, inr}
 use Rattle.io_edges.specs.Files.{Told}
 use Rattle.dns_data.specs.Name.{Labels}
 use Rattle.dns_data.specs.declared.rr_type.RrType.{RrType}
 use Rattle.net_model.specs.declared.config.Config.{Config}
 use Rattle.net_model.specs.Step.{following}
+use Rattle.class_judge.specs.Carried.{whole}
 use Rattle.config_load.specs.Conf.{conf}
 use Rattle.config_load.specs.Reading.{Reading, Reads, Refuses, Misses, Unknown}
 use Rattle.groot_line.specs.declared.fault.LineFault.{LineFault}
 use Rattle.groot_line.specs.declared.job.Job.{Job}
 use Rattle.groot_line.specs.declared.job.Job.TheVariants as jobs
 use Rattle.groot_run.specs.declared.ending.Ending.{Ending}
-use Rattle.groot_run.specs.FirstShape.{is_first_config}
-use Rattle.groot_run.specs.Outcome.{reported, listed, WithinNames, IsReported, IsChecked, IsCheckedAs, Checks, IsClassList, ListsClasses, ask_rewrites, most_learning_walks, IsAnswered, Asks, answered, too_many_to_learn, OfReading, Outcome}
+use Rattle.groot_run.specs.Outcome.{reported, listed, WithinNames, WithinStates, IsReported, most_states, too_many_states, Checks, IsClassList, ListsClasses, ask_rewrites, most_learning_walks, IsAnswerWith, Asks, answered, too_many_to_learn, OfReading, Outcome}
 use Rattle.groot_run.proofs.OneReport.{one_report}
+use Rattle.groot_run.proofs.Budgets.{one_passed}
 use Rattle.groot_run.proofs.OneClassList.{one_class_list}
 use Rattle.groot_run.proofs.OneAnswer.{one_walks, one_first, none_is_first}
 use Rattle.net_model.proofs.InForce.{one_in_force}
@@ -26,31 +27,36 @@ one_within config limit P Q a b same (inl p) (inr q) = absurd (q.0 p.0)
 one_within config limit P Q a b same (inr p) (inl q) = absurd (p.0 q.0)
 one_within config limit P Q a b same (inr p) (inr q) = same p.1 q.1
 
-one_check : (config : Config) (limit rewrites : ℕ) (a b : Ending) → IsChecked config limit rewrites a → IsChecked config limit rewrites b → a ≡ b
-one_check config limit rewrites a b =
-    one_within config limit (IsReported config rewrites a) (IsReported config rewrites b) a b
-    (λ p q. p.whole ∙ ap reported (one_report config rewrites p.report q.report p.is_report q.is_report) ∙ sym q.whole)
+-- and by whether a representative reaches too many pairs
+one_within_states : (config : Config) (rewrites : ℕ) (P Q : Type 0) (a b : Ending) → (P → Q → a ≡ b)
+    → WithinStates config rewrites P a → WithinStates config rewrites Q b → a ≡ b
+one_within_states config rewrites P Q a b same (inl (query, first, is)) (inl (other, also, was)) =
+    is ∙ ap too_many_states (one_passed config rewrites most_states query other first also) ∙ sym was
+one_within_states config rewrites P Q a b same (inl (query, first, is)) (inr q) = absurd (q.0 (first.class, query, first.passes))
+one_within_states config rewrites P Q a b same (inr p) (inl (other, also, was)) = absurd (p.0 (also.class, other, also.passes))
+one_within_states config rewrites P Q a b same (inr p) (inr q) = same p.1 q.1
 
-one_by_shape : (first : Bool) (meta : List ℕ) (limit rewrites : ℕ) (config : Config) (a b : Ending)
-    → IsCheckedAs first meta limit rewrites config a → IsCheckedAs first meta limit rewrites config b → a ≡ b
-one_by_shape true meta limit rewrites config a b p q = one_check config limit rewrites a b p q
-one_by_shape false meta limit rewrites config a b p q = p ∙ sym q
+one_check : (limit rewrites : ℕ) (config : Config) (a b : Ending) → Checks limit rewrites config a → Checks limit rewrites config b → a ≡ b
+one_check limit rewrites config a b =
+    one_within config limit (WithinStates config rewrites (IsReported config rewrites a) a) (WithinStates config rewrites (IsReported config rewrites b) b) a b
+    (one_within_states config rewrites (IsReported config rewrites a) (IsReported config rewrites b) a b
+    (λ p q. p.as_text ∙ ap reported (one_report (whole config rewrites) p.report q.report p.is_report q.is_report) ∙ sym q.as_text))
 
 one_list : (limit : ℕ) (config : Config) (a b : Ending) → ListsClasses limit config a → ListsClasses limit config b → a ≡ b
 one_list limit config a b =
     one_within config limit (IsClassList config a) (IsClassList config b) a b
-    (λ p q. p.whole ∙ ap listed (one_class_list config p.classes q.classes p.are_listed q.are_listed) ∙ sym q.whole)
+    (λ p q. p.as_text ∙ ap listed (one_class_list config p.classes q.classes p.are_listed q.are_listed) ∙ sym q.as_text)
 
 one_answer : (config : Config) (followed : List Labels) (name : Labels) (rtype : RrType) (a b : Ending)
-    → IsAnswered config followed name rtype a → IsAnswered config followed name rtype b → a ≡ b
+    → IsAnswerWith config followed name rtype a → IsAnswerWith config followed name rtype b → a ≡ b
 one_answer config followed name rtype a b (inl p) (inl q) = p.1 ∙ sym q.1
 one_answer config followed name rtype a b (inl p) (inr q) = absurd (q.0 p.0)
 one_answer config followed name rtype a b (inr p) (inl q) = absurd (p.0 q.0)
 one_answer config followed name rtype a b (inr p) (inr q) =
-    p.1.whole
+    p.1.as_text
     ∙ ap (answered name rtype)
     (one_walks (following config ask_rewrites followed) name rtype p.1.walks q.1.walks p.1.are_walks q.1.are_walks)
-    ∙ sym q.1.whole
+    ∙ sym q.1.as_text
 
 one_asked : (name : Labels) (rtype : RrType) (config : Config) (a b : Ending) → Asks name rtype config a → Asks name rtype config b → a ≡ b
 one_asked name rtype config a b (inl (server, first, is)) (inl (other, also, was)) =
@@ -61,7 +67,7 @@ one_asked name rtype config a b (inr p) (inl (server, first, is)) =
     absurd (none_is_first config ask_rewrites most_learning_walks [] (length config.servers) server first first.is_round p.few)
 one_asked name rtype config a b (inr p) (inr q) =
     one_answer config q.followed name rtype a b
-    (subst (λ (followed : List Labels). IsAnswered config followed name rtype a)
+    (subst (λ (followed : List Labels). IsAnswerWith config followed name rtype a)
     (one_in_force config ask_rewrites p.followed q.followed p.in_force q.in_force) p.answer)
     q.answer
 
@@ -75,8 +81,7 @@ one_by_reading meta of_config one (Unknown file) a b p q = absurd p
 
 pub one_outcome : (told : List ℕ → Told) (job : Result Job LineFault) (a b : Ending) → Outcome told job a → Outcome told job b → a ≡ b
 one_outcome told (Ok (jobs.Check meta workers classes rewrites)) a b =
-    one_by_reading meta (Checks meta classes rewrites)
-    (λ config. one_by_shape (is_first_config config) meta classes rewrites config) (conf meta told) a b
+    one_by_reading meta (Checks classes rewrites) (one_check classes rewrites) (conf meta told) a b
 one_outcome told (Ok (jobs.Classes meta classes)) a b =
     one_by_reading meta (ListsClasses classes) (one_list classes) (conf meta told) a b
 one_outcome told (Ok (jobs.Ask meta name rtype)) a b =

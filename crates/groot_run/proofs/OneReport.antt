@@ -1,20 +1,19 @@
--- A configuration has at most one report: its tree has one size, and its faults are listed once, in one order, each with
+-- A subject has at most one report: its tree has one size, and its faults are listed once, in one order, each with
 -- its one entry.
 use Rattle.std.proofs.Common.{◌≡◌, ℕ, ◌+◌, List, length, Contains, sym, ap, ◌∙◌, subst}
+use Rattle.std.specs.List.{filter}
 use Rattle.std.specs.Ordering.{on}
 use Rattle.std.proofs.lemmas.Cmp.{on_total}
-use Rattle.std.proofs.lemmas.List.Elements.{All-contains, All-from_recursion}
-use Rattle.dns_data.specs.Name.{Labels, name_cmp}
-use Rattle.net_model.specs.declared.config.Config.{Config}
+use Rattle.dns_data.specs.Name.{Labels, name_cmp, is_prefix}
 use Rattle.net_model.specs.FaultOrder.{fault_cmp}
-use Rattle.net_model.specs.Reading.{Ground, ground_of}
+use Rattle.net_model.specs.Reading.{Ground}
 use Rattle.net_model.specs.Tree.{IsClassTree, AreBelowClasses}
 use Rattle.graph_form.specs.declared.report.Report.{Report}
 use Rattle.graph_form.specs.declared.report.ReportEntry.{ReportEntry}
-use Rattle.groot_run.specs.Report.{IsEntry, IsShown, IsTreeSize, IsReport}
+use Rattle.graph_form.specs.Report.{Subject, IsEntry, IsShown, IsTreeSize, IsReport}
 use Rattle.groot_run.proofs.OneEntry.{one_entry}
 use Rattle.net_model.proofs.FaultOrder.{faults_total}
-use Rattle.dns_data.proofs.Membership.{from_map}
+use Rattle.dns_data.proofs.Membership.{each_along, from_map}
 use Rattle.dns_data.proofs.NameOrder.{names_total}
 use Rattle.dns_data.proofs.OrderedLists.{same_rising}
 
@@ -33,37 +32,41 @@ module _ (ground : Ground) where
       same_rising name_cmp names_total a b p.ordered q.ordered
       (λ above has. (q.all above).1 ((p.all above).0 has)) (λ above has. (p.all above).1 ((q.all above).0 has))
 
-  pub one_size : (names classes names' classes' : ℕ) → IsTreeSize ground names classes → IsTreeSize ground names' classes'
+  pub one_size : (above : Labels) (names classes names' classes' : ℕ) → IsTreeSize ground above names classes → IsTreeSize ground above names' classes'
       → (names ≡ names') × (classes ≡ classes')
-  one_size names classes names' classes' p q =
+  one_size above names classes names' classes' p q =
+      let at_or_below = λ (names : List Labels). filter (is_prefix above) names in
       let tree : p.tree ≡ q.tree = one_tree p.tree q.tree p.is_tree q.is_tree in
       let below : p.below ≡ q.below =
       one_below q.tree p.below q.below (subst (λ (names : List Labels). AreBelowClasses ground names p.below) tree p.are_below) q.are_below in (
-        p.counts_names ∙ ap length tree ∙ sym q.counts_names,
-        p.counts_classes ∙ ap (λ n. n + length p.below) (ap length tree) ∙ ap (λ n. length q.tree + n) (ap length below) ∙ sym q.counts_classes,
+        p.counts_names ∙ ap (λ names. length (at_or_below names)) tree ∙ sym q.counts_names,
+        p.counts_classes
+        ∙ ap (λ names. length (at_or_below names) + length (at_or_below p.below)) tree
+        ∙ ap (λ names. length (at_or_below q.tree) + length (at_or_below names)) below
+        ∙ sym q.counts_classes,
       )
 
 -- ---- the entries
 
-module _ (config : Config) (rewrites : ℕ) where
-  entry_right : (report : Report) → IsReport config rewrites report → (entry : ReportEntry) → Contains report.entries entry → IsEntry config rewrites entry
+module _ (subject : Subject) where
+  entry_right : (report : Report) → IsReport subject report → (entry : ReportEntry) → Contains report.entries entry → IsEntry subject entry
   entry_right report is entry has =
-      All-contains (IsEntry config rewrites) report.entries entry (All-from_recursion (IsEntry config rewrites) report.entries is.each_right) has
+      each_along (IsEntry subject) report.entries is.each_right entry has
 
-  entry_shown : (report : Report) → IsReport config rewrites report → (entry : ReportEntry) → Contains report.entries entry → IsShown config rewrites entry.seen.fault
+  entry_shown : (report : Report) → IsReport subject report → (entry : ReportEntry) → Contains report.entries entry → IsShown subject entry.seen.fault
   entry_shown report is entry has =
-      let shown = λ (entry : ReportEntry). IsShown config rewrites entry.seen.fault in
-      All-contains shown report.entries entry (All-from_recursion shown report.entries is.each_shown) has
+      let shown = λ (entry : ReportEntry). IsShown subject entry.seen.fault in
+      each_along shown report.entries is.each_shown entry has
 
   -- an entry of one report is in the other
-  also_listed : (a b : Report) → IsReport config rewrites a → IsReport config rewrites b → (entry : ReportEntry) → Contains a.entries entry → Contains b.entries entry
+  also_listed : (a b : Report) → IsReport subject a → IsReport subject b → (entry : ReportEntry) → Contains a.entries entry → Contains b.entries entry
   also_listed a b p q entry has =
       let found = from_map (λ (entry : ReportEntry). entry.seen.fault) b.entries entry.seen.fault (q.all_shown entry.seen.fault (entry_shown a p entry has)) in
-      let same = one_entry config rewrites found.0 entry (entry_right b q found.0 found.1) (entry_right a p entry has) found.2 in
+      let same = one_entry subject found.0 entry (entry_right b q found.0 found.1) (entry_right a p entry has) found.2 in
       subst (Contains b.entries) same found.1
 
   -- so both list the same entries
-  one_list : (a b : Report) → IsReport config rewrites a → IsReport config rewrites b → a.entries ≡ b.entries
+  one_list : (a b : Report) → IsReport subject a → IsReport subject b → a.entries ≡ b.entries
   one_list a b p q =
       same_rising (on (λ (entry : ReportEntry). entry.seen.fault) fault_cmp) (on_total (λ (entry : ReportEntry). entry.seen.fault) faults_total)
       a.entries b.entries p.ordered q.ordered (also_listed a b p q) (also_listed b a q p)
@@ -76,7 +79,7 @@ same_fields a b classes names rewrites entries =
     ∙ ap (λ x. record b { rewrites = x; entries = a.entries }) rewrites
     ∙ ap (λ x. record b { entries = x }) entries
 
-pub one_report : (config : Config) (rewrites : ℕ) (a b : Report) → IsReport config rewrites a → IsReport config rewrites b → a ≡ b
-one_report config rewrites a b p q =
-    let size = one_size (ground_of config) a.names a.classes b.names b.classes p.size q.size in
-    same_fields a b size.1 size.0 (p.limit ∙ sym q.limit) (one_list config rewrites a b p q)
+pub one_report : (subject : Subject) (a b : Report) → IsReport subject a → IsReport subject b → a ≡ b
+one_report subject a b p q =
+    let size = one_size subject.ground subject.below a.names a.classes b.names b.classes p.size q.size in
+    same_fields a b size.1 size.0 (p.limit ∙ sym q.limit) (one_list subject a b p q)

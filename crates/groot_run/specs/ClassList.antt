@@ -9,7 +9,8 @@ use Rattle.net_model.specs.declared.class.Class.TheVariants.{Exact, Below}
 use Rattle.net_model.specs.declared.config.Config.{Config}
 use Rattle.net_model.specs.Class.{class_cmp, IsRepresentative}
 use Rattle.net_model.specs.Reading.{ground_of}
-use Rattle.groot_run.specs.Report.{IsClass}
+use Rattle.query_classes.specs.Children.{IsInTree}
+use Rattle.query_classes.specs.Members.{class_name}
 
 -- a class of query names, with the name that stands for it
 pub record ListedClass : Type 0 where
@@ -19,7 +20,8 @@ pub record ListedClass : Type 0 where
 -- it is a class of the configuration that isn't empty, with its representative
 abbrev pub IsListed : Config → ListedClass → Type 0
 IsListed config listed =
-    IsClass config listed.class × IsRepresentative (ground_of config) listed.class listed.representative
+    IsInTree (ground_of config) (class_name listed.class)
+    × IsRepresentative (ground_of config) listed.class listed.representative
 
 -- the classes of the configuration that aren't empty, in class order
 pub record AreListed (config : Config) (classes : List ListedClass) : Type 0 where

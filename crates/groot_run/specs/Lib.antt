@@ -9,13 +9,17 @@ pub use Rattle.net_model.specs.Learnt
 pub use Rattle.net_model.specs.Reading
 pub use Rattle.net_model.specs.Shown
 pub use Rattle.net_model.specs.Step
+pub use Rattle.net_model.specs.Tails
 pub use Rattle.net_model.specs.Tree
 pub use Rattle.net_model.specs.Walk
-pub use Rattle.graph_form.specs.Report as WalkReport
+pub use Rattle.graph_form.specs.Report
+pub use Rattle.class_judge.specs.Carried
+pub use Rattle.class_judge.specs.Passed
 pub use Rattle.report_json.specs.Ask
 pub use Rattle.report_json.specs.Report as ReportText
-pub use Rattle.plain_resolver.specs.Passed
+pub use Rattle.plain_resolver.specs.Passed as WalksPassed
 pub use Rattle.query_classes.specs.Children
+pub use Rattle.query_classes.specs.Members
 pub use Rattle.io_edges.specs.Counts
 pub use Rattle.io_edges.specs.Files
 pub use Rattle.config_load.specs.Conf
@@ -24,16 +28,12 @@ pub use Rattle.config_load.specs.Reading as FileReading
 pub use Rattle.config_load.specs.Refusal
 pub use Rattle.groot_line.specs.Job
 pub use Rattle.groot_line.specs.Usage
-pub mod FirstShape
-pub mod Blackholes
-pub mod Aliases
-pub mod Report
 pub mod ClassList
+pub mod Laws
 pub mod Outcome
 pub mod Task
 pub mod Writing
 pub mod Line
 pub mod NotLoaded
-pub mod SortedTree
-pub mod SortedNames
+pub mod Judged
 pub mod ClassRows

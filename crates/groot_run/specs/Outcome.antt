@@ -10,11 +10,14 @@ use Rattle.net_model.specs.Learnt.{IsInForce}
 use Rattle.net_model.specs.Step.{following}
 use Rattle.net_model.specs.Walk.{AreWalks}
 use Rattle.net_model.specs.Reading.{ground_of}
+use Rattle.class_judge.specs.Carried.{whole}
+use Rattle.class_judge.specs.Passed.{SomeClassPasses, IsFirstPassed}
 use Rattle.config_load.specs.Conf.{conf}
 use Rattle.config_load.specs.Load.{ReadingComesTo, NoReadFailed}
 use Rattle.config_load.specs.Reading.{Reading, Reads, Refuses, Misses, Unknown}
-use Rattle.config_load.specs.Refusal.{fields_line, refusal_line}
+use Rattle.config_load.specs.Refusal.{refusal_line}
 use Rattle.config_load.specs.declared.fault.LoadFault.{LoadFault}
+use Rattle.graph_form.specs.Report.{IsReport}
 use Rattle.graph_form.specs.declared.report.Report.{Report}
 use Rattle.graph_form.specs.declared.report.ReportEntry.{ReportEntry}
 use Rattle.plain_resolver.specs.Passed.{HasMoreWalks, NoneInRounds, IsFirstWithTooMany}
@@ -27,11 +30,9 @@ use Rattle.groot_line.specs.declared.job.Job.TheVariants as jobs
 use Rattle.groot_run.specs.declared.ending.Ending.{Ending}
 use Rattle.groot_run.specs.declared.status.Status.{Status}
 use Rattle.groot_run.specs.declared.status.Status.TheVariants.{Clean, Faults, Usage, Refused, Classes, States, Walks, ReadFault, WriteFault, NoMemory}
-use Rattle.groot_run.specs.FirstShape.{is_first_config}
 use Rattle.net_model.specs.Tree.{HasMoreThan}
 use Rattle.query_classes.specs.Children.{IsInTree}
 use Rattle.groot_run.specs.ClassList.{ListedClass, AreListed, class_list_text}
-use Rattle.groot_run.specs.Report.{IsReport}
 
 -- the number of a status, as the program ends with it
 abbrev pub status_number : Status → ℕ
@@ -65,13 +66,13 @@ usage = without_output Usage usage_line
 abbrev pub refused : List ℕ → LoadFault → Ending
 refused meta fault = without_output Refused (refusal_line meta fault)
 
--- they read, and what they give isn't checked yet
-abbrev pub not_yet : List ℕ → Ending
-not_yet meta = without_output Refused (fields_line meta (decimal 0) (codes "not-yet"))
-
 -- the class tree has more names than this limit
 abbrev pub too_many_names : ℕ → Ending
 too_many_names limit = without_output Classes (codes "classes: more than " ++ (decimal limit ++ codes "\n"))
+
+-- the query reaches more pairs of state and type than are looked at
+abbrev pub too_many_states : Labels → Ending
+too_many_states query = without_output States (codes "states: more than 100000 for " ++ (name_text query ++ codes "\n"))
 
 -- a file could not be read
 abbrev pub read_failed : List ℕ → Ending
@@ -112,30 +113,34 @@ abbrev pub WithinNames : Config → ℕ → Type 0 → Ending → Type 0
 WithinNames config limit EndsSo ending =
     (HasMoreNames config limit × (ending ≡ too_many_names limit)) ⊎ ((HasMoreNames config limit → ⊥) × EndsSo)
 
+-- how many pairs of state and type a query may reach
+abbrev pub most_states : ℕ
+most_states = 100000
+
+-- What a command gives that judges the classes: where no representative reaches more pairs of state and type than it may, the
+-- run ends so. Of those that do the first in class order is named.
+abbrev pub WithinStates : Config → ℕ → Type 0 → Ending → Type 0
+WithinStates config rewrites EndsSo ending =
+    ((query : Labels) × IsFirstPassed config rewrites most_states query × (ending ≡ too_many_states query))
+    ⊎ ((SomeClassPasses config rewrites most_states → ⊥) × EndsSo)
+
 -- the run ends with the report of the configuration
 pub record IsReported (config : Config) (rewrites : ℕ) (ending : Ending) : Type 0 where
   pub report : Report
-  pub is_report : IsReport config rewrites report
-  pub whole : ending ≡ reported report
+  pub is_report : IsReport (whole config rewrites) report
+  pub as_text : ending ≡ reported report
 
--- what the check of a configuration gives: its report
-abbrev pub IsChecked : Config → ℕ → ℕ → Ending → Type 0
-IsChecked config limit rewrites ending = WithinNames config limit (IsReported config rewrites ending) ending
-
--- what the check gives of a configuration by whether it is of the first shape
-abbrev pub IsCheckedAs : Bool → List ℕ → ℕ → ℕ → Config → Ending → Type 0
-IsCheckedAs true meta limit rewrites config ending = IsChecked config limit rewrites ending
-IsCheckedAs false meta limit rewrites config ending = ending ≡ not_yet meta
-
--- what `check` gives of a configuration: until it takes all that read, one of a larger shape is refused
-abbrev pub Checks : List ℕ → ℕ → ℕ → Config → Ending → Type 0
-Checks meta limit rewrites config ending = IsCheckedAs (is_first_config config) meta limit rewrites config ending
+-- what `check` gives of a configuration: its report, unless its class tree has too many names, or a representative reaches
+-- too many pairs of state and type
+abbrev pub Checks : ℕ → ℕ → Config → Ending → Type 0
+Checks limit rewrites config ending =
+    WithinNames config limit (WithinStates config rewrites (IsReported config rewrites ending) ending) ending
 
 -- the run ends with the list of the configuration's classes
 pub record IsClassList (config : Config) (ending : Ending) : Type 0 where
   pub classes : List ListedClass
   pub are_listed : AreListed config classes
-  pub whole : ending ≡ listed classes
+  pub as_text : ending ≡ listed classes
 
 -- what `classes` gives of a configuration: the list of its classes
 abbrev pub ListsClasses : ℕ → Config → Ending → Type 0
@@ -157,27 +162,27 @@ most_learning_walks = 10000
 pub record AreWritten (config : Config) (followed : List Labels) (name : Labels) (rtype : RrType) (ending : Ending) : Type 0 where
   pub walks : List Walk
   pub are_walks : AreWalks (following config ask_rewrites followed) name rtype walks
-  pub whole : ending ≡ answered name rtype walks
+  pub as_text : ending ≡ answered name rtype walks
 
 -- the answer of the query while these servers are followed: its walks, unless there are more than may be written
-abbrev pub IsAnswered : Config → List Labels → Labels → RrType → Ending → Type 0
-IsAnswered config followed name rtype ending =
+abbrev pub IsAnswerWith : Config → List Labels → Labels → RrType → Ending → Type 0
+IsAnswerWith config followed name rtype ending =
     (HasMoreWalks (following config ask_rewrites followed) name rtype most_walks × (ending ≡ too_many_walks))
     ⊎ ((HasMoreWalks (following config ask_rewrites followed) name rtype most_walks → ⊥)
     × AreWritten config followed name rtype ending)
 
 -- the answer of the query with the set in force, in whose rounds no server's name has more walks than are followed
-pub record IsAsked (config : Config) (name : Labels) (rtype : RrType) (ending : Ending) : Type 0 where
+pub record IsAnswerOf (config : Config) (name : Labels) (rtype : RrType) (ending : Ending) : Type 0 where
   pub followed : List Labels
   pub in_force : IsInForce config ask_rewrites followed
   pub few : NoneInRounds config ask_rewrites most_learning_walks [] (length config.servers)
-  pub answer : IsAnswered config followed name rtype ending
+  pub answer : IsAnswerWith config followed name rtype ending
 
 -- what `ask` gives of a configuration: the answer of the query, unless a server's name has more walks than are followed
 abbrev pub Asks : Labels → RrType → Config → Ending → Type 0
 Asks name rtype config ending =
     ((server : Labels) × IsFirstWithTooMany config ask_rewrites most_learning_walks [] server × (ending ≡ too_many_to_learn server))
-    ⊎ IsAsked config name rtype ending
+    ⊎ IsAnswerOf config name rtype ending
 
 -- What a command gives that reads the files of this metadata file, by what it gives of a configuration. Where a file isn't
 -- held, or nothing is told of it, it gives nothing: such a run ends in a failed read.
@@ -189,7 +194,7 @@ OfReading meta of_config (Unknown file) ending = ⊥
 
 -- what the words' job gives, by what is told of the files: an equation for each command that words may ask for so far
 abbrev pub Outcome : (List ℕ → Told) → Result Job LineFault → Ending → Type 0
-Outcome told (Ok (jobs.Check meta workers classes rewrites)) ending = OfReading meta (Checks meta classes rewrites) (conf meta told) ending
+Outcome told (Ok (jobs.Check meta workers classes rewrites)) ending = OfReading meta (Checks classes rewrites) (conf meta told) ending
 Outcome told (Ok (jobs.Classes meta classes)) ending = OfReading meta (ListsClasses classes) (conf meta told) ending
 Outcome told (Ok (jobs.Ask meta name rtype)) ending = OfReading meta (Asks name rtype) (conf meta told) ending
 Outcome told job ending = ending ≡ usage

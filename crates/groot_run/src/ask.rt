@@ -1,7 +1,7 @@
 //! The walks of a query.
 
 ghost use Rattle.std.specs.Prelude.{◌≡◌, ◌⊎◌};
-ghost use Rattle.groot_run.specs.Outcome.{Asks, IsAnswered, answered, no_memory};
+ghost use Rattle.groot_run.specs.Outcome.{Asks, IsAnswerWith, answered, no_memory};
 
 use crate::ending::Ending;
 use crate::line::Line;
@@ -46,7 +46,7 @@ fn ask_at(alloc: Global, hosts: &Hosts<'_>, name: &Name, rtype: RrType) -> Endin
 
 /// All walks of the query while these servers are followed, unless there are too many.
 fn answer(alloc: Global, hosts: &Hosts<'_>, followed: &[Name], name: &Name, rtype: RrType) -> Ending
-    ensures { IsAnswered hosts.now followed.now name.now rtype result ⊎ (result ≡ no_memory) }
+    ensures { IsAnswerWith hosts.now followed.now name.now rtype result ⊎ (result ≡ no_memory) }
 {
     match resolve_at(alloc, hosts, REWRITES, followed, name, rtype, MOST_WALKS) {
         Ok(walks) => answered(alloc, name, rtype, walks.items()),

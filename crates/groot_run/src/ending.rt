@@ -56,16 +56,6 @@ impl Ending {
         }
     }
 
-    /// The files of this metadata file read, and what they give isn't checked yet.
-    pub(crate) fn not_yet(alloc: Global, meta: &str) -> Ending
-        ensures { (result ≡ outcome.not_yet meta.now) ⊎ (result ≡ outcome.no_memory) }
-    {
-        match refusal_line(alloc, meta, 0, "not-yet") {
-            Ok(line) => without_output(Status::Refused, line),
-            Err(NoMemory) => Ending::no_memory(),
-        }
-    }
-
     /// The query has more walks than are written.
     pub(crate) fn too_many_walks() -> Ending
         ensures { result ≡ outcome.too_many_walks }
@@ -77,8 +67,18 @@ impl Ending {
     pub(crate) fn too_many_to_learn(alloc: Global, server: &Name) -> Ending
         ensures { (result ≡ outcome.too_many_to_learn server.now) ⊎ (result ≡ outcome.no_memory) }
     {
-        match line_for(alloc, server) {
+        match line_for(alloc, b"walks: more than 10000 for ", server) {
             Ok(line) => without_output(Status::Walks, line),
+            Err(NoMemory) => Ending::no_memory(),
+        }
+    }
+
+    /// The query reaches more pairs of state and type than are looked at.
+    pub(crate) fn too_many_states(alloc: Global, query: &Name) -> Ending
+        ensures { (result ≡ outcome.too_many_states query.now) ⊎ (result ≡ outcome.no_memory) }
+    {
+        match line_for(alloc, b"states: more than 100000 for ", query) {
+            Ok(line) => without_output(Status::States, line),
             Err(NoMemory) => Ending::no_memory(),
         }
     }
@@ -107,19 +107,12 @@ fn without_output(status: Status, err: Line) -> Ending
     }
 }
 
-/// The line that says that a server's name has more walks than are followed to learn its address.
-fn line_for(alloc: Global, server: &Name) -> Result<Line, NoMemory>
-    ensures { IfOk result (λ line. line ≡ codes "walks: more than 10000 for " ++ (name_text server.now ++ codes "\n")) }
+/// A line that ends with a name.
+fn line_for<'a>(alloc: Global, front: &'a [u8], name: &Name) -> Result<Line, NoMemory>
+    ensures { IfOk result (λ line. line ≡ front.now ++ (name_text name.now ++ codes "\n")) }
 {
-    let name = server.to_text(alloc)?;
-    Line::of_pieces(
-        alloc,
-        &[
-            b"walks: more than 10000 for ",
-            name.as_str().as_bytes(),
-            b"\n",
-        ],
-    )
+    let name = name.to_text(alloc)?;
+    Line::of_pieces(alloc, &[front, name.as_str().as_bytes(), b"\n"])
 }
 
 /// The line of a refusal.

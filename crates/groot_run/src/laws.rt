@@ -1,4 +1,4 @@
-//! What the definitions say of reports and of outcomes.
+//! What the definitions say of query names, of reports and of outcomes.
 
 ghost use Rattle.std.specs.Prelude.{◌≡◌, ℕ, List, Result};
 ghost use Rattle.io_edges.specs.Files.{Told};
@@ -6,14 +6,24 @@ ghost use Rattle.net_model.specs.declared.config.Config.{Config};
 ghost use Rattle.groot_line.specs.declared.fault.LineFault.{LineFault};
 ghost use Rattle.groot_line.specs.declared.job.Job.{Job};
 ghost use Rattle.groot_run.specs.declared.ending.Ending.{Ending};
+ghost use Rattle.groot_run.specs.Laws.{HasClasses};
 ghost use Rattle.groot_run.specs.Outcome.{Outcome};
 ghost use Rattle.graph_form.specs.declared.report.Report.{Report};
-ghost use Rattle.groot_run.specs.Report.{IsReport};
+ghost use Rattle.graph_form.specs.Report.{Subject, IsReport};
 
-/// A configuration has at most one report with so many rewrites.
+use class_judge::laws::classes_are_told;
+
+/// A subject has at most one report.
 pub fn one_report()
-    ensures one { (config : Config) (rewrites : ℕ) (a b : Report) → IsReport config rewrites a → IsReport config rewrites b → a ≡ b }
+    ensures one { (subject : Subject) (a b : Report) → IsReport subject a → IsReport subject b → a ≡ b }
 {}
+
+/// Each query name of a configuration is in exactly one class, and walks as its class's representative.
+pub fn query_classes()
+    ensures { (config : Config) (rewrites : ℕ) → HasClasses config rewrites }
+{
+    classes_are_told();
+}
 
 /// By what is told of the files, a job has at most one outcome.
 pub fn one_outcome()

@@ -1,28 +1,24 @@
 //! The top call: what the program does with its words, its files and its two outputs, and the clauses that say so. For
-//! files that read, the text for out is exactly the report of the configuration that their octets give; every other
-//! ending has its cause in the words, in what the files give or in a count of failures that rose, or memory ran out.
+//! files that read, the text for out is exactly the report of the configuration that their octets give, for every number of
+//! workers and every schedule; every other ending has its cause in the words, in what the files give or in a count of failures
+//! that rose, or memory ran out.
 #![tactic(auto)]
 
-mod aliases;
 mod ask;
 mod check;
 mod classes;
 mod ending;
-mod entry;
+mod judging;
 mod laws;
 mod line;
 mod load;
 mod output;
-mod owners;
-mod report;
 mod run;
-mod shape;
 mod status;
 mod task;
-mod tree;
 
 pub use ending::Ending;
-pub use laws::{one_outcome, one_report};
+pub use laws::{one_outcome, one_report, query_classes};
 pub use line::Line;
 pub use run::{groot, run_words};
 pub use status::Status;

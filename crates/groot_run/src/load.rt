@@ -12,19 +12,28 @@ ghost use Rattle.groot_run.specs.Task.{Gives, IsPossible};
 use crate::ending::Ending;
 use crate::task::{Task, of_config};
 use config_load::{LoadFault, load};
-use io_edges::Files;
+use io_edges::{Files, Gate};
 use std::alloc::Global;
+use std::sync::Wait;
+use std::thread::Threads;
 
 /// What a task gives of the configuration of the metadata file of this name.
-pub(crate) fn of_files<F: Files>(alloc: Global, files: &mut F, meta: &str, task: &Task) -> Ending
+pub(crate) fn of_files<F: Files, G: Gate + Sync, R: Threads + Wait + Sync>(
+    rt: &R,
+    alloc: Global,
+    files: &mut F,
+    meta: &str,
+    task: &Task,
+    gate: &G,
+) -> Ending
     requires { IsPossible task.now }
-    ensures cause { OfReading meta.now (Gives meta.now task.now) (conf meta.now (F.told files.new)) result
+    ensures cause { OfReading meta.now (Gives task.now) (conf meta.now (F.told files.new)) result
         ⊎ ((file : List ℕ) × (result ≡ read_failed file) × ReadingComesTo meta.now (F.told files.new) file
         × Rose (F.faults files.old file) (F.faults files.new file)) ⊎ (result ≡ no_memory) }
     ensures from_the_start { TellsAll (F.told files.old) → F.told files.new ≡ F.told files.old }
 {
     match load(alloc, files, meta) {
-        Ok(config) => of_config(alloc, meta, &config, task),
+        Ok(config) => of_config(rt, alloc, &config, task, gate),
         Err(fault) => not_loaded(alloc, meta, fault),
     }
 }

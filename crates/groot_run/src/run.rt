@@ -11,11 +11,13 @@ ghost use Rattle.config_load.specs.Reading.{Reads};
 ghost use Rattle.groot_line.specs.declared.job.Job.TheVariants.{Check};
 ghost use Rattle.groot_line.specs.Job.{job_of};
 ghost use Rattle.groot_run.specs.declared.ending.Ending.{Ending as Ended};
+ghost use Rattle.groot_run.specs.Laws.{HasClasses};
 ghost use Rattle.groot_run.specs.Outcome.{Outcome, Checks, IsEnding, JobComesTo, NoJobReadFailed, writes_nothing, no_memory};
 ghost use Rattle.groot_run.specs.Writing.{IsLeft, TookLine};
 
-use crate::check::Limits;
 use crate::ending::Ending;
+use crate::judging::Limits;
+use crate::laws::query_classes;
 use crate::load::of_files;
 use crate::output::{tell, write_all};
 use crate::status::Status;
@@ -23,27 +25,32 @@ use crate::task::Task;
 use groot_line::{Job, LineFault, read_words};
 use io_edges::{Failed, Files, Gate, Sink};
 use std::alloc::Global;
+use std::sync::Wait;
+use std::thread::Threads;
 
-/// Does what the words after the program's name ask for, writes its text on out, and tells on err how it ended. The
-/// gate isn't asked while one worker judges.
-pub fn groot<F: Files, O: Sink, E: Sink, G: Gate + Sync>(
+/// Does what the words after the program's name ask for, writes its text on out, and tells on err how it ended. A check is
+/// judged by as many workers as the words say; each asks the gate once for each name that it takes.
+pub fn groot<F: Files, O: Sink, E: Sink, G: Gate + Sync, R: Threads + Wait + Sync>(
+    rt: &R,
     alloc: Global,
     words: &[&str],
     files: &mut F,
     out: &mut O,
     err: &mut E,
-    _gate: &G,
+    gate: &G,
 ) -> Status
-    // For files that read, by the octets that were read of them, out took exactly the text of their report, and the
-    // status says whether it has a fault.
+    // For files that read, by the octets that were read of them: each query name is in exactly one class and walks as its
+    // class's representative; and out took exactly the text of their report, unless a budget is passed, and the status says
+    // whether it has a fault. So it is for every number of workers and every schedule, if the call returns.
     ensures headline { (meta : List ℕ) (workers classes rewrites : ℕ) (config : Configuration) →
         job_of (map (λ word. word.now) words.now) ≡ Ok (Check meta workers classes rewrites) →
         conf meta (F.told files.new) ≡ Reads config →
         NoReadFailed meta (F.told files.new) (F.faults files.old) (F.faults files.new) →
         (Rose (O.faults out.old) (O.faults out.new) → ⊥) →
-        ((ending : Ended) × Checks meta classes rewrites config ending
+        HasClasses config rewrites
+        × (((ending : Ended) × Checks classes rewrites config ending
         × (result ≡ ending.status) × Appends (O.taken out.old) (O.taken out.new) ending.out)
-        ⊎ (result ≡ Status.NoMemory) }
+        ⊎ (result ≡ Status.NoMemory)) }
 
     // Where nothing failed, the run is the outcome of the words' job.
     ensures complete { NoJobReadFailed (F.told files.new) (job_of (map (λ word. word.now) words.now)) (F.faults files.old) (F.faults files.new) →
@@ -66,7 +73,8 @@ pub fn groot<F: Files, O: Sink, E: Sink, G: Gate + Sync>(
     // Files that told all from the start tell the same after the run.
     ensures from_the_start { TellsAll (F.told files.old) → F.told files.new ≡ F.told files.old }
 {
-    let ending = run_words(alloc, words, files);
+    query_classes();
+    let ending = run_words(rt, alloc, words, files, gate);
     match write_all(out, ending.out.items()) {
         Ok(()) => {
             tell(err, ending.err.octets());
@@ -81,13 +89,19 @@ pub fn groot<F: Files, O: Sink, E: Sink, G: Gate + Sync>(
 
 /// Does what the words after the program's name ask for, up to the writing: the status with which the run ends, the
 /// text for out and the line for err.
-pub fn run_words<F: Files>(alloc: Global, words: &[&str], files: &mut F) -> Ending
+pub fn run_words<F: Files, G: Gate + Sync, R: Threads + Wait + Sync>(
+    rt: &R,
+    alloc: Global,
+    words: &[&str],
+    files: &mut F,
+    gate: &G,
+) -> Ending
     // For files that read, by the octets that were read of them, the run ends in the report of their configuration.
     ensures headline { (meta : List ℕ) (workers classes rewrites : ℕ) (config : Configuration) →
         job_of (map (λ word. word.now) words.now) ≡ Ok (Check meta workers classes rewrites) →
         conf meta (F.told files.new) ≡ Reads config →
         NoReadFailed meta (F.told files.new) (F.faults files.old) (F.faults files.new) →
-        Checks meta classes rewrites config result ⊎ (result ≡ no_memory) }
+        Checks classes rewrites config result ⊎ (result ≡ no_memory) }
 
     // Where no read failed, it is the outcome of the words' job.
     ensures complete { NoJobReadFailed (F.told files.new) (job_of (map (λ word. word.now) words.now)) (F.faults files.old) (F.faults files.new) →
@@ -108,19 +122,44 @@ pub fn run_words<F: Files>(alloc: Global, words: &[&str], files: &mut F) -> Endi
         Ok(
             Job::Check {
                 meta,
+                workers,
                 classes,
                 rewrites,
-                ..
             },
         ) => {
-            let limits = Limits { classes, rewrites };
-            of_files(alloc, files, meta.as_str(), &Task::Check(limits))
+            let limits = Limits {
+                workers,
+                classes,
+                rewrites,
+            };
+            of_files(
+                rt,
+                alloc,
+                files,
+                meta.as_str(),
+                &Task::Check(limits),
+                gate,
+            )
         }
         Ok(Job::Classes { meta, classes }) => {
-            of_files(alloc, files, meta.as_str(), &Task::Classes(classes))
+            of_files(
+                rt,
+                alloc,
+                files,
+                meta.as_str(),
+                &Task::Classes(classes),
+                gate,
+            )
         }
         Ok(Job::Ask { meta, name, rtype }) => {
-            of_files(alloc, files, meta.as_str(), &Task::Ask { name, rtype })
+            of_files(
+                rt,
+                alloc,
+                files,
+                meta.as_str(),
+                &Task::Ask { name, rtype },
+                gate,
+            )
         }
         Ok(_) | Err(LineFault::Usage) => Ending::usage(),
         Err(LineFault::NoMemory) => Ending::no_memory(),

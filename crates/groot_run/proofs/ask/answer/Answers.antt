@@ -6,7 +6,7 @@ returns-in-Ok c =
     elim c.answered.ensures [
       | inl ends ↦ inl (inr (
         c.in-Ok.ensures.few,
-        record { walks = c.items.result.now; are_walks = rw c.items.ensures c.in-Ok.ensures.walks; whole = ends },
+        record { walks = c.items.result.now; are_walks = rw c.items.ensures c.in-Ok.ensures.walks; as_text = ends },
       ))
       | inr none ↦ inr none
     ]

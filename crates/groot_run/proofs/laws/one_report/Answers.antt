@@ -1,4 +1,4 @@
--- That a configuration has no two reports.
+-- That a subject has no two reports.
 use Rattle.groot_run.proofs.OneReport as reports
 use Rattle.groot_run.proofs.laws.one_report.Goals as goal
 

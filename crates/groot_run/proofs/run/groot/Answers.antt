@@ -5,8 +5,9 @@ use Rattle.groot_run.specs.Writing.{output_failed, TookProperFront}
 use Rattle.groot_run.proofs.run.groot.Goals as goal
 
 pub returns-in-Ok-clause-headline : goal.returns-in-Ok-clause-headline
-returns-in-Ok-clause-headline g c = λ meta workers classes rewrites config job reads none quiet.
-    elim (c.run_words-ending.ensures.headline meta workers classes rewrites config job reads none) [
+returns-in-Ok-clause-headline g c = λ meta workers classes rewrites config job reads none quiet. (
+  c.query_classes.ensures config rewrites,
+  elim (c.run_words-ending.ensures.headline meta workers classes rewrites config job reads none) [
       | inl checks ↦ inl (
         c.run_words-ending.result,
         checks,
@@ -14,7 +15,8 @@ returns-in-Ok-clause-headline g c = λ meta workers classes rewrites config job 
         subst (λ (text : List ℕ). Appends (g.O.Sink.taken c.args.out.now) (g.O.Sink.taken c.write_all.new.sink) text) c.items.ensures c.in-Ok.ensures.ok,
       )
       | inr ran_out ↦ inr (ap (λ (ending : Ending). ending.status) ran_out)
-    ]
+    ],
+)
 
 pub returns-in-Ok-clause-complete : goal.returns-in-Ok-clause-complete
 returns-in-Ok-clause-complete g c = λ none quiet.
@@ -37,6 +39,9 @@ returns-in-Ok-clause-cause g c = (
   refl,
   rw (← c.octets.ensures) c.tell.ensures,
 )
+
+pub returns-in-Err-clause-headline : goal.returns-in-Err-clause-headline
+returns-in-Err-clause-headline g c = λ meta workers classes rewrites config job reads none quiet. absurd (quiet c.in-Err.ensures.cause)
 
 pub returns-in-Err-clause-cause : goal.returns-in-Err-clause-cause
 returns-in-Err-clause-cause g c = (
