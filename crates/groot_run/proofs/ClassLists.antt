@@ -6,12 +6,12 @@ use Rattle.std.proofs.lemmas.Cmp.{tied_itself}
 use Rattle.std.proofs.lemmas.Grind.{flat_map-append}
 use Rattle.std.proofs.lemmas.List.Elements.{All-contains}
 use Rattle.std.proofs.lemmas.List.Kept.{AllPairs-cons}
-use Rattle.dns_data.specs.Name.{Labels, IsName, name_cmp}
+use Rattle.dns_data.specs.Name.{Labels, name_cmp}
 use Rattle.net_model.specs.declared.class.Class.{Class}
 use Rattle.net_model.specs.declared.class.Class.TheVariants.{Exact, Below}
 use Rattle.net_model.specs.declared.config.Config.{Config}
 use Rattle.net_model.specs.Class.{class_cmp, IsRepresentative}
-use Rattle.net_model.specs.Reading.{Ground, IsNamed, ground_of}
+use Rattle.net_model.specs.Reading.{Ground, ground_of}
 use Rattle.net_model.specs.Tree.{IsClassTree, AreBelowClasses, HasMoreThan}
 use Rattle.query_classes.specs.declared.tree.ClassRow.{ClassRow}
 use Rattle.label_graph.specs.Pairs.{AreSame}

@@ -1,5 +1,5 @@
 -- What a task gives of the files that its words name is how the run of these words ends.
-use Rattle.std.proofs.Common.{◌≡◌, ℕ, List, Result, Ok, sym, ap, ◌∙◌, subst, inl, inr}
+use Rattle.std.proofs.Common.{◌≡◌, ℕ, List, Result, Ok, sym, ◌∙◌, subst, inl, inr}
 use Rattle.std.specs.Prelude.{◌⊎◌}
 use Rattle.config_load.specs.Conf.{conf}
 use Rattle.config_load.specs.Load.{ReadingComesTo, NoReadFailed}

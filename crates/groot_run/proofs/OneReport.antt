@@ -41,9 +41,9 @@ module _ (ground : Ground) where
       one_below q.tree p.below q.below (subst (λ (names : List Labels). AreBelowClasses ground names p.below) tree p.are_below) q.are_below in (
         p.counts_names ∙ ap (λ names. length (at_or_below names)) tree ∙ sym q.counts_names,
         p.counts_classes
-        ∙ ap (λ names. length (at_or_below names) + length (at_or_below p.below)) tree
-        ∙ ap (λ names. length (at_or_below q.tree) + length (at_or_below names)) below
-        ∙ sym q.counts_classes,
+            ∙ ap (λ names. length (at_or_below names) + length (at_or_below p.below)) tree
+            ∙ ap (λ names. length (at_or_below q.tree) + length (at_or_below names)) below
+            ∙ sym q.counts_classes,
       )
 
 -- ---- the entries

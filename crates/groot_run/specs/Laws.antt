@@ -11,17 +11,20 @@ use Rattle.net_model.specs.Tails.{AreTails, WalksAs}
 use Rattle.net_model.specs.Tree.{IsReached, HasMoreThan}
 use Rattle.query_classes.specs.Members.{IsInOneClass}
 
--- The query walks as the class's representative, whatever servers are followed, up to the labels in which they differ, and
--- reaches no more pairs of state and type.
-pub record WalksAsOther (config : Config) (rewrites : ℕ) (query representative : Labels) : Type 0 where
-  pub above : Labels
+-- With the other tail in its place a query walks as it does with its own, whatever servers are followed, up to the labels of
+-- the tails; and it reaches no fewer pairs of state and type.
+pub record WalkAlike (config : Config) (rewrites : ℕ) (above own other : Labels) : Type 0 where
+  pub walks : (followed : List Labels) (rtype : RrType) → WalksAs (following config rewrites followed) rtype above own other
+  pub reached : (most : ℕ) → HasMoreThan (IsReached config rewrites (above ++ own)) most → HasMoreThan (IsReached config rewrites (above ++ other)) most
+
+-- below this name the query has its own unnamed labels and the other name other ones, and they walk alike
+pub record WalksAsOther (config : Config) (rewrites : ℕ) (above query name : Labels) : Type 0 where
   pub own : Labels
   pub other : Labels
   pub query_is : query ≡ above ++ own
-  pub representative_is : representative ≡ above ++ other
+  pub name_is : name ≡ above ++ other
   pub tails : AreTails config above own other
-  pub walks : (followed : List Labels) (rtype : RrType) → WalksAs (following config rewrites followed) rtype above own other
-  pub reached : (most : ℕ) → HasMoreThan (IsReached config rewrites query) most → HasMoreThan (IsReached config rewrites representative) most
+  pub alike : WalkAlike config rewrites above own other
 
 -- The laws of classes hold of the configuration.
 pub record HasClasses (config : Config) (rewrites : ℕ) : Type 0 where
@@ -29,6 +32,9 @@ pub record HasClasses (config : Config) (rewrites : ℕ) : Type 0 where
   pub partition : (query : Labels) → IsName query → IsInOneClass (ground_of config) query
   -- of a named name all prefixes are named
   pub prefixes : (above below : Labels) → IsNamed (ground_of config) (above ++ below) → IsNamed (ground_of config) above
-  -- each name walks as its class's representative; the representative of a name that is alone in its class is that name
-  pub simulation : (above query representative : Labels) → IsName query → IsClassOf (ground_of config) query (Below above)
-      → IsRepresentative (ground_of config) (Below above) representative → WalksAsOther config rewrites query representative
+  -- names that differ in unnamed labels alone walk alike
+  pub simulation : (above own other : Labels) → AreTails config above own other → WalkAlike config rewrites above own other
+  -- so each name walks as its class's representative, up to the labels below the class's name; the representative of a name
+  -- that is alone in its class is that name
+  pub members : (above query representative : Labels) → IsName query → IsClassOf (ground_of config) query (Below above)
+      → IsRepresentative (ground_of config) (Below above) representative → WalksAsOther config rewrites above query representative

@@ -132,14 +132,7 @@ pub fn run_words<F: Files, G: Gate + Sync, R: Threads + Wait + Sync>(
                 classes,
                 rewrites,
             };
-            of_files(
-                rt,
-                alloc,
-                files,
-                meta.as_str(),
-                &Task::Check(limits),
-                gate,
-            )
+            of_files(rt, alloc, files, meta.as_str(), &Task::Check(limits), gate)
         }
         Ok(Job::Classes { meta, classes }) => {
             of_files(

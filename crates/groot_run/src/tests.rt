@@ -23,14 +23,16 @@ const TWO_FILES: &str =
 const ZONE: &str = "t. 60 SOA ns.t. h.t. 1 2 3 4 5\nt. 60 NS ns.t.\nwww.t. 60 A 10.0.0.1\n";
 
 /// A zone with a redirection, of which only `www` exists below the target (RFC 6672 section 2.4).
-const REDIRECTED: &str = "t. 60 SOA ns.t. h.t. 1 2 3 4 5\nt. 60 NS ns.t.\nd.t. 60 DNAME e.t.\nwww.e.t. 60 A 10.0.0.1\n";
+const REDIRECTED: &str =
+    "t. 60 SOA ns.t. h.t. 1 2 3 4 5\nt. 60 NS ns.t.\nd.t. 60 DNAME e.t.\nwww.e.t. 60 A 10.0.0.1\n";
 
 /// Its report.
 const REDIRECTED_REPORT: &str =
     "{\"classes\":12,\"faults\":[{\"kind\":\"blackhole\",\"place\":{\"owner\":\"d.t.\",\"server\":\"ns.t.\",\"zone\":\"t.\"},\"query\":\"a.d.t.\",\"repeats\":false,\"type\":\"A\",\"walks\":[[{\"did\":\"dname\",\"name\":\"a.d.t.\",\"owner\":\"d.t.\",\"server\":\"ns.t.\",\"to\":\"a.e.t.\",\"zone\":\"t.\"},{\"did\":\"nxdomain\",\"name\":\"a.e.t.\",\"server\":\"ns.t.\",\"zone\":\"t.\"}]]}],\"names\":6,\"rewrites\":12}\n";
 
 /// A zone with a CNAME record beside an address, in line 9 (RFC 1034 section 3.6.2).
-const ALIAS_BESIDE: &str = "t. 60 SOA ns.t. h.t. 1 2 3 4 5\nt. 60 NS ns.t.\n;\n;\n;\n;\n;\nw.t. 60 A 10.0.0.1\nw.t. 60 CNAME a.t.\n";
+const ALIAS_BESIDE: &str =
+    "t. 60 SOA ns.t. h.t. 1 2 3 4 5\nt. 60 NS ns.t.\n;\n;\n;\n;\n;\nw.t. 60 A 10.0.0.1\nw.t. 60 CNAME a.t.\n";
 
 /// A zone with an open parenthesis, in line 7.
 const OPEN: &str =
@@ -68,15 +70,7 @@ fn run<G: Gate + Sync, R: Threads + Wait + Sync>(
     files.add("two.zone", asked.zones[1].as_bytes())?;
     let mut out = MemorySink::new(alloc, room, List::new(alloc))?;
     let mut err = MemorySink::new(alloc, 200, List::new(alloc))?;
-    let status = groot(
-        rt,
-        alloc,
-        asked.words,
-        &mut files,
-        &mut out,
-        &mut err,
-        gate,
-    );
+    let status = groot(rt, alloc, asked.words, &mut files, &mut out, &mut err, gate);
     Ok(Shown {
         number: status.number(),
         out: Vec::from_slice(alloc, out.taken())?,
@@ -187,6 +181,10 @@ fn two_workers_judge_at_once(rt: HostRuntime) -> Result<(), Fail> {
     };
     let shown = run(&rt, rt.alloc(), asked, &gate, None, 1000)?;
     ends(&rt, &shown, 1, REDIRECTED_REPORT, "");
-    assert_eq!(rt; gate.met.load(Ordering::SeqCst), 1, "a second call came while the first one waited");
+    assert_eq!(rt;
+        gate.met.load(Ordering::SeqCst),
+        1,
+        "a second call came while the first one waited"
+    );
     Ok(())
 }

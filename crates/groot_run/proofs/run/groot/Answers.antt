@@ -8,14 +8,14 @@ pub returns-in-Ok-clause-headline : goal.returns-in-Ok-clause-headline
 returns-in-Ok-clause-headline g c = λ meta workers classes rewrites config job reads none quiet. (
   c.query_classes.ensures config rewrites,
   elim (c.run_words-ending.ensures.headline meta workers classes rewrites config job reads none) [
-      | inl checks ↦ inl (
-        c.run_words-ending.result,
-        checks,
-        refl,
-        subst (λ (text : List ℕ). Appends (g.O.Sink.taken c.args.out.now) (g.O.Sink.taken c.write_all.new.sink) text) c.items.ensures c.in-Ok.ensures.ok,
-      )
-      | inr ran_out ↦ inr (ap (λ (ending : Ending). ending.status) ran_out)
-    ],
+    | inl checks ↦ inl (
+      c.run_words-ending.result,
+      checks,
+      refl,
+      subst (λ (text : List ℕ). Appends (g.O.Sink.taken c.args.out.now) (g.O.Sink.taken c.write_all.new.sink) text) c.items.ensures c.in-Ok.ensures.ok,
+    )
+    | inr ran_out ↦ inr (ap (λ (ending : Ending). ending.status) ran_out)
+  ],
 )
 
 pub returns-in-Ok-clause-complete : goal.returns-in-Ok-clause-complete
