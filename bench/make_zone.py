@@ -3,7 +3,9 @@
 
 Hosts with addresses of both families, mail, texts, services, aliases and certificate authorities, in relative and
 absolute names, with escapes, comments, continued lines and inherited owners and TTLs. The same size gives the same file.
+The other inputs of the scripts here are made by this one too.
 """
+import os
 import random
 import sys
 
@@ -62,6 +64,67 @@ def write_many(zones, records, folder):
             for record in range(records - 2):
                 into.write(f"host{record} A 10.0.{number % 256}.{record % 256}\n")
         rows.append({"FileName": f"{number}.zone", "NameServer": "ns1.hosting.example.", "Origin": f"customer{number}.example."})
+    return rows
+
+
+EXAMPLE = "$TTL 1h\n$ORIGIN example.\n@ SOA ns1 hostmaster 1 3h 15m 1w 1h\n@ NS ns1\nns1 A 192.0.2.1\n"
+SERVERS = 3
+
+
+def registry(count):
+    """The lines of so many delegations: two name servers with an address each, and one of three with an IPv6 address too."""
+    for number in range(count):
+        own, address = f"d{number:06}", f"{number // 65536}.{number // 256 % 256}.{number % 256}"
+        yield f"{own} NS ns1.{own}\n{own} NS ns2.{own}\nns1.{own} A 10.{address}\nns2.{own} A 10.{address}\n"
+        if number % 3 == 0:
+            yield f"ns1.{own} AAAA 2001:db8::{number % 65536:x}\n"
+
+
+def redirected(count, onto=lambda number: "t"):
+    """The lines of so many DNAME records onto a tree of 40 names, or onto what is made of their numbers."""
+    for number in range(40):
+        yield f"w{number}.t A 192.0.2.{number + 1}\n"
+    for number in range(count):
+        yield f"d{number:06} DNAME {onto(number)}\n"
+
+
+def aliases(count):
+    """The lines of a chain of so many aliases, which ends in an address."""
+    for number in range(count):
+        yield f"a{number} CNAME a{number + 1}\n"
+    yield f"a{count} A 192.0.2.2\n"
+
+
+def write_example(lines, folder):
+    """The zone example. of these lines on its one server, and the rows of the metadata for it."""
+    with open(os.path.join(folder, "own.zone"), "w") as into:
+        into.write(EXAMPLE)
+        into.writelines(lines)
+    return [{"FileName": "own.zone", "NameServer": "ns1.example."}]
+
+
+def write_empty(folder, server):
+    """An empty zone file, for which a run is refused once it has read the rows before, and the row of the metadata for it."""
+    with open(os.path.join(folder, "empty.zone"), "w"):
+        pass
+    return {"FileName": "empty.zone", "NameServer": server}
+
+
+def write_hosted(zones, second, records, folder):
+    """So many zones of so many records, on three servers in turn, the first of them on a second one too, and the zone above
+    them; the rows of the metadata for them."""
+    rows = [{"FileName": "above.zone", "NameServer": "ns1.example."}]
+    with open(os.path.join(folder, "above.zone"), "w") as above:
+        above.write(EXAMPLE + "ns2 A 192.0.2.2\nns3 A 192.0.2.3\n")
+        for number in range(zones):
+            names = [f"ns{(number + more) % SERVERS + 1}.example." for more in range(2 if number < second else 1)]
+            sets = "".join(f"@ NS {name}\n" for name in names)
+            above.writelines(f"customer{number} NS {name}\n" for name in names)
+            with open(os.path.join(folder, f"{number}.zone"), "w") as into:
+                into.write(f"$TTL 1h\n@ SOA {names[0]} hostmaster.example. 1 3h 15m 1w 1h\n{sets}")
+                for host in range(records - 1 - len(names)):
+                    into.write(f"host{host} A 10.0.{number % 256}.{host % 256}\n")
+            rows += [{"FileName": f"{number}.zone", "NameServer": name, "Origin": f"customer{number}.example."} for name in names]
     return rows
 
 

@@ -4,48 +4,30 @@
 GROOT is the built program, crates/groot/out/groot if none is given. For files of a hosting zone of 1 and 16 MiB, a million
 short records (of a million owners, of one owner, and all identical) and 1,000 files of 100 records it prints the processor
 seconds and the peak memory of groot, and for a single file those of the stock checkers of master files that are installed
-(Knot's kzonecheck, BIND's named-checkzone), each the best of five runs, and groot's ratios to them. groot reads it all and
-then refuses it with status 3, since it is of a larger shape than is judged today.
+(Knot's kzonecheck, BIND's named-checkzone), each the best of five runs, and groot's ratios to them. A last row of the
+metadata names an empty file, for which groot refuses the whole once it has read the rest, so that nothing is judged.
 """
-import json
 import os
 import shutil
-import subprocess
 import sys
 import tempfile
 
 import make_zone
+from measure import GROOT, MEBIBYTE, measured, metadata, program, ratio
 
-HERE = os.path.dirname(os.path.abspath(__file__))
-MEBIBYTE = 1 << 20
-RUNS = 5
 ROW = {"FileName": "hosting.zone", "NameServer": "ns1.hosting.example."}
 
 
-def measured(words, statuses):
-    """The least processor seconds and peak memory in MiB of some runs, or None where the program ends with another status."""
-    best = None
-    for _ in range(RUNS):
-        child = subprocess.Popen(words, stdout=subprocess.DEVNULL, stderr=subprocess.DEVNULL)
-        _, status, usage = os.wait4(child.pid, 0)
-        child.returncode = os.waitstatus_to_exitcode(status)
-        if child.returncode not in statuses:
-            return None
-        seconds, memory = usage.ru_utime + usage.ru_stime, usage.ru_maxrss / 1024
-        best = (seconds, memory) if best is None else (min(best[0], seconds), min(best[1], memory))
-    return best
-
-
-def programs(groot, folder):
-    """Each program with its words and the statuses that it may end with."""
+def programs(groot, folder, meta):
+    """Each program with its words and the status that it must end with."""
     zone = os.path.join(folder, "hosting.zone")
-    yield "groot", [groot, "check", os.path.join(folder, "m.json")], (0, 1, 3)
+    yield "groot", [groot, "check", meta], 3
     if not os.path.exists(zone):
         return
     if shutil.which("kzonecheck"):
-        yield "kzonecheck", ["kzonecheck", "-o", "hosting.example.", zone], (0,)
+        yield "kzonecheck", ["kzonecheck", "-o", "hosting.example.", zone], 0
     if shutil.which("named-checkzone"):
-        yield "named-checkzone", ["named-checkzone", "-i", "none", "hosting.example.", zone], (0,)
+        yield "named-checkzone", ["named-checkzone", "-i", "none", "hosting.example.", zone], 0
 
 
 def records_in(path):
@@ -76,30 +58,26 @@ INPUTS = [
 
 
 def main():
-    groot = sys.argv[1] if len(sys.argv) > 1 else os.path.join(HERE, "..", "crates", "groot", "out", "groot")
-    if not os.access(groot, os.X_OK):
-        raise SystemExit(f"reading.py: no program at {groot}; cases/run.py builds it")
+    groot = program(sys.argv[1] if len(sys.argv) > 1 else GROOT)
     print(f"{'input':>12} {'program':<16} {'cpu s':>7} {'MiB/s':>7} {'records/s':>10} {'peak MiB':>9} {'cpu ratio':>10} {'memory ratio':>13}")
     for title, write in INPUTS:
         with tempfile.TemporaryDirectory() as folder:
             rows = write(folder)
-            with open(os.path.join(folder, "m.json"), "w") as into:
-                json.dump({"TopNameServers": [ROW["NameServer"]], "ZoneFiles": rows}, into)
             paths = [os.path.join(folder, row["FileName"]) for row in rows]
             records, octets = sum(map(records_in, paths)), sum(map(os.path.getsize, paths))
+            meta = metadata(folder, [*rows, make_zone.write_empty(folder, ROW["NameServer"])], ROW["NameServer"])
             own = None
-            for name, words, statuses in programs(groot, folder):
-                got = measured(words, statuses)
+            for name, words, status in programs(groot, folder, meta):
+                got = measured(words, (status,))
                 if got is None and name == "groot":
                     raise SystemExit(f"reading.py: groot doesn't read {title}")
                 if got is None:
                     print(f"{title:>12} {name:<16} refuses it")
                     continue
-                seconds, memory = got
                 own = own or got
                 print(
-                    f"{title:>12} {name:<16} {seconds:>7.3f} {octets / MEBIBYTE / max(seconds, 1e-3):>7.1f}"
-                    f" {records / max(seconds, 1e-3):>10.0f} {memory:>9.1f} {own[0] / max(seconds, 1e-3):>10.2f} {own[1] / memory:>13.2f}"
+                    f"{title:>12} {name:<16} {got.processor:>7.3f} {ratio(octets / MEBIBYTE, got.processor):>7.1f}"
+                    f" {ratio(records, got.processor):>10.0f} {got.memory:>9.1f} {ratio(own.processor, got.processor):>10.2f} {own.memory / got.memory:>13.2f}"
                 )
 
 

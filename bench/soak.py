@@ -1,26 +1,28 @@
 #!/usr/bin/env python3
 """Runs checks again and again with different numbers of workers: soak.py [GROOT] [--folders FOLDER] [--times N]
-[--workers N,N,..] [--seconds N] [--large N]
+[--workers N,N,..] [--seconds N] [--minutes N] [--large N]
 
 GROOT is the built program, crates/groot/out/groot if none is given. Each configuration is checked with each number of
 workers (1, 2, 3, 8 and 64) so many times (10), and status, out and err have to be the same every time, within so many
 seconds for a run (120). The configurations are those of the folders right in FOLDER that hold a metadata.json or a
 meta.json, examples/ if none is given, and N large ones (3): a registry of 10,000 delegations, 1,000 hosted zones, and 2,000
-DNAME records. It ends with status 1 at the first run that differs or doesn't end, and says which.
+DNAME records. It ends with status 1 at the first run that differs or doesn't end, and says which; also where it found no
+configuration, or hasn't tried all of them after so many minutes (180).
 """
 import argparse
-import json
 import os
 import subprocess
 import tempfile
+import time
 
 import checking
+import make_zone
+from measure import GROOT, TOP, metadata, program
 
-HERE = os.path.dirname(os.path.abspath(__file__))
 LARGE = [
-    ("registry", checking.one_zone(checking.registry(10_000))),
+    ("registry", checking.one_zone(make_zone.registry, 10_000)),
     ("hosted zones", checking.hosted(1_000, 111, 89)),
-    ("DNAME records", checking.one_zone(checking.redirected(2_000))),
+    ("DNAME records", checking.one_zone(make_zone.redirected, 2_000)),
 ]
 
 
@@ -33,18 +35,20 @@ def outcome(words, seconds):
         return None
 
 
-def soak(groot, title, meta, said):
+def soak(said, title, meta, end):
     """Checks one configuration with each number of workers so many times; gives how many runs there were."""
     first, runs = None, 0
-    for time in range(said.times):
+    for turn in range(said.times):
         for workers in said.workers:
-            got = outcome([groot, "check", meta, "--classes", "1000000", "--workers", str(workers)], said.seconds)
+            if time.monotonic() > end:
+                raise SystemExit(f"soak.py: {title}: not all runs were made within {said.minutes} minutes")
+            got = outcome([said.groot, "check", meta, "--classes", "1000000", "--workers", str(workers)], said.seconds)
             runs += 1
             if got is None:
-                raise SystemExit(f"soak.py: {title}, {workers} workers, run {time + 1}: it doesn't end within {said.seconds} seconds")
+                raise SystemExit(f"soak.py: {title}, {workers} workers, run {turn + 1}: it doesn't end within {said.seconds} seconds")
             first = first or got
             if got != first:
-                raise SystemExit(f"soak.py: {title}, {workers} workers, run {time + 1}: status {got[0]} and {len(got[1])} octets, and not {first[0]} and {len(first[1])}")
+                raise SystemExit(f"soak.py: {title}, {workers} workers, run {turn + 1}: status {got[0]} and {len(got[1])} octets, and not {first[0]} and {len(first[1])}")
     return runs
 
 
@@ -59,28 +63,24 @@ def configurations(folders):
 
 def main():
     words = argparse.ArgumentParser()
-    words.add_argument("groot", nargs="?", default=os.path.join(HERE, "..", "crates", "groot", "out", "groot"))
-    words.add_argument("--folders", default=os.path.join(HERE, "..", "examples"))
+    words.add_argument("groot", nargs="?", default=GROOT)
+    words.add_argument("--folders", default=os.path.join(TOP, "examples"))
     words.add_argument("--times", type=int, default=10)
     words.add_argument("--workers", type=lambda text: [int(word) for word in text.split(",")], default=[1, 2, 3, 8, 64])
     words.add_argument("--seconds", type=int, default=120)
+    words.add_argument("--minutes", type=int, default=180)
     words.add_argument("--large", type=int, default=len(LARGE))
     said = words.parse_args()
-    if not os.access(said.groot, os.X_OK):
-        raise SystemExit(f"soak.py: no program at {said.groot}; cases/run.py builds it")
-    count = runs = 0
-    for title, meta in configurations(said.folders):
-        runs += soak(said.groot, title, meta, said)
-        count += 1
+    program(said.groot)
+    begin = time.monotonic()
+    end = begin + 60 * said.minutes
+    counts = [soak(said, title, meta, end) for title, meta in configurations(said.folders)]
     for title, write in LARGE[: said.large]:
         with tempfile.TemporaryDirectory() as folder:
-            rows, _, _ = write(folder)
-            meta = os.path.join(folder, "m.json")
-            with open(meta, "w") as into:
-                json.dump({"TopNameServers": ["ns1.example."], "ZoneFiles": rows}, into)
-            runs += soak(said.groot, title, meta, said)
-            count += 1
-    print(f"{count} configurations, {runs} runs, each with the same status and the same octets, all ended")
+            counts.append(soak(said, title, metadata(folder, write(folder), "ns1.example."), end))
+    if not counts:
+        raise SystemExit("soak.py: no configuration")
+    print(f"{len(counts)} configurations, {sum(counts)} runs in {time.monotonic() - begin:.0f} seconds, all ended, each of one configuration with the same status and the same octets")
 
 
 if __name__ == "__main__":
