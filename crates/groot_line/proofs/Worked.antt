@@ -5,7 +5,7 @@ use Rattle.groot_line.specs.Job.{job_of}
 use Rattle.groot_line.specs.declared.fault.LineFault.{LineFault}
 use Rattle.groot_line.specs.declared.fault.LineFault.TheVariants.{Usage}
 use Rattle.groot_line.specs.declared.job.Job.{Job}
-use Rattle.groot_line.specs.declared.job.Job.TheVariants.{Check, Ask, Classes}
+use Rattle.groot_line.specs.declared.job.Job.TheVariants.{Check, Ask, Classes, Drill}
 
 -- the job of a command and the words behind it
 abbrev said : List ℕ → List (List ℕ) → Result Job LineFault
@@ -94,9 +94,22 @@ other_type = refl
 no_name : said (codes "ask") (codes "m.json" ∷ codes "a..t" ∷ codes "A" ∷ []) ≡ Err Usage
 no_name = refl
 
--- a command in another case, and one that the program doesn't have yet
+-- a drill of so many zones: one at least, 5000 at most
+plain_drill : said (codes "drill") (codes "200" ∷ []) ≡ Ok (Drill 200 4)
+plain_drill = refl
+
+largest_drill : said (codes "drill") (codes "--workers" ∷ codes "64" ∷ codes "5000" ∷ []) ≡ Ok (Drill 5000 64)
+largest_drill = refl
+
+no_zones : said (codes "drill") (codes "0" ∷ []) ≡ Err Usage
+no_zones = refl
+
+too_many_zones : said (codes "drill") (codes "5001" ∷ []) ≡ Err Usage
+too_many_zones = refl
+
+no_number_of_zones : said (codes "drill") [] ≡ Err Usage
+no_number_of_zones = refl
+
+-- a command in another case
 upper_case : said (codes "CHECK") (codes "m.json" ∷ []) ≡ Err Usage
 upper_case = refl
-
-no_drill : said (codes "drill") (codes "1" ∷ []) ≡ Err Usage
-no_drill = refl

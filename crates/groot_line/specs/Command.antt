@@ -14,9 +14,9 @@ command_word Ask = codes "ask"
 command_word Classes = codes "classes"
 command_word Drill = codes "drill"
 
--- the commands that the program has: `drill` isn't among them yet
+-- the commands that the program has
 abbrev pub commands : List Command
-commands = Check ∷ Ask ∷ Classes ∷ []
+commands = Check ∷ Ask ∷ Classes ∷ Drill ∷ []
 
 -- the command of a word, which is compared as written
 abbrev pub command_of : List ℕ → Option Command

@@ -19,8 +19,13 @@ pub(crate) enum Command {
 }
 
 impl Command {
-    /// The commands that the program has. `drill` isn't among them yet.
-    const ALL: [Command; 3] = [Command::Check, Command::Ask, Command::Classes];
+    /// The commands that the program has.
+    const ALL: [Command; 4] = [
+        Command::Check,
+        Command::Ask,
+        Command::Classes,
+        Command::Drill,
+    ];
 
     /// The command's word.
     fn word(&self) -> &'static str

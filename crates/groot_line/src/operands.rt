@@ -9,8 +9,8 @@ use crate::number::number_to;
 use dns_data::{Name, NameFault, RrType, Text};
 use std::alloc::Global;
 
-/// The most files that a drill makes.
-const MOST_FILES: u32 = 5_000;
+/// The most zones that a drill makes files of.
+const MOST_ZONES: u32 = 5_000;
 
 /// The metadata file, if its word is the only operand.
 pub(crate) fn only_meta(alloc: Global, operands: &[&str]) -> Result<Text, LineFault>
@@ -53,14 +53,14 @@ pub(crate) fn asked_type(word: &str) -> Result<RrType, LineFault>
     }
 }
 
-/// How many files a drill makes, if the word for it is the only operand.
+/// Of how many zones a drill makes files, if the word for it is the only operand.
 pub(crate) fn drill_number(operands: &[&str]) -> Result<u32, LineFault>
     ensures { AnswersOr LineFault.NoMemory result (drill_number (map (λ word. word.now) operands.now)) }
 {
     let [word] = operands else {
         return Err(LineFault::Usage);
     };
-    match number_to(MOST_FILES, word.as_bytes()) {
+    match number_to(MOST_ZONES, word.as_bytes()) {
         Some(number) => Ok(number),
         None => Err(LineFault::Usage),
     }
