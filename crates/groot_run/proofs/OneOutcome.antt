@@ -1,4 +1,6 @@
 -- A job has at most one outcome: what the files give is one, a configuration has one class tree and one report.
+use Rattle.zone_maker.specs.Source.{drill_told}
+use Rattle.std.specs.Prelude.{codes}
 use Rattle.std.proofs.Common.{◌≡◌, ℕ, List, Result, Ok, Err, [], length, subst, sym, ap, ◌∙◌, inl, inr}
 use Rattle.io_edges.specs.Files.{Told}
 use Rattle.dns_data.specs.Name.{Labels}
@@ -12,7 +14,7 @@ use Rattle.groot_line.specs.declared.fault.LineFault.{LineFault}
 use Rattle.groot_line.specs.declared.job.Job.{Job}
 use Rattle.groot_line.specs.declared.job.Job.TheVariants as jobs
 use Rattle.groot_run.specs.declared.ending.Ending.{Ending}
-use Rattle.groot_run.specs.Outcome.{reported, listed, WithinNames, WithinStates, IsReported, most_states, too_many_states, Checks, IsClassList, ListsClasses, ask_rewrites, most_learning_walks, IsAnswerWith, Asks, answered, too_many_to_learn, OfReading, Outcome}
+use Rattle.groot_run.specs.Outcome.{reported, listed, WithinNames, WithinStates, IsReported, most_states, too_many_states, Checks, IsClassList, ListsClasses, ask_rewrites, most_learning_walks, IsAnswerWith, Asks, answered, too_many_to_learn, OfReading, Outcome, Drills, IsDrilled, drilled, drill_names, drill_rewrites}
 use Rattle.groot_run.proofs.OneReport.{one_report}
 use Rattle.groot_run.proofs.Budgets.{one_passed}
 use Rattle.groot_run.proofs.OneClassList.{one_class_list}
@@ -41,6 +43,12 @@ one_check limit rewrites config a b =
     one_within config limit (WithinStates config rewrites (IsReported config rewrites a) a) (WithinStates config rewrites (IsReported config rewrites b) b) a b
     (one_within_states config rewrites (IsReported config rewrites a) (IsReported config rewrites b) a b
     (λ p q. p.as_text ∙ ap reported (one_report (whole config rewrites) p.report q.report p.is_report q.is_report) ∙ sym q.as_text))
+
+one_drill : (zones : ℕ) (config : Config) (a b : Ending) → Drills zones config a → Drills zones config b → a ≡ b
+one_drill zones config a b =
+    one_within config drill_names (WithinStates config drill_rewrites (IsDrilled zones config a) a) (WithinStates config drill_rewrites (IsDrilled zones config b) b) a b
+    (one_within_states config drill_rewrites (IsDrilled zones config a) (IsDrilled zones config b) a b
+    (λ p q. p.as_line ∙ ap (drilled zones config) (one_report (whole config drill_rewrites) p.report q.report p.is_report q.is_report) ∙ sym q.as_line))
 
 one_list : (limit : ℕ) (config : Config) (a b : Ending) → ListsClasses limit config a → ListsClasses limit config b → a ≡ b
 one_list limit config a b =
@@ -86,5 +94,6 @@ one_outcome told (Ok (jobs.Classes meta classes)) a b =
     one_by_reading meta (ListsClasses classes) (one_list classes) (conf meta told) a b
 one_outcome told (Ok (jobs.Ask meta name rtype)) a b =
     one_by_reading meta (Asks name rtype) (one_asked name rtype) (conf meta told) a b
-one_outcome told (Ok job) a b = λ p q. p ∙ sym q
+one_outcome told (Ok (jobs.Drill zones workers)) a b =
+    one_by_reading (codes "meta.json") (Drills zones) (one_drill zones) (conf (codes "meta.json") (drill_told zones)) a b
 one_outcome told (Err fault) a b = λ p q. p ∙ sym q

@@ -28,7 +28,10 @@ pub use Rattle.config_load.specs.Reading as FileReading
 pub use Rattle.config_load.specs.Refusal
 pub use Rattle.groot_line.specs.Job
 pub use Rattle.groot_line.specs.Usage
+pub use Rattle.zone_maker.specs.Drill
+pub use Rattle.zone_maker.specs.Source
 pub mod ClassList
+pub mod DrillLine
 pub mod Laws
 pub mod Outcome
 pub mod Task

@@ -1,5 +1,6 @@
 -- How a run ends: its status, the text for out and the line for err, by its job and by what is told of the files.
-use Rattle.std.specs.Prelude.{◌≡◌, ℕ, ◌⊎◌, Bool, true, false, List, [], ◌∷◌, ◌++◌, length, codes, decimal, Result, Ok}
+use Rattle.std.specs.Prelude.{◌≡◌, ℕ, ◌⊎◌, Bool, true, false, List, [], ◌∷◌, ◌++◌, length, min, codes, decimal, Result, Ok}
+use Rattle.io_edges.specs.Counts.{last_count}
 use Rattle.io_edges.specs.Files.{Told}
 use Rattle.dns_data.specs.Name.{Labels}
 use Rattle.dns_data.specs.Spelling.{name_text}
@@ -32,6 +33,8 @@ use Rattle.groot_run.specs.declared.status.Status.{Status}
 use Rattle.groot_run.specs.declared.status.Status.TheVariants.{Clean, Faults, Usage, Refused, Classes, States, Walks, ReadFault, WriteFault, NoMemory}
 use Rattle.net_model.specs.Tree.{HasMoreThan}
 use Rattle.query_classes.specs.Children.{IsInTree}
+use Rattle.zone_maker.specs.Source.{drill_told}
+use Rattle.groot_run.specs.DrillLine.{drill_line, records_of}
 use Rattle.groot_run.specs.ClassList.{ListedClass, AreListed, class_list_text}
 
 -- the number of a status, as the program ends with it
@@ -184,6 +187,34 @@ Asks name rtype config ending =
     ((server : Labels) × IsFirstWithTooMany config ask_rewrites most_learning_walks [] server × (ending ≡ too_many_to_learn server))
     ⊎ IsAnswerOf config name rtype ending
 
+-- a drill with this report; a count of records ends at its last number
+abbrev pub drilled : ℕ → Config → Report → Ending
+drilled zones config report =
+    record {
+      status = status_of report.entries;
+      out = drill_line zones (min (records_of config.servers) last_count) report.names (length report.entries);
+      err = [];
+    }
+
+-- how many rewrites a query may use, and how many names the class tree may have
+abbrev pub drill_rewrites : ℕ
+drill_rewrites = 12
+
+abbrev pub drill_names : ℕ
+drill_names = 100000
+
+-- the run ends with the line of the configuration's report
+pub record IsDrilled (zones : ℕ) (config : Config) (ending : Ending) : Type 0 where
+  pub report : Report
+  pub is_report : IsReport (whole config drill_rewrites) report
+  pub as_line : ending ≡ drilled zones config report
+
+-- what `drill` gives of the configuration of its files: the line, unless the class tree has too many names, or a
+-- representative reaches too many pairs of state and type
+abbrev pub Drills : ℕ → Config → Ending → Type 0
+Drills zones config ending =
+    WithinNames config drill_names (WithinStates config drill_rewrites (IsDrilled zones config ending) ending) ending
+
 -- What a command gives that reads the files of this metadata file, by what it gives of a configuration. Where a file isn't
 -- held, or nothing is told of it, it gives nothing: such a run ends in a failed read.
 abbrev pub OfReading : List ℕ → (Config → Ending → Type 0) → Reading Config → Ending → Type 0
@@ -192,11 +223,12 @@ OfReading meta of_config (Refuses fault) ending = ending ≡ refused meta fault
 OfReading meta of_config (Misses file) ending = ⊥
 OfReading meta of_config (Unknown file) ending = ⊥
 
--- what the words' job gives, by what is told of the files: an equation for each command that words may ask for so far
+-- what the words' job gives, by what is told of the files; a drill reads its own
 abbrev pub Outcome : (List ℕ → Told) → Result Job LineFault → Ending → Type 0
 Outcome told (Ok (jobs.Check meta workers classes rewrites)) ending = OfReading meta (Checks classes rewrites) (conf meta told) ending
 Outcome told (Ok (jobs.Classes meta classes)) ending = OfReading meta (ListsClasses classes) (conf meta told) ending
 Outcome told (Ok (jobs.Ask meta name rtype)) ending = OfReading meta (Asks name rtype) (conf meta told) ending
+Outcome told (Ok (jobs.Drill zones workers)) ending = OfReading (codes "meta.json") (Drills zones) (conf (codes "meta.json") (drill_told zones)) ending
 Outcome told job ending = ending ≡ usage
 
 -- a run ends in the outcome of its job, in a failed read or for want of memory

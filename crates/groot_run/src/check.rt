@@ -52,7 +52,7 @@ fn reported(alloc: Global, report: &Report) -> Ending
 }
 
 /// The status of a report with these entries.
-fn status_of(entries: &[ReportEntry]) -> Status
+pub(crate) fn status_of(entries: &[ReportEntry]) -> Status
     ensures { result ≡ status_of entries.now }
 {
     match entries {

@@ -7,6 +7,8 @@
 mod ask;
 mod check;
 mod classes;
+mod counts;
+mod drill;
 mod ending;
 mod judging;
 mod laws;

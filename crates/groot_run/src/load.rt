@@ -39,7 +39,7 @@ pub(crate) fn of_files<F: Files, G: Gate + Sync, R: Threads + Wait + Sync>(
 }
 
 /// How a run ends over files that give no configuration.
-fn not_loaded(alloc: Global, meta: &str, fault: LoadFault) -> Ending
+pub(crate) fn not_loaded(alloc: Global, meta: &str, fault: LoadFault) -> Ending
     ensures { IsNotLoaded meta.now fault result ⊎ (result ≡ no_memory) }
 {
     match fault {

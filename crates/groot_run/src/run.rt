@@ -15,6 +15,7 @@ ghost use Rattle.groot_run.specs.Laws.{HasClasses};
 ghost use Rattle.groot_run.specs.Outcome.{Outcome, Checks, IsEnding, JobComesTo, NoJobReadFailed, writes_nothing, no_memory};
 ghost use Rattle.groot_run.specs.Writing.{IsLeft, TookLine};
 
+use crate::drill::drill;
 use crate::ending::Ending;
 use crate::judging::Limits;
 use crate::laws::query_classes;
@@ -154,7 +155,8 @@ pub fn run_words<F: Files, G: Gate + Sync, R: Threads + Wait + Sync>(
                 gate,
             )
         }
-        Ok(_) | Err(LineFault::Usage) => Ending::usage(),
+        Ok(Job::Drill { n, workers }) => drill(rt, alloc, n, workers, gate),
+        Err(LineFault::Usage) => Ending::usage(),
         Err(LineFault::NoMemory) => Ending::no_memory(),
     }
 }

@@ -188,3 +188,23 @@ fn two_workers_judge_at_once(rt: HostRuntime) -> Result<(), Fail> {
     );
     Ok(())
 }
+
+// A drill makes its files itself, and reads none of those that are handed in: the first read fails only behind the run.
+#[test]
+fn drill_of_one_zone(rt: HostRuntime) -> Result<(), Fail> {
+    let asked = Asked {
+        words: &["drill", "1"],
+        metadata: "",
+        zones: ["", ""],
+    };
+    let shown = run(&rt, rt.alloc(), asked, &FreeGate, Some(1), 200)?;
+    ends(
+        &rt,
+        &shown,
+        0,
+        "drill 1: files 2, records 9, names 5, faults 0\n",
+        "",
+    );
+    assert_eq!(rt; shown.next_fails, true, "a drill reads none of the files");
+    Ok(())
+}
