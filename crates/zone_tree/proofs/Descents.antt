@@ -12,6 +12,7 @@ use Rattle.net_model.specs.Zone.{exists_in, owns}
 use Rattle.dns_data.proofs.NameFronts.{is_prefix_tells, is_prefix_told, begins_itself}
 use Rattle.dns_data.proofs.Names.{name_eq_decides}
 use Rattle.net_model.proofs.OpenTails.{zone_cut_above, closest_encloser_above, dname_owner_within, missing_decided}
+use Rattle.zone_tree.specs.Names.{IsBelow}
 use Rattle.zone_tree.proofs.Existing.{begins_along}
 use Rattle.zone_tree.proofs.Prefixes.{longest_itself, shortest_alone, shortest_next, found_beyond, found_above}
 
@@ -24,6 +25,18 @@ encloses zone above label rest inside absent exists =
 -- one label more of a name
 pub one_label_more : (name : Labels) (k : ℕ) → k < length name → take (k + 1) name ≡ take k name ++ get_or name k [] ∷ []
 one_label_more name k below = take_more name k [] below
+
+-- so it is below the front with one label less
+pub front_under : (name front above : Labels) (count : ℕ) → front ≡ take count name → above ≡ take (count - 1) name → 0 < count → count ≤ length name
+    → IsBelow front above
+front_under name front above count is up some within =
+    let next : count ≡ count - 1 + 1 = omega arith in
+    record {
+      first = get_or name (count - 1) [];
+      rest = [];
+      is = is ∙ ap (λ (n : ℕ). take n name) next ∙ one_label_more name (count - 1) (omega arith)
+          ∙ ap (λ (x : Labels). x ++ get_or name (count - 1) [] ∷ []) (sym up);
+    }
 
 -- a name in two, at a label
 pub at_label : (name : Labels) (k : ℕ) → k < length name → take k name ++ get_or name k [] ∷ drop (k + 1) name ≡ name

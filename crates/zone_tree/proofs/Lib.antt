@@ -7,6 +7,6 @@ mod NamesBelow
 mod Owned
 mod Pairs
 pub mod Prefixes
-mod SearchedNames
+pub mod SearchedNames
 pub mod SortedTree
 pub mod Types

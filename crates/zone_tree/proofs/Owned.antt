@@ -1,5 +1,5 @@
 -- Records in the order of their owners: those of a name stand together, and what they are a stable sort keeps.
-use Rattle.std.proofs.Common.{◌≡◌, ◌≢◌, ℕ, zero, suc, ◌+◌, ◌<◌, ◌≤◌, Bool, true, false, cond, not, ◌&&◌, ◌⊎◌, List, [], ◌∷◌, ◌++◌, map, filter, length, get_or, take, drop, Contains, IsSorted, IsPermutation, Bor, Ordering, Less, Equal, Greater, is_lt, is_gt, sym, refl, ap, ◌∙◌, subst, inl, inr, true≢false, arith}
+use Rattle.std.proofs.Common.{◌≡◌, ◌≢◌, ℕ, zero, suc, ◌+◌, ◌<◌, ◌≤◌, Bool, true, false, cond, not, ◌&&◌, List, [], ◌∷◌, map, filter, length, get_or, take, drop, Contains, IsSorted, IsPermutation, Bor, Ordering, Less, Equal, Greater, is_lt, is_gt, sym, refl, ap, ◌∙◌, subst, inl, inr, true≢false, arith}
 use Rattle.std.specs.List.{list_any}
 use Rattle.std.specs.List.Sorted.{ties, IsStableBy}
 use Rattle.std.proofs.lemmas.Bool.{cases_lt, cases_eq}
@@ -11,9 +11,8 @@ use Rattle.std.specs.Ordering.{ordering_reverse}
 use Rattle.dns_data.specs.Name.{Labels, name_eq, name_cmp, is_prefix}
 use Rattle.dns_data.specs.declared.rdata.Rdata.{Rdata}
 use Rattle.dns_data.specs.declared.rdata.Rr.{Rr}
-use Rattle.dns_data.proofs.Membership.{none_in_nil, has_first, has_later, first_or_later}
-use Rattle.dns_data.proofs.NameFronts.{begins_itself}
-use Rattle.dns_data.proofs.NameOrder.{UpTo, Before, names_total, up_to_before, before_up_to, before_differs, behind_differs, turned}
+use Rattle.dns_data.proofs.Membership.{has_first, has_later}
+use Rattle.dns_data.proofs.NameOrder.{UpTo, Before, names_total, before_up_to, before_differs, behind_differs}
 use Rattle.dns_data.proofs.Names.{name_eq_decides, same_names}
 use Rattle.dns_data.proofs.OrderedLists.{never_before_itself}
 use Rattle.dns_data.proofs.Searches.{from_any, filter_none}

@@ -1,16 +1,18 @@
 -- Where a name stands among names in order.
-use Rattle.std.proofs.Common.{◌≡◌, ◌≢◌, ℕ, Bool, true, false, ◌+◌, ◌<◌, List, [], Contains, get_or, length, is_lt, Less, Equal, Greater, Result, Ok, Err, sym, refl, ap, ◌∙◌, subst, inl, inr, arith}
+use Rattle.std.proofs.Common.{◌≡◌, ◌≢◌, ℕ, Bool, true, false, ◌+◌, ◌<◌, List, [], ◌∷◌, ◌++◌, Contains, get_or, length, is_lt, Less, Equal, Greater, Result, Ok, Err, sym, refl, ap, ◌∙◌, subst, inl, inr, true≢false, length-append, is_gt, arith}
 use Rattle.std.specs.Result.{MatchResult}
 use Rattle.std.specs.List.Sorted.{IsSearchInRange, IsBinarySearchResult, IsSortedBy}
 use Rattle.std.proofs.lemmas.Bool.{cases_lt}
 use Rattle.std.proofs.lemmas.Cmp.{tied_itself}
+use Rattle.std.proofs.lemmas.List.{get_or_default}
 use Rattle.std.proofs.lemmas.List.Sorted.{searchable_from_sorted}
 use Rattle.std.specs.Ordering.{ordering_reverse}
-use Rattle.std.proofs.lemmas.List.Elements.{Contains-get_or}
-use Rattle.dns_data.specs.Name.{Labels, name_cmp, name_eq}
-use Rattle.dns_data.proofs.Names.{same_names, name_eq_decides}
-use Rattle.dns_data.proofs.NameOrder.{names_total, before_differs, behind_differs}
-use Rattle.zone_tree.specs.Names.{Ordered}
+use Rattle.dns_data.specs.Name.{Labels, is_prefix, name_cmp, name_eq}
+use Rattle.dns_data.proofs.NameFronts.{Begins, is_prefix_tells, is_prefix_told}
+use Rattle.dns_data.proofs.Names.{same_names}
+use Rattle.dns_data.proofs.NameOrder.{UpTo, Before, names_total, before_differs, behind_differs, prefix_up_to, up_to_before, new_prefix_after}
+use Rattle.dns_data.proofs.OrderedLists.{never_before_itself}
+use Rattle.zone_tree.specs.Names.{Ordered, IsBelow}
 
 -- names in order rise
 rises : (names : List Labels) → Ordered names → IsSortedBy (λ a b. is_lt (name_cmp a b)) names
@@ -47,9 +49,55 @@ apart names i j ordered first second other =
       | inr higher ↦ behind_differs (get_or names i []) (get_or names j []) (ordered j i [] (let e : i ≢ j = other in omega arith) first)
     ]
 
--- a name that isn't among names is none of them
-pub never_there : (names : List Labels) (name : Labels) (k : ℕ) → (Contains names name → ⊥) → k < length names → name_eq name (get_or names k []) ≡ false
-never_there names name k absent below = by (name_eq name (get_or names k [])) refl where
-  by : (b : Bool) → name_eq name (get_or names k []) ≡ b → b ≡ false
-  by false e = refl
-  by true e = absurd (absent (subst (Contains names) (sym ((name_eq_decides name (get_or names k [])).0 e)) (Contains-get_or names k [] below)))
+-- what stands between a name and one below it has the name's labels first
+pub between : (above name below : Labels) → UpTo above name → UpTo name (above ++ below) → Begins above name
+between above name below low high = by (is_prefix above name) refl where
+  by : (b : Bool) → is_prefix above name ≡ b → Begins above name
+  by true e = is_prefix_tells above name e
+  by false e =
+      absurd (never_before_itself name_cmp names_total above (up_to_before above name above low
+      (new_prefix_after name above below high (λ begins. true≢false (sym (is_prefix_told above name begins) ∙ e)))))
+
+-- where the next name isn't below the one at a place, or there is none, no name is
+module _ (names : List Labels) (place : ℕ) (ordered : Ordered names) (within : place < length names)
+    (apart : place + 1 < length names → is_prefix (get_or names place []) (get_or names (place + 1) []) ≡ false)
+    (name : Labels) (below : IsBelow name (get_or names place [])) (has : Contains names name) where
+  there : get_or names has.0 [] ≡ name
+  there = get_or_default names has.0 [] name has.1 ∙ has.2
+
+  not_before : has.0 < place → ⊥
+  not_before lower =
+      let above = get_or names place [] in
+      never_before_itself name_cmp names_total above
+      (up_to_before above name above (subst (UpTo above) (sym below.is) (prefix_up_to above (below.first ∷ below.rest)))
+      (subst (λ (x : Labels). Before x above) there (ordered has.0 place [] lower within)))
+
+  not_here : has.0 ≡ place → ⊥
+  not_here e =
+      let above = get_or names place [] in
+      let same : above ≡ name = ap (λ (n : ℕ). get_or names n []) (sym e) ∙ there in
+      omega (arith, ap (λ (x : Labels). length x) (same ∙ below.is), length-append above (below.first ∷ below.rest))
+
+  not_behind : place < has.0 → ⊥
+  not_behind behind =
+      let above = get_or names place [] in
+      let next = get_or names (place + 1) [] in
+      let inside : place + 1 < length names = omega (arith, behind, has.1) in
+      let low : UpTo above next = ap is_gt (ordered place (place + 1) [] (omega arith) inside) in
+      let high : UpTo next name = elim (cases_lt (place + 1) has.0) [
+        | inl lower ↦ ap is_gt (ap (name_cmp next) (sym there) ∙ ordered (place + 1) has.0 [] lower has.1)
+        | inr last ↦ (
+            let e : has.0 ≡ place + 1 = omega (arith, behind, last) in
+            ap is_gt (ap (name_cmp next) (sym there ∙ ap (λ (n : ℕ). get_or names n []) e) ∙ tied_itself names_total next))
+      ] in
+      let begins = between above next (below.first ∷ below.rest) low (subst (UpTo next) below.is high) in
+      true≢false (sym (is_prefix_told above next begins) ∙ apart inside)
+
+  pub none_below : ⊥
+  none_below = elim (cases_lt has.0 place) [
+    | inl lower ↦ not_before lower
+    | inr higher ↦ elim (cases_lt place has.0) [
+      | inl behind ↦ not_behind behind
+      | inr same ↦ not_here (let e : has.0 ≡ place = omega (arith, higher, same) in e)
+    ]
+  ]

@@ -1,6 +1,6 @@
 -- The names that exist in a zone, in order: its origin, and what each owner in order adds. The contracts of inner calls
 -- alone cite it.
-use Rattle.std.specs.Prelude.{◌≡◌, true, not, List, [], ◌∷◌, ◌++◌, ◌↔◌, ◌<◌, length, slice_index_or, Contains, AllPairs}
+use Rattle.std.specs.Prelude.{◌≡◌, ℕ, true, not, List, [], ◌∷◌, ◌++◌, ◌↔◌, ◌<◌, length, slice_index_or, Contains, AllPairs}
 use Rattle.std.specs.List.{filter}
 use Rattle.std.specs.declared.cmp.Ordering.TheVariants.{Less}
 use Rattle.dns_data.specs.Name.{Labels, is_prefix, name_cmp}
@@ -20,6 +20,12 @@ tree_after before (name ∷ names) = new_prefixes before name ++ tree_after name
 -- each name stands before the later ones
 abbrev pub Ordered : List Labels → Type 0
 Ordered names = AllPairs (λ a b. name_cmp a b ≡ Less) names
+
+-- the first name stands below the second
+pub record IsBelow (name above : Labels) : Type 0 where
+  pub first : List ℕ
+  pub rest : Labels
+  pub is : name ≡ above ++ first ∷ rest
 
 -- the names are those that exist in the zone, each once and in order
 pub record AreExisting (zone : Zone) (names : List Labels) : Type 0 where

@@ -1,5 +1,5 @@
 -- The records of a zone in the order of their owners. The contracts of inner calls alone cite it.
-use Rattle.std.specs.Prelude.{◌≡◌, ℕ, suc, zero, true, List, [], ◌∷◌, map, IsPermutation, IsSorted, if◌then◌else◌}
+use Rattle.std.specs.Prelude.{◌≡◌, ℕ, suc, true, List, [], ◌∷◌, map, IsPermutation, IsSorted, if◌then◌else◌}
 use Rattle.std.specs.List.{filter}
 use Rattle.dns_data.specs.Name.{Labels, name_eq, name_cmp, is_prefix}
 use Rattle.dns_data.specs.declared.rdata.Rr.{Rr}

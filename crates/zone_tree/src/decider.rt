@@ -53,7 +53,7 @@ fn decider_along(tree: &Tree<'_>, name: &Name, open_below: bool) -> Decider
         return Decider::Redirection(at);
     }
     for count in above + 1..labels + 1 {
-        let Some(node) = tree.node_of(&name.front(count)) else {
+        let Some(node) = tree.node_under(at, &name.front(count)) else {
             return by_source(tree, at);
         };
         let types = tree.types(node);

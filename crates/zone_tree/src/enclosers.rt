@@ -17,7 +17,7 @@ pub fn encloser(tree: &Tree<'_>, name: &Name) -> NodeId
 {
     let mut at = tree.apex();
     for count in tree.zone().origin.len() as usize + 1..name.len() as usize + 1 {
-        match tree.node_of(&name.front(count)) {
+        match tree.node_under(at, &name.front(count)) {
             Some(node) => at = node,
             None => return at,
         }

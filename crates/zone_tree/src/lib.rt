@@ -6,8 +6,9 @@
 //!
 //! Costs: a tree sorts references to the records of its zone by their owners once, and then passes over them once. It
 //! keeps each name, and of a single record of a type a reference; only data of several records of one name and type are
-//! copied. A name is found among the existing ones in as many comparisons of names as the logarithm of their number;
-//! what decides at a name is looked for along its labels, from the origin down to what decides or to its closest encloser.
+//! copied. A name is found among the existing ones in as many comparisons of names as the logarithm of their number,
+//! and in a few where it stands right behind a node's; one tells that no name stands below a node's. What decides at a name is
+//! looked for along its labels, from the origin down to what decides or to its closest encloser.
 #![tactic(auto)]
 
 mod decider;

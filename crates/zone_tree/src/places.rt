@@ -1,8 +1,8 @@
 //! Where names stand among the existing ones.
 
-ghost use Rattle.std.specs.Prelude.{◌≡◌, ◌<◌, [], ◌∷◌, ◌++◌, length, slice_index_or, Contains, IfSome, IfNone};
-ghost use Rattle.dns_data.specs.Name.{name_cmp};
-ghost use Rattle.zone_tree.specs.Names.{Ordered};
+ghost use Rattle.std.specs.Prelude.{◌≡◌, ◌<◌, true, [], ◌∷◌, ◌++◌, length, slice_index_or, Contains, IfSome, IfNone};
+ghost use Rattle.dns_data.specs.Name.{Labels, name_cmp};
+ghost use Rattle.zone_tree.specs.Names.{Ordered, IsBelow};
 
 use dns_data::{Labels, Name};
 use std::cmp::Ordering;
@@ -21,6 +21,33 @@ pub(crate) fn place_among(names: &[Name], labels: &Labels<'_>) -> Option<usize>
     match found {
         Ok(place) => Some(place),
         Err(_) => None,
+    }
+}
+
+/// The place of the name with these labels, where it is among the next few behind a place.
+pub(crate) fn place_behind(names: &[Name], place: usize, labels: &Labels<'_>) -> Option<usize>
+    requires { place < length names.now }
+    ensures { IfSome result (λ near. (near < length names.now) × (slice_index_or names.now near [] ≡ labels.now)) }
+{
+    let end = names.len().min(place + 9);
+    for near in place + 1..end {
+        if names[near].labels().compare(labels) == Ordering::Equal {
+            return Some(near);
+        }
+    }
+    None
+}
+
+/// Whether none of the names in order stands below the one at a place: the first that did would stand right behind it.
+pub(crate) fn is_leaf_at(names: &[Name], place: usize) -> bool
+    requires ordered { Ordered names.now }
+    requires within { place < length names.now }
+    ensures { result ≡ true → (name : Labels) → IsBelow name (slice_index_or names.now place []) → Contains names.now name → ⊥ }
+{
+    if place + 1 < names.len() {
+        !names[place].is_prefix_of(&names[place + 1])
+    } else {
+        true
     }
 }
 

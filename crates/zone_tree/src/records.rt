@@ -1,15 +1,11 @@
 //! What a name owns.
 
-ghost use Rattle.std.specs.Prelude.{◌≡◌, map, [], ◌∷◌, IfOk, IfSome, IfNone, IsNone};
-ghost use Rattle.std.specs.List.{filter, list_any};
+ghost use Rattle.std.specs.Prelude.{◌≡◌, map, [], ◌∷◌, IfOk, IfSome, IfNone};
+ghost use Rattle.std.specs.List.{filter};
 ghost use Rattle.std.specs.Option.{option_map};
 ghost use Rattle.dns_data.specs.Rdata.{has_type};
-ghost use Rattle.dns_data.specs.TypeSet.{has_bit};
-ghost use Rattle.dns_data.specs.declared.rr_type.RrType.{RrType};
-ghost use Rattle.dns_data.specs.declared.rr_type.RrType.TheVariants as rr_types;
-ghost use Rattle.net_model.specs.Zone.{target_of, data_cmp};
-ghost use Rattle.net_model.specs.Order.{in_order};
-ghost use Rattle.zone_tree.specs.Records.{targets_of, all_in, data_in, first_in, Tells, IsSetOf, AreSets, TellsTypes};
+ghost use Rattle.net_model.specs.Zone.{target_of};
+ghost use Rattle.zone_tree.specs.Records.{all_in, data_in, first_in, Tells, IsSetOf, AreSets, TellsTypes};
 
 use crate::few::Few;
 use crate::order::{servers_of, set_in_order};

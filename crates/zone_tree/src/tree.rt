@@ -1,6 +1,6 @@
 //! Trees of zones.
 
-ghost use Rattle.std.specs.Prelude.{◌≡◌, ◌↔◌, ◌<◌, ◌++◌, ◌∷◌, [], map, true, false, ℕ, Contains, AllPairs, IsNone, IfSome, IfOk};
+ghost use Rattle.std.specs.Prelude.{◌≡◌, ◌↔◌, ◌++◌, ◌∷◌, [], map, true, false, Contains, AllPairs, IsNone, IfSome, IfOk};
 ghost use Rattle.std.specs.Option.{option_map};
 ghost use Rattle.std.specs.declared.cmp.Ordering.TheVariants.{Less};
 ghost use Rattle.dns_data.specs.Name.{Labels, name_cmp};
@@ -10,6 +10,7 @@ ghost use Rattle.dns_data.specs.declared.rr_type.RrType.TheVariants as rr_type;
 ghost use Rattle.net_model.specs.Lookup.{first_name};
 ghost use Rattle.net_model.specs.Order.{in_order};
 ghost use Rattle.net_model.specs.Zone.{exists_in, owns, data_at, data_cmp, targets_at, ns_names, addresses};
+ghost use Rattle.zone_tree.specs.Names.{IsBelow};
 ghost use Rattle.zone_tree.specs.Records.{data_of, Tells};
 ghost use Rattle.zone_tree.specs.Tree.{IsNode, name_of};
 
@@ -17,7 +18,7 @@ use crate::names::existing_names;
 use crate::node::NodeId;
 use crate::order::merged;
 use crate::owners::{records_by_name, rrs_in_order};
-use crate::places::{place_among, place_below};
+use crate::places::{is_leaf_at, place_among, place_behind, place_below};
 use crate::records::{Records, data_in, first_in, target_of};
 use dns_data::{Label, Labels, List, Name, NoMemory, Rdata, RrType, TypeSet};
 use net_model::Zone;
@@ -105,6 +106,44 @@ impl<'a> Tree<'a> {
         Some(NodeId::at(place))
     }
 
+    /// The node of the name with these labels, or `None` where that name doesn't exist in the zone. The next few names behind
+    /// the node's are looked at first: a name below another mostly stands there.
+    pub fn node_near(&self, node: NodeId, labels: &Labels<'_>) -> Option<NodeId>
+        requires { IsNode self.now node }
+        ensures node { IfSome result (IsNode self.now) }
+        ensures name { IfSome result (λ near. name_of self.now near ≡ labels.now) }
+        ensures none { IsNone result ↔ (exists_in self.now.zone labels.now ≡ false) }
+    {
+        match place_behind(self.names.as_slice(), node.place(), labels) {
+            Some(place) => Some(NodeId::at(place)),
+            None => self.node_of(labels),
+        }
+    }
+
+    /// The node of the name with these labels, which is below a node's name, or `None` where that name doesn't exist in
+    /// the zone. It is told at once where no existing name stands below the node's.
+    pub(crate) fn node_under(&self, node: NodeId, labels: &Labels<'_>) -> Option<NodeId>
+        requires node { IsNode self.now node }
+        requires below { IsBelow labels.now (name_of self.now node) }
+        ensures node { IfSome result (IsNode self.now) }
+        ensures name { IfSome result (λ under. name_of self.now under ≡ labels.now) }
+        ensures none { IsNone result ↔ (exists_in self.now.zone labels.now ≡ false) }
+    {
+        if self.is_leaf(node) {
+            None
+        } else {
+            self.node_of(labels)
+        }
+    }
+
+    /// Whether no existing name stands below a node's.
+    pub(crate) fn is_leaf(&self, node: NodeId) -> bool
+        requires { IsNode self.now node }
+        ensures { result ≡ true → (name : Labels) → IsBelow name (name_of self.now node) → exists_in self.now.zone name ≡ false }
+    {
+        is_leaf_at(self.names.as_slice(), node.place())
+    }
+
     /// The node of the name with this label directly below a node's name, or `None` where that name doesn't exist in
     /// the zone.
     pub fn child(&self, node: NodeId, label: &Label) -> Option<NodeId>
@@ -123,6 +162,9 @@ impl<'a> Tree<'a> {
         ensures name { IfSome result (λ child. name_of self.now child ≡ name_of self.now node ++ label.now ∷ []) }
         ensures none { IsNone result ↔ (exists_in self.now.zone (name_of self.now node ++ label.now ∷ []) ≡ false) }
     {
+        if self.is_leaf(node) {
+            return None;
+        }
         let above = self.name(node).labels();
         let place = place_below(self.names.as_slice(), &above, label)?;
         Some(NodeId::at(place))

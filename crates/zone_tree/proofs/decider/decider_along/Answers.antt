@@ -8,7 +8,7 @@ use Rattle.net_model.specs.Zone.{exists_in, owns}
 use Rattle.net_model.specs.declared.config.Zone.{Zone}
 use Rattle.zone_tree.specs.Decider.{at_end}
 use Rattle.zone_tree.specs.Tree.{name_of}
-use Rattle.zone_tree.proofs.Descents.{Undecided, as_long, origin_front, apex_redirects, apex_undecided, cut_at, redirection_at, goes_on_at, source_at}
+use Rattle.zone_tree.proofs.Descents.{Undecided, as_long, origin_front, front_under, apex_redirects, apex_undecided, cut_at, redirection_at, goes_on_at, source_at}
 use Rattle.zone_tree.proofs.NamesBelow.{proper, improper, front_below, inside_below, at_end_decides}
 use Rattle.zone_tree.proofs.decider.decider_along.Goals as goal
 use Rattle.zone_tree.proofs.decider.decider_along.Goals.{else-is_proper-via-then-is_proper+else-has, else-is_proper-via-else-is_proper, else-is_proper-2-via-then-is_proper-2+else-has-3, else-is_proper-2-via-else-is_proper-2}
@@ -64,6 +64,12 @@ loop-count-init c =
           (sym (origin_front zone.origin (name ++ below) inside) ∙ ap (λ (n : ℕ). take n (name ++ below)) count)
           (apex_undecided zone (name ++ below) inside other);
     }
+
+pub node_under-requires-clause-below : goal.node_under-requires-clause-below
+node_under-requires-clause-below c =
+    let inv = c.loop-count.invariant in
+    front_under c.args.name.now c.front.result (name_of c.args.tree.now c.loop-count.at) c.loop-count.count c.front.ensures inv.name (omega (arith, inv.low))
+    (omega (arith, c.loop-count-test.true, c.len-labels.ensures.value))
 
 pub returns-in_default-clause-decides : goal.returns-in_default-clause-decides
 returns-in_default-clause-decides c = λ below stands.

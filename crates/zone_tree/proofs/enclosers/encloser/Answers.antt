@@ -5,7 +5,7 @@ use Rattle.dns_data.specs.Name.{Labels}
 use Rattle.net_model.specs.Zone.{exists_in}
 use Rattle.net_model.specs.declared.config.Zone.{Zone}
 use Rattle.zone_tree.specs.Tree.{name_of}
-use Rattle.zone_tree.proofs.Descents.{origin_front, encloser_at}
+use Rattle.zone_tree.proofs.Descents.{origin_front, encloser_at, front_under}
 use Rattle.zone_tree.proofs.Prefixes.{longest_itself}
 use Rattle.zone_tree.proofs.enclosers.encloser.Goals as goal
 
@@ -20,6 +20,12 @@ loop-count-init c =
       name = c.apex-at.ensures.name ∙ sym (origin_front zone.origin name c.requires)
           ∙ ap (λ (n : ℕ). take n name) (let e : length zone.origin ≡ c.len.result + 1 - 1 = omega (arith, long) in e);
     }
+
+pub node_under-requires-clause-below : goal.node_under-requires-clause-below
+node_under-requires-clause-below c =
+    let inv = c.loop-count.invariant in
+    front_under c.args.name.now c.front.result (name_of c.args.tree.now c.loop-count.at) c.loop-count.count c.front.ensures inv.name (omega (arith, inv.low))
+    (omega (arith, c.loop-count-test.true, c.len-2.ensures.value))
 
 pub returns-in-None-clause-name : goal.returns-in-None-clause-name
 returns-in-None-clause-name c =

@@ -1,8 +1,8 @@
-use Rattle.std.proofs.Common.{◌≡◌, List, Bor, map, filter, IsPermutation, IsSorted, is_lt, sym, ap, ◌∙◌, subst, rules}
+use Rattle.std.proofs.Common.{◌≡◌, List, Bor, map, IsPermutation, IsSorted, is_lt, sym, ap, ◌∙◌, subst, rules}
 use Rattle.std.specs.List.Sorted.{IsStableBy}
 use Rattle.std.proofs.lemmas.List.Sorted.{IsPermutation-map, answers_always, ranks_by}
 use Rattle.std.proofs.lemmas.Simd.{map-map}
-use Rattle.dns_data.specs.Name.{Labels, name_cmp, is_prefix}
+use Rattle.dns_data.specs.Name.{name_cmp}
 use Rattle.dns_data.specs.declared.rdata.Rr.{Rr}
 use Rattle.dns_data.proofs.NameOrder.{names_total}
 use Rattle.zone_tree.specs.Records.{data_of}

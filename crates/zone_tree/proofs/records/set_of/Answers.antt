@@ -1,5 +1,4 @@
-use Rattle.std.proofs.Common.{List, ◌∷◌, Bor, map, filter, ap, ◌∙◌}
-use Rattle.dns_data.specs.Rdata.{has_type}
+use Rattle.std.proofs.Common.{List, ◌∷◌, Bor, map, ap, ◌∙◌}
 use Rattle.dns_data.specs.declared.rdata.Rdata.{Rdata}
 use Rattle.dns_data.specs.declared.rdata.Rr.{Rr}
 use Rattle.zone_tree.specs.declared.records.Set.{Set}

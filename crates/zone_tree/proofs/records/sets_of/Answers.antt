@@ -1,4 +1,4 @@
-use Rattle.std.proofs.Common.{◌≡◌, ◌+◌, List, ◌∷◌, Bor, map, drop, get_or, sym, ap, ◌∙◌, subst}
+use Rattle.std.proofs.Common.{◌+◌, List, ◌∷◌, Bor, map, drop, get_or, sym, ◌∙◌, subst}
 use Rattle.std.proofs.lemmas.List.{drop_more, drop_all}
 use Rattle.dns_data.specs.RrType.{types}
 use Rattle.dns_data.specs.declared.rdata.Rdata.{Rdata}

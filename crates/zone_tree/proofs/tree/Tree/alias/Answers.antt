@@ -1,10 +1,9 @@
-use Rattle.std.proofs.Common.{◌≡◌, List, Option, Bor, sym, ap, ◌∙◌}
+use Rattle.std.proofs.Common.{List, Option, Bor, sym, ap, ◌∙◌}
 use Rattle.std.specs.Option.{option_map, option_and_then}
 use Rattle.dns_data.specs.Name.{Labels}
 use Rattle.dns_data.specs.declared.rdata.Rdata.{Rdata}
 use Rattle.dns_data.specs.declared.rr_type.RrType.TheVariants as rr_type
-use Rattle.net_model.specs.Lookup.{first_name}
-use Rattle.net_model.specs.Zone.{target_of, targets_at}
+use Rattle.net_model.specs.Zone.{target_of}
 use Rattle.zone_tree.specs.Records.{first_in}
 use Rattle.zone_tree.specs.declared.records.Set.{Set}
 use Rattle.zone_tree.specs.Tree.{name_of}

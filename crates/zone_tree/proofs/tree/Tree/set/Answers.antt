@@ -1,5 +1,4 @@
 use Rattle.std.proofs.Common.{List, sym, ap, ◌∙◌}
-use Rattle.dns_data.specs.declared.rdata.Rdata.{Rdata}
 use Rattle.net_model.specs.Order.{in_order}
 use Rattle.net_model.specs.Zone.{data_cmp}
 use Rattle.zone_tree.specs.declared.records.Set.{Set}
