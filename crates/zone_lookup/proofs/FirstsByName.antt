@@ -131,7 +131,7 @@ module _ {X : Type 0} (key : X → Labels) (name : Labels) where
   has_name x = name_eq (key x) name
 
   -- of items in the order of names, one with the name is what a search finds
-  found_in_order : (xs : List X) (place : ℕ) (d : X) → IsStrictlySortedBy name_cmp (map key xs) → place < length xs → key (get_or xs place d) ≡ name
+  pub found_in_order : (xs : List X) (place : ℕ) (d : X) → IsStrictlySortedBy name_cmp (map key xs) → place < length xs → key (get_or xs place d) ≡ name
       → find has_name xs ≡ Some (get_or xs place d)
   found_in_order [] place d sorted below is = absurd (omega arith)
   found_in_order (x ∷ xs) zero d sorted below is = ap (λ (b : Bool). cond b (Some x) (find has_name xs)) ((name_eq_decides (key x) name).1 is)
@@ -143,7 +143,7 @@ module _ {X : Type 0} (key : X → Labels) (name : Labels) where
       ap (λ (b : Bool). cond b (Some x) (find has_name xs)) (before_differs (key x) name less)
       ∙ found_in_order xs place d (sorted_tail name_cmp (key x) (map key xs) sorted) within is
 
-  rises : (xs : List X) → IsStrictlySortedBy name_cmp (map key xs) → IsSortedBy (λ a b. is_lt (name_cmp (key a) (key b))) xs
+  pub rises : (xs : List X) → IsStrictlySortedBy name_cmp (map key xs) → IsSortedBy (λ a b. is_lt (name_cmp (key a) (key b))) xs
   rises xs sorted = λ k d low high.
       let less : name_cmp (key (get_or xs k d)) (key (get_or xs (k + 1) d)) ≡ Less =
       ap (λ (a : Labels). name_cmp a (key (get_or xs (k + 1) d))) (sym (get_or-map key xs k d [] (omega arith)))

@@ -1,5 +1,5 @@
 -- Glue by the tree of the referring zone.
-use Rattle.std.proofs.Common.{◌≡◌, Bool, true, false, List, ◌∷◌, [], ◌++◌, Option, Some, None, find, cond, sym, refl, ap, ◌∙◌, append_assoc}
+use Rattle.std.proofs.Common.{◌≡◌, Bool, true, false, ◌++◌, Option, Some, None, sym, refl, ap, ◌∙◌, append_assoc}
 use Rattle.std.specs.Prelude.{◌||◌, option_and_then}
 use Rattle.dns_data.specs.Name.{Labels, name_eq, is_prefix}
 use Rattle.dns_data.specs.declared.rr_type.RrType.{RrType}

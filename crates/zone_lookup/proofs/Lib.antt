@@ -1,3 +1,4 @@
 mod FirstsByName
 pub mod Glue
 pub mod NearestZones
+mod OriginsBefore

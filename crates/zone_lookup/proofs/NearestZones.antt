@@ -1,6 +1,7 @@
 -- The zone with the longest origin at or above a name, found from the name's fronts.
-use Rattle.std.proofs.Common.{◌≡◌, ℕ, ◌+◌, ◌<◌, ◌≤◌, Bool, true, false, cond, List, [], ◌∷◌, ◌++◌, reverse, length, take, drop, Contains, Option, Some, None, find, is_some, sym, refl, ap, ◌∙◌, arith, append_assoc, length-append}
+use Rattle.std.proofs.Common.{◌≡◌, ℕ, ◌+◌, ◌<◌, ◌≤◌, Bool, true, false, List, [], ◌∷◌, ◌++◌, reverse, length, take, drop, Contains, Option, Some, None, is_some, sym, refl, ap, ◌∙◌, arith, append_assoc, length-append}
 use Rattle.std.specs.Prelude.{option_and_then}
+use Rattle.std.specs.Option.{option_map}
 use Rattle.std.proofs.lemmas.List.{take-append-drop, take-append-le, take_all, length-take-le}
 use Rattle.std.proofs.lemmas.List.Sorted.{IsPermutation-reverse, IsPermutation-sym, Contains-permutation}
 use Rattle.dns_data.specs.Name.{Labels, name_eq, is_prefix}
@@ -8,8 +9,10 @@ use Rattle.net_model.specs.declared.config.Server.{Server}
 use Rattle.net_model.specs.declared.config.Zone.{Zone}
 use Rattle.net_model.specs.Nearest.{zone_with_origin, nearest}
 use Rattle.net_model.specs.Prefix.{prefixes, longest}
+use Rattle.zone_tree.specs.Tree.{ZoneTree}
+use Rattle.zone_lookup.specs.Hosts.{tree_at, NoneFrom, IsAtLongest}
 use Rattle.dns_data.proofs.Membership.{none_in_nil, from_map}
-use Rattle.dns_data.proofs.NameFronts.{Begins, is_prefix_told}
+use Rattle.dns_data.proofs.NameFronts.{is_prefix_told}
 use Rattle.dns_data.proofs.Names.{name_eq_decides}
 use Rattle.dns_data.proofs.Searches.{find_none, found_there}
 use Rattle.net_model.proofs.Prefixes.{longer, longest_above, from_prefixes}
@@ -79,3 +82,30 @@ module _ (server : Server) (name : Labels) where
   -- and there is none, where no front is an origin
   pub nearest_none : ((j : ℕ) → j ≤ length name → holds (take j name) ≡ false) → nearest server name ≡ None
   nearest_none none = ap (option_and_then (zone_with_origin server)) (longest_none holds name none)
+
+-- the trees that a server's zones are looked up among tell its zones
+module _ (server : Server) (name : Labels) (trees : List ZoneTree)
+    (firsts : (origin : Labels) → option_map (λ (tree : ZoneTree). tree.zone) (tree_at trees origin) ≡ zone_with_origin server origin) where
+  is_held : (origin : Labels) → is_some (zone_with_origin server origin) ≡ is_some (tree_at trees origin)
+  is_held origin = ap is_some (sym (firsts origin)) ∙ by (tree_at trees origin) where
+    by : (found : Option ZoneTree) → is_some (option_map (λ (tree : ZoneTree). tree.zone) found) ≡ is_some found
+    by None = refl
+    by (Some tree) = refl
+
+  module _ (tree : ZoneTree) (longest : IsAtLongest (tree_at trees) name (length name) tree) where
+    zone_there : zone_with_origin server (take longest.labels name) ≡ Some tree.zone
+    zone_there = sym (firsts (take longest.labels name)) ∙ ap (option_map (λ (t : ZoneTree). t.zone)) longest.there
+
+    -- the tree of the longest origin is that of the nearest zone
+    pub nearest_of_tree : nearest server name ≡ Some tree.zone
+    nearest_of_tree =
+        nearest_at server name longest.labels tree.zone longest.within zone_there
+        (λ j more within. is_held (take j name) ∙ longest.none_longer j (omega arith) within)
+
+    -- which has the name
+    pub tree_has : is_prefix tree.zone.origin name ≡ true
+    tree_has = nearest_has server name longest.labels tree.zone zone_there
+
+  -- no tree, no nearest zone
+  pub nearest_of_none : NoneFrom (tree_at trees) name (length name) 0 → nearest server name ≡ None
+  nearest_of_none none = nearest_none server name (λ j within. is_held (take j name) ∙ none j (omega arith) within)

@@ -5,11 +5,12 @@ ghost use Rattle.std.specs.List.{list_any};
 ghost use Rattle.dns_data.specs.Name.{name_eq, is_prefix};
 ghost use Rattle.net_model.specs.Step.{has_glue, may_follow};
 ghost use Rattle.net_model.specs.Zone.{has_address};
+ghost use Rattle.zone_tree.specs.Tree.{IsNode, name_of};
 
 use crate::hosts::Hosts;
 use dns_data::{Name, RrType};
 use net_model::{Cut, may_follow};
-use zone_tree::Tree;
+use zone_tree::{NodeId, Tree};
 
 impl<'a> Hosts<'a> {
     /// Whether the address of the cut's name server is known: it is a top server, it has glue in that referral, or it is
@@ -42,6 +43,19 @@ impl<'a> Hosts<'a> {
     }
 }
 
+/// Whether the zone holds an address of the name server of a zone cut, which is at or below the zone's origin. The names that
+/// stand next behind the cut's are looked at first.
+pub fn has_glue_below(tree: &Tree<'_>, cut: NodeId, ns: &Name) -> bool
+    requires node { IsNode tree.now cut }
+    requires inside { is_prefix tree.now.zone.origin ns.now ≡ true }
+    ensures { result ≡ has_address tree.now.zone ns.now }
+{
+    match tree.node_near(cut, &ns.labels()) {
+        Some(node) => owns_address(tree, node),
+        None => false,
+    }
+}
+
 /// Whether the name is among these.
 fn is_among(names: &[Name], name: &Name) -> bool
     ensures { result ≡ list_any (name_eq name.now) names.now }
@@ -55,10 +69,16 @@ fn has_address(tree: &Tree<'_>, name: &Name) -> bool
     ensures { result ≡ has_address tree.now.zone name.now }
 {
     match tree.node_at(name) {
-        Some(node) => {
-            let types = tree.types(node);
-            types.has(RrType::A) || types.has(RrType::Aaaa)
-        }
+        Some(node) => owns_address(tree, node),
         None => false,
     }
+}
+
+/// Whether a node's name owns an address record.
+fn owns_address(tree: &Tree<'_>, node: NodeId) -> bool
+    requires { IsNode tree.now node }
+    ensures { result ≡ has_address tree.now.zone (name_of tree.now node) }
+{
+    let types = tree.types(node);
+    types.has(RrType::A) || types.has(RrType::Aaaa)
 }

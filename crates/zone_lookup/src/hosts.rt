@@ -1,12 +1,12 @@
 //! Servers with the trees of their zones.
 
-ghost use Rattle.std.specs.Prelude.{◌≡◌, true, map, IfOk, IfSome};
+ghost use Rattle.std.specs.Prelude.{◌≡◌, ◌≤◌, true, map, length, IfOk, IfErr, IfSome, IfNone};
 ghost use Rattle.std.specs.List.{find};
-ghost use Rattle.std.specs.List.Sorted.{IsStrictlySortedBy};
+ghost use Rattle.std.specs.List.Sorted.{IsStrictlySortedBy, IsSearchInRange, IsBinarySearchResult};
 ghost use Rattle.std.specs.Option.{option_map};
 ghost use Rattle.dns_data.specs.Name.{name_eq, name_cmp, is_prefix};
 ghost use Rattle.net_model.specs.Nearest.{server_named, zone_with_origin, held_zone, nearest, nearest_of};
-ghost use Rattle.zone_lookup.specs.Hosts.{AreTreesOf, FindsTrees, AreHostsOf, FindsHosts};
+ghost use Rattle.zone_lookup.specs.Hosts.{AreTreesOf, FindsTrees, AreHostsOf, FindsHosts, tree_at, NoneFrom, IsAtLongest};
 
 use dns_data::{Labels, Name, NoMemory};
 use net_model::{Config, Server, Zone};
@@ -120,14 +120,7 @@ impl<'a> Host<'a> {
         ensures zone { option_map (λ tree. tree.now.zone) result ≡ nearest self.now name.now }
         ensures inside { IfSome result (λ tree. is_prefix tree.now.zone.origin name.now ≡ true) }
     {
-        let mut count = name.len() as usize + 1;
-        while count > 0 {
-            count -= 1;
-            if let Some(tree) = self.tree_of(&name.front(count)) {
-                return Some(tree);
-            }
-        }
-        None
+        nearest_tree(self.trees.as_slice(), name)
     }
 
     /// The tree of the server's zone with this origin, the first of several.
@@ -150,15 +143,69 @@ fn tree_with_origin<'t, 'a>(trees: &'t [Tree<'a>], origin: &Labels<'_>) -> Optio
     requires { IsStrictlySortedBy name_cmp (map (λ tree. tree.zone.origin) trees.now) }
     ensures { option_map (λ tree. tree.now) result ≡ find (λ tree. name_eq tree.zone.origin origin.now) trees.now }
 {
-    let found = trees.binary_search_by(
-        |tree: &Tree<'_>| -> Ordering
-            ensures { result ≡ name_cmp tree.now.zone.origin origin.entry.now }
-        { tree.zone().origin.labels().compare(origin) },
-    );
-    match found {
+    match place_of(trees, origin) {
         Ok(place) => Some(&trees[place]),
         Err(_) => None,
     }
+}
+
+/// The tree with the longest origin at or above the name, among trees in the order of their origins.
+fn nearest_tree<'t, 'a>(trees: &'t [Tree<'a>], name: &Name) -> Option<&'t Tree<'a>>
+    requires { IsStrictlySortedBy name_cmp (map (λ tree. tree.zone.origin) trees.now) }
+    ensures some { IfSome result (λ tree. IsAtLongest (tree_at trees.now) name.now (length name.now) tree.now) }
+    ensures none { IfNone result (NoneFrom (tree_at trees.now) name.now (length name.now) 0) }
+{
+    let mut count = name.len() as usize + 1;
+    while count > 0 {
+        match nearest_or_fewer(trees, name, count - 1) {
+            Ok(tree) => return Some(tree),
+            Err(fewer) => count = fewer,
+        }
+    }
+    None
+}
+
+/// The tree with the longest origin among the name's prefixes of at most `count` labels, or a number of labels which all
+/// such origins stay below.
+fn nearest_or_fewer<'t, 'a>(
+    trees: &'t [Tree<'a>],
+    name: &Name,
+    count: usize,
+) -> Result<&'t Tree<'a>, usize>
+    requires ordered { IsStrictlySortedBy name_cmp (map (λ tree. tree.zone.origin) trees.now) }
+    requires within { count ≤ length name.now }
+    ensures ok { IfOk result (λ tree. IsAtLongest (tree_at trees.now) name.now count tree.now) }
+    ensures fewer { IfErr result (λ fewer. fewer ≤ count) }
+    ensures none { IfErr result (λ fewer. NoneFrom (tree_at trees.now) name.now count fewer) }
+{
+    match place_of(trees, &name.front(count)) {
+        Ok(place) => Ok(&trees[place]),
+        Err(0) => Err(0),
+        Err(place) => {
+            let tree = &trees[place - 1];
+            let origin = tree.zone().origin.labels();
+            let common = origin.common_len(&name.labels());
+            if common == origin.len() {
+                Ok(tree)
+            } else {
+                Err(common as usize + 1)
+            }
+        }
+    }
+}
+
+/// The place of the tree whose zone has this origin, among trees in the order of their origins, or how many of the trees
+/// stand before the origin.
+fn place_of(trees: &[Tree<'_>], origin: &Labels<'_>) -> Result<usize, usize>
+    requires { IsStrictlySortedBy name_cmp (map (λ tree. tree.zone.origin) trees.now) }
+    ensures range { IsSearchInRange result (length trees.now) }
+    ensures position { IsBinarySearchResult (λ tree. name_cmp tree.zone.origin origin.now) trees.now result }
+{
+    trees.binary_search_by(
+        |tree: &Tree<'_>| -> Ordering
+            ensures { result ≡ name_cmp tree.now.zone.origin origin.entry.now }
+        { tree.zone().origin.labels().compare(origin) },
+    )
 }
 
 /// The server of this name, among servers in the order of their names.

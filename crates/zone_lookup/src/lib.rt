@@ -5,7 +5,10 @@
 //!
 //! Costs: of the name's prefixes each is looked for once among the zone's names, from the origin down to the first that
 //! decides or doesn't exist. No data are looked at but those that are answered. A server and a zone are found in as many
-//! comparisons of names as the logarithm of their number, for each prefix of a name at most once.
+//! comparisons of names as the logarithm of their number. For the nearest zone of a name there is one such search, and one
+//! more each time that the origin before the place of the name, or of its prefix, is not at or above the name: the next
+//! search is for the prefix that both have in common. Glue that stands right behind its zone cut in the order of names is found
+//! in a few comparisons.
 #![tactic(auto)]
 
 mod answers;
@@ -14,6 +17,7 @@ mod hosts;
 mod lookup;
 
 pub use answers::{at_name, referral};
+pub use follow::has_glue_below;
 pub use hosts::{Host, Hosts};
 pub use lookup::find;
 

@@ -1,4 +1,4 @@
-use Rattle.std.proofs.Common.{Option, Some, Ok, Err, sym, ap, ◌∙◌, rules}
+use Rattle.std.proofs.Common.{Some, Ok, Err, sym, ap, ◌∙◌, rules}
 use Rattle.std.proofs.lemmas.Fn.{always_returns_same}
 use Rattle.dns_data.specs.Name.{name_cmp}
 use Rattle.net_model.specs.declared.config.Server.{Server}

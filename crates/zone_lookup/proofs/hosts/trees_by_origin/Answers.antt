@@ -1,5 +1,4 @@
-use Rattle.std.proofs.Common.{◌≤◌, refl, arith}
-use Rattle.net_model.specs.declared.config.Server.{Server}
+use Rattle.std.proofs.Common.{refl, arith}
 use Rattle.net_model.specs.declared.config.Zone.{Zone}
 use Rattle.zone_tree.specs.Tree.{ZoneTree}
 use Rattle.zone_lookup.proofs.FirstsByName.{put_before}

@@ -1,33 +1,35 @@
-use Rattle.std.proofs.Common.{◌≡◌, ℕ, ◌+◌, ◌-◌, ◌≤◌, List, map, length, take, Some, None, sym, ap, ◌∙◌, arith}
-use Rattle.std.specs.List.{find}
-use Rattle.dns_data.specs.Name.{Labels, name_eq}
+use Rattle.std.proofs.Common.{◌≡◌, true, List, length, Option, Some, None, Bor, IfSome, IfNone, sym, ap, ◌∙◌}
+use Rattle.std.specs.Option.{option_map}
+use Rattle.dns_data.specs.Name.{Labels, is_prefix}
 use Rattle.net_model.specs.declared.config.Server.{Server}
-use Rattle.net_model.specs.declared.config.Zone.{Zone}
-use Rattle.net_model.specs.Nearest.{zone_with_origin}
+use Rattle.net_model.specs.Nearest.{nearest, zone_with_origin}
 use Rattle.zone_tree.specs.Tree.{ZoneTree}
-use Rattle.zone_lookup.proofs.NearestZones.{nearest_at, nearest_has, nearest_none}
+use Rattle.zone_lookup.specs.Hosts.{tree_at, NoneFrom, IsAtLongest}
+use Rattle.zone_lookup.proofs.NearestZones.{nearest_of_tree, tree_has, nearest_of_none}
 use Rattle.zone_lookup.proofs.hosts.Host.nearest.Goals as goal
 
-pub returns-in-Some-clause-zone : goal.returns-in-Some-clause-zone
-returns-in-Some-clause-zone c =
-    let server = c.args.self.now in
-    let name = c.args.name.now in
-    let inv = c.loop-count.invariant in
-    let k = c.loop-count.count - 1 in
-    let at : zone_with_origin server (take k name) ≡ Some c.in-Some.tree.now.zone =
-    ap (zone_with_origin server) (sym c.front.ensures) ∙ sym c.in-Some.ensures in
-    sym (nearest_at server name k c.in-Some.tree.now.zone (omega (arith, inv.within)) at (λ j more within. inv.none j (omega (arith, more)) within))
+module _ (server : Server) (name : Labels) (trees : List ZoneTree)
+    (firsts : (origin : Labels) → option_map (λ (tree : ZoneTree). tree.zone) (tree_at trees origin) ≡ zone_with_origin server origin) where
+  zone_by : (result : Option (Bor ZoneTree)) → IfSome result (λ tree. IsAtLongest (tree_at trees) name (length name) tree.now)
+      → IfNone result (NoneFrom (tree_at trees) name (length name) 0) → option_map (λ (tree : Bor ZoneTree). tree.now.zone) result ≡ nearest server name
+  zone_by None some none = sym (nearest_of_none server name trees firsts none)
+  zone_by (Some tree) some none = sym (nearest_of_tree server name trees firsts tree.now some)
 
-pub returns-in-Some-clause-inside : goal.returns-in-Some-clause-inside
-returns-in-Some-clause-inside c =
-    let server = c.args.self.now in
-    let name = c.args.name.now in
-    let k = c.loop-count.count - 1 in
-    let at : zone_with_origin server (take k name) ≡ Some c.in-Some.tree.now.zone =
-    ap (zone_with_origin server) (sym c.front.ensures) ∙ sym c.in-Some.ensures in
-    nearest_has server name k c.in-Some.tree.now.zone at
+  inside_by : (result : Option (Bor ZoneTree)) → IfSome result (λ tree. IsAtLongest (tree_at trees) name (length name) tree.now)
+      → IfSome result (λ tree. is_prefix tree.now.zone.origin name ≡ true)
+  inside_by None some = tt
+  inside_by (Some tree) some = tree_has server name trees firsts tree.now some
 
 pub returns-clause-zone : goal.returns-clause-zone
 returns-clause-zone c =
-    let inv = c.loop-count.invariant in
-    sym (nearest_none c.args.self.now c.args.name.now (λ j below. inv.none j (omega (arith, c.loop-count-test.false)) below))
+    zone_by c.args.self.now c.args.name.now c.as_slice.result.now
+    (λ origin. ap (λ (trees : List ZoneTree). option_map (λ (tree : ZoneTree). tree.zone) (tree_at trees origin)) c.as_slice.ensures.value
+    ∙ c.self.invariant.firsts origin ∙ ap (λ (s : Server). zone_with_origin s origin) c.self.view_is)
+    c.nearest_tree.result c.nearest_tree.ensures.some c.nearest_tree.ensures.none
+
+pub returns-clause-inside : goal.returns-clause-inside
+returns-clause-inside c =
+    inside_by c.args.self.now c.args.name.now c.as_slice.result.now
+    (λ origin. ap (λ (trees : List ZoneTree). option_map (λ (tree : ZoneTree). tree.zone) (tree_at trees origin)) c.as_slice.ensures.value
+    ∙ c.self.invariant.firsts origin ∙ ap (λ (s : Server). zone_with_origin s origin) c.self.view_is)
+    c.nearest_tree.result c.nearest_tree.ensures.some

@@ -1,4 +1,4 @@
-use Rattle.std.proofs.Common.{Bool, find, sym, ap, ◌∙◌}
+use Rattle.std.proofs.Common.{Bool, find, ap, ◌∙◌}
 use Rattle.dns_data.specs.Name.{name_eq}
 use Rattle.net_model.specs.declared.config.Server.{Server}
 use Rattle.net_model.specs.declared.config.Zone.{Zone}
