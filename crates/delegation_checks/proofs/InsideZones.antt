@@ -43,7 +43,7 @@ shorter_begins a b name (x, e) (y, f) less = by (two_fronts a x b y (e ∙ sym f
   by (inr (rest, is)) = absurd (omega (arith, less, ap (λ (n : Labels). length n) is, length-append b rest))
 
 -- the zone cut of a referral is below the zone's origin
-cut_inside : (zone : Zone) (name : Labels) (rtype : RrType) (cut : Labels) (names : List Labels) → Begins zone.origin name
+pub cut_inside : (zone : Zone) (name : Labels) (rtype : RrType) (cut : Labels) (names : List Labels) → Begins zone.origin name
     → found zone name rtype ≡ found_as.Referral cut names → is_prefix zone.origin cut ≡ true
 cut_inside zone name rtype cut names begins e =
     let is : zone_cut zone name ≡ Some cut =

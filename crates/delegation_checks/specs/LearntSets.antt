@@ -1,4 +1,4 @@
--- The sets of learnt addresses, as sets of names: for the contracts of their search alone.
+-- Sets of names, as those of learnt addresses, in which a name is found without a pass over the others.
 use Rattle.std.specs.Prelude.{◌≡◌, List}
 use Rattle.std.specs.BTreeSet as tree
 use Rattle.dns_data.specs.Name.{Labels, name_cmp}

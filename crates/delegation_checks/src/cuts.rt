@@ -73,7 +73,7 @@ pub(crate) fn depends_on_itself(hosts: &Hosts<'_>, sets: &LearntSets, cut: &Cut)
 }
 
 /// Whether the name is among these.
-fn is_among(names: &[Name], name: &Name) -> bool
+pub(crate) fn is_among(names: &[Name], name: &Name) -> bool
     ensures { result ≡ is_among names.now name.now }
 {
     names.iter().any(|other| *name == *other)

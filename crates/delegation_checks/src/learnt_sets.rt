@@ -65,8 +65,8 @@ impl LearntSets {
     }
 }
 
-/// The set of these names.
-fn set_of(alloc: Global, names: &[Name]) -> Result<BTreeSet<Name>, NoMemory>
+/// The set of these names. Each is copied once.
+pub fn set_of(alloc: Global, names: &[Name]) -> Result<BTreeSet<Name>, NoMemory>
     ensures { IfOk result (IsSetOf names.now) }
 {
     let mut set = BTreeSet::new(alloc);
