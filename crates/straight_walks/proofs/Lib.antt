@@ -1,0 +1,10 @@
+mod Worked
+pub mod FewStates
+pub mod LeastFollowed
+pub mod GoingOn
+pub mod ServerLeads
+pub mod ShowsNothing
+pub mod StraightSearch
+pub mod StraightWalks
+pub mod ToldAlike
+pub mod Unhosted

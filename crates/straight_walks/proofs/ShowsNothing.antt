@@ -1,0 +1,112 @@
+-- A query whose walks go straight shows no fault.
+use Rattle.std.proofs.Common.{◌≡◌, ℕ, Bool, true, false, List, [], ◌∷◌, ◌++◌, refl, sym, ◌∙◌, subst, true≢false}
+use Rattle.std.specs.Prelude.{Contains, Some, None}
+use Rattle.std.specs.List.{AllByRecursion}
+use Rattle.std.proofs.lemmas.List.Elements.{Contains-append_right}
+use Rattle.dns_data.specs.Name.{Labels}
+use Rattle.dns_data.specs.declared.rr_type.RrType.{RrType}
+use Rattle.dns_data.proofs.Membership.{has_first, each_along}
+use Rattle.graph_form.specs.Trails.{WalksTake, ZonesShow}
+use Rattle.graph_form.specs.declared.deps.Deps.{Deps}
+use Rattle.graph_form.proofs.Taking.{taken, zones}
+use Rattle.delegation_checks.specs.Referrals.{addresses_differ, depends_on_itself, if_shown, wants_glue, zones_differ}
+use Rattle.delegation_checks.proofs.ZonesTell.{told_addresses, told_cyclic, told_differ, told_glue}
+use Rattle.net_model.specs.Shown.{FaultSetting, Refers, Shows, ShowsAnswers, LastRewriteAt, is_authoritative, with_lists}
+use Rattle.net_model.specs.Step.{Setting}
+use Rattle.net_model.specs.Walk.{IsWalk}
+use Rattle.net_model.specs.declared.config.Config.{Config}
+use Rattle.net_model.specs.declared.fault.Fault.{Fault}
+use Rattle.net_model.specs.declared.fault.Fault.TheVariants as faults
+use Rattle.net_model.specs.declared.place.Cut.{Cut}
+use Rattle.net_model.specs.declared.place.Place.{Place}
+use Rattle.net_model.specs.declared.walk.Hop.TheVariants.{Refer}
+use Rattle.net_model.specs.declared.walk.Leaf.{Leaf}
+use Rattle.net_model.specs.declared.walk.Leaf.TheVariants as leaves
+use Rattle.net_model.specs.declared.walk.Walk.{Walk}
+use Rattle.straight_walks.specs.Straight.{GoesStraight, IsSound}
+use Rattle.straight_walks.proofs.StraightWalks.{EndsSo, GoesStraightBy, IsSoundHop, goes_by}
+
+-- where none of four faults is shown each test fails
+none_shown : (a b c d : Bool) (one two three four : Fault) → if_shown a one ++ if_shown b two ++ if_shown c three ++ if_shown d four ≡ []
+    → (a ≡ false) × (b ≡ false) × (c ≡ false) × (d ≡ false)
+none_shown true b c d one two three four e = cc
+none_shown false true c d one two three four e = cc
+none_shown false false true d one two three four e = cc
+none_shown false false false true one two three four e = cc
+none_shown false false false false one two three four e = (refl, refl, refl, refl)
+
+-- the referral shows none of the faults that stand in the zones or in the sets of learnt addresses
+abbrev Quiet : Config → Deps → Cut → Type 0
+Quiet config deps cut =
+    (zones_differ config cut ≡ false) × (wants_glue config cut ≡ false) × (addresses_differ config cut ≡ false) × (depends_on_itself config deps cut ≡ false)
+
+-- nor does one that shows no fault
+quiet : (config : Config) (deps : Deps) (cut : Cut) → IsSound config deps cut → Quiet config deps cut
+quiet config deps cut sound =
+    none_shown (zones_differ config cut) (wants_glue config cut) (addresses_differ config cut) (depends_on_itself config deps cut)
+    (faults.Differs cut) (faults.NoGlue cut) (faults.GlueDiffers cut) (faults.Cyclic cut) sound
+
+-- where an end tells something it is this one
+told_end : (told leaf : Leaf) → EndsSo told leaf → is_authoritative leaf ≡ true → leaf ≡ told
+told_end told leaves.Outside ends is = cc
+told_end told (leaves.Unhosted ns) ends is = cc
+told_end told leaf ends is = ends.1
+
+module _ (setting : Setting) (deps : Deps) (most : ℕ) (query : Labels) (straight : GoesStraight setting deps most query) (rtype : RrType) where
+  -- faults are read with the two lists
+  abbrev lists : FaultSetting
+  lists = with_lists setting deps.least deps.greatest
+
+  -- the walk is one of the query with the type
+  abbrev OfQuery : Walk → Type 0
+  OfQuery walk = IsWalk setting query rtype walk
+
+  -- so it goes
+  so : (walk : Walk) → OfQuery walk → GoesStraightBy setting.config deps (straight.told rtype) straight.states walk
+  so walk is = goes_by setting deps most query straight rtype walk is
+
+  -- its referrals show no fault
+  sound : (walk : Walk) (cut : Cut) → OfQuery walk → Refers walk cut → Quiet setting.config deps cut
+  sound walk cut is refers = quiet setting.config deps cut (each_along (IsSoundHop setting.config deps) walk.hops (so walk is).hops (Refer cut) refers)
+
+  -- it ends so
+  ends_so : (walk : Walk) (leaf : Leaf) → OfQuery walk → walk.leaf ≡ leaf → EndsSo (straight.told rtype) leaf
+  ends_so walk leaf is e = subst (EndsSo (straight.told rtype)) e (so walk is).ends
+
+  -- it is never rewritten
+  unrewritten : (walk : Walk) (place : Place) → OfQuery walk → LastRewriteAt walk place → ⊥
+  unrewritten walk place is rewritten =
+      let stands : Contains walk.states rewritten.last =
+      subst (λ states. Contains states rewritten.last) (sym rewritten.states) (Contains-append_right rewritten.before (rewritten.last ∷ []) rewritten.last (has_first rewritten.last [])) in
+      let none : rewritten.last.last ≡ None =
+      straight.not_rewritten rewritten.last (each_along (Contains straight.states) walk.states (so walk is).among rewritten.last stands) in
+      let some : rewritten.last.last ≡ Some place = rewritten.at_place in
+      cc
+
+  -- and no two walks end in different answers
+  no_two : (one other : Walk) → OfQuery one → OfQuery other → ShowsAnswers one other → ⊥
+  no_two one other is also show =
+      let first = told_end (straight.told rtype) one.leaf (so one is).ends show.first in
+      let second = told_end (straight.told rtype) other.leaf (so other also).ends show.second in
+      show.differ (first ∙ sym second)
+
+  -- no walks show a fault
+  no_walks : (walks : List Walk) (fault : Fault) → AllByRecursion OfQuery walks → WalksTake walks fault → ZonesShow lists fault → ⊥
+  no_walks (walk ∷ []) (faults.Lame cut) are take hold = true≢false (sym (ends_so walk (leaves.Lame cut.ns) are.0 take.ends).0)
+  no_walks (walk ∷ []) (faults.Differs cut) are take hold = true≢false (sym (told_differ setting.config cut hold) ∙ (sound walk cut are.0 take).0)
+  no_walks (walk ∷ []) (faults.NoGlue cut) are take hold = true≢false (sym (told_glue setting.config cut hold) ∙ (sound walk cut are.0 take).1)
+  no_walks (walk ∷ []) (faults.GlueDiffers cut) are take hold = true≢false (sym (told_addresses setting.config cut hold) ∙ (sound walk cut are.0 take).2)
+  no_walks (walk ∷ []) (faults.Cyclic cut) are take hold = true≢false (sym (told_cyclic setting deps cut hold) ∙ (sound walk cut are.0 take).3)
+  no_walks (walk ∷ []) (faults.Limit place) are take hold = true≢false (sym (ends_so walk (leaves.Limit place) are.0 take).0)
+  no_walks (walk ∷ []) (faults.Blackhole place) are take hold = unrewritten walk place are.0 take.rewritten
+  no_walks (one ∷ other ∷ []) (faults.Answers class shown_with) are take hold = no_two one other are.0 are.1.0 take
+  no_walks (walk ∷ []) (faults.Overlong place) are take hold = true≢false (sym (ends_so walk (leaves.Overlong place) are.0 take).0)
+  no_walks (walk ∷ []) (faults.NoAddress cut) are take hold = true≢false (sym (ends_so walk (leaves.NoAddress cut.ns) are.0 take.ends).0)
+  no_walks walks fault are take hold = take
+
+-- the query shows no fault
+pub shows_nothing : (setting : Setting) (deps : Deps) (most : ℕ) (query : Labels) → GoesStraight setting deps most query
+    → (rtype : RrType) (fault : Fault) → Shows (with_lists setting deps.least deps.greatest) query rtype fault → ⊥
+shows_nothing setting deps most query straight rtype fault shows =
+    no_walks setting deps most query straight rtype shows.walks fault shows.are_walks
+    (taken (with_lists setting deps.least deps.greatest) shows.walks fault shows.show) (zones (with_lists setting deps.least deps.greatest) shows.walks fault shows.show)

@@ -1,0 +1,172 @@
+-- The search for the states from which walks go straight.
+use Rattle.std.proofs.Common.{◌≡◌, ℕ, ◌+◌, ◌<◌, ◌≤◌, true, List, [], ◌∷◌, ◌++◌, length, map, take, take_all, get_or, None, Bor, refl, sym, ap, ◌∙◌, subst, inl, inr, arith}
+use Rattle.std.specs.Prelude.{◌⊎◌, Contains}
+use Rattle.std.specs.List.{AllByRecursion}
+use Rattle.std.proofs.lemmas.List.{append-nil, length-append, length-map, map-append, take_more, take-append-le}
+use Rattle.std.proofs.lemmas.List.Elements.{Contains-append_cases, Contains-append_left, Contains-append_right}
+use Rattle.dns_data.specs.Name.{Labels, is_prefix}
+use Rattle.dns_data.specs.declared.rdata.Rdata.{Rdata}
+use Rattle.dns_data.specs.declared.rr_type.RrType.{RrType}
+use Rattle.dns_data.proofs.Membership.{each_along, first_or_later, from_map, has_first, none_in_nil}
+use Rattle.graph_form.specs.declared.deps.Deps.{Deps}
+use Rattle.net_model.specs.Lookup.{Deciding, ByCut, ByNothing, ByRecords, ByRedirection, deciding}
+use Rattle.net_model.specs.Shown.{is_authoritative}
+use Rattle.net_model.specs.Step.{Setting, Branch, End, next, start}
+use Rattle.net_model.specs.Zone.{ns_names}
+use Rattle.net_model.specs.declared.config.Config.{Config}
+use Rattle.net_model.specs.declared.config.Zone.{Zone}
+use Rattle.net_model.specs.declared.walk.Leaf.{Leaf}
+use Rattle.net_model.specs.declared.walk.State.{State}
+use Rattle.zone_tree.specs.Tree.{ZoneTree, name_of}
+use Rattle.straight_walks.specs.Leads.{AllInside, AllTell, Extends, IsSettingOf, LeadsBy, Passes, RefersOn, data_told, first_told, leaf_by, leaf_with, state_at, state_of, to_servers}
+use Rattle.straight_walks.specs.Straight.{EndsSilent, GoesStraight, GoesTo, StepsStraight, Tells}
+use Rattle.straight_walks.specs.declared.asked.Asked.{Asked}
+use Rattle.straight_walks.specs.declared.server.Leads.TheVariants as leads
+use Rattle.straight_walks.proofs.GoingOn.{all_push, all_weaker, goes_still, still_asked}
+
+-- what a zone tells is told with authority
+data_tell : (found : List Rdata) → is_authoritative (leaf_with found) ≡ true
+data_tell [] = refl
+data_tell (first ∷ rest) = refl
+
+tells_by : (zone : Zone) (rtype : RrType) (what : Deciding) → is_authoritative (leaf_by zone rtype what) ≡ true
+tells_by zone rtype (ByRecords owner) = data_tell (data_told zone owner rtype)
+tells_by zone rtype (ByCut cut) = refl
+tells_by zone rtype (ByRedirection owner target) = refl
+tells_by zone rtype ByNothing = refl
+
+module _ (config : Config) (deps : Deps) (query : Labels) where
+  -- how a branch goes straight
+  abbrev Straight : Setting → Leaf → List Asked → Branch → Type 0
+  Straight setting leaf asked branch =
+      EndsSilent setting.config deps branch ⊎ (Tells leaf branch ⊎ GoesTo setting.config deps (map (state_of config query) asked) branch)
+
+  -- still where more servers are asked
+  goes_straight_still : (setting : Setting) (leaf : Leaf) (before after : List Asked) → Extends before after → (branch : Branch) → Straight setting leaf before branch
+      → Straight setting leaf after branch
+  goes_straight_still setting leaf before after more branch (inl ends) = inl ends
+  goes_straight_still setting leaf before after more branch (inr (inl tells)) = inr (inl tells)
+  goes_straight_still setting leaf before after more branch (inr (inr goes)) =
+      inr (inr (goes_still setting.config deps (map (state_of config query) before) (map (state_of config query) after) (still_asked (state_of config query) before after more) branch goes))
+
+  steps_still : (setting : Setting) (leaf : RrType → Leaf) (before after : List Asked) → Extends before after → (state : State)
+      → StepsStraight setting deps leaf (map (state_of config query) before) state → StepsStraight setting deps leaf (map (state_of config query) after) state
+  steps_still setting leaf before after more state so rtype =
+      all_weaker (Straight setting (leaf rtype) before) (Straight setting (leaf rtype) after) (goes_straight_still setting (leaf rtype) before after more) (next setting rtype state) (so rtype)
+
+  -- ---- one server
+
+  module _ (server : Labels) (asked : List Asked) (told : List (Bor ZoneTree)) where
+    -- that has no zone for the name
+    pub silent_passes : LeadsBy config query server leads.Silent → Passes config deps query server asked told asked told
+    silent_passes so =
+        record {
+          asks = ([], sym (append-nil asked));
+          inside = λ each. each;
+          tells = λ leaf each. each;
+          steps = λ setting leaf above of each rtype.
+              subst (AllByRecursion (Straight setting (leaf rtype) asked)) (sym (so setting rtype above of.config_is)) (inl (inl refl), tt);
+        }
+
+    -- whose zone tells something of it
+    pub told_passes : (tree : Bor ZoneTree) → LeadsBy config query server (leads.Tells tree) → Passes config deps query server asked told asked (told ++ tree ∷ [])
+    told_passes tree so =
+        record {
+          asks = ([], sym (append-nil asked));
+          inside = λ each one has. inside_too each one (Contains-append_cases told (tree ∷ []) one has);
+          tells = λ leaf each one has. each one (Contains-append_left told (tree ∷ []) one has);
+          steps = λ setting leaf above of each rtype.
+              let same = each tree (Contains-append_right told (tree ∷ []) tree (has_first tree [])) rtype in
+              subst (AllByRecursion (Straight setting (leaf rtype) asked)) (sym (so.1 setting rtype above of.config_is)) (
+                subst (λ (end : Leaf). Straight setting (leaf rtype) asked (End None end)) same
+                    (inr (inl (subst (λ (end : Leaf). is_authoritative end ≡ true) (sym same) (tells_by tree.now.zone rtype (deciding tree.now.zone query)), refl))),
+                tt,
+              );
+        }
+      where
+        inside_too : AllInside query told → (one : Bor ZoneTree) → Contains told one ⊎ Contains (tree ∷ []) one → is_prefix one.now.zone.origin query ≡ true
+        inside_too each one (inl has) = each one has
+        inside_too each one (inr has) = by (first_or_later tree [] one has) where
+          by : (tree ≡ one) ⊎ Contains [] one → is_prefix one.now.zone.origin query ≡ true
+          by (inl is) = subst (λ (t : Bor ZoneTree). is_prefix t.now.zone.origin query ≡ true) is so.0
+          by (inr has) = absurd (none_in_nil one has)
+
+    -- whose zone refers it
+    pub referral_passes : (tree : Bor ZoneTree) (cut : ℕ) (after : List Asked) → LeadsBy config query server (leads.Refers tree cut) → Extends asked after
+        → RefersOn config deps query server tree.now.zone (name_of tree.now cut) (ns_names tree.now.zone (name_of tree.now cut)) after
+        → Passes config deps query server asked told after told
+    referral_passes tree cut after so more on =
+        record {
+          asks = more;
+          inside = λ each. each;
+          tells = λ leaf each. each;
+          steps = λ setting leaf above of each rtype.
+              subst (AllByRecursion (Straight setting (leaf rtype) after)) (sym (so.3 setting rtype above of.config_is))
+              (all_weaker (λ branch. EndsSilent setting.config deps branch ⊎ GoesTo setting.config deps (map (state_of config query) after) branch)
+              (Straight setting (leaf rtype) after) (goes_or_ends setting (leaf rtype))
+              (to_servers tree.now.zone (name_of tree.now cut) (ns_names tree.now.zone (name_of tree.now cut)) setting (state_at config query server above)) (on setting above of));
+        }
+      where
+        goes_or_ends : (setting : Setting) (leaf : Leaf) (branch : Branch) → EndsSilent setting.config deps branch ⊎ GoesTo setting.config deps (map (state_of config query) after) branch
+            → Straight setting leaf after branch
+        goes_or_ends setting leaf branch (inl ends) = inl ends
+        goes_or_ends setting leaf branch (inr goes) = inr (inr goes)
+
+  -- ---- those that are passed over
+
+  -- the search begins at the top servers, and walks go straight from the servers passed over
+  pub record Searched (asked : List Asked) (at : ℕ) (told : List (Bor ZoneTree)) : Type 0 where
+    pub within : at ≤ length asked
+    pub begins : (state : State) → Contains (start config query) state → Contains (map (state_of config query) asked) state
+    pub inside : AllInside query told
+    pub passed : (setting : Setting) (leaf : RrType → Leaf) → IsSettingOf config deps setting → AllTell query told leaf
+        → AllByRecursion (StepsStraight setting deps leaf (map (state_of config query) asked)) (map (state_of config query) (take at asked))
+
+  pub none_passed : (asked : List Asked) → map (state_of config query) asked ≡ start config query → Searched asked 0 []
+  none_passed asked is =
+      record {
+        within = omega arith;
+        begins = λ state has. subst (λ (all : List State). Contains all state) (sym is) has;
+        inside = λ tree has. absurd (none_in_nil tree has);
+        passed = λ setting leaf of each. tt;
+      }
+
+  pub one_passed : (asked after : List Asked) (at : ℕ) (told told_after : List (Bor ZoneTree)) (item : Asked) → at < length asked → item ≡ get_or asked at item
+      → Searched asked at told → Passes config deps query item.server.now asked told after told_after → Searched after (at + 1) told_after
+  one_passed asked after at told told_after item within is so one =
+      record {
+        within = subst (λ (all : List Asked). at + 1 ≤ length all) (sym one.asks.1) (omega (arith, within, length-append asked one.asks.0));
+        begins = λ state has. still_asked (state_of config query) asked after one.asks state (so.begins state has);
+        inside = one.inside so.inside;
+        passed = λ setting leaf of each.
+            subst (AllByRecursion (StepsStraight setting deps leaf (map (state_of config query) after))) (sym passed_over)
+            (all_push (StepsStraight setting deps leaf (map (state_of config query) after)) (map (state_of config query) (take at asked)) (state_of config query item)
+            (all_weaker (StepsStraight setting deps leaf (map (state_of config query) asked)) (StepsStraight setting deps leaf (map (state_of config query) after))
+            (steps_still setting leaf asked after one.asks) (map (state_of config query) (take at asked)) (so.passed setting leaf of (one.tells leaf each)))
+            (one.steps setting leaf item.cut of each));
+      }
+    where
+      passed_over : map (state_of config query) (take (at + 1) after) ≡ map (state_of config query) (take at asked) ++ state_of config query item ∷ []
+      passed_over =
+          ap (map (state_of config query))
+          (ap (take (at + 1)) one.asks.1 ∙ take-append-le (at + 1) asked one.asks.0 (omega (arith, within)) ∙ take_more asked at item within ∙ (λ j. take at asked ++ sym is j ∷ []))
+          ∙ map-append (state_of config query) (take at asked) (item ∷ [])
+
+  -- where all are
+  pub all_passed : (asked : List Asked) (at most : ℕ) (told : List (Bor ZoneTree)) → Searched asked at told → length asked ≤ at → length asked ≤ most
+      → AllTell query told (first_told query told) → (setting : Setting) → IsSettingOf config deps setting → GoesStraight setting deps most query
+  all_passed asked at most told so all few tell setting of =
+      record {
+        states = map (state_of config query) asked;
+        few = subst (λ (n : ℕ). n ≤ most) (sym (length-map asked (state_of config query))) few;
+        told = first_told query told;
+        begins = λ state has. so.begins state (subst (λ (c : Config). Contains (start c query) state) of.config_is has);
+        not_rewritten = λ state has.
+            let from = from_map (state_of config query) asked state has in
+            subst (λ (s : State). s.last ≡ None) from.2 refl;
+        steps = λ state has.
+            each_along (StepsStraight setting deps (first_told query told) (map (state_of config query) asked)) (map (state_of config query) asked)
+            (subst (λ (passed : List Asked). AllByRecursion (StepsStraight setting deps (first_told query told) (map (state_of config query) asked)) (map (state_of config query) passed))
+            (take_all at asked all) (so.passed setting (first_told query told) of tell))
+            state has;
+      }

@@ -1,0 +1,101 @@
+-- The walks of a query whose walks go straight: in which states they stand, by which hops they go and how they end.
+use Rattle.std.proofs.Common.{◌≡◌, ℕ, true, List, [], ◌∷◌, length, refl, sym, subst, inl, inr}
+use Rattle.std.specs.Prelude.{◌⊎◌, ◌==◌, Contains, slice_get, Option, Some, None, option_and_then}
+use Rattle.std.specs.List.{AllByRecursion}
+use Rattle.std.specs.Option.{option_to_list}
+use Rattle.dns_data.specs.Name.{Labels}
+use Rattle.dns_data.specs.declared.rr_type.RrType.{RrType}
+use Rattle.dns_data.proofs.Names.{all_so}
+use Rattle.graph_form.specs.declared.deps.Deps.{Deps}
+use Rattle.graph_form.proofs.Places.{item_there}
+use Rattle.net_model.specs.Shown.{is_authoritative}
+use Rattle.net_model.specs.Step.{Setting, Branch, Go, End, next, start}
+use Rattle.net_model.specs.Walk.{IsWalk, walk_from}
+use Rattle.net_model.specs.declared.config.Config.{Config}
+use Rattle.net_model.specs.declared.walk.Hop.{Hop}
+use Rattle.net_model.specs.declared.walk.Hop.TheVariants.{Refer, Rewrite}
+use Rattle.net_model.specs.declared.walk.Leaf.{Leaf}
+use Rattle.net_model.specs.declared.walk.Leaf.TheVariants.{Answer, NoData, NxDomain, Outside, Unhosted}
+use Rattle.net_model.specs.declared.walk.State.{State}
+use Rattle.net_model.specs.declared.walk.Walk.{Walk}
+use Rattle.net_model.proofs.Leads.{GoesOn, EndsBy, branch_taken}
+use Rattle.net_model.proofs.WalkEnds.{item}
+use Rattle.straight_walks.specs.Straight.{IsSound, EndsSilent, Tells, GoesTo, GoesStraight}
+
+-- the hop is a referral that shows no fault
+abbrev pub IsSoundHop : Config → Deps → Hop → Type 0
+IsSoundHop config deps (Refer cut) = IsSound config deps cut
+IsSoundHop config deps (Rewrite place by_dname to) = ⊥
+
+-- nothing is told there, or what is told is this
+abbrev pub EndsSo : Leaf → Leaf → Type 0
+EndsSo told Outside = Unit {0}
+EndsSo told (Unhosted ns) = Unit {0}
+EndsSo told leaf = (is_authoritative leaf ≡ true) × (leaf ≡ told)
+
+-- the branch goes on by such a hop to one of the states, or ends so behind such a hop or none
+abbrev GoesSo : Config → Deps → Leaf → List State → Branch → Type 0
+GoesSo config deps told states (Go hop to) = IsSoundHop config deps hop × Contains states to
+GoesSo config deps told states (End hop leaf) = AllByRecursion (IsSoundHop config deps) (option_to_list hop) × EndsSo told leaf
+
+-- so the walk goes: it stands in some of the states
+pub record GoesStraightBy (config : Config) (deps : Deps) (told : Leaf) (states : List State) (walk : Walk) : Type 0 where
+  pub among : AllByRecursion (Contains states) walk.states
+  pub hops : AllByRecursion (IsSoundHop config deps) walk.hops
+  pub ends : EndsSo told walk.leaf
+
+-- an end that tells this
+ends_told : (leaf : Leaf) → is_authoritative leaf ≡ true → EndsSo leaf leaf
+ends_told (Answer rdata) is = (is, refl)
+ends_told NoData is = (is, refl)
+ends_told NxDomain is = (is, refl)
+ends_told leaf is = cc
+
+module _ (setting : Setting) (deps : Deps) (most : ℕ) (query : Labels) (straight : GoesStraight setting deps most query) (rtype : RrType) where
+  -- a branch of one of the states
+  abbrev BranchSo : Branch → Type 0
+  BranchSo branch = GoesSo setting.config deps (straight.told rtype) straight.states branch
+
+  -- a walk from one of the states
+  abbrev So : Walk → Type 0
+  So walk = GoesStraightBy setting.config deps (straight.told rtype) straight.states walk
+
+  -- where each branch of a state goes straight it goes so
+  branch_so : (branch : Branch)
+      → EndsSilent setting.config deps branch ⊎ (Tells (straight.told rtype) branch ⊎ GoesTo setting.config deps straight.states branch) → BranchSo branch
+  branch_so branch (inl (inl ends)) = subst BranchSo (sym ends) (tt, tt)
+  branch_so branch (inl (inr (cut, sound, ends))) = subst BranchSo (sym ends) ((sound, tt), tt)
+  branch_so branch (inr (inl (is, ends))) = subst BranchSo (sym ends) (tt, ends_told (straight.told rtype) is)
+  branch_so branch (inr (inr (cut, to, sound, goes, has))) = subst BranchSo (sym goes) (sound, has)
+
+  -- each walk from one of the states goes so
+  walk_straight : (numbers : List ℕ) (state : State) (walk : Walk) → Contains straight.states state → walk_from setting rtype numbers state ≡ Some walk → So walk
+  walk_straight [] state walk has e = cc
+  walk_straight (number ∷ numbers) state walk has e =
+      by (branch_taken state (length numbers == 0) (walk_from setting rtype numbers) (slice_get (next setting rtype state) number) walk e)
+      (λ to later among goes. walk_straight numbers to later among goes)
+    where
+      taken : (branch : Branch) → slice_get (next setting rtype state) number ≡ Some branch → BranchSo branch
+      taken branch is =
+          item BranchSo (next setting rtype state) number branch (all_so _ BranchSo (next setting rtype state) branch_so (straight.steps state has rtype)) is
+
+      by : GoesOn state (walk_from setting rtype numbers) (slice_get (next setting rtype state) number) walk
+          ⊎ EndsBy state (slice_get (next setting rtype state) number) walk
+          → ((to : State) (later : Walk) → Contains straight.states to → walk_from setting rtype numbers to ≡ Some later → So later) → So walk
+      by (inl on) behind =
+          let branch = taken (Go on.hop on.to) on.is in
+          let so = behind on.to on.later branch.1 on.goes in
+          subst So on.made (record { among = (has, so.among); hops = (branch.0, so.hops); ends = so.ends })
+      by (inr end) behind =
+          let branch = taken (End end.hop end.leaf) end.is in
+          subst So end.made (record { among = (has, tt); hops = branch.0; ends = branch.1 })
+
+  -- and so does each walk of the query
+  pub goes_by : (walk : Walk) → IsWalk setting query rtype walk → So walk
+  goes_by walk ([], e) = cc
+  goes_by walk (number ∷ numbers, e) = by (slice_get (start setting.config query) number) refl e where
+    by : (begin : Option State) → slice_get (start setting.config query) number ≡ begin
+        → option_and_then (walk_from setting rtype numbers) begin ≡ Some walk → So walk
+    by None is e = cc
+    by (Some state) is e =
+        walk_straight numbers state walk (straight.begins state (item_there (start setting.config query) number state is)) e

@@ -1,0 +1,85 @@
+-- A referral to a name server that isn't configured shows no fault but that it wants glue, and walks end there.
+use Rattle.std.proofs.Common.{◌≡◌, Bool, true, false, not, cond, List, [], ◌++◌, Option, Some, None, refl, sym, ap, ◌∙◌, subst, inr}
+use Rattle.std.specs.Prelude.{◌&&◌, is_some, option_and_then}
+use Rattle.std.specs.Option.{option_map_or}
+use Rattle.dns_data.specs.Name.{Labels, name_eq, is_prefix}
+use Rattle.dns_data.proofs.Names.{name_eq_decides}
+use Rattle.dns_data.proofs.Searches.{found_there}
+use Rattle.delegation_checks.specs.Referrals.{glue_of_sides, if_shown, is_among, referral_faults, sides_differ}
+use Rattle.graph_form.specs.declared.deps.Deps.{Deps}
+use Rattle.net_model.specs.Nearest.{held_zone, is_top, nearest, nearest_of, server_named, zone_with_origin}
+use Rattle.net_model.specs.Prefix.{longest}
+use Rattle.net_model.specs.Step.{Setting, End, delegated, may_follow, referred}
+use Rattle.net_model.specs.Zone.{has_address}
+use Rattle.net_model.specs.declared.config.Config.{Config}
+use Rattle.net_model.specs.declared.config.Server.{Server}
+use Rattle.net_model.specs.declared.config.Zone.{Zone}
+use Rattle.net_model.specs.declared.fault.Fault.{Fault}
+use Rattle.net_model.specs.declared.fault.Fault.TheVariants as faults
+use Rattle.net_model.specs.declared.place.Cut.{Cut}
+use Rattle.net_model.specs.declared.walk.Hop.TheVariants.{Refer}
+use Rattle.net_model.specs.declared.walk.Leaf.TheVariants as leaves
+use Rattle.net_model.specs.declared.walk.State.{State}
+use Rattle.straight_walks.specs.Leads.{IsSettingOf, LeadsBehind}
+use Rattle.straight_walks.specs.declared.name_server.Behind.TheVariants as behind
+
+-- ---- the zone in which a server looks a name up is one that it holds
+
+held_from : (holder : Server) (zone : Zone) (origin : Option Labels) → option_and_then (zone_with_origin holder) origin ≡ Some zone → zone_with_origin holder zone.origin ≡ Some zone
+held_from holder zone None e = cc
+held_from holder zone (Some origin) e =
+    ap (zone_with_origin holder) ((name_eq_decides zone.origin origin).0 (found_there (λ (z : Zone). name_eq z.origin origin) holder.zones zone e).1) ∙ e
+
+pub nearest_is_held : (config : Config) (server name : Labels) (zone : Zone) → nearest_of config server name ≡ Some zone → held_zone config server zone.origin ≡ Some zone
+nearest_is_held config server name zone e = by (server_named config server) e where
+  by : (holder : Option Server) → option_and_then (λ holder. nearest holder name) holder ≡ Some zone → option_and_then (λ holder. zone_with_origin holder zone.origin) holder ≡ Some zone
+  by None e = cc
+  by (Some holder) e = held_from holder zone (longest (λ above. is_some (zone_with_origin holder above)) name) e
+
+-- ---- a name server that isn't configured
+
+module _ (config : Config) (deps : Deps) (query : Labels) (cut : Cut) where
+  -- the faults, by what is known
+  abbrev faults_by : Option Server → Option Zone → Bool → List Fault
+  faults_by named held below =
+      if_shown (sides_differ cut held (option_and_then (λ holder. zone_with_origin holder cut.cut) named)) (faults.Differs cut)
+      ++ if_shown (below && not (below && option_map_or (λ zone. has_address zone cut.ns) held false)) (faults.NoGlue cut)
+      ++ if_shown (below && glue_of_sides cut held (option_and_then (λ holder. zone_with_origin holder cut.cut) named)) (faults.GlueDiffers cut)
+      ++ if_shown (is_some named && not (is_top config cut.ns) && not (below && option_map_or (λ zone. has_address zone cut.ns) held false)
+      && is_among deps.greatest cut.ns && not (is_among deps.least cut.ns)) (faults.Cyclic cut)
+
+  -- glue is there, or isn't wanted
+  abbrev HasIfBelow : Bool → Bool → Type 0
+  HasIfBelow below address = (below && not address) ≡ false
+
+  -- so none is shown
+  none_by : (below address : Bool) → HasIfBelow below address
+      → if_shown false (faults.Differs cut) ++ if_shown (below && not (below && address)) (faults.NoGlue cut)
+      ++ if_shown (below && false) (faults.GlueDiffers cut) ++ if_shown false (faults.Cyclic cut) ≡ []
+  none_by false address so = refl
+  none_by true true so = refl
+  none_by true false so = cc
+
+  module _ (zone : Zone) (held : held_zone config cut.server cut.zone ≡ Some zone) (unhosted : server_named config cut.ns ≡ None) where
+    shows_none : HasIfBelow (is_prefix cut.cut cut.ns) (has_address zone cut.ns) → referral_faults config deps cut ≡ []
+    shows_none so =
+        ap (λ (named : Option Server). faults_by named (held_zone config cut.server cut.zone) (is_prefix cut.cut cut.ns)) unhosted
+        ∙ ap (λ (zone : Option Zone). faults_by None zone (is_prefix cut.cut cut.ns)) held
+        ∙ none_by (is_prefix cut.cut cut.ns) (has_address zone cut.ns) so
+
+    pub unhosted_ends : HasIfBelow (is_prefix cut.cut cut.ns) (has_address zone cut.ns) → LeadsBehind config deps query cut behind.Ends
+    unhosted_ends so = λ setting state of. inr (cut, subst (λ (c : Config). referral_faults c deps cut ≡ []) (sym of.config_is) (shows_none so), ends setting state of) where
+      ends : (setting : Setting) (state : State) → IsSettingOf config deps setting → referred setting state cut ≡ End (Some (Refer cut)) (leaves.Unhosted cut.ns)
+      ends setting state of =
+          ap (λ (b : Bool). cond (not b) (End (Some (Refer cut)) (leaves.Unhosted cut.ns))
+          (cond (not (may_follow setting.config cut setting.followed)) (End (Some (Refer cut)) (leaves.NoAddress cut.ns))
+          (delegated state cut (nearest_of setting.config cut.ns state.name))))
+          (ap (λ (s : Option Server). is_some s) (ap (λ (c : Config). server_named c cut.ns) of.config_is ∙ unhosted))
+
+-- none is wanted by one that isn't at or below the cut, or has an address
+pub far : (below address : Bool) → below ≡ false → (below && not address) ≡ false
+far below address apart = ap (λ (b : Bool). b && not address) apart
+
+pub glued : (below address : Bool) → address ≡ true → (below && not address) ≡ false
+glued false address has = refl
+glued true address has = ap not has

@@ -1,0 +1,110 @@
+-- A worked value: a query whose walks go straight, by a delegation to two name servers that tell the same of the name.
+use Rattle.std.proofs.Common.{◌≡◌, true, List, [], ◌∷◌, refl, inl, inr, arith}
+use Rattle.std.specs.Prelude.{codes, Some, None, Contains}
+use Rattle.dns_data.specs.Name.{Labels}
+use Rattle.dns_data.specs.declared.rdata.Rdata.{Rdata}
+use Rattle.dns_data.specs.declared.rdata.Rdata.TheVariants.{A, Ns}
+use Rattle.dns_data.specs.declared.rdata.Rr.{Rr}
+use Rattle.dns_data.specs.declared.rr_type.RrType.{RrType}
+use Rattle.dns_data.proofs.Membership.{each_along, has_first, has_later}
+use Rattle.graph_form.specs.declared.deps.Deps.{Deps}
+use Rattle.net_model.specs.Step.{Setting, following}
+use Rattle.net_model.specs.declared.config.Config.{Config}
+use Rattle.net_model.specs.declared.config.Server.{Server}
+use Rattle.net_model.specs.declared.place.Cut.{Cut}
+use Rattle.net_model.specs.declared.walk.Leaf.{Leaf}
+use Rattle.net_model.specs.declared.walk.Leaf.TheVariants.{NxDomain}
+use Rattle.net_model.specs.declared.walk.State.{State}
+use Rattle.straight_walks.specs.Straight.{GoesStraight, StepsStraight}
+
+abbrev t : Labels
+t = codes "t" ∷ []
+
+abbrev ns : Labels
+ns = codes "t" ∷ codes "ns" ∷ []
+
+abbrev z : Labels
+z = codes "t" ∷ codes "z" ∷ []
+
+abbrev nsa : Labels
+nsa = codes "t" ∷ codes "z" ∷ codes "nsa" ∷ []
+
+abbrev nsb : Labels
+nsb = codes "t" ∷ codes "z" ∷ codes "nsb" ∷ []
+
+abbrev www : Labels
+www = codes "t" ∷ codes "z" ∷ codes "www" ∷ []
+
+abbrev rr : Labels → Rdata → Rr
+rr owner rdata = record { owner = owner; ttl = 60; rdata = rdata; file = 0; line = 0 }
+
+-- the name servers of the delegated zone, with their addresses
+abbrev z_servers : List Rr
+z_servers = rr z (Ns nsa) ∷ rr z (Ns nsb) ∷ rr nsa (A (1 ∷ 2 ∷ 3 ∷ 4 ∷ [])) ∷ rr nsb (A (1 ∷ 2 ∷ 3 ∷ 5 ∷ [])) ∷ []
+
+-- a server of the delegated zone
+abbrev z_server : Labels → Server
+z_server name = record { name = name; zones = record { origin = z; rrs = z_servers } ∷ [] }
+
+-- a delegation with glue, and the delegated zone at its two name servers
+abbrev config : Config
+config =
+    record {
+      tops = ns ∷ [];
+      servers = record { name = ns; zones = record { origin = t; rrs = rr t (Ns ns) ∷ z_servers } ∷ [] } ∷ z_server nsa ∷ z_server nsb ∷ [];
+    }
+
+abbrev setting : Setting
+setting = following config 8 []
+
+-- no address is learnt, nor need be
+abbrev deps : Deps
+deps = record { least = []; greatest = [] }
+
+abbrev cut : Labels → Cut
+cut server = record { server = ns; zone = t; cut = z; ns = server }
+
+-- where the query begins
+abbrev first : State
+first = record { server = ns; name = www; carried = true; cut = 0; used = 0; last = None; zone = Some t }
+
+-- where its walks go on
+abbrev behind : Labels → State
+behind server = record { server = server; name = www; carried = true; cut = 2; used = 0; last = None; zone = Some z }
+
+abbrev states : List State
+states = first ∷ behind nsa ∷ behind nsb ∷ []
+
+-- with each type
+abbrev told : RrType → Leaf
+told rtype = NxDomain
+
+second : Contains states (behind nsa)
+second = has_later first (behind nsa ∷ behind nsb ∷ []) (behind nsa) (has_first (behind nsa) (behind nsb ∷ []))
+
+third : Contains states (behind nsb)
+third =
+    has_later first (behind nsa ∷ behind nsb ∷ []) (behind nsb)
+    (has_later (behind nsa) (behind nsb ∷ []) (behind nsb) (has_first (behind nsb) []))
+
+-- walks go to either name server
+first_goes : StepsStraight setting deps told states first
+first_goes rtype = (inr (inr (cut nsa, behind nsa, refl, refl, second)), (inr (inr (cut nsb, behind nsb, refl, refl, third)), tt))
+
+-- where the name doesn't exist
+second_tells : StepsStraight setting deps told states (behind nsa)
+second_tells rtype = (inr (inl (refl, refl)), tt)
+
+third_tells : StepsStraight setting deps told states (behind nsb)
+third_tells rtype = (inr (inl (refl, refl)), tt)
+
+www_goes_straight : GoesStraight setting deps 3 www
+www_goes_straight =
+    record {
+      states = states;
+      few = omega arith;
+      told = told;
+      begins = λ state has. each_along (Contains states) (first ∷ []) (has_first first (behind nsa ∷ behind nsb ∷ []), tt) state has;
+      not_rewritten = λ state has. each_along (λ (one : State). one.last ≡ None) states (refl, (refl, (refl, tt))) state has;
+      steps = λ state has. each_along (StepsStraight setting deps told states) states (first_goes, (second_tells, (third_tells, tt))) state has;
+    }

@@ -1,0 +1,140 @@
+-- Where walks lead from a server, as it is looked for: for the contracts of inner calls alone.
+use Rattle.std.specs.Prelude.{◌≡◌, ℕ, true, List, [], ◌∷◌, ◌++◌, map, length, Contains, Some, None, option_map, ◌⊎◌}
+use Rattle.std.specs.Borrow.{Bor}
+use Rattle.std.specs.List.{AllByRecursion}
+use Rattle.dns_data.specs.Name.{Labels, is_prefix}
+use Rattle.dns_data.specs.declared.rdata.Rdata.{Rdata}
+use Rattle.dns_data.specs.declared.rr_type.RrType.{RrType}
+use Rattle.graph_form.specs.declared.deps.Deps.{Deps}
+use Rattle.net_model.specs.Lookup.{Deciding, ByRecords, deciding}
+use Rattle.net_model.specs.Nearest.{held_zone, nearest_of}
+use Rattle.net_model.specs.Order.{in_order}
+use Rattle.net_model.specs.Step.{Setting, Branch, Go, End, next, referred}
+use Rattle.net_model.specs.Zone.{data_at, data_cmp, ns_names}
+use Rattle.net_model.specs.declared.config.Config.{Config}
+use Rattle.net_model.specs.declared.config.Zone.{Zone}
+use Rattle.net_model.specs.declared.place.Cut.{Cut}
+use Rattle.net_model.specs.declared.walk.Hop.TheVariants.{Refer}
+use Rattle.net_model.specs.declared.walk.Leaf.{Leaf}
+use Rattle.net_model.specs.declared.walk.Leaf.TheVariants.{Answer, NoData, NxDomain, Outside}
+use Rattle.net_model.specs.declared.walk.State.{State}
+use Rattle.zone_tree.specs.Tree.{ZoneTree, IsNode, name_of}
+use Rattle.straight_walks.specs.Straight.{EndsSilent, FollowsLeast, GoesTo, IsSound, StepsStraight}
+use Rattle.straight_walks.specs.declared.asked.Asked.{Asked}
+use Rattle.straight_walks.specs.declared.name_server.Behind.{Behind}
+use Rattle.straight_walks.specs.declared.name_server.Behind.TheVariants as behind
+use Rattle.straight_walks.specs.declared.server.Leads.{Leads}
+use Rattle.straight_walks.specs.declared.server.Leads.TheVariants as leads
+
+-- walks are read in the configuration, and the servers of the least set are followed
+pub record IsSettingOf (config : Config) (deps : Deps) (setting : Setting) : Type 0 where
+  pub config_is : setting.config ≡ config
+  pub follows : FollowsLeast setting deps
+
+-- ---- states
+
+-- the state at the server, for the name, to which a zone cut of so many labels led, or none and no rewrite
+abbrev pub state_at : Config → Labels → Labels → ℕ → State
+state_at config query server cut =
+    record {
+      server = server;
+      name = query;
+      carried = true;
+      cut = cut;
+      used = 0;
+      last = None;
+      zone = option_map (λ zone. zone.origin) (nearest_of config server query);
+    }
+
+abbrev pub state_of : Config → Labels → Asked → State
+state_of config query asked = state_at config query asked.server.now asked.cut
+
+-- some are put behind those before
+abbrev pub Extends : List Asked → List Asked → Type 0
+Extends before after = (more : List Asked) × (after ≡ before ++ more)
+
+-- ---- what is told
+
+-- the data of a type that an owner has, in the order of their texts
+abbrev pub data_told : Zone → Labels → RrType → List Rdata
+data_told zone owner rtype = in_order data_cmp (data_at zone owner rtype)
+
+-- some data, or that there are none
+abbrev pub leaf_with : List Rdata → Leaf
+leaf_with [] = NoData
+leaf_with (first ∷ rest) = Answer (first ∷ rest)
+
+-- what a zone tells with a type where an owner's records decide, or nothing does
+abbrev pub leaf_by : Zone → RrType → Deciding → Leaf
+leaf_by zone rtype (ByRecords owner) = leaf_with (data_told zone owner rtype)
+leaf_by zone rtype decides = NxDomain
+
+abbrev pub leaf_told : Labels → Zone → RrType → Leaf
+leaf_told query zone rtype = leaf_by zone rtype (deciding zone query)
+
+-- the zones are at or above the name
+abbrev pub AllInside : Labels → List (Bor ZoneTree) → Type 0
+AllInside query told = (tree : Bor ZoneTree) → Contains told tree → is_prefix tree.now.zone.origin query ≡ true
+
+-- each zone tells this
+abbrev pub AllTell : Labels → List (Bor ZoneTree) → (RrType → Leaf) → Type 0
+AllTell query told leaf = (tree : Bor ZoneTree) → Contains told tree → (rtype : RrType) → leaf rtype ≡ leaf_told query tree.now.zone rtype
+
+-- what the first zone tells; where there is none, any leaf does
+abbrev pub first_told : Labels → List (Bor ZoneTree) → RrType → Leaf
+first_told query [] rtype = NoData
+first_told query (tree ∷ more) rtype = leaf_told query tree.now.zone rtype
+
+-- ---- referrals
+
+-- a referral's branch to the name server, from a state at the cut's server
+abbrev pub LeadsBehind : Config → Deps → Labels → Cut → Behind → Type 0
+LeadsBehind config deps query cut behind.Ends =
+    (setting : Setting) (state : State) → IsSettingOf config deps setting → EndsSilent setting.config deps (referred setting state cut)
+LeadsBehind config deps query cut behind.GoesOn =
+    (setting : Setting) (above : ℕ) → IsSettingOf config deps setting
+    → IsSound setting.config deps cut × (referred setting (state_at config query cut.server above) cut ≡ Go (Refer cut) (state_at config query cut.ns (length cut.cut)))
+LeadsBehind config deps query cut behind.Unclear = Unit {0}
+
+-- the name server of a zone cut, in a referral from a server
+abbrev pub cut_to : Labels → Zone → Labels → Labels → Cut
+cut_to server zone cut ns = record { server = server; zone = zone.origin; cut = cut; ns = ns }
+
+-- the branches of a zone cut with these name servers, from a state
+abbrev pub to_servers : Zone → Labels → List Labels → Setting → State → List Branch
+to_servers zone cut names setting state = map (λ ns. referred setting state (cut_to state.server zone cut ns)) names
+
+-- they show no fault, and end where nothing is told or go on to servers that are asked
+abbrev pub RefersOn : Config → Deps → Labels → Labels → Zone → Labels → List Labels → List Asked → Type 0
+RefersOn config deps query server zone cut names asked =
+    (setting : Setting) (above : ℕ) → IsSettingOf config deps setting
+    → AllByRecursion (λ branch. EndsSilent setting.config deps branch ⊎ GoesTo setting.config deps (map (state_of config query) asked) branch)
+    (to_servers zone cut names setting (state_at config query server above))
+
+-- ---- servers
+
+-- the branches of a state at the server, for the name
+abbrev pub LeadsBy : Config → Labels → Labels → Leads → Type 0
+LeadsBy config query server leads.Silent =
+    (setting : Setting) (rtype : RrType) (above : ℕ) → setting.config ≡ config → next setting rtype (state_at config query server above) ≡ End None Outside ∷ []
+LeadsBy config query server (leads.Tells tree) =
+    (is_prefix tree.now.zone.origin query ≡ true)
+    × ((setting : Setting) (rtype : RrType) (above : ℕ) → setting.config ≡ config
+    → next setting rtype (state_at config query server above) ≡ End None (leaf_told query tree.now.zone rtype) ∷ [])
+LeadsBy config query server (leads.Refers tree cut) =
+    IsNode tree.now cut
+    × (is_prefix tree.now.zone.origin (name_of tree.now cut) ≡ true)
+    × (held_zone config server tree.now.zone.origin ≡ Some tree.now.zone)
+    × ((setting : Setting) (rtype : RrType) (above : ℕ) → setting.config ≡ config
+    → next setting rtype (state_at config query server above)
+    ≡ to_servers tree.now.zone (name_of tree.now cut) (ns_names tree.now.zone (name_of tree.now cut)) setting (state_at config query server above))
+LeadsBy config query server leads.Unclear = Unit {0}
+
+-- from a server walks go straight: to an end, or on to servers that are asked then; a zone that tells something is put behind
+-- those that do
+pub record Passes (config : Config) (deps : Deps) (query server : Labels) (before : List Asked) (told_before : List (Bor ZoneTree)) (after : List Asked) (told_after : List (Bor ZoneTree)) : Type 0 where
+  pub asks : Extends before after
+  pub inside : AllInside query told_before → AllInside query told_after
+  pub tells : (leaf : RrType → Leaf) → AllTell query told_after leaf → AllTell query told_before leaf
+  pub steps : (setting : Setting) (leaf : RrType → Leaf) (above : ℕ) → IsSettingOf config deps setting → AllTell query told_after leaf
+      → StepsStraight setting deps leaf (map (state_of config query) after) (state_at config query server above)

@@ -1,0 +1,4 @@
+pub use Rattle.net_model.specs.Shown
+pub use Rattle.net_model.specs.Tree
+pub mod Leads
+pub mod Straight
