@@ -7,6 +7,7 @@ use Rattle.net_model.specs.Reading.{ground_of}
 use Rattle.query_classes.specs.Children.{AreChildren, IsInTree}
 use Rattle.verdict_book.specs.Items.{Reached}
 use Rattle.class_judge.specs.Setup.{IsSetupFor}
+use Rattle.class_judge.specs.TreeNames.{IsGraphOf}
 use Rattle.class_judge.specs.Values.{AreValues}
 use Rattle.class_judge.specs.Verdict.{IsNameVerdict}
 use Rattle.class_judge.specs.declared.setup.Setup.{Setup}
@@ -24,6 +25,11 @@ module _ (config : Config) (rewrites states : ℕ) (children : Labels → List L
   pub item_in_tree : Reached [] children item → IsInTree (ground_of setup.trees) item
   item_in_tree reached = subst (λ (x : Config). IsInTree (ground_of x) item) (sym for.config_is) (in_tree reached)
 
+  -- the graph is one of the configuration
+  pub graph_is : IsGraphOf config setup.graph
+  graph_is =
+      record { same = subst (λ (x : Config). AreSame setup.graph (ground_of x)) for.config_is for.is_setup.graph; order = for.is_setup.order }
+
   -- its verdict is the picked one
   pub verdict_picked : Reached [] children item → (verdict : NameVerdict) → IsNameVerdict setup.trees setup.rewrites setup.states item verdict
       → verdict ≡ verdict_of item
@@ -37,5 +43,5 @@ module _ (config : Config) (rewrites states : ℕ) (children : Labels → List L
   -- and its children are the picked ones
   pub children_picked : (names : List Labels) → AreChildren setup.graph item names → names ≡ children item
   children_picked names are =
-      children_same config setup.graph (subst (λ (x : Config). AreSame setup.graph (ground_of x)) for.config_is for.is_setup.graph) item names (children item) are
+      children_same config setup.graph graph_is.same item names (children item) are
       (values.children item)

@@ -9,8 +9,10 @@ pub mod FiledRows
 pub mod FirstClasses
 pub mod FirstFound
 pub mod FirstWalksShow
+pub mod FollowedAlike
 pub mod FoundRight
 pub mod JudgedItems
+pub mod LiveAbove
 pub mod LiveSetsExist
 pub mod NameVerdicts
 pub mod OneVerdict
@@ -22,6 +24,7 @@ pub mod ReportSetup
 pub mod ReportSize
 pub mod ServerGraphs
 pub mod ShowsDecided
+pub mod StraightVerdicts
 pub mod TreeItems
 pub mod TreeValues
 pub mod VerdictsExist

@@ -6,5 +6,6 @@ pub mod Entries
 pub mod Passed
 pub mod Rows
 pub mod Setup
+pub mod TreeNames
 pub mod Values
 pub mod Verdict

@@ -1,16 +1,19 @@
 -- What the classes of a configuration are judged with: for the contracts of inner calls alone.
-use Rattle.std.specs.Prelude.{◌≡◌, ℕ, Contains, MatchOption}
+use Rattle.std.specs.Prelude.{◌≡◌, ℕ, true, List, Contains, MatchOption}
 use Rattle.class_judge.specs.Verdict.{PassesStates, SomeServerPasses}
 use Rattle.class_judge.specs.declared.setup.Setup.{Setup}
 use Rattle.dns_data.specs.Name.{Labels, IsName}
 use Rattle.graph_form.specs.declared.deps.Deps.{Deps}
+use Rattle.label_graph.specs.LiveSet.{AreInOrder}
 use Rattle.label_graph.specs.Pairs.{AreSame}
 use Rattle.net_model.specs.declared.class.Class.{Class}
 use Rattle.net_model.specs.declared.config.Config.{Config}
 use Rattle.net_model.specs.Class.{IsClassOf, IsRepresentative}
 use Rattle.net_model.specs.Learnt.{IsLeast, IsGreatest}
-use Rattle.net_model.specs.Nearest.{server_names}
+use Rattle.net_model.specs.Nearest.{is_configured, server_names}
 use Rattle.net_model.specs.Reading.{ground_of}
+use Rattle.net_model.specs.Step.{may_follow}
+use Rattle.net_model.specs.declared.place.Cut.{Cut}
 
 -- the lists are the two sets, and no server's name reaches too many pairs
 pub record AreSets (config : Config) (rewrites states : ℕ) (deps : Deps) : Type 0 where
@@ -23,10 +26,17 @@ abbrev pub SomeNamePasses : Config → ℕ → ℕ → Type 0
 SomeNamePasses config rewrites states =
     (name : Labels) × Contains (server_names config) name × (IsName name × PassesStates config rewrites states name)
 
--- the graph is that of the configuration of the trees, and the sets are its sets
+-- while these servers are followed every configured one may be
+abbrev pub FollowsAll : Config → List Labels → Type 0
+FollowsAll config followed = (cut : Cut) → is_configured config cut.ns ≡ true → may_follow config cut followed ≡ true
+
+-- the graph is that of the configuration of the trees, with its names in order, and the sets are its sets; where it is told
+-- that all servers are followed, the least set follows them
 pub record IsSetup (setup : Setup) : Type 0 where
   pub graph : AreSame setup.graph (ground_of setup.trees)
+  pub order : AreInOrder setup.graph.names
   pub sets : MatchOption setup.sets (SomeNamePasses setup.trees setup.rewrites setup.states) (AreSets setup.trees setup.rewrites setup.states)
+  pub all_followed : setup.all_followed ≡ true → (least : List Labels) → IsLeast setup.trees setup.rewrites least → FollowsAll setup.trees least
 
 -- it is that of the configuration, with these limits
 pub record IsSetupFor (config : Config) (rewrites states : ℕ) (setup : Setup) : Type 0 where

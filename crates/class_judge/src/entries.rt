@@ -16,11 +16,12 @@ ghost use Rattle.query_classes.specs.Children.{IsInTree};
 
 use crate::classes::representative_below;
 use crate::found::Found;
+use crate::least::graph_in_least;
 use crate::prepare::graph_of;
 use crate::setup::Setup;
 use dns_data::{List, Name, NoMemory};
 use graph_form::{Deps, Graph, ReportEntry, Seen, repeats, trails};
-use interp_graph::{GraphFault, restrict};
+use interp_graph::GraphFault;
 use net_model::{Class, Walk};
 use std::collections::VecDeque;
 
@@ -130,6 +131,7 @@ fn walks_of(
     query: &Name,
     seen: &Seen,
 ) -> Result<List<Walk>, NoMemory>
+    requires setup { IsSetup setup.now }
     requires sets { AreSets setup.now.trees setup.now.rewrites setup.now.states deps.now }
     requires few { PassesStates setup.now.trees setup.now.rewrites setup.now.states query.now → ⊥ }
     requires shown { ShowsIn setup.now.trees setup.now.rewrites query.now seen.now.rtype seen.now.fault }
@@ -141,6 +143,8 @@ fn walks_of(
 
 /// The graph of the walks of a query while the servers of the least set are followed.
 fn walked(setup: &Setup<'_>, deps: &Deps, query: &Name) -> Result<Graph, NoMemory>
+    requires setup { IsSetup setup.now }
+    requires sets { AreSets setup.now.trees setup.now.rewrites setup.now.states deps.now }
     requires few { PassesStates setup.now.trees setup.now.rewrites setup.now.states query.now → ⊥ }
     ensures { IfOk result (IsGraphOf (following setup.now.trees setup.now.rewrites deps.now.least) query.now) }
 {
@@ -151,7 +155,7 @@ fn walked(setup: &Setup<'_>, deps: &Deps, query: &Name) -> Result<Graph, NoMemor
         setup.rewrites,
         setup.states,
     ) {
-        Ok(graph) => restrict(setup.alloc, &setup.trees, &graph, deps.least.items()),
+        Ok(graph) => graph_in_least(setup, deps.least.items(), graph),
         Err(GraphFault::StatesPassed) => unreachable!(),
         Err(GraphFault::NoMemory) => Err(NoMemory),
     }

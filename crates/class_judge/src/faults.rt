@@ -11,11 +11,11 @@ ghost use Rattle.net_model.specs.Learnt.{IsLeast, IsGreatest};
 ghost use Rattle.net_model.specs.Shown.{with_sets};
 ghost use Rattle.net_model.specs.Step.{following};
 
+use crate::least::graph_in_least;
 use crate::setup::Setup;
 use delegation_checks::LearntSets;
 use dns_data::{List, NoMemory};
 use graph_form::{Graph, Seen, first_types};
-use interp_graph::restrict;
 use net_model::Class;
 use rewrite_checks::rewrite_faults;
 use std::alloc::Global;
@@ -27,18 +27,18 @@ use std::collections::VecDeque;
 pub(crate) fn faults_of(
     setup: &Setup<'_>,
     class: &Class,
-    graph: &Graph,
+    graph: Graph,
 ) -> Result<List<Seen>, NoMemory>
     requires setup { IsSetup setup.now }
-    requires built { (query : Labels) × IsBuilt setup.now.trees setup.now.rewrites query graph.now × StandsFor setup.now.trees class.now query }
-    ensures { IfOk result (λ shown. (query : Labels) → IsBuilt setup.now.trees setup.now.rewrites query graph.now
+    requires built { (query : Labels) × IsBuilt setup.now.trees setup.now.rewrites query graph × StandsFor setup.now.trees class.now query }
+    ensures { IfOk result (λ shown. (query : Labels) → IsBuilt setup.now.trees setup.now.rewrites query graph
         → StandsFor setup.now.trees class.now query → AreFaultsOf setup.now.trees setup.now.rewrites setup.now.states query shown) }
 {
     match &setup.sets {
         Some(sets) => {
             let least = &sets.deps().least;
-            let restricted = restrict(setup.alloc, &setup.trees, graph, least.items())?;
-            shown_in(setup, sets, class, &restricted)
+            let limited = graph_in_least(setup, least.items(), graph)?;
+            shown_in(setup, sets, class, &limited)
         }
         None => Ok(List::new(setup.alloc)),
     }

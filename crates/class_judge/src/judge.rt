@@ -8,9 +8,9 @@ ghost use Rattle.dns_data.proofs.Names.{same_names};
 use crate::classes::judge_name;
 use crate::naming::Naming;
 use crate::setup::Setup;
+use crate::tree_name::TreeName;
 use crate::verdict::NameVerdict;
-use dns_data::{List, Name, NoMemory};
-use query_classes::children;
+use dns_data::{List, NoMemory};
 use std::marker::{Model, PhantomData};
 use verdict_book::{JudgeShare, Work};
 
@@ -33,8 +33,8 @@ impl<'a, N: Naming> Model for Judge<'a, N> {
     ghost invariant = { λ judge. IsSetupFor N.config N.rewrites N.states judge.setup × AreValues N.config N.rewrites N.states N.children_of N.verdict_of };
 }
 
-impl<'a, N: Naming> Work for Judge<'a, N> {
-    type Item = Name;
+impl<'a, N: Naming + Send> Work for Judge<'a, N> {
+    type Item = TreeName<N>;
 
     type Verdict = NameVerdict;
 
@@ -44,20 +44,21 @@ impl<'a, N: Naming> Work for Judge<'a, N> {
 
     ghost verdict_of = { N.verdict_of };
 
-    fn first(&self) -> Result<Name, NoMemory> {
-        Ok(Name::root())
+    fn first(&self) -> Result<TreeName<N>, NoMemory> {
+        TreeName::root(self.setup.alloc, &self.setup.graph)
     }
 
-    fn children(&self, item: &Name) -> Result<List<Name>, NoMemory> {
-        children(self.setup.alloc, &self.setup.graph, item)
+    fn children(&self, item: &TreeName<N>) -> Result<List<TreeName<N>>, NoMemory> {
+        item.children(self.setup.alloc, &self.setup.graph)
     }
 
-    fn judge(&self, item: &Name, share: &mut JudgeShare) -> Result<NameVerdict, NoMemory> {
+    fn judge(&self, item: &TreeName<N>, share: &mut JudgeShare) -> Result<NameVerdict, NoMemory> {
         share.raise();
-        judge_name(&self.setup, item)
+        let name = item.live_name(self.setup.alloc, &self.setup.graph)?;
+        judge_name(&self.setup, &name)
     }
 
-    fn copy_item(&self, item: &Name) -> Result<Name, NoMemory> {
+    fn copy_item(&self, item: &TreeName<N>) -> Result<TreeName<N>, NoMemory> {
         item.copy(self.setup.alloc)
     }
 

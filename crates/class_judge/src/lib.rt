@@ -4,8 +4,11 @@
 //! (`laws::carrying`), so a report of representatives is one of all queries; and `Judge` is a work whose items are the names of
 //! the class tree, whose children are those of the tree and whose verdicts are the one that each name has.
 //!
-//! Costs: `prepare` makes the trees of all zones, the graph of base names and a graph of each server's name, once. Judging a
-//! name makes a graph for each of its classes, which is dropped when its faults are found: a verdict keeps no walk.
+//! Costs: `prepare` makes the trees of all zones, the graph of base names and a graph of each server's name, once. A name of
+//! the tree goes one label on from the live set of the name above it, which all names below that one share; none is walked to
+//! from the root. Judging a name makes a graph for each of its classes, which is dropped when its faults are found: a verdict
+//! keeps no walk. None is made where the representative's walks are seen to go straight to their ends, and it is restricted to
+//! the least set of learnt addresses only where some configured server is neither in that set nor a top server.
 #![tactic(auto)]
 
 mod classes;
@@ -14,15 +17,18 @@ mod faults;
 mod found;
 mod judge;
 pub mod laws;
+mod least;
 mod naming;
 mod passed;
 mod prepare;
 mod report;
 mod rows;
 mod setup;
+mod tree_name;
 mod verdict;
 
 pub use judge::Judge;
 pub use naming::Naming;
 pub use report::ReportFault;
+pub use tree_name::TreeName;
 pub use verdict::{ClassVerdict, NameVerdict};

@@ -1,15 +1,18 @@
 //! What the classes of a configuration are judged with, made once.
 
-ghost use Rattle.std.specs.Prelude.{◌≡◌, IfOk, OnOk, IsErrOf, MatchOption};
+ghost use Rattle.std.specs.Prelude.{◌≡◌, true, Some, IfOk, OnOk, IsErrOf, MatchOption};
 ghost use Rattle.address_deps.specs.Sets.{AreServerGraphs};
-ghost use Rattle.class_judge.specs.Setup.{AreSets, IsSetup, SomeNamePasses};
+ghost use Rattle.class_judge.specs.Setup.{AreSets, FollowsAll, IsSetup, SomeNamePasses};
 ghost use Rattle.class_judge.specs.Values.{AreValues};
 ghost use Rattle.class_judge.specs.Verdict.{PassesStates, SomeServerPasses};
+ghost use Rattle.graph_form.specs.declared.deps.Deps.{Deps};
 ghost use Rattle.interp_graph.specs.Asked.{IsBuilt};
+ghost use Rattle.label_graph.specs.LiveSet.{AreInOrder};
 ghost use Rattle.label_graph.specs.Pairs.{AreSame};
 ghost use Rattle.net_model.specs.Reading.{ground_of};
 
 use crate::judge::Judge;
+use crate::least::follows_all;
 use crate::naming::Naming;
 use crate::setup::Setup;
 use address_deps::dependencies;
@@ -57,6 +60,7 @@ fn setup_of<'a>(
     let graph = name_graph(alloc, config)?;
     let trees = Trees::build(alloc, config)?;
     let sets = sets_of(alloc, &trees, rewrites, states)?;
+    let all_followed = are_all_followed(alloc, config, &sets)?;
     Ok(Setup {
         alloc,
         trees,
@@ -64,12 +68,14 @@ fn setup_of<'a>(
         rewrites,
         states,
         sets,
+        all_followed,
     })
 }
 
 /// The graph of a configuration's base names and DNAME records.
 fn name_graph(alloc: Global, config: &Config) -> Result<LabelGraph, NoMemory>
-    ensures { IfOk result (λ graph. AreSame graph (ground_of config.now)) }
+    ensures same { IfOk result (λ graph. AreSame graph (ground_of config.now)) }
+    ensures order { IfOk result (λ graph. AreInOrder graph.names) }
 {
     let base = base_of(alloc, config)?;
     let graph = LabelGraph::build(alloc, base.names.items(), base.dnames.items())?;
@@ -93,6 +99,23 @@ fn sets_of(
         }
         Err(GraphFault::StatesPassed) => Ok(None),
         Err(GraphFault::NoMemory) => Err(NoMemory),
+    }
+}
+
+/// Whether there are the two sets, and each configured server is a top server or in the least set.
+fn are_all_followed(
+    alloc: Global,
+    config: &Config,
+    sets: &Option<LearntSets>,
+) -> Result<bool, NoMemory>
+    ensures { IfOk result (λ all. all ≡ true → (deps : Deps) × (sets.now ≡ Some deps) × FollowsAll config.now deps.least) }
+{
+    match sets {
+        Some(sets) => {
+            let least = &sets.deps().least;
+            follows_all(alloc, config, least.items())
+        }
+        None => Ok(false),
     }
 }
 

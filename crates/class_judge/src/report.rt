@@ -41,7 +41,7 @@ impl From<NoMemory> for ReportFault {
     }
 }
 
-impl<'a, N: Naming> Judge<'a, N> {
+impl<'a, N: Naming + Send> Judge<'a, N> {
     /// The report of the configuration, from the verdicts of all names of its class tree: the faults that some query shows,
     /// each with its first query and type, and the first walk or pair of walks. Where the representative of some class reaches
     /// more pairs of state and type than are looked at, it is `StatesPassed` with the first such one.

@@ -3,6 +3,8 @@
 ghost use Rattle.std.specs.Prelude.{◌≡◌, ◌≤◌, IfOk, map, length};
 ghost use Rattle.class_judge.specs.Rows.{below_count};
 
+use crate::naming::Naming;
+use crate::tree_name::TreeName;
 use crate::verdict::NameVerdict;
 use dns_data::{List, Name, NoMemory};
 use std::alloc::Global;
@@ -17,7 +19,7 @@ pub(crate) struct Row {
 }
 
 /// The rows of what was filed, in its order.
-pub(crate) fn rows_of<W: Work<Item = Name, Verdict = NameVerdict>>(
+pub(crate) fn rows_of<N: Naming, W: Work<Item = TreeName<N>, Verdict = NameVerdict>>(
     alloc: Global,
     filed: List<Filed<W>>,
 ) -> Result<Vec<Row>, NoMemory>
@@ -27,10 +29,8 @@ pub(crate) fn rows_of<W: Work<Item = Name, Verdict = NameVerdict>>(
     let mut rows = Vec::with_capacity(alloc, left.len())?;
     while let Some(one) = left.pop_front() {
         let Filed { item, verdict } = one;
-        rows.push(Row {
-            name: item,
-            verdict,
-        })?;
+        let name = item.into_name();
+        rows.push(Row { name, verdict })?;
     }
     Ok(rows)
 }

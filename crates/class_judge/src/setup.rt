@@ -7,7 +7,7 @@ use std::alloc::Global;
 
 /// A configuration's servers with the trees of their zones, the graph of its names, how many rewrites a query may use, how
 /// many pairs of state and type it may reach, and the two sets of learnt addresses, or `None` where the name of some server
-/// reaches more.
+/// reaches more; and whether each configured server is seen to be a top server or in the least set.
 #[derive(Drop)]
 pub(crate) struct Setup<'a> {
     pub alloc: Global,
@@ -16,4 +16,5 @@ pub(crate) struct Setup<'a> {
     pub rewrites: u32,
     pub states: u32,
     pub sets: Option<LearntSets>,
+    pub all_followed: bool,
 }

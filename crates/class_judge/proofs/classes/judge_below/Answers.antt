@@ -7,5 +7,5 @@ use Rattle.class_judge.proofs.classes.judge_below.Goals as goal
 pub returns-in-None : goal.returns-in-None
 returns-in-None c =
     let setup = c.args.setup.now in
-    none_below setup.trees setup.rewrites setup.states c.args.above.now c.requires.in_tree
-    (subst (IsBelow (ground_of setup.trees) c.args.above.now) c.in-None.is c.in_ok-query.ensures)
+    none_below setup.trees setup.rewrites setup.states c.args.above.now.name c.requires.in_tree
+    (subst (IsBelow (ground_of setup.trees) c.args.above.now.name) c.in-None.is c.in_ok-query.ensures)

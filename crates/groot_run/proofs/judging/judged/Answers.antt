@@ -9,7 +9,7 @@ returns-in_err-filed g c =
     c.in_err-filed.ensures.fault
 
 pub report-requires-clause-few : goal.report-requires-clause-few
-report-requires-clause-few g c =
+report-requires-clause-few g c = λ lifetimes outlives.
     list_is_short g.N.Naming.children_of c.args.limits _ _ c.in_ok-filed.filed c.requires.limits c.in_ok-filed.ensures.whole c.in_ok-filed.ensures.few
 
 pub returns-in_err-report : goal.returns-in_err-report

@@ -1,8 +1,16 @@
-use Rattle.std.proofs.Common.{◌≡◌}
+use Rattle.std.proofs.Common.{◌≡◌, sym, subst}
 use Rattle.std.proofs.lemmas.Result.{IfOk-weaker}
+use Rattle.dns_data.specs.Name.{Labels}
+use Rattle.net_model.specs.Reading.{ground_of}
+use Rattle.query_classes.specs.Children.{IsInTree}
 use Rattle.class_judge.specs.Verdict.{IsNameVerdict}
-use Rattle.class_judge.proofs.JudgedItems.{item_in_tree, verdict_picked}
+use Rattle.class_judge.proofs.JudgedItems.{graph_is, item_in_tree, verdict_picked}
 use Rattle.class_judge.proofs.judge.JudgeWork.judge.Goals as goal
+
+pub live_name-requires : goal.live_name-requires
+live_name-requires g c =
+    let N = g.N.Naming in
+    graph_is N.config N.rewrites N.states N.children_of N.verdict_of c.self.invariant.1 c.self.inside.setup c.self.invariant.0 c.args.item.now
 
 pub judge_name-requires-clause-setup : goal.judge_name-requires-clause-setup
 judge_name-requires-clause-setup g c = c.self.invariant.0.is_setup
@@ -10,11 +18,15 @@ judge_name-requires-clause-setup g c = c.self.invariant.0.is_setup
 pub judge_name-requires-clause-in_tree : goal.judge_name-requires-clause-in_tree
 judge_name-requires-clause-in_tree g c =
     let N = g.N.Naming in
-    item_in_tree N.config N.rewrites N.states N.children_of N.verdict_of c.self.invariant.1 c.self.inside.setup c.self.invariant.0 c.args.item.now c.requires
+    let setup = c.self.inside.setup in
+    subst (IsInTree (ground_of setup.trees)) (sym c.in_ok-name.ensures.name)
+    (item_in_tree N.config N.rewrites N.states N.children_of N.verdict_of c.self.invariant.1 setup c.self.invariant.0 c.args.item.now c.requires)
 
 pub returns-clause-verdict : goal.returns-clause-verdict
 returns-clause-verdict g c =
     let N = g.N.Naming in
     let setup = c.self.inside.setup in
-    IfOk-weaker c.judge_name.result (IsNameVerdict setup.trees setup.rewrites setup.states c.args.item.now) (λ verdict. verdict ≡ N.verdict_of c.args.item.now)
-    (verdict_picked N.config N.rewrites N.states N.children_of N.verdict_of c.self.invariant.1 setup c.self.invariant.0 c.args.item.now c.requires) c.judge_name.ensures
+    let item = c.args.item.now in
+    IfOk-weaker c.judge_name.result (IsNameVerdict setup.trees setup.rewrites setup.states c.in_ok-name.name.name) (λ verdict. verdict ≡ N.verdict_of item)
+    (λ verdict is. verdict_picked N.config N.rewrites N.states N.children_of N.verdict_of c.self.invariant.1 setup c.self.invariant.0 item c.requires verdict
+    (subst (λ (n : Labels). IsNameVerdict setup.trees setup.rewrites setup.states n verdict) c.in_ok-name.ensures.name is)) c.judge_name.ensures
