@@ -5,9 +5,9 @@
 GROOT is the built program, crates/groot/out/groot if none is given. Each configuration is checked with each number of
 workers (1, 2, 3, 8 and 64) so many times (10), and status, out and err have to be the same every time, within so many
 seconds for a run (120). The configurations are those of the folders right in FOLDER that hold a metadata.json or a
-meta.json, examples/ if none is given, and N large ones (3): a registry of 10,000 delegations, 1,000 hosted zones, and 2,000
-DNAME records. It ends with status 1 at the first run that differs or doesn't end, and says which; also where it found no
-configuration, or hasn't tried all of them after so many minutes (180).
+meta.json, examples/ if none is given, and N large ones (3), for which a million names are allowed: a registry of 10,000
+delegations, 1,000 hosted zones, and 2,000 DNAME records. It ends with status 1 at the first run that differs or doesn't
+end, and says which; also where it found no configuration, or hasn't tried all of them after so many minutes (180).
 """
 import argparse
 import os
@@ -35,14 +35,15 @@ def outcome(words, seconds):
         return None
 
 
-def soak(said, title, meta, end):
-    """Checks one configuration with each number of workers so many times; gives how many runs there were."""
+def soak(said, title, meta, end, options=()):
+    """Checks one configuration with each number of workers and these options so many times; gives how many runs there were."""
+    words = [said.groot, "check", meta, *options, "--workers"]
     first, runs = None, 0
     for turn in range(said.times):
         for workers in said.workers:
             if time.monotonic() > end:
                 raise SystemExit(f"soak.py: {title}: not all runs were made within {said.minutes} minutes")
-            got = outcome([said.groot, "check", meta, "--classes", "1000000", "--workers", str(workers)], said.seconds)
+            got = outcome([*words, str(workers)], said.seconds)
             runs += 1
             if got is None:
                 raise SystemExit(f"soak.py: {title}, {workers} workers, run {turn + 1}: it doesn't end within {said.seconds} seconds")
@@ -77,7 +78,7 @@ def main():
     counts = [soak(said, title, meta, end) for title, meta in configurations(said.folders)]
     for title, write in LARGE[: said.large]:
         with tempfile.TemporaryDirectory() as folder:
-            counts.append(soak(said, title, metadata(folder, write(folder), "ns1.example."), end))
+            counts.append(soak(said, title, metadata(folder, write(folder), "ns1.example."), end, ["--classes", "1000000"]))
     if not counts:
         raise SystemExit("soak.py: no configuration")
     print(f"{len(counts)} configurations, {sum(counts)} runs in {time.monotonic() - begin:.0f} seconds, all ended, each of one configuration with the same status and the same octets")
