@@ -5,6 +5,7 @@ use Rattle.std.specs.List.{AllByRecursion, list_any}
 use Rattle.std.proofs.lemmas.List.{append_assoc, map-append, take_more}
 use Rattle.std.proofs.lemmas.List.Elements.{Contains-append_left}
 use Rattle.dns_data.specs.Name.{Labels, name_eq, is_prefix}
+use Rattle.dns_data.proofs.Names.{all_push, all_so}
 use Rattle.delegation_checks.specs.Referrals.{referral_faults}
 use Rattle.graph_form.specs.declared.deps.Deps.{Deps}
 use Rattle.net_model.specs.Nearest.{is_configured, is_top, nearest, nearest_of, server_named}
@@ -73,15 +74,6 @@ module _ (config : Config) (deps : Deps) (query : Labels) (cut : Cut) where
 
 -- ---- the name servers of a zone cut
 
--- one more
-pub all_push : {X : Type 0} (P : X → Type 0) (xs : List X) (x : X) → AllByRecursion P xs → P x → AllByRecursion P (xs ++ x ∷ [])
-all_push P [] x each here = (here, tt)
-all_push P (y ∷ ys) x each here = (each.0, all_push P ys x each.1 here)
-
-pub all_weaker : {X : Type 0} (P Q : X → Type 0) → ((x : X) → P x → Q x) → (xs : List X) → AllByRecursion P xs → AllByRecursion Q xs
-all_weaker P Q so [] each = tt
-all_weaker P Q so (x ∷ xs) each = (so x each.0, all_weaker P Q so xs each.1)
-
 -- the name of one more
 pub one_name_more : (items : List (Bor Labels)) (i : ℕ) (item : Bor Labels) → i < length items → item ≡ get_or items i item
     → map (λ (ns : Bor Labels). ns.now) (take (i + 1) items) ≡ map (λ (ns : Bor Labels). ns.now) (take i items) ++ item.now ∷ []
@@ -110,9 +102,9 @@ module _ (config : Config) (deps : Deps) (query server : Labels) (zone : Zone) (
   pub refers_still : (names : List Labels) (before after : List Asked) → Extends before after → RefersOn config deps query server zone cut names before
       → RefersOn config deps query server zone cut names after
   refers_still names before after more so setting above of =
-      all_weaker (λ branch. EndsSilent setting.config deps branch ⊎ GoesTo setting.config deps (map (state_of config query) before) branch)
+      all_so (λ branch. EndsSilent setting.config deps branch ⊎ GoesTo setting.config deps (map (state_of config query) before) branch)
       (λ branch. EndsSilent setting.config deps branch ⊎ GoesTo setting.config deps (map (state_of config query) after) branch)
-      weaker (to_servers zone cut names setting (state_at config query server above)) (so setting above of)
+      (to_servers zone cut names setting (state_at config query server above)) weaker (so setting above of)
     where
       weaker : (branch : Branch) → EndsSilent setting.config deps branch ⊎ GoesTo setting.config deps (map (state_of config query) before) branch
           → EndsSilent setting.config deps branch ⊎ GoesTo setting.config deps (map (state_of config query) after) branch

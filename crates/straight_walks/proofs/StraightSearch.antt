@@ -8,6 +8,7 @@ use Rattle.dns_data.specs.Name.{Labels, is_prefix}
 use Rattle.dns_data.specs.declared.rdata.Rdata.{Rdata}
 use Rattle.dns_data.specs.declared.rr_type.RrType.{RrType}
 use Rattle.dns_data.proofs.Membership.{each_along, first_or_later, from_map, has_first, none_in_nil}
+use Rattle.dns_data.proofs.Names.{all_push, all_so}
 use Rattle.graph_form.specs.declared.deps.Deps.{Deps}
 use Rattle.net_model.specs.Lookup.{Deciding, ByCut, ByNothing, ByRecords, ByRedirection, deciding}
 use Rattle.net_model.specs.Shown.{is_authoritative}
@@ -22,7 +23,7 @@ use Rattle.straight_walks.specs.Leads.{AllInside, AllTell, Extends, IsSettingOf,
 use Rattle.straight_walks.specs.Straight.{EndsSilent, GoesStraight, GoesTo, StepsStraight, Tells}
 use Rattle.straight_walks.specs.declared.asked.Asked.{Asked}
 use Rattle.straight_walks.specs.declared.server.Leads.TheVariants as leads
-use Rattle.straight_walks.proofs.GoingOn.{all_push, all_weaker, goes_still, still_asked}
+use Rattle.straight_walks.proofs.GoingOn.{goes_still, still_asked}
 
 -- what a zone tells is told with authority
 data_tell : (found : List Rdata) → is_authoritative (leaf_with found) ≡ true
@@ -52,7 +53,7 @@ module _ (config : Config) (deps : Deps) (query : Labels) where
   steps_still : (setting : Setting) (leaf : RrType → Leaf) (before after : List Asked) → Extends before after → (state : State)
       → StepsStraight setting deps leaf (map (state_of config query) before) state → StepsStraight setting deps leaf (map (state_of config query) after) state
   steps_still setting leaf before after more state so rtype =
-      all_weaker (Straight setting (leaf rtype) before) (Straight setting (leaf rtype) after) (goes_straight_still setting (leaf rtype) before after more) (next setting rtype state) (so rtype)
+      all_so (Straight setting (leaf rtype) before) (Straight setting (leaf rtype) after) (next setting rtype state) (goes_straight_still setting (leaf rtype) before after more) (so rtype)
 
   -- ---- one server
 
@@ -102,9 +103,10 @@ module _ (config : Config) (deps : Deps) (query : Labels) where
           tells = λ leaf each. each;
           steps = λ setting leaf above of each rtype.
               subst (AllByRecursion (Straight setting (leaf rtype) after)) (sym (so.3 setting rtype above of.config_is))
-              (all_weaker (λ branch. EndsSilent setting.config deps branch ⊎ GoesTo setting.config deps (map (state_of config query) after) branch)
-              (Straight setting (leaf rtype) after) (goes_or_ends setting (leaf rtype))
-              (to_servers tree.now.zone (name_of tree.now cut) (ns_names tree.now.zone (name_of tree.now cut)) setting (state_at config query server above)) (on setting above of));
+              (all_so (λ branch. EndsSilent setting.config deps branch ⊎ GoesTo setting.config deps (map (state_of config query) after) branch)
+              (Straight setting (leaf rtype) after)
+              (to_servers tree.now.zone (name_of tree.now cut) (ns_names tree.now.zone (name_of tree.now cut)) setting (state_at config query server above))
+              (goes_or_ends setting (leaf rtype)) (on setting above of));
         }
       where
         goes_or_ends : (setting : Setting) (leaf : Leaf) (branch : Branch) → EndsSilent setting.config deps branch ⊎ GoesTo setting.config deps (map (state_of config query) after) branch
@@ -141,8 +143,8 @@ module _ (config : Config) (deps : Deps) (query : Labels) where
         passed = λ setting leaf of each.
             subst (AllByRecursion (StepsStraight setting deps leaf (map (state_of config query) after))) (sym passed_over)
             (all_push (StepsStraight setting deps leaf (map (state_of config query) after)) (map (state_of config query) (take at asked)) (state_of config query item)
-            (all_weaker (StepsStraight setting deps leaf (map (state_of config query) asked)) (StepsStraight setting deps leaf (map (state_of config query) after))
-            (steps_still setting leaf asked after one.asks) (map (state_of config query) (take at asked)) (so.passed setting leaf of (one.tells leaf each)))
+            (all_so (StepsStraight setting deps leaf (map (state_of config query) asked)) (StepsStraight setting deps leaf (map (state_of config query) after))
+            (map (state_of config query) (take at asked)) (steps_still setting leaf asked after one.asks) (so.passed setting leaf of (one.tells leaf each)))
             (one.steps setting leaf item.cut of each));
       }
     where

@@ -6,7 +6,7 @@ use Rattle.std.proofs.lemmas.List.Elements.{Contains-get_or}
 use Rattle.dns_data.proofs.Membership.{has_later}
 use Rattle.zone_tree.specs.Tree.{ZoneTree}
 use Rattle.straight_walks.specs.Leads.{AllTell, first_told}
-use Rattle.straight_walks.proofs.GoingOn.{all_push}
+use Rattle.dns_data.proofs.Names.{all_push}
 use Rattle.straight_walks.proofs.ToldAlike.{TellsAs, all_tell}
 use Rattle.straight_walks.proofs.told.all_tell_the_same.Goals as goal
 

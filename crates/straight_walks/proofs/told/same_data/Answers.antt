@@ -6,7 +6,7 @@ use Rattle.dns_data.proofs.Membership.{each_along}
 use Rattle.graph_form.proofs.Reached.{every_type}
 use Rattle.zone_tree.specs.Tree.{name_of}
 use Rattle.straight_walks.specs.Leads.{data_told}
-use Rattle.straight_walks.proofs.GoingOn.{all_push}
+use Rattle.dns_data.proofs.Names.{all_push}
 use Rattle.straight_walks.proofs.told.same_data.Goals as goal
 
 pub loop-rtype-preserved : goal.loop-rtype-preserved
