@@ -6,9 +6,10 @@
 //!
 //! Costs: `prepare` makes the trees of all zones, the graph of base names and a graph of each server's name, once. A name of
 //! the tree goes one label on from the live set of the name above it, which all names below that one share; none is walked to
-//! from the root. Judging a name makes a graph for each of its classes, which is dropped when its faults are found: a verdict
-//! keeps no walk. None is made where the representative's walks are seen to go straight to their ends, and it is restricted to
-//! the least set of learnt addresses only where some configured server is neither in that set nor a top server.
+//! from the root to be judged. Judging a name makes a graph for each of its classes, which is dropped when its faults are
+//! found: a verdict keeps no walk. None is made where the representative's walks are seen to go straight to their ends, and it
+//! is restricted to the least set of learnt addresses only where some configured server is neither in that set nor a top
+//! server.
 #![tactic(auto)]
 
 mod classes;

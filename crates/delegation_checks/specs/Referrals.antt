@@ -1,4 +1,4 @@
--- The faults of a referral to a name server and of an end behind it: for the contracts of their search alone.
+-- The faults of a referral to a name server and of an end behind it.
 use Rattle.std.specs.Prelude.{Bool, false, ◌&&◌, not, List, [], ◌∷◌, ◌++◌, ◌==◌, map, length, Option, Some, None, if◌then◌else◌}
 use Rattle.std.specs.List.{find, flat_map, list_any}
 use Rattle.std.specs.Option.{option_map_or}
