@@ -14,6 +14,3 @@ mod server_set;
 mod sets;
 
 pub use sets::dependencies;
-
-#[cfg(test)]
-mod tests;

@@ -28,6 +28,3 @@ pub use repeated::repeats;
 pub use report::{Report, ReportEntry, Seen};
 pub use shows::{is_authoritative, is_same_answer};
 pub use verdict::first_types;
-
-#[cfg(test)]
-mod tests;

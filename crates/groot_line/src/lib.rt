@@ -19,6 +19,3 @@ mod usage;
 pub use fault::LineFault;
 pub use job::{Job, read_words};
 pub use usage::usage_line;
-
-#[cfg(test)]
-mod tests;

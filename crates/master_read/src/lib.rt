@@ -36,6 +36,3 @@ pub use laws::{
 };
 pub use reader::ZoneReader;
 pub use zone_text::ZoneText;
-
-#[cfg(test)]
-mod tests;

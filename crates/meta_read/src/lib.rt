@@ -21,6 +21,3 @@ mod tops;
 pub use fault::MetaFault;
 pub use meta::{Meta, MetaRow};
 pub use read::read_metadata;
-
-#[cfg(test)]
-mod tests;

@@ -11,6 +11,3 @@ mod sym_name;
 
 pub use substitution::{fits, substitute, substitute_sym, substitute_whole};
 pub use sym_name::SymName;
-
-#[cfg(test)]
-mod tests;

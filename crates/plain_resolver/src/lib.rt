@@ -15,6 +15,3 @@ mod walks;
 pub use fault::{LearntFault, ResolveFault};
 pub use rounds::{learnt, learnt_at};
 pub use walks::{resolve, resolve_at};
-
-#[cfg(test)]
-mod tests;

@@ -28,6 +28,3 @@ pub use laws::{one_address, one_time};
 pub use rdata::{read_other, read_rdata};
 pub use texts::resolve;
 pub use times::read_ttl;
-
-#[cfg(test)]
-mod tests;

@@ -15,6 +15,3 @@ mod walk;
 
 pub use ask::ask_text;
 pub use report::report_text;
-
-#[cfg(test)]
-mod tests;

@@ -12,6 +12,3 @@ mod ends;
 mod rewrites;
 
 pub use rewrites::rewrite_faults;
-
-#[cfg(test)]
-mod tests;

@@ -17,6 +17,3 @@ mod straight;
 mod told;
 
 pub use straight::goes_straight;
-
-#[cfg(test)]
-mod tests;

@@ -14,6 +14,3 @@ mod typed_found;
 
 pub use lookup::find_sym;
 pub use typed_found::TypedFound;
-
-#[cfg(test)]
-mod tests;

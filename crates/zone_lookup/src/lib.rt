@@ -20,6 +20,3 @@ pub use answers::{at_name, referral};
 pub use follow::has_glue_below;
 pub use hosts::{Host, Hosts};
 pub use lookup::find;
-
-#[cfg(test)]
-mod tests;

@@ -12,6 +12,3 @@ mod texts;
 
 pub use files::make;
 pub use source::DrillFiles;
-
-#[cfg(test)]
-mod tests;

@@ -25,6 +25,3 @@ mod types;
 pub use check::check_zone;
 pub use fault::{RuleCause, RuleFault};
 pub use laws::zones_keep_rules;
-
-#[cfg(test)]
-mod tests;
