@@ -12,7 +12,7 @@ use Rattle.net_model.specs.Zone.{exists_in, owns}
 use Rattle.dns_data.proofs.NameFronts.{is_prefix_tells, is_prefix_told, begins_itself}
 use Rattle.dns_data.proofs.Names.{name_eq_decides}
 use Rattle.net_model.proofs.OpenTails.{zone_cut_above, closest_encloser_above, dname_owner_within, missing_decided}
-use Rattle.zone_tree.specs.Names.{IsBelow}
+use Rattle.zone_tree.specs.FirstDecider.{is_cut, redirects, Undecided}
 use Rattle.zone_tree.proofs.Existing.{begins_along}
 use Rattle.zone_tree.proofs.Prefixes.{longest_itself, shortest_alone, shortest_next, found_beyond, found_above}
 
@@ -25,18 +25,6 @@ encloses zone above label rest inside absent exists =
 -- one label more of a name
 pub one_label_more : (name : Labels) (k : ℕ) → k < length name → take (k + 1) name ≡ take k name ++ get_or name k [] ∷ []
 one_label_more name k below = take_more name k [] below
-
--- so it is below the front with one label less
-pub front_under : (name front above : Labels) (count : ℕ) → front ≡ take count name → above ≡ take (count - 1) name → 0 < count → count ≤ length name
-    → IsBelow front above
-front_under name front above count is up some within =
-    let next : count ≡ count - 1 + 1 = omega arith in
-    record {
-      first = get_or name (count - 1) [];
-      rest = [];
-      is = is ∙ ap (λ (n : ℕ). take n name) next ∙ one_label_more name (count - 1) (omega arith)
-          ∙ ap (λ (x : Labels). x ++ get_or name (count - 1) [] ∷ []) (sym up);
-    }
 
 -- a name in two, at a label
 pub at_label : (name : Labels) (k : ℕ) → k < length name → take k name ++ get_or name k [] ∷ drop (k + 1) name ≡ name
@@ -73,33 +61,18 @@ encloser_at zone name k inside long below exists absent =
 
 -- ---- what decides
 
--- the name is a zone cut
-abbrev pub cuts : Zone → Labels → Bool
-cuts zone above = nat_lt (length zone.origin) (length above) && owns zone above types.Ns
-
--- the name redirects another
-abbrev pub redirects : Zone → Labels → Labels → Bool
-redirects zone name above = nat_le (length zone.origin) (length above) && nat_lt (length above) (length name) && owns zone above types.Dname
-
--- no prefix of a front of the name decides, and the front exists
-pub record Undecided (zone : Zone) (name above : Labels) : Type 0 where
-  pub inside : is_prefix zone.origin above ≡ true
-  pub exists : exists_in zone above ≡ true
-  pub no_cut : shortest (cuts zone) above ≡ None
-  pub no_redirection : shortest (redirects zone name) above ≡ None
-
 -- tests of two numbers
 less : (a b : ℕ) → a < b → nat_lt a b ≡ true
 less a b h = grind (arith, nat_tests)
 
-up_to : (a b : ℕ) → a ≤ b → nat_le a b ≡ true
+pub up_to : (a b : ℕ) → a ≤ b → nat_le a b ≡ true
 up_to a b h = grind (arith, nat_tests)
 
-not_up_to : (a b : ℕ) → b < a → nat_le a b ≡ false
+pub not_up_to : (a b : ℕ) → b < a → nat_le a b ≡ false
 not_up_to a b h = grind (arith, nat_tests)
 
 -- a name with as many labels as the origin, or fewer, is no zone cut
-short_cut : (zone : Zone) (above : Labels) → length above ≤ length zone.origin → cuts zone above ≡ false
+pub short_cut : (zone : Zone) (above : Labels) → length above ≤ length zone.origin → is_cut zone above ≡ false
 short_cut zone above short =
     and_left (nat_lt (length zone.origin) (length above)) (owns zone above types.Ns) (le-ltb (length zone.origin) (length above) short)
 
@@ -136,7 +109,7 @@ as_long zone above inside =
     omega (arith, ap (λ (x : Labels). length x) begins.1, length-append zone.origin begins.0)
 
 -- an owner of a DNAME record decides, where no prefix of it is a zone cut
-by_redirection : (zone : Zone) (name owner rest : Labels) → owner ++ rest ≡ name → shortest (cuts zone) owner ≡ None
+by_redirection : (zone : Zone) (name owner rest : Labels) → owner ++ rest ≡ name → shortest (is_cut zone) owner ≡ None
     → shortest (redirects zone name) owner ≡ Some owner → deciding zone name ≡ by_dname zone owner
 by_redirection zone name owner rest is no_cut first =
     ap (λ (o : Option Labels). decided zone name (shorter_decides zone (zone_cut zone name) o)) in_name ∙ by (zone_cut zone name) refl
@@ -148,11 +121,11 @@ by_redirection zone name owner rest is no_cut first =
     by None e = refl
     by (Some cut) e =
         let longer_cut : length owner < length cut =
-        found_beyond (cuts zone) owner no_cut rest cut (ap (shortest (cuts zone)) is ∙ e) in
+        found_beyond (is_cut zone) owner no_cut rest cut (ap (shortest (is_cut zone)) is ∙ e) in
         ap (λ (b : Bool). cond b (by_dname zone owner) (ByCut cut)) (less (length owner) (length cut) longer_cut)
 
 -- a zone cut decides, where no shorter prefix redirects the name
-by_cut : (zone : Zone) (name above tail cut : Labels) → above ++ tail ≡ name → shortest (cuts zone) name ≡ Some cut
+by_cut : (zone : Zone) (name above tail cut : Labels) → above ++ tail ≡ name → shortest (is_cut zone) name ≡ Some cut
     → shortest (redirects zone name) above ≡ None → length cut ≤ length above + 1 → deciding zone name ≡ ByCut cut
 by_cut zone name above tail cut is first none short =
     ap (λ (c : Option Labels). decided zone name (shorter_decides zone c (dname_owner zone name))) first ∙ by (dname_owner zone name) refl
@@ -165,9 +138,9 @@ by_cut zone name above tail cut is first none short =
 
 module _ (zone : Zone) (name : Labels) (inside : is_prefix zone.origin name ≡ true) where
   -- no prefix of the origin is a zone cut
-  uncut_apex : shortest (cuts zone) zone.origin ≡ None
+  uncut_apex : shortest (is_cut zone) zone.origin ≡ None
   uncut_apex =
-      shortest_alone (cuts zone) zone.origin (λ above short. short_cut zone above (omega arith))
+      shortest_alone (is_cut zone) zone.origin (λ above short. short_cut zone above (omega arith))
       ∙ ap (λ (b : Bool). cond b (Some zone.origin) None) (short_cut zone zone.origin (omega arith))
 
   -- and only it redirects a name
@@ -204,13 +177,13 @@ module _ (zone : Zone) (above : Labels) (label : List ℕ) (rest : Labels) (so_f
   whole : next ++ rest ≡ name
   whole = append_assoc above (label ∷ []) rest
 
-  cut_next : shortest (cuts zone) next ≡ cond (cuts zone next) (Some next) None
-  cut_next = shortest_next (cuts zone) above so_far.no_cut label
+  cut_next : shortest (is_cut zone) next ≡ cond (is_cut zone next) (Some next) None
+  cut_next = shortest_next (is_cut zone) above so_far.no_cut label
 
   redirection_next : shortest (redirects zone name) next ≡ cond (redirects zone name next) (Some next) None
   redirection_next = shortest_next (redirects zone name) above so_far.no_redirection label
 
-  uncut_next : owns zone next types.Ns ≡ false → shortest (cuts zone) next ≡ None
+  uncut_next : owns zone next types.Ns ≡ false → shortest (is_cut zone) next ≡ None
   uncut_next uncut =
       cut_next ∙ ap (λ (b : Bool). cond b (Some next) None) (and_right (nat_lt (length zone.origin) (length next)) (owns zone next types.Ns) uncut)
 
@@ -218,11 +191,11 @@ module _ (zone : Zone) (above : Labels) (label : List ℕ) (rest : Labels) (so_f
   pub cut_decides : owns zone next types.Ns ≡ true → deciding zone name ≡ ByCut next
   cut_decides owner =
       let behind : length zone.origin < length next = omega (arith, as_long zone above so_far.inside, long) in
-      let first : shortest (cuts zone) next ≡ Some next =
+      let first : shortest (is_cut zone) next ≡ Some next =
       cut_next ∙ ap (λ (b : Bool). cond b (Some next) None)
       (and_from (nat_lt (length zone.origin) (length next)) (owns zone next types.Ns) (less (length zone.origin) (length next) behind) owner) in
       by_cut zone name above (label ∷ rest) next refl
-      (subst (λ (x : Labels). shortest (cuts zone) x ≡ Some next) whole (found_above (cuts zone) next rest next first))
+      (subst (λ (x : Labels). shortest (is_cut zone) x ≡ Some next) whole (found_above (is_cut zone) next rest next first))
       so_far.no_redirection (omega (arith, long))
 
   -- or redirects the name

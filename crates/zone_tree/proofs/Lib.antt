@@ -1,9 +1,13 @@
 mod ByText
+mod DecidersAbove
 mod Descents
 mod Existing
+mod FrontDeciders
+mod LastUpTo
 mod Merged
 mod NameData
 mod NamesBelow
+mod NextDeciders
 mod Owned
 mod Pairs
 pub mod Prefixes

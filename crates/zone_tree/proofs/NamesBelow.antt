@@ -9,7 +9,8 @@ use Rattle.net_model.specs.declared.config.Zone.{Zone}
 use Rattle.net_model.specs.Lookup.{deciding}
 use Rattle.net_model.proofs.Descent.{prefix_of_prefix}
 use Rattle.zone_tree.specs.Decider.{IsTailIf, at_end}
-use Rattle.zone_tree.proofs.Descents.{Undecided, records_decide, source_decides}
+use Rattle.zone_tree.specs.FirstDecider.{Undecided}
+use Rattle.zone_tree.proofs.Descents.{records_decide, source_decides}
 
 -- so many labels of the name are fewer than those of the name with the others
 same_test : (zone : Zone) (name : Labels) (open_below : Bool) (below : Labels) (count : ℕ) → IsTailIf zone name open_below below

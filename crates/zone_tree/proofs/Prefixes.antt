@@ -1,13 +1,15 @@
 -- The prefixes of a name one by one, from the root: the first and the last that passes a test.
-use Rattle.std.proofs.Common.{◌≡◌, ℕ, ◌+◌, ◌<◌, Bool, true, false, cond, List, [], ◌∷◌, ◌++◌, map, reverse, length, Contains, Option, Some, None, find, sym, refl, ap, ◌∙◌, subst, inl, inr, arith, length-append}
+use Rattle.std.proofs.Common.{◌≡◌, ℕ, ◌+◌, ◌<◌, ◌≤◌, Bool, true, false, cond, List, [], ◌∷◌, ◌++◌, map, reverse, length, Contains, Option, Some, None, find, sym, refl, ap, ◌∙◌, subst, inl, inr, arith, length-append}
 use Rattle.std.specs.Option.{option_or}
+use Rattle.std.proofs.lemmas.Bool.{false_from_ne_true}
 use Rattle.std.proofs.lemmas.List.{map-append, reverse-append}
 use Rattle.std.proofs.lemmas.List.Folds.{find-append}
 use Rattle.dns_data.specs.Name.{Labels}
 use Rattle.net_model.specs.Prefix.{prefixes, shortest, longest}
 use Rattle.dns_data.proofs.Membership.{none_in_nil, first_or_later, from_map}
-use Rattle.dns_data.proofs.Searches.{find_none, found_there}
-use Rattle.net_model.proofs.Prefixes.{longer, prefixes_below}
+use Rattle.dns_data.proofs.NameFronts.{Begins}
+use Rattle.dns_data.proofs.Searches.{find_none, find_some, found_there}
+use Rattle.net_model.proofs.Prefixes.{longer, prefixes_have, from_prefixes, prefixes_below}
 
 -- a name is its last prefix, and the others have fewer labels
 pub last_prefix : (name : Labels) → (front : List Labels) × (prefixes name ≡ front ++ name ∷ []) × ((above : Labels) → Contains front above → length above < length name)
@@ -25,6 +27,14 @@ last_prefix (label ∷ name) =
             subst (λ (x : Labels). length x < length (label ∷ name)) found.2 (omega arith))
       ],
     )
+
+-- a name has no fewer labels than one that begins it
+pub begins_short : (above name : Labels) → Begins above name → length above ≤ length name
+begins_short above name (below, e) = omega (arith, ap (λ (x : Labels). length x) e, length-append above below)
+
+-- what two options hold that are one
+some_of : {a b : Labels} → Some a ≡ Some b → a ≡ b
+some_of e = cc
 
 module _ (test : Labels → Bool) where
   -- a name that passes is its longest prefix that does
@@ -75,3 +85,32 @@ module _ (test : Labels → Bool) where
       ap (find test) (prefixes_below above tail)
       ∙ find-append test (prefixes above) (map (λ (below : Labels). above ++ below) (longer tail))
       ∙ ap (λ (first : Option Labels). option_or first (find test (map (λ (below : Labels). above ++ below) (longer tail)))) is
+
+  -- what is found is a prefix that passes
+  pub found_begins : (name found : Labels) → shortest test name ≡ Some found → Begins found name
+  found_begins name found is = from_prefixes name found (found_there test (prefixes name) found is).0
+
+  pub found_passes : (name found : Labels) → shortest test name ≡ Some found → test found ≡ true
+  found_passes name found is = (found_there test (prefixes name) found is).1
+
+  -- and no front with fewer labels has one
+  pub none_shorter : (above tail found : Labels) → shortest test (above ++ tail) ≡ Some found → length above < length found → shortest test above ≡ None
+  none_shorter above tail found is shorter = by (shortest test above) refl where
+    by : (o : Option Labels) → shortest test above ≡ o → o ≡ None
+    by None e = refl
+    by (Some other) e =
+        let same : other ≡ found = some_of (sym (found_above above tail other e) ∙ is) in
+        absurd (omega (arith, shorter, ap (λ (x : Labels). length x) same, begins_short other above (found_begins above other e)))
+
+  -- where none does, no prefix passes
+  pub none_passes : (name above : Labels) → shortest test name ≡ None → Begins above name → test above ≡ true → ⊥
+  none_passes name above none begins passes =
+      let found = find_some test (prefixes name) above (prefixes_have name above begins) passes in
+      let clash : Some found.0 ≡ None = sym found.1 ∙ none in cc
+
+-- nor one that passes a test which tells more
+pub none_of_stronger : (test stronger : Labels → Bool) → ((x : Labels) → stronger x ≡ true → test x ≡ true) → (name : Labels)
+    → shortest test name ≡ None → shortest stronger name ≡ None
+none_of_stronger test stronger each name none =
+    find_none stronger (prefixes name) (λ x has.
+    false_from_ne_true (stronger x) (λ e. none_passes test name x none (from_prefixes name x has) (each x e)))

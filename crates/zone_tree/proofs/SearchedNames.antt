@@ -15,7 +15,7 @@ use Rattle.dns_data.proofs.OrderedLists.{never_before_itself}
 use Rattle.zone_tree.specs.Names.{Ordered, IsBelow}
 
 -- names in order rise
-rises : (names : List Labels) → Ordered names → IsSortedBy (λ a b. is_lt (name_cmp a b)) names
+pub rises : (names : List Labels) → Ordered names → IsSortedBy (λ a b. is_lt (name_cmp a b)) names
 rises names ordered = λ k d low high.
     ap is_lt (names_total.antisymm (get_or names (k + 1) d) (get_or names k d) ∙ ap ordering_reverse (ordered k (k + 1) d (omega arith) high))
 

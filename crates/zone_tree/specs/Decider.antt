@@ -1,5 +1,5 @@
 -- What decides at a name, by the nodes of a tree.
-use Rattle.std.specs.Prelude.{◌≡◌, Bool, true, false, [], Some}
+use Rattle.std.specs.Prelude.{◌≡◌, ℕ, Bool, true, false, [], Option, Some, None}
 use Rattle.dns_data.specs.Name.{Labels}
 use Rattle.net_model.specs.declared.config.Zone.{Zone}
 use Rattle.net_model.specs.Lookup.{Deciding, ByCut, ByRecords, ByNothing, by_dname, synthesized}
@@ -31,3 +31,8 @@ IsTailIf zone name true below = IsOpenTail zone name below
 abbrev pub at_end : Zone → Labels → Bool → Deciding
 at_end zone name false = ByRecords name
 at_end zone name true = synthesized zone (Some name)
+
+-- a source of synthesis decides by its records
+abbrev pub by_source : Option ℕ → Decider
+by_source (Some source) = Records source
+by_source None = Nothing

@@ -3,8 +3,10 @@ pub use Rattle.net_model.specs.Order
 pub use Rattle.net_model.specs.Zone
 pub mod Decider
 pub mod Few
+pub mod FirstDecider
 pub mod Merged
 pub mod Names
 pub mod Owners
+pub mod Preceding
 pub mod Records
 pub mod Tree

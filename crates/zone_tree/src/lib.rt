@@ -6,14 +6,17 @@
 //!
 //! Costs: a tree sorts references to the records of its zone by their owners once, and then passes over them once. It
 //! keeps each name, and of a single record of a type a reference; only data of several records of one name and type are
-//! copied. A name is found among the existing ones in as many comparisons of names as the logarithm of their number,
-//! and in a few where it stands right behind a node's; one tells that no name stands below a node's. What decides at a name is
-//! looked for along its labels, from the origin down to what decides or to its closest encloser.
+//! copied. For each name it keeps one number more: the place of the first name from the origin down to it that decides at
+//! those below it. A name is found among the existing ones in as many comparisons of names as the logarithm of their number,
+//! and in a few where it stands right behind a node's; one tells that no name stands below a node's. What decides at a name
+//! takes one such search, however many labels the name has, and a second one for the asterisk label of an encloser that has
+//! names below it. A closest encloser takes one, or a second one where the name before in order isn't the encloser itself.
 #![tactic(auto)]
 
 mod decider;
 mod enclosers;
 mod few;
+mod first_deciders;
 mod names;
 mod node;
 mod order;

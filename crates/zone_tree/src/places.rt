@@ -1,11 +1,22 @@
 //! Where names stand among the existing ones.
 
-ghost use Rattle.std.specs.Prelude.{◌≡◌, ◌<◌, true, [], ◌∷◌, ◌++◌, length, slice_index_or, Contains, IfSome, IfNone};
+ghost use Rattle.std.specs.Prelude.{◌≡◌, ◌<◌, true, false, [], ◌∷◌, ◌++◌, length, slice_index_or, Contains, IfSome, IfNone};
+ghost use Rattle.std.specs.List.Sorted.{IsSearchInRange, IsBinarySearchResult};
+ghost use Rattle.std.specs.Ordering.{is_gt};
 ghost use Rattle.dns_data.specs.Name.{Labels, name_cmp};
 ghost use Rattle.zone_tree.specs.Names.{Ordered, IsBelow};
+ghost use Rattle.zone_tree.specs.Preceding.{IsLastUpTo};
 
+use crate::node::NodeId;
 use dns_data::{Labels, Name};
 use std::cmp::Ordering;
+
+/// The node of the last existing name that doesn't stand behind a name, and with how many labels both begin.
+#[derive(Clone, Copy, Debug)]
+pub(crate) struct Preceding {
+    pub node: NodeId,
+    pub shared: usize,
+}
 
 /// The place among names in order of the name with these labels.
 pub(crate) fn place_among(names: &[Name], labels: &Labels<'_>) -> Option<usize>
@@ -13,15 +24,35 @@ pub(crate) fn place_among(names: &[Name], labels: &Labels<'_>) -> Option<usize>
     ensures some { IfSome result (λ place. (place < length names.now) × (slice_index_or names.now place [] ≡ labels.now)) }
     ensures none { IfNone result (Contains names.now labels.now → ⊥) }
 {
-    let found = names.binary_search_by(
-        |name: &Name| -> Ordering
-            ensures { result ≡ name_cmp name.now labels.entry.now }
-        { name.labels().compare(labels) },
-    );
-    match found {
+    match place_of(names, labels) {
         Ok(place) => Some(place),
         Err(_) => None,
     }
+}
+
+/// The place of the last of names in order that doesn't stand behind the name with these labels. The first doesn't.
+pub(crate) fn place_up_to(names: &[Name], labels: &Labels<'_>) -> usize
+    requires ordered { Ordered names.now }
+    requires some { 0 < length names.now }
+    requires first { is_gt (name_cmp (slice_index_or names.now 0 []) labels.now) ≡ false }
+    ensures { IsLastUpTo names.now labels.now result }
+{
+    match place_of(names, labels) {
+        Ok(place) => place,
+        Err(place) => place - 1,
+    }
+}
+
+/// The place among names in order of the name with these labels, or how many of them stand before it.
+fn place_of(names: &[Name], labels: &Labels<'_>) -> Result<usize, usize>
+    ensures range { IsSearchInRange result (length names.now) }
+    ensures position { IsBinarySearchResult (λ name. name_cmp name labels.now) names.now result }
+{
+    names.binary_search_by(
+        |name: &Name| -> Ordering
+            ensures { result ≡ name_cmp name.now labels.entry.now }
+        { name.labels().compare(labels) },
+    )
 }
 
 /// The place of the name with these labels, where it is among the next few behind a place.

@@ -3,34 +3,39 @@
 ghost use Rattle.std.specs.Prelude.{◌≡◌, ◌↔◌, ◌++◌, ◌∷◌, [], map, true, false, Contains, AllPairs, IsNone, IfSome, IfOk};
 ghost use Rattle.std.specs.Option.{option_map};
 ghost use Rattle.std.specs.declared.cmp.Ordering.TheVariants.{Less};
-ghost use Rattle.dns_data.specs.Name.{Labels, name_cmp};
+ghost use Rattle.dns_data.specs.Name.{Labels, name_cmp, is_prefix};
 ghost use Rattle.dns_data.specs.TypeSet.{has_bit};
 ghost use Rattle.dns_data.specs.declared.rr_type.RrType.{RrType};
 ghost use Rattle.dns_data.specs.declared.rr_type.RrType.TheVariants as rr_type;
 ghost use Rattle.net_model.specs.Lookup.{first_name};
 ghost use Rattle.net_model.specs.Order.{in_order};
 ghost use Rattle.net_model.specs.Zone.{exists_in, owns, data_at, data_cmp, targets_at, ns_names, addresses};
+ghost use Rattle.zone_tree.specs.FirstDecider.{first_decider};
 ghost use Rattle.zone_tree.specs.Names.{IsBelow};
+ghost use Rattle.zone_tree.specs.Preceding.{IsPreceding};
 ghost use Rattle.zone_tree.specs.Records.{data_of, Tells};
 ghost use Rattle.zone_tree.specs.Tree.{IsNode, name_of};
 
+use crate::first_deciders::first_deciders;
 use crate::names::existing_names;
 use crate::node::NodeId;
 use crate::order::merged;
 use crate::owners::{records_by_name, rrs_in_order};
-use crate::places::{is_leaf_at, place_among, place_behind, place_below};
+use crate::places::{Preceding, is_leaf_at, place_among, place_behind, place_below, place_up_to};
 use crate::records::{Records, data_in, first_in, target_of};
 use dns_data::{Label, Labels, List, Name, NoMemory, Rdata, RrType, TypeSet};
 use net_model::Zone;
 use std::alloc::Global;
 use std::marker::Model;
 
-/// The existing names of a zone, in order, each with what it owns (RFC 1034 section 4.2, RFC 4592 section 2.2.2).
+/// The existing names of a zone, in order, each with what it owns and with the first name from the origin down to it that
+/// decides at those below it (RFC 1034 section 4.2, RFC 4592 section 2.2.2).
 #[derive(Debug, Drop)]
 pub struct Tree<'a> {
     zone: &'a Zone,
     names: Vec<Name>,
     records: Vec<Records<'a>>,
+    first_deciders: Vec<NodeId>,
 }
 
 impl<'a> Model for Tree<'a> {
@@ -40,9 +45,10 @@ impl<'a> Model for Tree<'a> {
 
     ghost view = { λ tree. record { zone = tree.zone.now; names = tree.names.items } };
 
+    ghost use Rattle.zone_tree.specs.FirstDecider.{AreFirstDeciders};
     ghost use Rattle.zone_tree.specs.Records.{IsTree};
 
-    ghost invariant = { λ tree. IsTree tree.zone.now tree.names.items tree.records.items };
+    ghost invariant = { λ tree. IsTree tree.zone.now tree.names.items tree.records.items × AreFirstDeciders tree.zone.now tree.names.items tree.first_deciders.items };
 }
 
 impl<'a> Tree<'a> {
@@ -54,10 +60,12 @@ impl<'a> Tree<'a> {
         let rrs = sorted.as_slice();
         let names = existing_names(alloc, zone, rrs)?;
         let records = records_by_name(alloc, names.as_slice(), rrs)?;
+        let first_deciders = first_deciders(alloc, zone, names.as_slice(), records.as_slice())?;
         Ok(Tree {
             zone,
             names,
             records,
+            first_deciders,
         })
     }
 
@@ -120,20 +128,28 @@ impl<'a> Tree<'a> {
         }
     }
 
-    /// The node of the name with these labels, which is below a node's name, or `None` where that name doesn't exist in
-    /// the zone. It is told at once where no existing name stands below the node's.
-    pub(crate) fn node_under(&self, node: NodeId, labels: &Labels<'_>) -> Option<NodeId>
-        requires node { IsNode self.now node }
-        requires below { IsBelow labels.now (name_of self.now node) }
-        ensures node { IfSome result (IsNode self.now) }
-        ensures name { IfSome result (λ under. name_of self.now under ≡ labels.now) }
-        ensures none { IsNone result ↔ (exists_in self.now.zone labels.now ≡ false) }
+    /// The node of the last existing name that doesn't stand behind a name at or below the origin, and with how many labels
+    /// both begin: those of the name's closest encloser.
+    pub(crate) fn preceding(&self, name: &Name) -> Preceding
+        requires { is_prefix self.now.zone.origin name.now ≡ true }
+        ensures { IsPreceding self.now name.now result }
     {
-        if self.is_leaf(node) {
-            None
-        } else {
-            self.node_of(labels)
+        let labels = name.labels();
+        let place = place_up_to(self.names.as_slice(), &labels);
+        Preceding {
+            node: NodeId::at(place),
+            shared: self.names[place].labels().common_len(&labels) as usize,
         }
+    }
+
+    /// The node of the first name from the origin down to a node's that decides at those below it, or that of the origin
+    /// where none does.
+    pub(crate) fn first_decider(&self, node: NodeId) -> NodeId
+        requires { IsNode self.now node }
+        ensures node { IsNode self.now result }
+        ensures name { name_of self.now result ≡ first_decider self.now.zone (name_of self.now node) }
+    {
+        self.first_deciders[node.place()]
     }
 
     /// Whether no existing name stands below a node's.
@@ -165,8 +181,16 @@ impl<'a> Tree<'a> {
         if self.is_leaf(node) {
             return None;
         }
-        let above = self.name(node).labels();
-        let place = place_below(self.names.as_slice(), &above, label)?;
+        self.child_of(&self.name(node).labels(), label)
+    }
+
+    /// The node of the name with this label directly below these, or `None` where that name doesn't exist in the zone.
+    pub(crate) fn child_of(&self, above: &Labels<'_>, label: &[u8]) -> Option<NodeId>
+        ensures node { IfSome result (IsNode self.now) }
+        ensures name { IfSome result (λ child. name_of self.now child ≡ above.now ++ label.now ∷ []) }
+        ensures none { IsNone result ↔ (exists_in self.now.zone (above.now ++ label.now ∷ []) ≡ false) }
+    {
+        let place = place_below(self.names.as_slice(), above, label)?;
         Some(NodeId::at(place))
     }
 

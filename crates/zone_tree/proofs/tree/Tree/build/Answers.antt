@@ -1,10 +1,14 @@
-use Rattle.std.proofs.Common.{◌<◌, List, [], Bor, map, length, get_or, Contains, sym, ap, ◌∙◌, subst, arith}
+use Rattle.std.proofs.Common.{◌≡◌, ℕ, ◌<◌, List, [], Bor, map, length, get_or, Contains, sym, ap, ◌∙◌, subst, arith}
 use Rattle.std.proofs.lemmas.List.Elements.{Contains-get_or}
 use Rattle.dns_data.specs.Name.{Labels}
 use Rattle.dns_data.specs.declared.rdata.Rdata.{Rdata}
 use Rattle.dns_data.specs.declared.rdata.Rr.{Rr}
+use Rattle.net_model.specs.declared.config.Zone.{Zone}
+use Rattle.zone_tree.specs.FirstDecider.{AreFirstDeciders}
+use Rattle.zone_tree.specs.Names.{AreExisting}
 use Rattle.zone_tree.specs.Owners.{AreByOwner}
-use Rattle.zone_tree.specs.Records.{data_of, Tells}
+use Rattle.zone_tree.specs.Records.{data_of, Tells, IsTree}
+use Rattle.zone_tree.specs.declared.records.Records.{Records}
 use Rattle.zone_tree.proofs.Existing.{existing_within, owners_among}
 use Rattle.zone_tree.proofs.Owned.{now_of}
 use Rattle.zone_tree.proofs.tree.Tree.build.Goals as goal
@@ -17,21 +21,39 @@ records_by_name-requires-clause-among c = λ rr has.
     subst (λ (xs : List Labels). Contains xs rr.owner) (sym c.as_slice.ensures.value)
     (owners_among c.args.zone.now rrs c.in_ok-names.names.items are c.in_ok-names.ensures rr has)
 
+-- the names with what they own
+told : (zone : Zone) (rrs : List Rr) (names slice : List Labels) (records : List Records) → slice ≡ names → AreByOwner zone rrs → AreExisting zone names
+    → length records ≡ length slice
+    → ((k : ℕ) (d : Records) → k < length slice → Tells (data_of rrs (get_or slice k [])) (get_or records k d)) → IsTree zone names records
+told zone rrs names slice records same are existing many each = record {
+  existing = existing;
+  many = many ∙ ap (λ (xs : List Labels). length xs) same;
+  each = λ k d below.
+      let name : Labels = get_or names k [] in
+      let within : k < length slice = omega (arith, below, ap (λ (xs : List Labels). length xs) same) in
+      subst (λ (all : List Rdata). Tells all (get_or records k d))
+      (ap (λ (xs : List Labels). data_of rrs (get_or xs k [])) same
+      ∙ are.in_file_order name (existing_within zone name ((existing.all name).0 (Contains-get_or names k [] below))))
+      (each k d within);
+}
+
+pub first_deciders-requires : goal.first_deciders-requires
+first_deciders-requires c =
+    let zone = c.args.zone.now in
+    let are : AreByOwner zone (map now_of c.as_slice-rrs.result.now) =
+    subst (λ (xs : List (Bor Rr)). AreByOwner zone (map now_of xs)) (sym c.as_slice-rrs.ensures.value) c.in_ok-sorted.ensures in
+    subst (λ (names : List Labels). IsTree zone names c.as_slice-3.result.now) (sym c.as_slice-2.ensures.value)
+    (subst (λ (records : List Records). IsTree zone c.in_ok-names.names.items records) (sym c.as_slice-3.ensures.value)
+    (told zone (map now_of c.as_slice-rrs.result.now) c.in_ok-names.names.items c.as_slice.result.now c.in_ok-records.records.items
+    c.as_slice.ensures.value are c.in_ok-names.ensures c.in_ok-records.ensures.many c.in_ok-records.ensures.each))
+
 pub invariant_of-result : goal.invariant_of-result
 invariant_of-result c =
     let zone = c.args.zone.now in
-    let names : List Labels = c.in_ok-names.names.items in
-    let rrs : List Rr = map now_of c.as_slice-rrs.result.now in
-    let are : AreByOwner zone rrs =
-    subst (λ (xs : List (Bor Rr)). AreByOwner zone (map now_of xs)) (sym c.as_slice-rrs.ensures.value) c.in_ok-sorted.ensures in
-    record {
-      existing = c.in_ok-names.ensures;
-      many = c.in_ok-records.ensures.many ∙ ap (λ (xs : List Labels). length xs) c.as_slice.ensures.value;
-      each = λ k d below.
-          let name : Labels = get_or names k [] in
-          let within : k < length c.as_slice.result.now = omega (arith, ap (λ (xs : List Labels). length xs) c.as_slice.ensures.value) in
-          subst (λ (all : List Rdata). Tells all (get_or c.in_ok-records.records.items k d))
-          (ap (λ (xs : List Labels). data_of rrs (get_or xs k [])) c.as_slice.ensures.value
-          ∙ are.in_file_order name (existing_within zone name ((c.in_ok-names.ensures.all name).0 (Contains-get_or names k [] below))))
-          (c.in_ok-records.ensures.each k d within);
-    }
+    let are : AreByOwner zone (map now_of c.as_slice-rrs.result.now) =
+    subst (λ (xs : List (Bor Rr)). AreByOwner zone (map now_of xs)) (sym c.as_slice-rrs.ensures.value) c.in_ok-sorted.ensures in (
+      told zone (map now_of c.as_slice-rrs.result.now) c.in_ok-names.names.items c.as_slice.result.now c.in_ok-records.records.items
+          c.as_slice.ensures.value are c.in_ok-names.ensures c.in_ok-records.ensures.many c.in_ok-records.ensures.each,
+      subst (λ (names : List Labels). AreFirstDeciders zone names c.in_ok-first_deciders.first_deciders.items) c.as_slice-2.ensures.value
+          c.in_ok-first_deciders.ensures,
+    )

@@ -19,4 +19,4 @@ returns c = λ told name below.
     (subst (λ (place : ℕ). IsBelow name (get_or c.as_slice.result.now place [])) (sym c.place.ensures.value)
     (subst (λ (names : List Labels). IsBelow name (get_or names c.args.node [])) (sym same) below))
     (subst (λ (names : List Labels). Contains names name) (sym items)
-    ((c.self.invariant.existing.all name).1 (ap (λ (tree : ZoneTree). exists_in tree.zone name) c.self.view_is ∙ exists))))
+    ((c.self.invariant.0.existing.all name).1 (ap (λ (tree : ZoneTree). exists_in tree.zone name) c.self.view_is ∙ exists))))
