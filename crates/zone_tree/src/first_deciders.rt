@@ -64,7 +64,7 @@ fn decides_at(zone: &Zone, above: &Name, types: TypeSet, name: &Name) -> bool
     requires types { (rtype : RrType) → has_bit types rtype ≡ owns zone.now above.now rtype }
     ensures { result ≡ (nat_lt (length above.now) (length name.now) && decides_below zone.now above.now) }
 {
-    above.len() < name.len() && decides_below(zone, above, types)
+    decides_below(zone, above, types) && above.len() < name.len()
 }
 
 /// Whether a name that owns these types decides at those below it: a zone cut, or the owner of a DNAME record.
@@ -81,5 +81,5 @@ pub(crate) fn is_cut(zone: &Zone, name: &Name, types: TypeSet) -> bool
     requires { (rtype : RrType) → has_bit types rtype ≡ owns zone.now name.now rtype }
     ensures { result ≡ is_cut zone.now name.now }
 {
-    name.len() > zone.origin.len() && types.has(RrType::Ns)
+    types.has(RrType::Ns) && name.len() > zone.origin.len()
 }
