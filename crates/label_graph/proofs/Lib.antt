@@ -1,4 +1,5 @@
 pub mod BaseGround
+pub mod Children
 pub mod FoldedLabels
 pub mod GraphSets
 pub mod InOrder
@@ -7,6 +8,7 @@ pub mod NamePlaces
 pub mod LiveNames
 pub mod LiveSets
 pub mod NewFronts
+pub mod Parents
 pub mod Passing
 pub mod Readings
 pub mod RowItems

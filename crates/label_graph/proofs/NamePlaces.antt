@@ -1,14 +1,16 @@
 -- Places of names in order.
-use Rattle.std.proofs.Common.{◌≡◌, ℕ, ◌+◌, false, ◌<◌, ◌⊎◌, List, [], ◌∷◌, ◌++◌, ◌-◌, length, take, drop, get_or, Contains, IsSorted, is_lt, Less, Equal, Greater, Result, Ok, Err, sym, refl, ap, ◌∙◌, subst, inl, inr, arith}
+use Rattle.std.proofs.Common.{◌≡◌, ℕ, ◌+◌, false, ◌<◌, ◌⊎◌, List, [], ◌∷◌, ◌++◌, ◌-◌, length, take, drop, get_or, Contains, AllPairs, is_lt, Less, Equal, Greater, Result, Ok, Err, sym, refl, ap, ◌∙◌, subst, inl, inr, arith}
 use Rattle.std.specs.Prelude.{◌↔◌, MatchResult, slice_set}
-use Rattle.std.specs.List.Sorted.{IsSearchInRange, IsBinarySearchResult}
+use Rattle.std.specs.List.Sorted.{IsSearchInRange, IsBinarySearchResult, IsSortedBy}
+use Rattle.std.specs.Cmp.{IsTotalOrder}
 use Rattle.std.specs.Ordering.{ordering_reverse}
+use Rattle.std.specs.declared.cmp.Ordering.{Ordering}
 use Rattle.std.proofs.lemmas.Bool.{cases_lt}
 use Rattle.std.proofs.lemmas.Cmp.{tied_itself}
+use Rattle.std.proofs.lemmas.Map.Lookups.{CmpEqualImpliesEq}
 use Rattle.std.proofs.lemmas.List.{take_at, length-append, take-append-drop, length-drop, get_or_default}
 use Rattle.std.proofs.lemmas.List.Sorted.{searchable_from_sorted}
-use Rattle.dns_data.specs.Name.{Labels, name_cmp, wire_octets}
-use Rattle.dns_data.proofs.NameFronts.{labels_fewer}
+use Rattle.dns_data.specs.Name.{Labels, name_cmp}
 use Rattle.dns_data.proofs.NameOrder.{names_total}
 use Rattle.dns_data.proofs.Names.{same_names}
 use Rattle.dns_data.proofs.OrderedLists.{never_before_itself}
@@ -33,28 +35,38 @@ one_place names order i j first second same =
       ]
     ]
 
-later_not_before : (a b : Labels) → name_cmp a b ≡ Less → is_lt (name_cmp b a) ≡ false
-later_not_before a b less = ap is_lt (names_total.antisymm b a ∙ ap ordering_reverse less)
+-- ---- what a binary search finds among items whose keys are in order
+module _ {K X : Type 0} (R : K → K → Ordering) (o : IsTotalOrder R) (exact : CmpEqualImpliesEq R) (key : X → K) (target : K) where
+  not_behind : (a b : K) → R a b ≡ Less → is_lt (R b a) ≡ false
+  not_behind a b less = ap is_lt (o.antisymm b a ∙ ap ordering_reverse less)
 
-sorted : (names : List Labels) → AreInOrder names → IsSorted name_cmp names
-sorted names order k d low high = later_not_before (get_or names k d) (get_or names (k + 1) d) (order k (k + 1) d (omega arith) high)
+  rises : (xs : List X) → AllPairs (λ a b. R (key a) (key b) ≡ Less) xs → IsSortedBy (λ a b. is_lt (R (key a) (key b))) xs
+  rises xs order k d low high = not_behind (key (get_or xs k d)) (key (get_or xs (k + 1) d)) (order k (k + 1) d (omega arith) high)
 
--- what a binary search finds
+  pub searched_by : (xs : List X) (r : Result ℕ ℕ) → AllPairs (λ a b. R (key a) (key b) ≡ Less) xs → IsSearchInRange r (length xs)
+      → IsBinarySearchResult (λ x. R (key x) target) xs r
+      → MatchResult r (λ place. (place < length xs) × ((d : X) → key (get_or xs place d) ≡ target)) (λ _. (x : X) → Contains xs x → key x ≡ target → ⊥)
+  searched_by xs (Ok place) order below holds = (below, λ d. exact (key (get_or xs place d)) target (holds d))
+  searched_by xs (Err place) order within holds =
+      let parts = holds (searchable_from_sorted o key xs target (rises xs order)) in
+      λ x (k, below, is) same. elim (cases_lt k place) [
+        | inl lower ↦
+            never_before_itself R o target
+            (subst (λ (t : K). R t target ≡ Less) same (subst (λ (y : X). R (key y) target ≡ Less) is (parts.0 k x (omega arith) lower)))
+        | inr higher ↦ (
+            let greater : R target target ≡ Greater = subst (λ (t : K). R t target ≡ Greater) same (subst (λ (y : X). R (key y) target ≡ Greater) is (parts.1 k x higher below)) in
+            let tied : R target target ≡ Equal = tied_itself o target in
+            cc)
+      ]
+
+-- what one finds among names in order
 pub searched : (names : List Labels) (name : Labels) (r : Result ℕ ℕ) → AreInOrder names → IsSearchInRange r (length names)
     → IsBinarySearchResult (λ other. name_cmp other name) names r
     → MatchResult r (λ place. (place < length names) × (name_at names place ≡ name)) (λ _. Contains names name → ⊥)
-searched names name (Ok place) order below holds = (below, same_names (name_at names place) name (holds []))
+searched names name (Ok place) order below holds =
+    let found = searched_by name_cmp names_total same_names (λ (n : Labels). n) name names (Ok place) order below holds in (found.0, found.1 [])
 searched names name (Err place) order within holds =
-    let parts = holds (searchable_from_sorted names_total (λ (x : Labels). x) names name (sorted names order)) in
-    λ (k, below, is). elim (cases_lt k place) [
-      | inl lower ↦
-          never_before_itself name_cmp names_total name
-          (subst (λ (n : Labels). name_cmp n name ≡ Less) is (parts.0 k name (omega arith) lower))
-      | inr higher ↦ (
-          let greater : name_cmp name name ≡ Greater = subst (λ (n : Labels). name_cmp n name ≡ Greater) is (parts.1 k name higher below) in
-          let tied : name_cmp name name ≡ Equal = tied_itself names_total name in
-          cc)
-    ]
+    λ has. searched_by name_cmp names_total same_names (λ (n : Labels). n) name names (Err place) order within holds name has refl
 
 -- labels below names: one label less on both sides
 pub same_above : (a b : Labels) (x y : List ℕ) → a ++ x ∷ [] ≡ b ++ y ∷ [] → a ≡ b
@@ -65,11 +77,6 @@ same_above a b x y e =
 -- the root is no name with a label below it
 pub root_below_none : (above : Labels) (label : List ℕ) → above ++ label ∷ [] ≡ [] → ⊥
 root_below_none above label e = omega (arith, ap length e, length-append above (label ∷ []))
-
--- a name of one octet is the root
-pub octets_of_root : (name : Labels) → wire_octets name ≡ 1 → name ≡ []
-octets_of_root [] e = refl
-octets_of_root (label ∷ name) e = absurd (omega (arith, labels_fewer (label ∷ name)))
 
 -- a name with labels is that of all but the last, and the last
 pub last_label : (name : Labels) → (name ≡ [] → ⊥) → (label : List ℕ) × (name ≡ take (length name - 1) name ++ label ∷ [])
@@ -119,16 +126,6 @@ module _ (names : List Labels) (rows : List (List ℕ)) (order : AreInOrder name
         let here : p ≡ parent = one_place names order p parent next.within inside same in
         subst (λ (k : ℕ). RowHas (slice_set rows parent (get_or rows parent [] ++ place ∷ [])) k q) (sym here)
         (subst (RowHas (slice_set rows parent (get_or rows parent [] ++ place ∷ [])) parent) (sym new) (put_there rows parent place room))
-
-  -- the root is in no row
-  pub root_put : name_at names place ≡ [] → (p q : ℕ) → RowHas rows p q ↔ (RowHas rows p q ⊎ ((q ≡ place) × IsNextBelow names p q))
-  root_put is p q = (
-    λ has. inl has,
-    λ either. elim either [
-      | inl has ↦ has
-      | inr (new, next) ↦ absurd (root_below_none (name_at names p) next.label (sym next.is ∙ ap (name_at names) new ∙ is))
-    ],
-  )
 
 -- what is read at a place is the name there
 pub read_at : (items names : List Labels) (k : ℕ) (x : Labels) → items ≡ names → x ≡ get_or items k x → k < length names → get_or names k [] ≡ x

@@ -1,7 +1,7 @@
 -- What holds of some item of a list's front, and of a front with one item more.
 use Rattle.std.specs.List.{flat_map}
 use Rattle.std.proofs.lemmas.Grind.{flat_map-append}
-use Rattle.std.proofs.Common.{ap, append-nil, ◌≡◌, ◌∙◌, ℕ, ◌+◌, ◌<◌, ◌≤◌, ◌⊎◌, List, [], ◌∷◌, ◌++◌, length, take, get_or, Contains, inl, inr, sym, subst}
+use Rattle.std.proofs.Common.{ap, arith, append-nil, ◌≡◌, ◌∙◌, ℕ, ◌+◌, ◌<◌, ◌≤◌, ◌⊎◌, List, [], ◌∷◌, ◌++◌, length, take, get_or, Contains, inl, inr, sym, subst}
 use Rattle.std.proofs.lemmas.List.{take_more, take_all}
 use Rattle.std.proofs.lemmas.List.Elements.{Contains-append_left, Contains-append_right, Contains-append_cases}
 use Rattle.std.specs.Prelude.{◌↔◌}
@@ -117,3 +117,19 @@ pub flat_more : {X Y : Type 0} (f : X → List Y) (xs : List X) (k : ℕ) (x : X
 flat_more {X = X} {Y = Y} f xs k x below is =
     ap (flat_map f) (take_more xs k x below ∙ ap (λ (y : X). take k xs ++ y ∷ []) (sym is)) ∙ flat_map-append f (take k xs) (x ∷ [])
     ∙ ap (λ (l : List Y). flat_map f (take k xs) ++ l) (append-nil (f x))
+
+-- a list of one item
+pub one_iff : (P : ℕ → Type 0) (xs : List ℕ) → length xs ≡ 1 → (there : Type 0) → (there ↔ P (get_or xs 0 0)) → there ↔ SomeItem P xs
+one_iff P [] e there is = absurd (omega (arith, e))
+one_iff P (x ∷ []) e there is = (
+  λ has. (x, has_first x [], is.0 has),
+  λ (y, has, p). elim (first_or_later x [] y has) [ inl same ↦ is.1 (subst P (sym same) p) | inr none ↦ absurd (none_in_nil y none) ],
+)
+one_iff P (x ∷ y ∷ xs) e there is = absurd (omega (arith, e))
+
+-- the only item that is so
+pub single_iff : {X : Type 0} (x : X) (P : X → Type 0) → P x → ((y : X) → P y → x ≡ y) → (y : X) → Contains (x ∷ []) y ↔ P y
+single_iff x P p only y = (
+  λ has. elim (first_or_later x [] y has) [ inl same ↦ subst P same p | inr none ↦ absurd (none_in_nil y none) ],
+  λ is. subst (Contains (x ∷ [])) (only y is) (has_first x []),
+)

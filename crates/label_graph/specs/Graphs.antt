@@ -1,5 +1,7 @@
 -- A graph: its targets with what each front reads on to, and what is live from there.
-use Rattle.std.specs.Prelude.{◌≡◌, ◌⊎◌, ℕ, ◌<◌, List, [], ◌∷◌, ◌++◌, length, slice_index_or, Contains}
+use Rattle.std.specs.Prelude.{◌≡◌, ◌↔◌, ◌⊎◌, ℕ, ◌<◌, List, [], ◌∷◌, ◌++◌, length, slice_index_or, Contains, AllPairs}
+use Rattle.std.specs.declared.cmp.Ordering.TheVariants.{Less}
+use Rattle.dns_data.specs.Label.{label_cmp}
 use Rattle.dns_data.specs.Name.{Labels}
 use Rattle.label_graph.specs.LiveSet.{name_at}
 use Rattle.label_graph.specs.Rows.{RowHas}
@@ -28,6 +30,7 @@ abbrev pub IsFrom : Targets → List (List ℕ) → ℕ → ℕ → Type 0
 IsFrom targets reads other place =
     (place ≡ other) ⊎ SomeItem (λ front. RowHas reads front other) (slice_index_or targets.links.fronts place [])
 
--- the name at the place has this last label
-abbrev pub EndsIn : List Labels → List ℕ → ℕ → Type 0
-EndsIn names label place = (above : Labels) × (name_at names place ≡ above ++ label ∷ [])
+-- the labels are those below the name at the place, in order
+pub record AreLabelsBelow (names : List Labels) (place : ℕ) (labels : List (List ℕ)) : Type 0 where
+  pub all : (label : List ℕ) → Contains labels label ↔ HasChild names label place
+  pub order : AllPairs (λ a b. label_cmp a b ≡ Less) labels

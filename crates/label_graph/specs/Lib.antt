@@ -8,6 +8,7 @@ pub mod LastLabel
 pub mod LiveSet
 pub mod NameTree
 pub mod Pairs
+pub mod Places
 pub mod Rows
 pub mod Saturation
 pub mod Sorting

@@ -12,7 +12,6 @@ use crate::live::{LiveSet, close, has_step, labels_below, step};
 use crate::pair::Pair;
 use crate::rows::Rows;
 use crate::saturation::reads_of;
-use crate::sorting::in_order;
 use crate::targets::TargetTable;
 use dns_data::{Label, List, Name, NoMemory};
 use std::alloc::Global;
@@ -54,7 +53,7 @@ impl LabelGraph {
         ensures { IfOk result (IsLiveSet self.now []) }
     {
         let root = self.table.base.root();
-        let live = close(alloc, &self.table, &self.reads, &[root])?;
+        let live = close(alloc, &self.table, &self.reads, LiveSet::one(root))?;
         Ok(live)
     }
 
@@ -63,8 +62,8 @@ impl LabelGraph {
         requires { (name : Labels) × IsLiveSet self.now name live.now }
         ensures { IfOk result (λ next. (name : Labels) → IsLiveSet self.now name live.now → IsLiveSet self.now (name ++ label.now ∷ []) next) }
     {
-        let places = step(alloc, &self.table.base, live.places(), label)?;
-        let next = close(alloc, &self.table, &self.reads, places.as_slice())?;
+        let places = step(alloc, &self.table.base, live.places(), label.items())?;
+        let next = close(alloc, &self.table, &self.reads, places)?;
         Ok(next)
     }
 
@@ -73,8 +72,8 @@ impl LabelGraph {
         requires { (name : Labels) × IsLiveSet self.now name live.now }
         ensures { IfOk result (λ has. (name : Labels) → IsLiveSet self.now name live.now → IsTrue has ↔ IsNamed self.now (name ++ label.now ∷ [])) }
     {
-        let has = has_step(alloc, &self.table.base, live.places(), label)?;
-        Ok(has)
+        let _ = alloc;
+        Ok(has_step(&self.table.base, live.places(), label.items()))
     }
 
     /// The labels that make a named name below a name with this live set, in order, each once.
@@ -85,7 +84,6 @@ impl LabelGraph {
         ensures order { IfOk result (λ labels. AllPairs (λ a b. label_cmp a b ≡ Less) labels) }
     {
         let labels = labels_below(alloc, &self.table.base, live.places())?;
-        let labels = in_order(labels)?;
         Ok(List::from_vec(labels))
     }
 

@@ -5,11 +5,15 @@
 //! `next_labels` and `has_next` the labels that make a named name below a name with that live set.
 //!
 //! Costs: the base names of a configuration are made once for the records with one owner in a row. Building sorts the
-//! names and the fronts of targets, and looks once at each pair of a front and a base name to which it reads on. A live set is a sorted list of places, with one place where no DNAME record plays a part;
-//! a label more costs a binary search for each place. The labels below a live set are listed without a search.
+//! names and the fronts of targets, finds the name above each along the one before it, and looks once at each pair of a
+//! front and a base name to which it reads on. A live set has one place where no DNAME record plays a part, and then
+//! takes no memory; a label more costs a binary search among the last labels below each place, and no more where none
+//! of the names found is redirected. The labels below one place are listed in order without a search or a sort; those
+//! below several are sorted.
 #![tactic(auto)]
 
 mod base;
+mod compare;
 mod graph;
 pub mod laws;
 mod links;

@@ -1,29 +1,39 @@
 //! Live sets.
 
-ghost use Rattle.std.specs.Prelude.{◌≡◌, ◌↔◌, ◌⊎◌, ◌<◌, [], ℕ, List, length, Contains, All, IsTrue, IfOk, OnOk};
-ghost use Rattle.label_graph.specs.Graphs.{EndsIn, HasChild, IsFrom, IsStep, SomeItem};
+ghost use Rattle.std.specs.Prelude.{◌≡◌, ◌↔◌, ◌⊎◌, ◌<◌, ℕ, List, [], ◌∷◌, ◌++◌, length, slice_index_or, Contains, All, AllPairs, IsTrue, IfOk, OnOk};
+ghost use Rattle.std.specs.declared.cmp.Ordering.TheVariants.{Less};
+ghost use Rattle.dns_data.specs.Label.{IsLabel, label_cmp};
+ghost use Rattle.label_graph.specs.Graphs.{AreLabelsBelow, HasChild, IsFrom, IsStep, SomeItem};
 
 use crate::names::NameTree;
-use crate::parts::last_label;
 use crate::rows::Rows;
 use crate::sorting::in_order;
 use crate::targets::TargetTable;
 use dns_data::{Label, NoMemory};
 use std::alloc::Global;
 use std::marker::Model;
+use std::slice::from_ref;
 
-/// Some base names of a graph, each once. Contracts see their places in the graph.
+/// Where the places of a live set are kept: one in the value, none or several in a vector.
+#[derive(Debug, Drop)]
+enum Places {
+    One(usize),
+    Listed(Vec<usize>),
+}
+
+/// Some base names of a graph, each once. Contracts see their places in the graph. One takes no memory of its own.
 #[derive(Debug, Drop)]
 pub struct LiveSet {
-    places: Vec<usize>,
+    places: Places,
 }
 
 impl Model for LiveSet {
     ghost use Rattle.std.specs.Prelude.{List, ℕ};
+    ghost use Rattle.label_graph.specs.Places.{places_in};
 
     ghost Value = { List ℕ };
 
-    ghost view = { λ live. live.places.items };
+    ghost view = { λ live. places_in live.places };
 }
 
 impl LiveSet {
@@ -31,19 +41,70 @@ impl LiveSet {
     pub fn is_empty(&self) -> bool
         ensures { IsTrue result ↔ (self.now ≡ []) }
     {
-        self.places.is_empty()
+        self.places().is_empty()
     }
 
     /// The places.
     pub(crate) fn places(&self) -> &[usize]
         ensures { result.now ≡ self.now }
     {
-        self.places.as_slice()
+        match &self.places {
+            Places::One(place) => from_ref(place),
+            Places::Listed(places) => places.as_slice(),
+        }
+    }
+
+    /// One place.
+    pub(crate) fn one(place: usize) -> LiveSet
+        ensures { result ≡ place ∷ [] }
+    {
+        LiveSet {
+            places: Places::One(place),
+        }
+    }
+
+    /// The places of a vector.
+    fn listed(places: Vec<usize>) -> LiveSet
+        ensures { result ≡ places.items }
+    {
+        LiveSet {
+            places: Places::Listed(places),
+        }
     }
 }
 
 /// The places with those that the targets of their names read on to, each once.
 pub(crate) fn close(
+    alloc: Global,
+    table: &TargetTable,
+    reads: &Rows,
+    places: LiveSet,
+) -> Result<LiveSet, NoMemory>
+    requires within { All (λ place. place < length table.now.names) places }
+    requires len { length reads.now ≡ length table.now.fronts }
+    ensures { IfOk result (λ live. (other : ℕ) → Contains live other ↔ SomeItem (IsFrom table.now reads.now other) places) }
+{
+    if none_redirected(table, places.places()) {
+        return Ok(places);
+    }
+    closed(alloc, table, reads, places.places())
+}
+
+/// Whether none of the names at these places is redirected.
+fn none_redirected(table: &TargetTable, places: &[usize]) -> bool
+    requires { All (λ place. place < length table.now.names) places.now }
+    ensures { IsTrue result → All (λ place. slice_index_or table.now.links.fronts place [] ≡ []) places.now }
+{
+    for place in places {
+        if !table.links.fronts_of(*place).is_empty() {
+            return false;
+        }
+    }
+    true
+}
+
+/// The places with those that the targets of their names read on to, put in order.
+fn closed(
     alloc: Global,
     table: &TargetTable,
     reads: &Rows,
@@ -58,7 +119,7 @@ pub(crate) fn close(
         put_closed(table, reads, &mut all, *place)?;
     }
     let places = in_order(all)?;
-    Ok(LiveSet { places })
+    Ok(LiveSet::listed(places))
 }
 
 /// Puts a place, and those that the targets of its name read on to, at the end.
@@ -84,31 +145,58 @@ pub(crate) fn step(
     alloc: Global,
     base: &NameTree,
     places: &[usize],
-    label: &Label,
-) -> Result<Vec<usize>, NoMemory>
+    label: &[u8],
+) -> Result<LiveSet, NoMemory>
     requires { All (λ place. place < length base.now) places.now }
-    ensures { IfOk result (λ next. (other : ℕ) → Contains next.items other ↔ SomeItem (IsStep base.now label.now other) places.now) }
+    ensures { IfOk result (λ next. (other : ℕ) → Contains next other ↔ SomeItem (IsStep base.now label.now other) places.now) }
+{
+    match places {
+        [place] => Ok(step_of_one(alloc, base, *place, label)),
+        _ => steps(alloc, base, places, label),
+    }
+}
+
+/// The place one label below this one, if there is one. It takes no memory.
+fn step_of_one(alloc: Global, base: &NameTree, place: usize, label: &[u8]) -> LiveSet
+    requires { place < length base.now }
+    ensures { (other : ℕ) → Contains result other ↔ IsStep base.now label.now other place }
+{
+    let _ = base.items();
+    match base.child(place, label) {
+        Some(below) => LiveSet::one(below),
+        None => LiveSet::listed(Vec::new(alloc)),
+    }
+}
+
+/// The places one label below each of these.
+fn steps(
+    alloc: Global,
+    base: &NameTree,
+    places: &[usize],
+    label: &[u8],
+) -> Result<LiveSet, NoMemory>
+    requires { All (λ place. place < length base.now) places.now }
+    ensures { IfOk result (λ next. (other : ℕ) → Contains next other ↔ SomeItem (IsStep base.now label.now other) places.now) }
 {
     let mut next = Vec::new(alloc);
     for place in places {
-        put_step(alloc, base, *place, label, &mut next)?;
+        put_step(base, *place, label, &mut next)?;
     }
-    Ok(next)
+    Ok(LiveSet::listed(next))
 }
 
 /// Puts the place one label below this one at the end, if there is one.
 fn put_step(
-    alloc: Global,
     base: &NameTree,
     place: usize,
-    label: &Label,
+    label: &[u8],
     next: &mut Vec<usize>,
 ) -> Result<(), NoMemory>
     requires { place < length base.now }
     ensures { OnOk result ((other : ℕ) → Contains next.new.items other ↔ (Contains next.old.items other ⊎ IsStep base.now label.now other place)) }
 {
     let _ = base.items();
-    let Some(below) = base.child(alloc, place, label)? else {
+    let Some(below) = base.child(place, label) else {
         return Ok(());
     };
     next.push(below)?;
@@ -116,51 +204,70 @@ fn put_step(
 }
 
 /// Whether one of the places has this label below it.
-pub(crate) fn has_step(
-    alloc: Global,
-    base: &NameTree,
-    places: &[usize],
-    label: &Label,
-) -> Result<bool, NoMemory>
+pub(crate) fn has_step(base: &NameTree, places: &[usize], label: &[u8]) -> bool
     requires { All (λ place. place < length base.now) places.now }
-    ensures { IfOk result (λ has. IsTrue has ↔ SomeItem (HasChild base.now label.now) places.now) }
+    ensures { IsTrue result ↔ SomeItem (HasChild base.now label.now) places.now }
 {
     for place in places {
-        if has_child(alloc, base, *place, label)? {
-            return Ok(true);
+        if has_child(base, *place, label) {
+            return true;
         }
     }
-    Ok(false)
+    false
 }
 
 /// Whether the place has this label below it.
-fn has_child(alloc: Global, base: &NameTree, place: usize, label: &Label) -> Result<bool, NoMemory>
+fn has_child(base: &NameTree, place: usize, label: &[u8]) -> bool
     requires { place < length base.now }
-    ensures { IfOk result (λ has. IsTrue has ↔ HasChild base.now label.now place) }
+    ensures { IsTrue result ↔ HasChild base.now label.now place }
 {
-    match base.child(alloc, place, label)? {
-        Some(_) => Ok(true),
-        None => Ok(false),
+    match base.child(place, label) {
+        Some(_) => true,
+        None => false,
     }
 }
 
-/// The labels below these places, in any order.
+/// The labels below these places, in order, each once.
 pub(crate) fn labels_below(
     alloc: Global,
     base: &NameTree,
     places: &[usize],
 ) -> Result<Vec<Label>, NoMemory>
     requires { All (λ place. place < length base.now) places.now }
-    ensures { IfOk result (λ labels. (label : List ℕ) → Contains labels.items label ↔ SomeItem (HasChild base.now label) places.now) }
+    ensures labels { IfOk result (λ labels. (label : List ℕ) → Contains labels.items label ↔ SomeItem (HasChild base.now label) places.now) }
+    ensures order { IfOk result (λ labels. AllPairs (λ a b. label_cmp a b ≡ Less) labels.items) }
+{
+    match places {
+        [place] => labels_of_one(alloc, base, *place),
+        _ => labels_of_all(alloc, base, places),
+    }
+}
+
+/// The labels below a place, which stand in order there.
+fn labels_of_one(alloc: Global, base: &NameTree, place: usize) -> Result<Vec<Label>, NoMemory>
+    requires { place < length base.now }
+    ensures labels { IfOk result (λ labels. (label : List ℕ) → Contains labels.items label ↔ HasChild base.now label place) }
+    ensures order { IfOk result (λ labels. AllPairs (λ a b. label_cmp a b ≡ Less) labels.items) }
+{
+    let mut labels = Vec::with_capacity(alloc, base.below(place).len())?;
+    put_labels(alloc, base, place, &mut labels)?;
+    Ok(labels)
+}
+
+/// The labels below all these places, put in order.
+fn labels_of_all(alloc: Global, base: &NameTree, places: &[usize]) -> Result<Vec<Label>, NoMemory>
+    requires { All (λ place. place < length base.now) places.now }
+    ensures labels { IfOk result (λ labels. (label : List ℕ) → Contains labels.items label ↔ SomeItem (HasChild base.now label) places.now) }
+    ensures order { IfOk result (λ labels. AllPairs (λ a b. label_cmp a b ≡ Less) labels.items) }
 {
     let mut labels = Vec::new(alloc);
     for place in places {
         put_labels(alloc, base, *place, &mut labels)?;
     }
-    Ok(labels)
+    in_order(labels)
 }
 
-/// Puts the labels below a place at the end.
+/// Puts the labels below a place, in order, at the end.
 fn put_labels(
     alloc: Global,
     base: &NameTree,
@@ -168,27 +275,22 @@ fn put_labels(
     labels: &mut Vec<Label>,
 ) -> Result<(), NoMemory>
     requires { place < length base.now }
-    ensures { OnOk result ((label : List ℕ) → Contains labels.new.items label ↔ (Contains labels.old.items label ⊎ HasChild base.now label place)) }
+    ensures { OnOk result ((more : List (List ℕ)) × (labels.new.items ≡ labels.old.items ++ more) × AreLabelsBelow base.now place more) }
 {
-    for next in base.below(place) {
-        put_label(alloc, base, *next, labels)?;
+    let _ = base.items();
+    for other in base.below(place) {
+        labels.push(plain_label(alloc, base.last_label(place, *other))?)?;
     }
     Ok(())
 }
 
-/// Puts the last label of the name at a place at the end, if it has one.
-fn put_label(
-    alloc: Global,
-    base: &NameTree,
-    place: usize,
-    labels: &mut Vec<Label>,
-) -> Result<(), NoMemory>
-    requires { place < length base.now }
-    ensures { OnOk result ((label : List ℕ) → Contains labels.new.items label ↔ (Contains labels.old.items label ⊎ EndsIn base.now label place)) }
+/// The label with these octets.
+fn plain_label(alloc: Global, octets: &[u8]) -> Result<Label, NoMemory>
+    requires { IsLabel octets.now }
+    ensures { IfOk result (λ label. label ≡ octets.now) }
 {
-    let Some(label) = last_label(alloc, &base.items()[place])? else {
-        return Ok(());
-    };
-    labels.push(label)?;
-    Ok(())
+    match Label::from_octets(alloc, octets) {
+        Ok(label) => Ok(label),
+        Err(_) => Err(NoMemory),
+    }
 }

@@ -1,16 +1,19 @@
 //! Names in a tree.
 
-ghost use Rattle.std.specs.Prelude.{◌≡◌, ◌↔◌, ◌<◌, ◌≤◌, List, ℕ, [], ◌∷◌, ◌++◌, length, Contains, All, MatchOption, IfOk, OnOk, ◌⊎◌};
-ghost use Rattle.dns_data.specs.Name.{Labels, wire_octets};
+ghost use Rattle.std.specs.Prelude.{◌≡◌, ◌+◌, ◌<◌, ◌↔◌, ℕ, List, [], ◌∷◌, ◌++◌, length, AllPairs, Contains, MatchOption, IfOk, OnOk};
+ghost use Rattle.std.specs.declared.cmp.Ordering.TheVariants.{Less};
+ghost use Rattle.dns_data.specs.Encoding.{encoded};
+ghost use Rattle.dns_data.specs.Label.{IsLabel, label_cmp};
+ghost use Rattle.dns_data.specs.Name.{Labels};
 ghost use Rattle.label_graph.specs.LiveSet.{AreInOrder, HavePrefixes, name_at};
-ghost use Rattle.label_graph.specs.NameTree.{IsNextBelow, AreRowsBelow};
-ghost use Rattle.label_graph.specs.Rows.{RowHas};
+ghost use Rattle.label_graph.specs.NameTree.{IsNextBelow, AreParents, AreRowsBelow, octets_from};
 
-use crate::parts::front_of;
+use crate::compare::compare_octets;
 use crate::rows::Rows;
 use crate::sorting::in_order;
-use dns_data::{JoinFault, Label, Name, NoMemory};
+use dns_data::{Name, NoMemory};
 use std::alloc::Global;
+use std::cmp::Ordering;
 use std::marker::Model;
 
 /// Names in order, each once, with the root and the prefixes of each, and for each the places of the names one label
@@ -72,58 +75,36 @@ impl NameTree {
         }
     }
 
-    /// The places of the names one label below the one at this place.
+    /// The places of the names one label below the one at this place, in order.
     pub fn below(&self, place: usize) -> &[usize]
         requires { place < length self.now }
-        ensures { (other : ℕ) → Contains result.now other ↔ IsNextBelow self.now place other }
+        ensures below { (other : ℕ) → Contains result.now other ↔ IsNextBelow self.now place other }
+        ensures rising { AllPairs (λ a b. a < b) result.now }
     {
         self.below.at(place)
     }
 
-    /// The place of the name with this label below the one at this place, or `None` where it isn't among the names.
-    pub fn child(
-        &self,
-        alloc: Global,
-        place: usize,
-        label: &Label,
-    ) -> Result<Option<usize>, NoMemory>
-        requires { place < length self.now }
-        ensures { IfOk result (λ found. MatchOption found (Contains self.now (name_at self.now place ++ label.now ∷ []) → ⊥)
-            (λ other. (other < length self.now) × (name_at self.now other ≡ name_at self.now place ++ label.now ∷ []))) }
+    /// The last label of the name at the second place, which is one label below the one at the first.
+    pub fn last_label(&self, place: usize, other: usize) -> &[u8]
+        requires { IsNextBelow self.now place other }
+        ensures is { name_at self.now other ≡ name_at self.now place ++ result.now ∷ [] }
+        ensures label { IsLabel result.now }
     {
-        if self.below(place).is_empty() {
-            return Ok(None);
-        }
-        let mut name = self.names[place].copy(alloc)?;
-        match name.push(alloc, label) {
-            Ok(()) => Ok(self.place_below(place, &name)),
-            Err(JoinFault::TooLong) => Ok(None),
-            Err(JoinFault::NoMemory) => Err(NoMemory),
-        }
+        let from = behind(&self.names[place]);
+        let _ = self.names[other].labels();
+        octets_at(self.names.as_slice(), other, from)
     }
 
-    /// The place of a name one label below the one at this place, or `None` where it isn't among the names. A few names
-    /// below are looked at one by one.
-    fn place_below(&self, place: usize, name: &Name) -> Option<usize>
-        requires place { place < length self.now }
-        requires below { (label : List ℕ) × (name.now ≡ name_at self.now place ++ label ∷ []) }
-        ensures { MatchOption result (Contains self.now name.now → ⊥) (λ other. (other < length self.now) × (name_at self.now other ≡ name.now)) }
+    /// The place of the name with this label below the one at this place, or `None` where it isn't among the names.
+    pub fn child(&self, place: usize, label: &[u8]) -> Option<usize>
+        requires { place < length self.now }
+        ensures { MatchOption result (Contains self.now (name_at self.now place ++ label.now ∷ []) → ⊥)
+            (λ other. (other < length self.now) × (name_at self.now other ≡ name_at self.now place ++ label.now ∷ [])) }
     {
-        let below = self.below(place);
-        if below.len() > FEW {
-            return self.place_of(name);
-        }
-        for other in below {
-            if self.names[*other] == *name {
-                return Some(*other);
-            }
-        }
-        None
+        let from = behind(&self.names[place]);
+        place_with(self.names.as_slice(), self.below(place), from, label)
     }
 }
-
-/// How many names one label below another are looked at one by one.
-const FEW: usize = 8;
 
 /// The place of a name among names in order, or `None` where it isn't there.
 fn place_in(names: &[Name], name: &Name) -> Option<usize>
@@ -133,57 +114,76 @@ fn place_in(names: &[Name], name: &Name) -> Option<usize>
     names.binary_search(name).ok()
 }
 
-/// For each of the names the places of those one label below.
+/// How many octets stand before those of the last label of a name one label below this one.
+fn behind(name: &Name) -> usize
+    ensures { result ≡ length (encoded name.now) + 1 }
+{
+    name.encoding().len() + 1
+}
+
+/// The octets of the name at a place, without the first so many.
+fn octets_at(names: &[Name], place: usize, from: usize) -> &[u8]
+    ensures { result.now ≡ octets_from names.now from place }
+{
+    match names.get(place) {
+        Some(name) => {
+            let octets = name.encoding();
+            &octets[from.min(octets.len())..]
+        }
+        None => &[],
+    }
+}
+
+/// The place, of those in a row, at which these octets stand behind the first so many, or `None` where there is none.
+fn place_with(names: &[Name], row: &[usize], from: usize, octets: &[u8]) -> Option<usize>
+    requires { AllPairs (λ a b. label_cmp (octets_from names.now from a) (octets_from names.now from b) ≡ Less) row.now }
+    ensures { MatchOption result ((place : ℕ) → Contains row.now place → octets_from names.now from place ≡ octets.now → ⊥)
+        (λ place. Contains row.now place × (octets_from names.now from place ≡ octets.now)) }
+{
+    let found = row.binary_search_by(
+        |place: &usize| -> Ordering
+            ensures { result ≡ label_cmp (octets_from names.entry.now from place.now) octets.entry.now }
+        { compare_octets(octets_at(names, *place, from), octets) },
+    );
+    match found {
+        Ok(at) => Some(row[at]),
+        Err(_) => None,
+    }
+}
+
+/// For each of the names the places of those one label below, in order.
 fn rows_below(alloc: Global, names: &[Name]) -> Result<Rows, NoMemory>
     requires order { AreInOrder names.now }
     requires closed { HavePrefixes names.now }
-    ensures rows { IfOk result (AreRowsBelow names.now) }
-    ensures short { IfOk result (λ _. All (λ name. wire_octets name ≤ 255) names.now) }
+    ensures { IfOk result (AreRowsBelow names.now) }
 {
     let mut rows = Rows::new(alloc, names.len())?;
-    let mut place = 0;
-    for name in names {
-        put_below_parent(alloc, names, &mut rows, place, name)?;
-        place += 1;
+    let mut parents = Vec::with_capacity(alloc, names.len())?;
+    parents.push(0)?;
+    for place in 1..names.len() {
+        let parent = parent_of(names, parents.as_slice(), place);
+        rows.put(parent, place)?;
+        parents.push(parent)?;
     }
     Ok(rows)
 }
 
-/// Puts the place of a name into the row of the name one label above, if there is one.
-fn put_below_parent(
-    alloc: Global,
-    names: &[Name],
-    rows: &mut Rows,
-    place: usize,
-    name: &Name,
-) -> Result<(), NoMemory>
+/// The place of the name one label above the one at this place, which is found along the names above the name before
+/// it, by the places of the names one label above those before.
+fn parent_of(names: &[Name], parents: &[usize], place: usize) -> usize
     requires order { AreInOrder names.now }
     requires closed { HavePrefixes names.now }
+    requires below_root { 0 < place }
     requires within { place < length names.now }
-    requires is { name_at names.now place ≡ name.now }
-    requires len { length rows.old ≡ length names.now }
-    ensures len { length rows.new ≡ length names.now }
-    ensures ok { OnOk result ((above other : ℕ) → RowHas rows.new above other ↔ (RowHas rows.old above other ⊎ ((other ≡ place) × IsNextBelow names.now above other))) }
-    ensures short { IfOk result (λ _. wire_octets name.now ≤ 255) }
+    requires len { length parents.now ≡ place }
+    requires parents { AreParents names.now parents.now }
+    ensures before { result < place }
+    ensures is { IsNextBelow names.now result place }
 {
-    let Some(above) = parent_of(alloc, name)? else {
-        return Ok(());
-    };
-    let Some(parent) = place_in(names, &above) else {
-        return Ok(());
-    };
-    rows.put(parent, place)?;
-    Ok(())
-}
-
-/// The name one label above, or `None` for the root.
-fn parent_of(alloc: Global, name: &Name) -> Result<Option<Name>, NoMemory>
-    ensures parent { IfOk result (λ found. MatchOption found (name.now ≡ []) (λ above. (label : List ℕ) × (name.now ≡ above ++ label ∷ []))) }
-    ensures short { IfOk result (λ _. wire_octets name.now ≤ 255) }
-{
-    if name.octets() == 1 {
-        return Ok(None);
+    let count = names[place].len();
+    let mut above = place - 1;
+    while names[above].len() >= count {
+        above = parents[above];
     }
-    let count = name.len() as usize;
-    Ok(Some(front_of(alloc, name, count - 1)?))
+    above
 }

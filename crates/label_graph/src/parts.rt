@@ -1,12 +1,11 @@
-//! Fronts of names, and their last labels.
+//! Fronts of names.
 
 ghost use Rattle.std.specs.Prelude.{◌≡◌, ◌↔◌, ◌⊎◌, ◌<◌, ℕ, take, Contains, IfOk, OnOk};
 ghost use Rattle.dns_data.specs.Name.{Labels};
-ghost use Rattle.label_graph.specs.LastLabel.{IsLastLabel};
 ghost use Rattle.label_graph.specs.LiveSet.{HavePrefixes};
 ghost use Rattle.label_graph.specs.Targets.{IsPrefixFrom};
 
-use dns_data::{Label, Name, NoMemory};
+use dns_data::{Name, NoMemory};
 use std::alloc::Global;
 
 /// The name with the first so many labels of this one, or all where there are fewer.
@@ -16,24 +15,6 @@ pub(crate) fn front_of(alloc: Global, name: &Name, count: usize) -> Result<Name,
     match Name::root().join_labels(alloc, &name.front(count)) {
         Ok(front) => Ok(front),
         Err(_) => Err(NoMemory),
-    }
-}
-
-/// The last label of a name, or `None` for the root.
-pub(crate) fn last_label(alloc: Global, name: &Name) -> Result<Option<Label>, NoMemory>
-    ensures { IfOk result (IsLastLabel name.now) }
-{
-    let mut rest = name.labels();
-    let mut last = None;
-    while let Some(label) = rest.next() {
-        last = Some(label);
-    }
-    match last {
-        Some(octets) => match Label::from_octets(alloc, octets) {
-            Ok(label) => Ok(Some(label)),
-            Err(_) => Err(NoMemory),
-        },
-        None => Ok(None),
     }
 }
 

@@ -8,7 +8,6 @@ ghost use Rattle.label_graph.specs.Saturation.{IsTrueLink, IsNextLink, IsFollowe
 
 use crate::links::{Link, Links};
 use crate::names::NameTree;
-use crate::parts::last_label;
 use crate::rows::Rows;
 use crate::targets::TargetTable;
 use dns_data::NoMemory;
@@ -70,7 +69,7 @@ fn next_links(alloc: Global, table: &TargetTable, one: Link) -> Result<Vec<Link>
 {
     let mut links = Vec::new(alloc);
     for front in table.fronts.below(one.front) {
-        put_next(alloc, table, one, *front, &mut links)?;
+        put_next(table, one, *front, &mut links)?;
     }
     Ok(links)
 }
@@ -78,7 +77,6 @@ fn next_links(alloc: Global, table: &TargetTable, one: Link) -> Result<Vec<Link>
 /// Puts the link that goes on from this one to the front, which is one label below its front, at the end, if there is
 /// one.
 fn put_next(
-    alloc: Global,
     table: &TargetTable,
     one: Link,
     front: usize,
@@ -89,10 +87,8 @@ fn put_next(
     ensures { OnOk result ((other : LinkValue) → Contains links.new.items other
         ↔ (Contains links.old.items other ⊎ ((other.front ≡ front) × IsNextLink table.now one other))) }
 {
-    let Some(label) = last_label(alloc, &table.fronts.items()[front])? else {
-        return Ok(());
-    };
-    let Some(base) = table.base.child(alloc, one.base, &label)? else {
+    let label = table.fronts.last_label(one.front, front);
+    let Some(base) = table.base.child(one.base, label) else {
         return Ok(());
     };
     links.push(Link { front, base })?;

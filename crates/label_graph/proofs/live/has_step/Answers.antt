@@ -10,7 +10,7 @@ loop-place-preserved c some =
     (get_or c.args.places.now c.loop-place.place-index 0) c.loop-place-test.true
     (get_or_default c.args.places.now c.loop-place.place-index 0 _ c.loop-place-test.true) some) [
       | inl old ↦ c.loop-place.invariant old
-      | inr new ↦ true≢false (sym (c.in_ok-has_child.ensures.1 new) ∙ c.if-branch.false)
+      | inr new ↦ true≢false (sym (c.has_child.ensures.1 new) ∙ c.if-has_child.false)
     ]
 
 pub returns : goal.returns

@@ -1,15 +1,9 @@
-use Rattle.std.proofs.Common.{get_or}
-use Rattle.std.proofs.lemmas.List.{get_or_default}
+use Rattle.std.proofs.Common.{Contains, arith}
 use Rattle.label_graph.specs.Graphs.{IsStep}
-use Rattle.label_graph.proofs.Passing.{more_some, all_iff}
+use Rattle.label_graph.proofs.Passing.{one_iff}
 use Rattle.label_graph.proofs.live.step.Goals as goal
 
-pub loop-place-preserved : goal.loop-place-preserved
-loop-place-preserved c other =
-    more_some (IsStep c.args.base.now c.args.label.now other) c.args.places.now c.loop-place.place-index
-    (get_or c.args.places.now c.loop-place.place-index 0) c.loop-place-test.true
-    (get_or_default c.args.places.now c.loop-place.place-index 0 _ c.loop-place-test.true) _ _ (c.loop-place.invariant other) (c.in_ok-put_step.ensures other)
-
-pub returns : goal.returns
-returns c other =
-    all_iff (IsStep c.args.base.now c.args.label.now other) c.args.places.now c.loop-place.place-index c.loop-place-test.false _ (c.loop-place.invariant other)
+pub returns-in-len1 : goal.returns-in-len1
+returns-in-len1 c other =
+    one_iff (IsStep c.args.base.now c.args.label.now other) c.args.places.now (omega (arith, c.in-len1.len_at_least, c.in-len1.len_below))
+    (Contains c.step_of_one.result other) (c.step_of_one.ensures other)

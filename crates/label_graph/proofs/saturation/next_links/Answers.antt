@@ -10,7 +10,7 @@ use Rattle.label_graph.proofs.saturation.next_links.Goals as goal
 pub put_next-requires-clause-below : goal.put_next-requires-clause-below
 put_next-requires-clause-below c =
     subst (λ (t : Targets). IsNextBelow t.fronts c.args.one.front (get_or c.below-front-items.result.now c.loop-front.front-index 0)) c.table.view_is
-    ((c.below-front-items.ensures (get_or c.below-front-items.result.now c.loop-front.front-index 0)).0
+    ((c.below-front-items.ensures.below (get_or c.below-front-items.result.now c.loop-front.front-index 0)).0
     (Contains-get_or c.below-front-items.result.now c.loop-front.front-index 0 c.loop-front-test.true))
 
 pub loop-front-preserved : goal.loop-front-preserved
@@ -35,7 +35,7 @@ returns c other = (
       (all_some (λ (front : ℕ). (other.front ≡ front) × IsNextLink c.args.table.now c.args.one other) c.below-front-items.result.now c.loop-front.front-index
       c.loop-front-test.false (
         other.front,
-        (c.below-front-items.ensures other.front).1 (subst (λ (t : Targets). IsNextBelow t.fronts c.args.one.front other.front) (sym c.table.view_is) (record {
+        (c.below-front-items.ensures.below other.front).1 (subst (λ (t : Targets). IsNextBelow t.fronts c.args.one.front other.front) (sym c.table.view_is) (record {
           within = c.requires.front;
           inside = next.front;
           label = next.label;

@@ -9,7 +9,7 @@ use Rattle.label_graph.specs.LiveSet.{AreInOrder, name_at}
 use Rattle.label_graph.specs.NameTree.{IsNextBelow}
 use Rattle.label_graph.specs.Saturation.{IsNextLink}
 use Rattle.label_graph.specs.Targets.{Targets}
-use Rattle.label_graph.proofs.NamePlaces.{one_place, root_below_none, read_at}
+use Rattle.label_graph.proofs.NamePlaces.{one_place}
 use Rattle.label_graph.proofs.Saturating.{same_last}
 use Rattle.label_graph.proofs.TargetLinks.{among_place}
 use Rattle.label_graph.proofs.saturation.put_next.Goals as goal
@@ -21,11 +21,6 @@ module _ (targets : Targets) (one : Link) (front : ℕ) (links : List Link) wher
   -- nothing is put where no link goes on to the front
   none_put : ((other : Link) → other.front ≡ front → IsNextLink targets one other → ⊥) → (other : Link) → IsPut links other
   none_put none other = (λ has. inl has, λ either. elim either [ inl has ↦ has | inr (same, next) ↦ absurd (none other same next) ])
-
-  -- the root is no front below another
-  none_at_root : IsNextBelow targets.fronts one.front front → name_at targets.fronts front ≡ []
-      → (other : Link) → other.front ≡ front → IsNextLink targets one other → ⊥
-  none_at_root below root other same next = root_below_none (name_at targets.fronts one.front) below.label (sym below.is ∙ root)
 
   module _ (label : List ℕ) (above : Labels) (is : name_at targets.fronts front ≡ above ++ label ∷ []) where
     last : (other : Link) → other.front ≡ front → (next : IsNextLink targets one other) → next.label ≡ label
@@ -73,26 +68,25 @@ module _ (targets : Targets) (one : Link) (front : ℕ) (links : List Link) wher
           (subst (λ (k : ℕ). Contains (link front base ∷ []) (link other.front k)) bases
           (subst (λ (k : ℕ). Contains (link front base ∷ []) (link k base)) (sym same) (has_first (link front base) [])))
 
-pub returns-in_default-2 : goal.returns-in_default-2
-returns-in_default-2 c =
+pub returns-in_default : goal.returns-in_default
+returns-in_default c =
     let fronts = ap (λ (t : Targets). t.fronts) c.table.view_is in
     let names = ap (λ (t : Targets). t.names) c.table.view_is in
-    let (above, is) = rw c.in-Some.is at c.in_ok-label.ensures in
-    let none = rw c.in_default-2.is at c.in_ok-base.ensures in
+    let label = c.last_label-label.result.now in
     none_put c.args.table.now c.args.one c.args.front c.args.links.now.items
-    (none_next c.args.table.now c.args.one c.args.front c.args.links.now.items c.in-Some.label above
-    (read_at c.items.result.now c.args.table.now.fronts c.args.front c.index-items-front.result (c.items.ensures.same ∙ fronts) c.index-items-front.is c.requires.below.inside ∙ is)
-    (subst (λ (n : List Labels). Contains n (name_at n c.args.one.base ++ c.in-Some.label ∷ []) → ⊥) names none))
+    (none_next c.args.table.now c.args.one c.args.front c.args.links.now.items label (name_at c.args.table.now.fronts c.args.one.front)
+    (subst (λ (n : List Labels). name_at n c.args.front ≡ name_at n c.args.one.front ++ label ∷ []) fronts c.last_label-label.ensures.is)
+    (subst (λ (n : List Labels). Contains n (name_at n c.args.one.base ++ label ∷ []) → ⊥) names c.in_default.ensures))
 
 pub returns : goal.returns
 returns c other =
     let fronts = ap (λ (t : Targets). t.fronts) c.table.view_is in
     let names = ap (λ (t : Targets). t.names) c.table.view_is in
-    let (above, is) = rw c.in-Some.is at c.in_ok-label.ensures in
-    let child = rw c.in-Some-2.is at c.in_ok-base.ensures in
+    let label = c.last_label-label.result.now in
+    let child = c.in-Some.ensures in
     rw c.in_ok-push.ensures.items
-    (one_put c.args.table.now c.args.one c.args.front c.args.links.now.items c.in-Some.label above
-    (read_at c.items.result.now c.args.table.now.fronts c.args.front c.index-items-front.result (c.items.ensures.same ∙ fronts) c.index-items-front.is c.requires.below.inside ∙ is)
-    (subst AreInOrder names c.table.invariant.order) c.requires.below c.in-Some-2.base
-    (subst (λ (n : List Labels). c.in-Some-2.base < length n) names child.0)
-    (subst (λ (n : List Labels). name_at n c.in-Some-2.base ≡ name_at n c.args.one.base ++ c.in-Some.label ∷ []) names child.1) other)
+    (one_put c.args.table.now c.args.one c.args.front c.args.links.now.items label (name_at c.args.table.now.fronts c.args.one.front)
+    (subst (λ (n : List Labels). name_at n c.args.front ≡ name_at n c.args.one.front ++ label ∷ []) fronts c.last_label-label.ensures.is)
+    (subst AreInOrder names c.table.invariant.order) c.requires.below c.in-Some.base
+    (subst (λ (n : List Labels). c.in-Some.base < length n) names child.0)
+    (subst (λ (n : List Labels). name_at n c.in-Some.base ≡ name_at n c.args.one.base ++ label ∷ []) names child.1) other)

@@ -18,19 +18,19 @@ steps_within names label live places steps =
 pub close-requires-clause-within : goal.close-requires-clause-within
 close-requires-clause-within c =
     let names = ap (λ (i : Inside). i.table.names) c.self-inside.view_is in
-    subst (All (λ (place : ℕ). place < length c.self.inside.table.names)) (sym c.as_slice.ensures.value)
-    (subst (λ (n : List Labels). All (λ (place : ℕ). place < length n) c.in_ok-places.places.items) names
-    (steps_within _ c.args.label.now c.places.result.now c.in_ok-places.places.items c.in_ok-places.ensures))
+    subst (λ (n : List Labels). All (λ (place : ℕ). place < length n) c.in_ok-places.places) names
+    (steps_within _ c.items.result.now c.places.result.now c.in_ok-places.places c.in_ok-places.ensures)
 
 pub returns : goal.returns
 returns c name of =
-    let places : List ℕ = c.in_ok-places.places.items in
-    let steps : (other : ℕ) → Contains places other ↔ SomeItem (IsStep c.self.inside.table.names c.args.label.now other) c.args.live.now =
-    λ other. subst (λ (l : List ℕ). Contains places other ↔ SomeItem (IsStep c.self.inside.table.names c.args.label.now other) l) c.places.ensures
-    (subst (λ (i : Inside). Contains places other ↔ SomeItem (IsStep i.table.names c.args.label.now other) c.places.result.now) c.self-inside.view_is (c.in_ok-places.ensures other)) in
+    let places : List ℕ = c.in_ok-places.places in
+    let label : List ℕ = c.args.label.now in
+    let steps : (other : ℕ) → Contains places other ↔ SomeItem (IsStep c.self.inside.table.names label other) c.args.live.now =
+    λ other. subst (λ (x : List ℕ). Contains places other ↔ SomeItem (IsStep c.self.inside.table.names x other) c.args.live.now) c.items.ensures.same
+    (subst (λ (l : List ℕ). Contains places other ↔ SomeItem (IsStep c.self.inside.table.names c.items.result.now other) l) c.places.ensures
+    (subst (λ (i : Inside). Contains places other ↔ SomeItem (IsStep i.table.names c.items.result.now other) c.places.result.now) c.self-inside.view_is (c.in_ok-places.ensures other))) in
     let are : (other : ℕ) → Contains c.in_ok-next.next other ↔ SomeItem (IsFrom c.self.inside.table c.self.inside.reads other) places =
-    λ other. subst (λ (l : List ℕ). Contains c.in_ok-next.next other ↔ SomeItem (IsFrom c.self.inside.table c.self.inside.reads other) l) c.as_slice.ensures.value
-    (subst (λ (i : Inside). Contains c.in_ok-next.next other ↔ SomeItem (IsFrom c.self.inside.table i.reads other) c.as_slice.result.now) c.self-inside.view_is (c.in_ok-next.ensures other)) in
-    subst (λ (g : Ground). IsLiveSet g (name ++ c.args.label.now ∷ []) c.in_ok-next.next) c.self.view_is
-    (step_set c.self.inside.table c.self.inside.reads c.self.invariant name c.args.label.now c.args.live.now places c.in_ok-next.next
+    λ other. subst (λ (i : Inside). Contains c.in_ok-next.next other ↔ SomeItem (IsFrom c.self.inside.table i.reads other) places) c.self-inside.view_is (c.in_ok-next.ensures other) in
+    subst (λ (g : Ground). IsLiveSet g (name ++ label ∷ []) c.in_ok-next.next) c.self.view_is
+    (step_set c.self.inside.table c.self.inside.reads c.self.invariant name label c.args.live.now places c.in_ok-next.next
     (subst (λ (g : Ground). IsLiveSet g name c.args.live.now) (sym c.self.view_is) of) steps are)

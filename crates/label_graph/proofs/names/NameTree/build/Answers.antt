@@ -37,8 +37,7 @@ invariant_of-result c =
     record {
       order = order _ _ c.in_ok-names.ensures;
       closed = closed _ _ c.in_ok-names.ensures c.requires;
-      short = rw (← c.as_slice.ensures.value) c.in_ok-below.ensures.short;
-      rows_below = rw (← c.as_slice.ensures.value) c.in_ok-below.ensures.rows;
+      rows_below = rw (← c.as_slice.ensures.value) c.in_ok-below.ensures;
     }
 
 pub returns : goal.returns

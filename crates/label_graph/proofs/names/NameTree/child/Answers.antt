@@ -1,19 +1,40 @@
-use Rattle.std.proofs.Common.{◌≡◌, ◌∙◌, [], ◌∷◌, ◌++◌, length, eqb-true, sym, ap, arith}
+use Rattle.std.proofs.Common.{◌≡◌, ◌∙◌, ℕ, List, get_or, Option, Some, None, AllPairs, Less, sym, ap, subst}
+use Rattle.std.specs.Prelude.{MatchOption}
+use Rattle.dns_data.specs.Label.{label_cmp}
 use Rattle.dns_data.specs.Name.{Labels}
-use Rattle.label_graph.specs.LiveSet.{name_at}
+use Rattle.label_graph.specs.LiveSet.{AreInOrder}
+use Rattle.label_graph.specs.NameTree.{octets_from}
+use Rattle.label_graph.proofs.Children.{last_of, lasts_rise, child_found, none_found, read_last}
 use Rattle.label_graph.proofs.NamePlaces.{read_at}
-use Rattle.label_graph.proofs.TargetLinks.{place_among}
 use Rattle.label_graph.proofs.names.NameTree.child.Goals as goal
 
-pub returns-then-is_empty : goal.returns-then-is_empty
-returns-then-is_empty c has =
-    let (k, inside, at) = place_among c.args.self.now (name_at c.args.self.now c.args.place ++ c.args.label.now ∷ []) has in
-    let (j, below, is) = (c.below.ensures k).1 (record { within = c.requires; inside = inside; label = c.args.label.now; is = at }) in
-    let none : length c.below.result.now ≡ 0 = eqb-true (length c.below.result.now) 0 (sym c.if-is_empty.ensures) in
-    omega (arith, none, below)
+-- what follows from what is said of an answer
+matched : {A B : Type 0} {P Q : ℕ → Type 0} (o : Option ℕ) → (A → B) → ((x : ℕ) → P x → Q x) → MatchOption o A P → MatchOption o B Q
+matched None none some h = none h
+matched (Some x) none some h = some x h
 
-pub place_below-requires-clause-below : goal.place_below-requires-clause-below
-place_below-requires-clause-below c =
-    let at : name_at c.args.self.now c.args.place ≡ c.index.result.now =
-    read_at c.self.inside.names.items c.args.self.now c.args.place c.index.result.now c.self.view_is c.index.ensures c.requires in
-    (c.args.label.now, c.in-Ok.ensures.ok ∙ ap (λ (n : Labels). n ++ c.args.label.now ∷ []) (c.in_ok-name.ensures ∙ sym at))
+-- labels read elsewhere are in order too
+read_rise : (items names : List Labels) (place from : ℕ) (row : List ℕ) → ((other : ℕ) → octets_from items from other ≡ last_of names place other)
+    → AllPairs (λ a b. label_cmp (last_of names place a) (last_of names place b) ≡ Less) row
+    → AllPairs (λ a b. label_cmp (octets_from items from a) (octets_from items from b) ≡ Less) row
+read_rise items names place from row read rise i j d before within =
+    ap (λ (l : List ℕ). label_cmp l (octets_from items from (get_or row j d))) (read (get_or row i d))
+    ∙ ap (label_cmp (last_of names place (get_or row i d))) (read (get_or row j d)) ∙ rise i j d before within
+
+pub place_with-requires : goal.place_with-requires
+place_with-requires c =
+    let names = c.args.self.now in
+    let at = read_at c.self.inside.names.items names c.args.place c.index.result.now c.self.view_is c.index.ensures c.requires in
+    read_rise c.as_slice.result.now names c.args.place c.behind-from.result c.below.result.now
+    (λ other. read_last c.as_slice.result.now names c.args.place c.behind-from.result other c.index.result.now (c.as_slice.ensures.value ∙ c.self.view_is) at c.behind-from.ensures)
+    (lasts_rise names c.args.place c.below.result.now c.below.ensures.below (subst AreInOrder c.self.view_is c.self.invariant.order) c.below.ensures.rising)
+
+pub returns : goal.returns
+returns c =
+    let names = c.args.self.now in
+    let at = read_at c.self.inside.names.items names c.args.place c.index.result.now c.self.view_is c.index.ensures c.requires in
+    let read = λ (other : ℕ). read_last c.as_slice.result.now names c.args.place c.behind-from.result other c.index.result.now (c.as_slice.ensures.value ∙ c.self.view_is) at c.behind-from.ensures in
+    matched c.place_with.result
+    (λ none. none_found names c.args.place c.below.result.now c.below.ensures.below c.args.label.now c.requires (λ other has same. none other has (read other ∙ same)))
+    (λ other found. child_found names c.args.place c.below.result.now c.below.ensures.below c.args.label.now other found.0 (sym (read other) ∙ found.1))
+    c.place_with.ensures

@@ -1,0 +1,17 @@
+use Rattle.std.proofs.Common.{ℕ, List, Contains, get_or, sym, subst}
+use Rattle.std.specs.Prelude.{◌↔◌}
+use Rattle.std.proofs.lemmas.List.{get_or_default}
+use Rattle.label_graph.specs.Graphs.{SomeItem, IsStep}
+use Rattle.label_graph.proofs.Passing.{more_some, all_iff}
+use Rattle.label_graph.proofs.live.steps.Goals as goal
+
+pub loop-place-preserved : goal.loop-place-preserved
+loop-place-preserved c other =
+    more_some (IsStep c.args.base.now c.args.label.now other) c.args.places.now c.loop-place.place-index
+    (get_or c.args.places.now c.loop-place.place-index 0) c.loop-place-test.true
+    (get_or_default c.args.places.now c.loop-place.place-index 0 _ c.loop-place-test.true) _ _ (c.loop-place.invariant other) (c.in_ok-put_step.ensures other)
+
+pub returns : goal.returns
+returns c other =
+    subst (λ (next : List ℕ). Contains next other ↔ SomeItem (IsStep c.args.base.now c.args.label.now other) c.args.places.now) (sym c.listed.ensures)
+    (all_iff (IsStep c.args.base.now c.args.label.now other) c.args.places.now c.loop-place.place-index c.loop-place-test.false _ (c.loop-place.invariant other))
