@@ -1,9 +1,7 @@
 -- For the code alone, no public clause cites it: what a live set keeps.
-use Rattle.std.specs.Prelude.{ℕ, List, [], ◌∷◌}
-use Rattle.label_graph.specs.declared.live.Places.{Places}
-use Rattle.label_graph.specs.declared.live.Places.TheVariants.{One, Listed}
+use Rattle.std.specs.Prelude.{ℕ, List, [], ◌∷◌, Option, Some, None}
 
--- the places that are kept
-abbrev pub places_in : Places → List ℕ
-places_in (One place) = place ∷ []
-places_in (Listed places) = places.items
+-- the one place that stands in the value, or those in the list
+abbrev pub places_in : Option ℕ → List ℕ → List ℕ
+places_in (Some place) listed = place ∷ []
+places_in None listed = listed

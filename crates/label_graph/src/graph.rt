@@ -53,7 +53,7 @@ impl LabelGraph {
         ensures { IfOk result (IsLiveSet self.now []) }
     {
         let root = self.table.base.root();
-        let live = close(alloc, &self.table, &self.reads, LiveSet::one(root))?;
+        let live = close(alloc, &self.table, &self.reads, LiveSet::one(alloc, root))?;
         Ok(live)
     }
 

@@ -13,7 +13,6 @@
 #![tactic(auto)]
 
 mod base;
-mod compare;
 mod graph;
 pub mod laws;
 mod links;

@@ -14,17 +14,12 @@ use std::alloc::Global;
 use std::marker::Model;
 use std::slice::from_ref;
 
-/// Where the places of a live set are kept: one in the value, none or several in a vector.
-#[derive(Debug, Drop)]
-enum Places {
-    One(usize),
-    Listed(Vec<usize>),
-}
-
-/// Some base names of a graph, each once. Contracts see their places in the graph. One takes no memory of its own.
+/// Some base names of a graph, each once. Contracts see their places in the graph. One takes no memory of its own: it
+/// stands in the value, and the list is empty then.
 #[derive(Debug, Drop)]
 pub struct LiveSet {
-    places: Places,
+    one: Option<usize>,
+    listed: Vec<usize>,
 }
 
 impl Model for LiveSet {
@@ -33,7 +28,7 @@ impl Model for LiveSet {
 
     ghost Value = { List ℕ };
 
-    ghost view = { λ live. places_in live.places };
+    ghost view = { λ live. places_in live.one live.listed.items };
 }
 
 impl LiveSet {
@@ -48,18 +43,19 @@ impl LiveSet {
     pub(crate) fn places(&self) -> &[usize]
         ensures { result.now ≡ self.now }
     {
-        match &self.places {
-            Places::One(place) => from_ref(place),
-            Places::Listed(places) => places.as_slice(),
+        match &self.one {
+            Some(place) => from_ref(place),
+            None => self.listed.as_slice(),
         }
     }
 
-    /// One place.
-    pub(crate) fn one(place: usize) -> LiveSet
+    /// One place. It takes no memory.
+    pub(crate) fn one(alloc: Global, place: usize) -> LiveSet
         ensures { result ≡ place ∷ [] }
     {
         LiveSet {
-            places: Places::One(place),
+            one: Some(place),
+            listed: Vec::new(alloc),
         }
     }
 
@@ -68,7 +64,8 @@ impl LiveSet {
         ensures { result ≡ places.items }
     {
         LiveSet {
-            places: Places::Listed(places),
+            one: None,
+            listed: places,
         }
     }
 }
@@ -163,7 +160,7 @@ fn step_of_one(alloc: Global, base: &NameTree, place: usize, label: &[u8]) -> Li
 {
     let _ = base.items();
     match base.child(place, label) {
-        Some(below) => LiveSet::one(below),
+        Some(below) => LiveSet::one(alloc, below),
         None => LiveSet::listed(Vec::new(alloc)),
     }
 }

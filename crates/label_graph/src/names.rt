@@ -8,7 +8,6 @@ ghost use Rattle.dns_data.specs.Name.{Labels};
 ghost use Rattle.label_graph.specs.LiveSet.{AreInOrder, HavePrefixes, name_at};
 ghost use Rattle.label_graph.specs.NameTree.{IsNextBelow, AreParents, AreRowsBelow, octets_from};
 
-use crate::compare::compare_octets;
 use crate::rows::Rows;
 use crate::sorting::in_order;
 use dns_data::{Name, NoMemory};
@@ -143,7 +142,7 @@ fn place_with(names: &[Name], row: &[usize], from: usize, octets: &[u8]) -> Opti
     let found = row.binary_search_by(
         |place: &usize| -> Ordering
             ensures { result ≡ label_cmp (octets_from names.entry.now from place.now) octets.entry.now }
-        { compare_octets(octets_at(names, *place, from), octets) },
+        { octets_at(names, *place, from).cmp(octets) },
     );
     match found {
         Ok(at) => Some(row[at]),
