@@ -8,3 +8,5 @@ pub mod StraightSearch
 pub mod StraightWalks
 pub mod ToldAlike
 pub mod Unhosted
+pub mod BelowOrigins
+pub mod OtherNames

@@ -1,4 +1,5 @@
 pub use Rattle.net_model.specs.Shown
 pub use Rattle.net_model.specs.Tree
 pub mod Leads
+pub mod Regions
 pub mod Straight
