@@ -1,5 +1,5 @@
 -- What the classes of a configuration are judged with: for the contracts of inner calls alone.
-use Rattle.std.specs.Prelude.{◌≡◌, ℕ, true, List, Contains, MatchOption}
+use Rattle.std.specs.Prelude.{◌≡◌, ℕ, true, List, Contains, Option, Some, IfSome, MatchOption}
 use Rattle.class_judge.specs.Verdict.{PassesStates, SomeServerPasses}
 use Rattle.class_judge.specs.declared.setup.Setup.{Setup}
 use Rattle.dns_data.specs.Name.{Labels, IsName}
@@ -14,6 +14,7 @@ use Rattle.net_model.specs.Nearest.{is_configured, server_names}
 use Rattle.net_model.specs.Reading.{ground_of}
 use Rattle.net_model.specs.Step.{may_follow}
 use Rattle.net_model.specs.declared.place.Cut.{Cut}
+use Rattle.straight_walks.specs.MadeOf.{MadeOf}
 
 -- the lists are the two sets, and no server's name reaches too many pairs
 pub record AreSets (config : Config) (rewrites states : ℕ) (deps : Deps) : Type 0 where
@@ -30,12 +31,17 @@ SomeNamePasses config rewrites states =
 abbrev pub FollowsAll : Config → List Labels → Type 0
 FollowsAll config followed = (cut : Cut) → is_configured config cut.ns ≡ true → may_follow config cut followed ≡ true
 
--- the graph is that of the configuration of the trees, with its names in order, and the sets are its sets; where it is told
--- that all servers are followed, the least set follows them
+-- the regions are of the configuration and of these sets
+abbrev pub AreRegionsOf : Config → Option Deps → Option MadeOf → Type 0
+AreRegionsOf config sets regions = IfSome regions (λ made. (made.config ≡ config) × (sets ≡ Some made.deps))
+
+-- the graph is that of the configuration of the trees, with its names in order, the sets are its sets, and the regions are of
+-- both; where it is told that all servers are followed, the least set follows them
 pub record IsSetup (setup : Setup) : Type 0 where
   pub graph : AreSame setup.graph (ground_of setup.trees)
   pub order : AreInOrder setup.graph.names
   pub sets : MatchOption setup.sets (SomeNamePasses setup.trees setup.rewrites setup.states) (AreSets setup.trees setup.rewrites setup.states)
+  pub regions : AreRegionsOf setup.trees setup.sets setup.regions
   pub all_followed : setup.all_followed ≡ true → (least : List Labels) → IsLeast setup.trees setup.rewrites least → FollowsAll setup.trees least
 
 -- it is that of the configuration, with these limits

@@ -101,8 +101,15 @@ fn shows_nothing(setup: &Setup<'_>, query: &Name) -> Result<bool, NoMemory>
     requires setup { IsSetup setup.now }
     ensures { IfOk result (λ nothing. nothing ≡ true → IsClassVerdict setup.now.trees setup.now.rewrites setup.now.states query.now (Faults [])) }
 {
-    match &setup.sets {
-        Some(sets) => goes_straight(setup.alloc, setup.trees.hosts(), sets, query, setup.states),
-        None => Ok(false),
+    match (&setup.sets, &setup.regions) {
+        (Some(sets), Some(regions)) => goes_straight(
+            setup.alloc,
+            setup.trees.hosts(),
+            sets,
+            regions,
+            query,
+            setup.states,
+        ),
+        _ => Ok(false),
     }
 }

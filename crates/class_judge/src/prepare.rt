@@ -2,7 +2,7 @@
 
 ghost use Rattle.std.specs.Prelude.{◌≡◌, true, Some, IfOk, OnOk, IsErrOf, MatchOption};
 ghost use Rattle.address_deps.specs.Sets.{AreServerGraphs};
-ghost use Rattle.class_judge.specs.Setup.{AreSets, FollowsAll, IsSetup, SomeNamePasses};
+ghost use Rattle.class_judge.specs.Setup.{AreRegionsOf, AreSets, FollowsAll, IsSetup, SomeNamePasses};
 ghost use Rattle.class_judge.specs.Values.{AreValues};
 ghost use Rattle.class_judge.specs.Verdict.{PassesStates, SomeServerPasses};
 ghost use Rattle.graph_form.specs.declared.deps.Deps.{Deps};
@@ -24,11 +24,12 @@ use label_graph::{LabelGraph, base_of};
 use name_rules::SymName;
 use net_model::Config;
 use std::alloc::Global;
+use straight_walks::Regions;
 
 impl<'a, N: Naming> Judge<'a, N> {
     /// The judge of the class tree of a configuration, whose queries may use so many rewrites, and of each of which no more
-    /// pairs of state and type are looked at than so many. The trees of all zones and the graph of each server's name are made
-    /// here, once.
+    /// pairs of state and type are looked at than so many. The trees of all zones, the graph of each server's name and the
+    /// regions of names are made here, once.
     pub fn prepare(
         alloc: Global,
         config: &'a Config,
@@ -60,6 +61,7 @@ fn setup_of<'a>(
     let graph = name_graph(alloc, config)?;
     let trees = Trees::build(alloc, config)?;
     let sets = sets_of(alloc, &trees, rewrites, states)?;
+    let regions = regions_of(alloc, &trees, &sets)?;
     let all_followed = are_all_followed(alloc, config, &sets)?;
     Ok(Setup {
         alloc,
@@ -68,6 +70,7 @@ fn setup_of<'a>(
         rewrites,
         states,
         sets,
+        regions,
         all_followed,
     })
 }
@@ -99,6 +102,23 @@ fn sets_of(
         }
         Err(GraphFault::StatesPassed) => Ok(None),
         Err(GraphFault::NoMemory) => Err(NoMemory),
+    }
+}
+
+/// The regions of names of the servers with the two sets, or `None` where there are no sets.
+fn regions_of<'a>(
+    alloc: Global,
+    trees: &Trees<'a>,
+    sets: &Option<LearntSets>,
+) -> Result<Option<Regions<'a>>, NoMemory>
+    ensures { IfOk result (λ regions. AreRegionsOf trees.now sets.now regions) }
+{
+    match sets {
+        Some(sets) => {
+            let regions = Regions::build(alloc, trees.hosts(), sets)?;
+            Ok(Some(regions))
+        }
+        None => Ok(None),
     }
 }
 

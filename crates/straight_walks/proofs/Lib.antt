@@ -10,3 +10,7 @@ pub mod ToldAlike
 pub mod Unhosted
 pub mod BelowOrigins
 pub mod OtherNames
+pub mod RegionSearch
+pub mod LongestOrigins
+pub mod NearestRegions
+pub mod OriginSets

@@ -63,8 +63,13 @@ module _ (config : Config) (deps : Deps) (one other : Labels) (same : (server : 
   goes_for asked setting branch (inl (inr (cut, sound, ends))) = inl (inr (cut, sound, ap (branch_for other) ends))
   goes_for asked setting branch (inr (cut, to, sound, goes, has)) =
       let from = from_map (state_of config one) asked to has in
-      inr (cut, asking other to, sound, ap (branch_for other) goes,
-      subst (Contains (map (state_of config other) asked)) (state_for from.0.server.now from.0.cut ∙ ap (asking other) from.2) (map_has (state_of config other) asked from.0 from.1))
+      inr (
+        cut,
+        asking other to,
+        sound,
+        ap (branch_for other) goes,
+        subst (Contains (map (state_of config other) asked)) (state_for from.0.server.now from.0.cut ∙ ap (asking other) from.2) (map_has (state_of config other) asked from.0 from.1),
+      )
 
   -- a zone cut's branches
   pub refers_for : (server : Labels) (zone : Zone) (cut : Labels) (names : List Labels) (asked : List Asked)

@@ -14,9 +14,10 @@ use Rattle.net_model.specs.Step.{Setting, End, after_lookup, in_zone, next}
 use Rattle.net_model.specs.Zone.{ns_names, targets_at}
 use Rattle.net_model.specs.declared.config.Config.{Config}
 use Rattle.net_model.specs.declared.config.Zone.{Zone}
+use Rattle.net_model.specs.declared.walk.Leaf.TheVariants.{Outside}
 use Rattle.net_model.specs.declared.walk.State.{State}
 use Rattle.zone_tree.specs.Tree.{ZoneTree, IsNode, name_of}
-use Rattle.straight_walks.specs.Leads.{LeadsBy, data_told, leaf_by, leaf_with, state_at}
+use Rattle.straight_walks.specs.Leads.{LeadsBy, data_told, leaf_by, leaf_with, state_at, to_servers}
 use Rattle.straight_walks.specs.declared.server.Leads.TheVariants as leads
 use Rattle.straight_walks.proofs.Unhosted.{nearest_is_held}
 
@@ -45,8 +46,9 @@ module _ (config : Config) (query server : Labels) where
       ap (in_zone setting rtype (state_at config query server above)) (ap (λ (c : Config). nearest_of c server query) same ∙ sym is)
 
   -- a server without a zone for the name
-  pub no_zone : None ≡ nearest_of config server query → LeadsBy config query server leads.Silent
-  no_zone none = in_nearest None none
+  pub silent_ends : LeadsBy config query server leads.Silent → (setting : Setting) (rtype : RrType) (above : ℕ) → setting.config ≡ config
+      → next setting rtype (state_at config query server above) ≡ End None Outside ∷ []
+  silent_ends none = in_nearest None (sym none)
 
   module _ (tree : Bor ZoneTree) (is : Some tree.now.zone ≡ nearest_of config server query) (inside : is_prefix tree.now.zone.origin query ≡ true) where
     decided_by : (what : Deciding) → deciding tree.now.zone query ≡ what → (setting : Setting) (rtype : RrType) (above : ℕ) → setting.config ≡ config
@@ -60,7 +62,8 @@ module _ (config : Config) (query server : Labels) where
       node,
       cut_is_inside tree.now.zone query (name_of tree.now cut) inside decides,
       nearest_is_held config server query tree.now.zone (sym is),
-      decided_by (ByCut (name_of tree.now cut)) decides,
+      sym is,
+      decides,
     )
 
     pub records_decide : (owner : Labels) → deciding tree.now.zone query ≡ ByRecords owner → first_name (targets_at tree.now.zone owner types.Cname) ≡ None
@@ -81,3 +84,12 @@ module _ (config : Config) (query server : Labels) where
       λ setting rtype above same.
           decided_by ByNothing decides setting rtype above same ∙ sym (ap (λ (d : Deciding). End None (leaf_by tree.now.zone rtype d) ∷ []) decides),
     )
+
+-- the branches of a state at a server whose zone refers the name
+pub refers_to : (config : Config) (query server : Labels) (tree : Bor ZoneTree) (cut : ℕ) → LeadsBy config query server (leads.Refers tree cut)
+    → (setting : Setting) (rtype : RrType) (above : ℕ) → setting.config ≡ config
+    → next setting rtype (state_at config query server above)
+    ≡ to_servers tree.now.zone (name_of tree.now cut) (ns_names tree.now.zone (name_of tree.now cut)) setting (state_at config query server above)
+refers_to config query server tree cut so setting rtype above same =
+    in_nearest config query server (Some tree.now.zone) (sym so.3) setting rtype above same
+    ∙ ap (λ (d : Deciding). after_lookup setting (state_at config query server above) tree.now.zone.origin (answered tree.now.zone query rtype d)) so.4

@@ -19,11 +19,12 @@ use Rattle.net_model.specs.declared.config.Zone.{Zone}
 use Rattle.net_model.specs.declared.walk.Leaf.{Leaf}
 use Rattle.net_model.specs.declared.walk.State.{State}
 use Rattle.zone_tree.specs.Tree.{ZoneTree, name_of}
-use Rattle.straight_walks.specs.Leads.{AllInside, AllTell, Extends, IsSettingOf, LeadsBy, Passes, RefersOn, data_told, first_told, leaf_by, leaf_with, state_at, state_of, to_servers}
+use Rattle.straight_walks.specs.Leads.{AllInside, AllTell, Extends, IsSettingOf, LeadsBy, Passes, RefersOn, Searched, data_told, first_told, leaf_by, leaf_with, state_at, state_of, to_servers}
 use Rattle.straight_walks.specs.Straight.{EndsSilent, GoesStraight, GoesTo, StepsStraight, Tells}
 use Rattle.straight_walks.specs.declared.asked.Asked.{Asked}
 use Rattle.straight_walks.specs.declared.server.Leads.TheVariants as leads
 use Rattle.straight_walks.proofs.GoingOn.{goes_still, still_asked}
+use Rattle.straight_walks.proofs.ServerLeads.{refers_to, silent_ends}
 
 -- what a zone tells is told with authority
 data_tell : (found : List Rdata) → is_authoritative (leaf_with found) ≡ true
@@ -42,15 +43,19 @@ module _ (config : Config) (deps : Deps) (query : Labels) where
   Straight setting leaf asked branch =
       EndsSilent setting.config deps branch ⊎ (Tells leaf branch ⊎ GoesTo setting.config deps (map (state_of config query) asked) branch)
 
-  -- still where more servers are asked
-  goes_straight_still : (setting : Setting) (leaf : Leaf) (before after : List Asked) → Extends before after → (branch : Branch) → Straight setting leaf before branch
+  -- the states at these servers are among those at the others
+  abbrev pub AreAmong : List Asked → List Asked → Type 0
+  AreAmong before after = (state : State) → Contains (map (state_of config query) before) state → Contains (map (state_of config query) after) state
+
+  -- still where all of them are asked
+  goes_straight_still : (setting : Setting) (leaf : Leaf) (before after : List Asked) → AreAmong before after → (branch : Branch) → Straight setting leaf before branch
       → Straight setting leaf after branch
   goes_straight_still setting leaf before after more branch (inl ends) = inl ends
   goes_straight_still setting leaf before after more branch (inr (inl tells)) = inr (inl tells)
   goes_straight_still setting leaf before after more branch (inr (inr goes)) =
-      inr (inr (goes_still setting.config deps (map (state_of config query) before) (map (state_of config query) after) (still_asked (state_of config query) before after more) branch goes))
+      inr (inr (goes_still setting.config deps (map (state_of config query) before) (map (state_of config query) after) more branch goes))
 
-  steps_still : (setting : Setting) (leaf : RrType → Leaf) (before after : List Asked) → Extends before after → (state : State)
+  pub steps_still : (setting : Setting) (leaf : RrType → Leaf) (before after : List Asked) → AreAmong before after → (state : State)
       → StepsStraight setting deps leaf (map (state_of config query) before) state → StepsStraight setting deps leaf (map (state_of config query) after) state
   steps_still setting leaf before after more state so rtype =
       all_so (Straight setting (leaf rtype) before) (Straight setting (leaf rtype) after) (next setting rtype state) (goes_straight_still setting (leaf rtype) before after more) (so rtype)
@@ -66,7 +71,7 @@ module _ (config : Config) (deps : Deps) (query : Labels) where
           inside = λ each. each;
           tells = λ leaf each. each;
           steps = λ setting leaf above of each rtype.
-              subst (AllByRecursion (Straight setting (leaf rtype) asked)) (sym (so setting rtype above of.config_is)) (inl (inl refl), tt);
+              subst (AllByRecursion (Straight setting (leaf rtype) asked)) (sym (silent_ends config query server so setting rtype above of.config_is)) (inl (inl refl), tt);
         }
 
     -- whose zone tells something of it
@@ -102,7 +107,7 @@ module _ (config : Config) (deps : Deps) (query : Labels) where
           inside = λ each. each;
           tells = λ leaf each. each;
           steps = λ setting leaf above of each rtype.
-              subst (AllByRecursion (Straight setting (leaf rtype) after)) (sym (so.3 setting rtype above of.config_is))
+              subst (AllByRecursion (Straight setting (leaf rtype) after)) (sym (refers_to config query server tree cut so setting rtype above of.config_is))
               (all_so (λ branch. EndsSilent setting.config deps branch ⊎ GoesTo setting.config deps (map (state_of config query) after) branch)
               (Straight setting (leaf rtype) after)
               (to_servers tree.now.zone (name_of tree.now cut) (ns_names tree.now.zone (name_of tree.now cut)) setting (state_at config query server above))
@@ -116,35 +121,27 @@ module _ (config : Config) (deps : Deps) (query : Labels) where
 
   -- ---- those that are passed over
 
-  -- the search begins at the top servers, and walks go straight from the servers passed over
-  pub record Searched (asked : List Asked) (at : ℕ) (told : List (Bor ZoneTree)) : Type 0 where
-    pub within : at ≤ length asked
-    pub begins : (state : State) → Contains (start config query) state → Contains (map (state_of config query) asked) state
-    pub inside : AllInside query told
-    pub passed : (setting : Setting) (leaf : RrType → Leaf) → IsSettingOf config deps setting → AllTell query told leaf
-        → AllByRecursion (StepsStraight setting deps leaf (map (state_of config query) asked)) (map (state_of config query) (take at asked))
-
-  pub none_passed : (asked : List Asked) → map (state_of config query) asked ≡ start config query → Searched asked 0 []
+  pub none_passed : (asked : List Asked) → map (state_of config query) asked ≡ start config query → Searched config deps query asked 0 []
   none_passed asked is =
       record {
         within = omega arith;
         begins = λ state has. subst (λ (all : List State). Contains all state) (sym is) has;
         inside = λ tree has. absurd (none_in_nil tree has);
-        passed = λ setting leaf of each. tt;
+        passes = λ setting leaf of each. tt;
       }
 
   pub one_passed : (asked after : List Asked) (at : ℕ) (told told_after : List (Bor ZoneTree)) (item : Asked) → at < length asked → item ≡ get_or asked at item
-      → Searched asked at told → Passes config deps query item.server.now asked told after told_after → Searched after (at + 1) told_after
+      → Searched config deps query asked at told → Passes config deps query item.server.now asked told after told_after → Searched config deps query after (at + 1) told_after
   one_passed asked after at told told_after item within is so one =
       record {
         within = subst (λ (all : List Asked). at + 1 ≤ length all) (sym one.asks.1) (omega (arith, within, length-append asked one.asks.0));
         begins = λ state has. still_asked (state_of config query) asked after one.asks state (so.begins state has);
         inside = one.inside so.inside;
-        passed = λ setting leaf of each.
+        passes = λ setting leaf of each.
             subst (AllByRecursion (StepsStraight setting deps leaf (map (state_of config query) after))) (sym passed_over)
             (all_push (StepsStraight setting deps leaf (map (state_of config query) after)) (map (state_of config query) (take at asked)) (state_of config query item)
             (all_so (StepsStraight setting deps leaf (map (state_of config query) asked)) (StepsStraight setting deps leaf (map (state_of config query) after))
-            (map (state_of config query) (take at asked)) (steps_still setting leaf asked after one.asks) (so.passed setting leaf of (one.tells leaf each)))
+            (map (state_of config query) (take at asked)) (steps_still setting leaf asked after (still_asked (state_of config query) asked after one.asks)) (so.passes setting leaf of (one.tells leaf each)))
             (one.steps setting leaf item.cut of each));
       }
     where
@@ -155,7 +152,7 @@ module _ (config : Config) (deps : Deps) (query : Labels) where
           ∙ map-append (state_of config query) (take at asked) (item ∷ [])
 
   -- where all are
-  pub all_passed : (asked : List Asked) (at most : ℕ) (told : List (Bor ZoneTree)) → Searched asked at told → length asked ≤ at → length asked ≤ most
+  pub all_passed : (asked : List Asked) (at most : ℕ) (told : List (Bor ZoneTree)) → Searched config deps query asked at told → length asked ≤ at → length asked ≤ most
       → AllTell query told (first_told query told) → (setting : Setting) → IsSettingOf config deps setting → GoesStraight setting deps most query
   all_passed asked at most told so all few tell setting of =
       record {
@@ -169,6 +166,6 @@ module _ (config : Config) (deps : Deps) (query : Labels) where
         steps = λ state has.
             each_along (StepsStraight setting deps (first_told query told) (map (state_of config query) asked)) (map (state_of config query) asked)
             (subst (λ (passed : List Asked). AllByRecursion (StepsStraight setting deps (first_told query told) (map (state_of config query) asked)) (map (state_of config query) passed))
-            (take_all at asked all) (so.passed setting (first_told query told) of tell))
+            (take_all at asked all) (so.passes setting (first_told query told) of tell))
             state has;
       }

@@ -1,15 +1,15 @@
 -- Where walks lead from a server, as it is looked for: for the contracts of inner calls alone.
-use Rattle.std.specs.Prelude.{◌≡◌, ℕ, true, List, [], ◌∷◌, ◌++◌, map, length, Contains, Some, None, option_map, ◌⊎◌}
+use Rattle.std.specs.Prelude.{◌≡◌, ◌≤◌, ℕ, true, List, [], ◌∷◌, ◌++◌, map, take, length, Contains, Some, None, option_map, ◌⊎◌}
 use Rattle.std.specs.Borrow.{Bor}
 use Rattle.std.specs.List.{AllByRecursion}
 use Rattle.dns_data.specs.Name.{Labels, is_prefix}
 use Rattle.dns_data.specs.declared.rdata.Rdata.{Rdata}
 use Rattle.dns_data.specs.declared.rr_type.RrType.{RrType}
 use Rattle.graph_form.specs.declared.deps.Deps.{Deps}
-use Rattle.net_model.specs.Lookup.{Deciding, ByRecords, deciding}
+use Rattle.net_model.specs.Lookup.{Deciding, ByCut, ByRecords, deciding}
 use Rattle.net_model.specs.Nearest.{held_zone, nearest_of}
 use Rattle.net_model.specs.Order.{in_order}
-use Rattle.net_model.specs.Step.{Setting, Branch, Go, End, next, referred}
+use Rattle.net_model.specs.Step.{Setting, Branch, Go, End, next, referred, start}
 use Rattle.net_model.specs.Zone.{data_at, data_cmp, ns_names}
 use Rattle.net_model.specs.declared.config.Config.{Config}
 use Rattle.net_model.specs.declared.config.Zone.{Zone}
@@ -21,6 +21,7 @@ use Rattle.net_model.specs.declared.walk.State.{State}
 use Rattle.zone_tree.specs.Tree.{ZoneTree, IsNode, name_of}
 use Rattle.straight_walks.specs.Straight.{EndsSilent, FollowsLeast, GoesTo, IsSound, StepsStraight}
 use Rattle.straight_walks.specs.declared.asked.Asked.{Asked}
+use Rattle.straight_walks.specs.declared.begun.Begun.{Begun}
 use Rattle.straight_walks.specs.declared.name_server.Behind.{Behind}
 use Rattle.straight_walks.specs.declared.name_server.Behind.TheVariants as behind
 use Rattle.straight_walks.specs.declared.server.Leads.{Leads}
@@ -113,10 +114,9 @@ RefersOn config deps query server zone cut names asked =
 
 -- ---- servers
 
--- the branches of a state at the server, for the name
+-- where walks lead from the server, for the name
 abbrev pub LeadsBy : Config → Labels → Labels → Leads → Type 0
-LeadsBy config query server leads.Silent =
-    (setting : Setting) (rtype : RrType) (above : ℕ) → setting.config ≡ config → next setting rtype (state_at config query server above) ≡ End None Outside ∷ []
+LeadsBy config query server leads.Silent = nearest_of config server query ≡ None
 LeadsBy config query server (leads.Tells tree) =
     (is_prefix tree.now.zone.origin query ≡ true)
     × ((setting : Setting) (rtype : RrType) (above : ℕ) → setting.config ≡ config
@@ -125,9 +125,8 @@ LeadsBy config query server (leads.Refers tree cut) =
     IsNode tree.now cut
     × (is_prefix tree.now.zone.origin (name_of tree.now cut) ≡ true)
     × (held_zone config server tree.now.zone.origin ≡ Some tree.now.zone)
-    × ((setting : Setting) (rtype : RrType) (above : ℕ) → setting.config ≡ config
-    → next setting rtype (state_at config query server above)
-    ≡ to_servers tree.now.zone (name_of tree.now cut) (ns_names tree.now.zone (name_of tree.now cut)) setting (state_at config query server above))
+    × (nearest_of config server query ≡ Some tree.now.zone)
+    × (deciding tree.now.zone query ≡ ByCut (name_of tree.now cut))
 LeadsBy config query server leads.Unclear = Unit {0}
 
 -- from a server walks go straight: to an end, or on to servers that are asked then; a zone that tells something is put behind
@@ -138,3 +137,18 @@ pub record Passes (config : Config) (deps : Deps) (query server : Labels) (befor
   pub tells : (leaf : RrType → Leaf) → AllTell query told_after leaf → AllTell query told_before leaf
   pub steps : (setting : Setting) (leaf : RrType → Leaf) (above : ℕ) → IsSettingOf config deps setting → AllTell query told_after leaf
       → StepsStraight setting deps leaf (map (state_of config query) after) (state_at config query server above)
+
+-- ---- searches
+
+-- the search for the name begins at the top servers, walks go straight from the first so many servers that are asked, and
+-- these zones tell something of the name
+pub record Searched (config : Config) (deps : Deps) (query : Labels) (asked : List Asked) (passed : ℕ) (told : List (Bor ZoneTree)) : Type 0 where
+  pub within : passed ≤ length asked
+  pub begins : (state : State) → Contains (start config query) state → Contains (map (state_of config query) asked) state
+  pub inside : AllInside query told
+  pub passes : (setting : Setting) (leaf : RrType → Leaf) → IsSettingOf config deps setting → AllTell query told leaf
+      → AllByRecursion (StepsStraight setting deps leaf (map (state_of config query) asked)) (map (state_of config query) (take passed asked))
+
+-- the search for the name has begun so
+abbrev pub HasBegun : Config → Deps → Labels → Begun → Type 0
+HasBegun config deps query begun = Searched config deps query begun.asked.items begun.passed []

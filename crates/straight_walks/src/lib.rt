@@ -10,10 +10,16 @@
 #![tactic(auto)]
 
 mod asked;
+mod begun;
 mod name_server;
+mod nearest;
+mod origins;
 mod referrals;
+mod region;
+mod regions;
 mod server;
 mod straight;
 mod told;
 
+pub use regions::Regions;
 pub use straight::goes_straight;

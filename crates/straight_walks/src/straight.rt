@@ -6,11 +6,14 @@ ghost use Rattle.net_model.specs.declared.fault.Fault.{Fault as FaultValue};
 ghost use Rattle.net_model.specs.Shown.{Shows, with_lists};
 ghost use Rattle.net_model.specs.Step.{Setting, following};
 ghost use Rattle.net_model.specs.Tree.{HasMoreThan, IsReached};
-ghost use Rattle.straight_walks.specs.Leads.{IsSettingOf, Passes};
+ghost use Rattle.straight_walks.specs.Leads.{HasBegun, IsSettingOf, Passes};
+ghost use Rattle.straight_walks.specs.MadeOf.{made_of};
 ghost use Rattle.straight_walks.specs.Straight.{GoesStraight};
 
-use crate::asked::{Asked, top_servers};
+use crate::asked::Asked;
+use crate::begun::Begun;
 use crate::referrals::refer_on;
+use crate::regions::Regions;
 use crate::server::{Leads, from_server};
 use crate::told::all_tell_the_same;
 use delegation_checks::LearntSets;
@@ -20,47 +23,63 @@ use zone_lookup::Hosts;
 use zone_tree::Tree;
 
 /// No more states than these are looked at.
-const MOST: u32 = 32;
+pub(crate) const MOST: u32 = 32;
 
 /// Whether the walks of a query are seen to go straight, over few enough pairs of state and type: then it shows no fault. The
-/// sets are the least and the greatest set of learnt addresses; the servers of the least set are followed.
-pub fn goes_straight(
+/// sets are the least and the greatest set of learnt addresses; the servers of the least set are followed. The regions are those
+/// of the same servers and sets.
+pub fn goes_straight<'a>(
     alloc: Global,
-    hosts: &Hosts<'_>,
+    hosts: &Hosts<'a>,
     sets: &LearntSets,
+    regions: &Regions<'a>,
     query: &Name,
     states: u32,
 ) -> Result<bool, NoMemory>
+    requires { regions.now ≡ made_of hosts.now sets.now }
     ensures few { IfOk result (λ straight. straight ≡ true → (rewrites : ℕ) → HasMoreThan (IsReached hosts.now rewrites query.now) states → ⊥) }
     ensures shows_nothing { IfOk result (λ straight. straight ≡ true → (rewrites : ℕ) (rtype : RrTypeValue) (fault : FaultValue)
         → Shows (with_lists (following hosts.now rewrites sets.now.least) sets.now.least sets.now.greatest) query.now rtype fault → ⊥) }
 {
     let most = (states / 12).min(MOST);
-    all_straight(alloc, hosts, sets, query, most as usize)
+    let begun = regions.begun(alloc, query)?;
+    all_straight(alloc, hosts, sets, query, begun, most as usize)
 }
 
-/// Whether the walks go straight from the top servers, over at most so many states.
-fn all_straight(
+/// Whether the walks go straight from all servers of a search that has begun, over at most so many states.
+fn all_straight<'a>(
     alloc: Global,
-    hosts: &Hosts<'_>,
+    hosts: &Hosts<'a>,
     sets: &LearntSets,
     query: &Name,
+    begun: Begun<'a>,
     most: usize,
 ) -> Result<bool, NoMemory>
+    requires { HasBegun hosts.now sets.now query.now begun }
     ensures { IfOk result (λ straight. straight ≡ true → (setting : Setting) → IsSettingOf hosts.now sets.now setting → GoesStraight setting sets.now most query.now) }
 {
-    let mut asked = top_servers(alloc, hosts)?;
+    let mut begun = begun;
     let mut told = Vec::new(alloc);
-    let mut at = 0;
-    while at < asked.len() {
-        if asked.len() > most {
+    while begun.passed < begun.asked.len() {
+        if begun.asked.len() > most {
             return Ok(false);
         }
-        let server = asked[at].server;
-        if !is_straight(alloc, hosts, sets, query, server, &mut asked, &mut told)? {
+        let server = begun.asked[begun.passed].server;
+        if !is_straight(
+            alloc,
+            hosts,
+            sets,
+            query,
+            server,
+            &mut begun.asked,
+            &mut told,
+        )? {
             return Ok(false);
         }
-        at += 1;
+        begun.passed += 1;
+    }
+    if begun.passed > most {
+        return Ok(false);
     }
     Ok(all_tell_the_same(told.as_slice(), query))
 }

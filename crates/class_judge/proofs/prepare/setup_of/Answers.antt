@@ -15,6 +15,7 @@ returns-clause-setup c =
       graph = subst (λ (config : Config). AreSame c.in_ok-graph.graph (ground_of config)) same c.in_ok-graph.ensures.same;
       order = c.in_ok-graph.ensures.order;
       sets = c.in_ok-sets.ensures;
+      regions = c.in_ok-regions.ensures;
       all_followed = λ is.
           least_followed c.in_ok-trees.trees c.args.rewrites c.args.states sets c.in_ok-sets.ensures
           (subst (λ (config : Config). (deps : Deps) × (sets ≡ Some deps) × FollowsAll config deps.least) same (c.in_ok-all_followed.ensures is));

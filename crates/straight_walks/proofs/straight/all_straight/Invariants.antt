@@ -1,10 +1,10 @@
-use Rattle.std.proofs.Common.{◌-◌, ◌≤◌}
-use Rattle.straight_walks.proofs.StraightSearch.{Searched}
+use Rattle.std.proofs.Common.{◌-◌}
+use Rattle.straight_walks.specs.Leads.{Searched}
 use Rattle.straight_walks.proofs.straight.all_straight.Given as goal
 
--- walks go straight from the servers passed over, which are no more than may be asked
-abbrev pub invariant-loop-at : goal.invariant-loop-at
-invariant-loop-at l = Searched l.hosts l.sets l.query l.asked.items l.at l.told.items × (l.at ≤ l.most)
+-- walks go straight from the servers passed over
+abbrev pub invariant-loop-begun : goal.invariant-loop-begun
+invariant-loop-begun l = Searched l.hosts l.sets l.query l.begun.asked.items l.begun.passed l.told.items
 
-abbrev pub decreases-loop-at : goal.decreases-loop-at
-decreases-loop-at l = l.most - l.at
+abbrev pub decreases-loop-begun : goal.decreases-loop-begun
+decreases-loop-begun l = l.most - l.begun.passed

@@ -1,12 +1,17 @@
-use Rattle.std.proofs.Common.{refl, arith}
+use Rattle.std.proofs.Common.{refl, subst, arith}
 use Rattle.std.proofs.Math.Nat.{div-mul-le_self}
 use Rattle.std.proofs.lemmas.Result.{IfOk-weaker}
 use Rattle.net_model.specs.Nearest.{server_names}
 use Rattle.net_model.specs.Step.{following}
+use Rattle.straight_walks.specs.Leads.{HasBegun}
+use Rattle.straight_walks.specs.MadeOf.{MadeOf}
 use Rattle.straight_walks.proofs.FewStates.{few_states}
 use Rattle.straight_walks.proofs.LeastFollowed.{all_followed, least_followed}
 use Rattle.straight_walks.proofs.ShowsNothing.{shows_nothing}
 use Rattle.straight_walks.proofs.straight.goes_straight.Goals as goal
+
+pub all_straight-requires : goal.all_straight-requires
+all_straight-requires c = subst (λ (made : MadeOf). HasBegun made.config made.deps c.args.query.now c.in_ok-begun.begun) c.requires c.in_ok-begun.ensures
 
 pub returns-clause-few : goal.returns-clause-few
 returns-clause-few c =

@@ -1,0 +1,11 @@
+-- What regions are made of.
+use Rattle.graph_form.specs.declared.deps.Deps.{Deps}
+use Rattle.net_model.specs.declared.config.Config.{Config}
+
+-- a configuration, and the least and the greatest set of learnt addresses
+pub record MadeOf : Type 0 where
+  pub config : Config
+  pub deps : Deps
+
+abbrev pub made_of : Config → Deps → MadeOf
+made_of config deps = record { config = config; deps = deps }

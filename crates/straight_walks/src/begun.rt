@@ -1,0 +1,41 @@
+//! Searches that have begun.
+
+ghost use Rattle.std.specs.Prelude.{IfOk};
+ghost use Rattle.dns_data.specs.Name.{Labels};
+ghost use Rattle.graph_form.specs.declared.deps.Deps.{Deps};
+ghost use Rattle.net_model.specs.declared.config.Config.{Config as ConfigValue};
+ghost use Rattle.straight_walks.specs.Leads.{HasBegun};
+
+use crate::asked::{Asked, top_servers};
+use dns_data::NoMemory;
+use net_model::Config;
+use std::alloc::Global;
+
+/// The servers that are asked for a name, and how many of the first ones are passed over: nothing is told there, or walks go
+/// on to others.
+#[derive(Drop)]
+pub(crate) struct Begun<'a> {
+    pub asked: Vec<Asked<'a>>,
+    pub passed: usize,
+}
+
+impl<'a> Begun<'a> {
+    /// The search that begins at the top servers, for any name.
+    pub fn at_top(alloc: Global, config: &'a Config) -> Result<Begun<'a>, NoMemory>
+        ensures { IfOk result (λ begun. (deps : Deps) (query : Labels) → HasBegun config.now deps query begun) }
+    {
+        let asked = top_servers(alloc, config)?;
+        Ok(Begun { asked, passed: 0 })
+    }
+
+    /// An equal one.
+    pub fn copy(&self, alloc: Global) -> Result<Begun<'a>, NoMemory>
+        ensures { IfOk result (λ begun. (config : ConfigValue) (deps : Deps) (query : Labels) → HasBegun config deps query self.now → HasBegun config deps query begun) }
+    {
+        let asked = Vec::from_slice(alloc, self.asked.as_slice())?;
+        Ok(Begun {
+            asked,
+            passed: self.passed,
+        })
+    }
+}

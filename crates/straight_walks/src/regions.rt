@@ -1,0 +1,98 @@
+//! Regions of names for which walks lead the same way as long as no zone tells anything.
+
+ghost use Rattle.std.specs.Prelude.{◌≡◌, map, IfOk};
+ghost use Rattle.std.specs.List.{AllByRecursion};
+ghost use Rattle.straight_walks.specs.Leads.{HasBegun};
+ghost use Rattle.straight_walks.specs.MadeOf.{made_of};
+ghost use Rattle.straight_walks.specs.Regions.{IsRegion, region_origins};
+
+use crate::begun::Begun;
+use crate::nearest::nearest_region;
+use crate::origins::origins_of;
+use crate::region::{Region, begun_below};
+use delegation_checks::LearntSets;
+use dns_data::{Name, NoMemory};
+use graph_form::Deps;
+use net_model::Config;
+use std::alloc::Global;
+use std::marker::Model;
+use zone_lookup::Hosts;
+
+/// The origins of a configuration's zones, each with the servers that walks ask for the names below it, as far as this is the
+/// same for all names that have no other origin between. Contracts see the configuration and the two sets of learnt addresses.
+#[derive(Drop)]
+pub struct Regions<'a> {
+    config: &'a Config,
+    deps: Deps,
+    regions: Vec<Region<'a>>,
+}
+
+impl<'a> Model for Regions<'a> {
+    ghost use Rattle.straight_walks.specs.MadeOf.{MadeOf, made_of};
+
+    ghost Value = { MadeOf };
+
+    ghost view = { λ regions. made_of regions.config.now regions.deps };
+
+    ghost use Rattle.straight_walks.specs.Regions.{AreRegions};
+
+    ghost invariant = { λ regions. AreRegions regions.config.now regions.deps regions.regions.items };
+}
+
+impl<'a> Regions<'a> {
+    /// The regions of the servers' zones. The sets are the least and the greatest set of learnt addresses; their names are copied.
+    pub fn build(
+        alloc: Global,
+        hosts: &Hosts<'a>,
+        sets: &LearntSets,
+    ) -> Result<Regions<'a>, NoMemory>
+        ensures { IfOk result (λ regions. regions ≡ made_of hosts.now sets.now) }
+    {
+        let config = hosts.config();
+        let deps = copied(alloc, sets.deps())?;
+        let origins = origins_of(alloc, config)?;
+        let regions = regions_of(alloc, hosts, sets, origins.as_slice())?;
+        Ok(Regions {
+            config,
+            deps,
+            regions,
+        })
+    }
+
+    /// The search for a name, which has begun with all servers up to those whose zones tell something of the nearest origin.
+    pub(crate) fn begun(&self, alloc: Global, query: &Name) -> Result<Begun<'a>, NoMemory>
+        ensures { IfOk result (HasBegun self.now.config self.now.deps query.now) }
+    {
+        match nearest_region(self.regions.as_slice(), query) {
+            Some(region) => region.begun.copy(alloc),
+            None => Begun::at_top(alloc, self.config),
+        }
+    }
+}
+
+/// Equal sets.
+fn copied(alloc: Global, deps: &Deps) -> Result<Deps, NoMemory>
+    ensures { IfOk result (λ copy. copy ≡ deps.now) }
+{
+    let least = deps.least.copy(alloc)?;
+    let greatest = deps.greatest.copy(alloc)?;
+    Ok(Deps { least, greatest })
+}
+
+/// The region of each origin.
+fn regions_of<'a>(
+    alloc: Global,
+    hosts: &Hosts<'a>,
+    sets: &LearntSets,
+    origins: &[&'a Name],
+) -> Result<Vec<Region<'a>>, NoMemory>
+    ensures origins { IfOk result (λ regions. region_origins regions.items ≡ map (λ origin. origin.now) origins.now) }
+    ensures each { IfOk result (λ regions. AllByRecursion (IsRegion hosts.now sets.now) regions.items) }
+{
+    let mut regions = Vec::new(alloc);
+    for origin in origins {
+        let begun = begun_below(alloc, hosts, sets, origin)?;
+        regions.push(Region { origin, begun })?;
+    }
+    Ok(regions)
+}
