@@ -1,18 +1,18 @@
 -- A name is looked up as the longest origin of a zone at or above it is: each server's nearest zone is the same one, and a zone
 -- cut that decides at the origin decides at the name.
-use Rattle.std.proofs.Common.{◌≡◌, ◌+◌, ◌<◌, ◌≤◌, Bool, true, false, cond, ◌&&◌, List, [], ◌∷◌, ◌++◌, map, length, Option, Some, None, find, sym, refl, ap, ◌∙◌, subst, inl, inr, arith, append_assoc, length-append, lt-ltb}
+use Rattle.std.proofs.Common.{◌≡◌, ◌<◌, ◌≤◌, Bool, false, cond, ◌&&◌, List, [], ◌∷◌, ◌++◌, map, length, Option, Some, None, find, sym, refl, ap, ◌∙◌, subst, inl, inr, arith, append_assoc, length-append, lt-ltb}
 use Rattle.std.specs.Prelude.{◌⊎◌, Contains, is_some, nat_le, nat_lt, option_and_then}
 use Rattle.std.specs.Option.{option_or}
 use Rattle.std.proofs.lemmas.Bool.{le-ltb}
 use Rattle.std.proofs.lemmas.List.Folds.{find-append}
-use Rattle.dns_data.specs.Name.{Labels, is_prefix}
+use Rattle.dns_data.specs.Name.{Labels}
 use Rattle.dns_data.specs.declared.rr_type.RrType.TheVariants as types
 use Rattle.dns_data.proofs.Membership.{first_or_later, from_map, none_in_nil}
 use Rattle.dns_data.proofs.NameFronts.{Begins, is_prefix_tells, is_prefix_told}
 use Rattle.dns_data.proofs.Searches.{find_same, found_there}
 use Rattle.net_model.specs.Lookup.{Deciding, ByCut, by_dname, decided, deciding, dname_owner, shorter_decides, zone_cut}
 use Rattle.net_model.specs.Nearest.{held_zone, nearest, nearest_of, server_named, zone_with_origin}
-use Rattle.net_model.specs.Prefix.{longest, prefixes, shortest}
+use Rattle.net_model.specs.Prefix.{longest, prefixes}
 use Rattle.net_model.specs.Zone.{owns}
 use Rattle.net_model.specs.declared.config.Config.{Config}
 use Rattle.net_model.specs.declared.config.Server.{Server}

@@ -1,13 +1,13 @@
 -- Where a search for a front of a name among names in order finds nothing, what the name before its place tells of the names
 -- that stand at or above it.
-use Rattle.std.proofs.Common.{◌≡◌, ℕ, zero, suc, ◌+◌, ◌-◌, ◌<◌, ◌≤◌, true, cond, List, [], ◌∷◌, ◌++◌, map, length, take, take_all, drop, get_or, Err, is_gt, is_lt, Less, Greater, sym, refl, ap, ◌∙◌, subst, inl, inr, true≢false, arith, length-append}
+use Rattle.std.proofs.Common.{◌≡◌, ℕ, zero, suc, ◌+◌, ◌-◌, ◌<◌, ◌≤◌, true, cond, List, [], ◌∷◌, ◌++◌, map, length, take, drop, get_or, Err, is_gt, is_lt, Less, Greater, sym, refl, ap, ◌∙◌, subst, inl, inr, true≢false, arith, length-append}
 use Rattle.std.specs.Prelude.{Contains}
 use Rattle.std.specs.List.{common_prefix_len}
 use Rattle.std.specs.List.Sorted.{IsBinarySearchResult, IsPartitionPoint, IsSortedBy, IsStrictlySortedBy}
 use Rattle.std.specs.Ordering.{ordering_reverse}
 use Rattle.std.proofs.lemmas.Bool.{cases_Bool, cases_lt}
 use Rattle.std.proofs.lemmas.Cmp.{tied_itself}
-use Rattle.std.proofs.lemmas.List.{get_or-map, get_or_default, length-map, take-append-drop, take-append-le}
+use Rattle.std.proofs.lemmas.List.{get_or-map, get_or_default, length-map, take-append-drop}
 use Rattle.std.proofs.lemmas.List.Sorted.{searchable_from_sorted}
 use Rattle.std.proofs.lemmas.Map.Keys.{sorted_tail}
 use Rattle.std.proofs.lemmas.Map.Views.{All-after_first}

@@ -19,7 +19,7 @@ use Rattle.net_model.specs.declared.config.Zone.{Zone}
 use Rattle.straight_walks.specs.Leads.{HasBegun}
 use Rattle.straight_walks.specs.Regions.{AreRegions, HasFewer, IsLongest, IsNearestOrigin, IsRegion, region_origins}
 use Rattle.straight_walks.specs.declared.region.Region.{Region}
-use Rattle.straight_walks.proofs.LongestOrigins.{fewer, no_longer, none_before, shares}
+use Rattle.straight_walks.proofs.LongestOrigins.{fewer, no_longer, shares}
 
 abbrev pub origin_of : Region → Labels
 origin_of region = region.origin.now

@@ -1,5 +1,5 @@
 -- Referrals lead the same way for two names whose nearest zones are the same.
-use Rattle.std.proofs.Common.{◌≡◌, ℕ, Bool, true, false, not, cond, List, [], ◌∷◌, length, map, Option, None, Some, refl, sym, ap, ◌∙◌, subst, inl, inr}
+use Rattle.std.proofs.Common.{◌≡◌, ℕ, Bool, true, false, not, cond, List, [], ◌∷◌, map, Option, None, Some, refl, sym, ap, ◌∙◌, subst, inl, inr}
 use Rattle.std.specs.Prelude.{◌⊎◌, Contains, option_map}
 use Rattle.std.specs.List.{AllByRecursion}
 use Rattle.dns_data.specs.Name.{Labels, is_prefix}
@@ -13,7 +13,7 @@ use Rattle.net_model.specs.declared.place.Cut.{Cut}
 use Rattle.net_model.specs.declared.walk.Hop.TheVariants.{Refer}
 use Rattle.net_model.specs.declared.walk.Leaf.TheVariants as leaves
 use Rattle.net_model.specs.declared.walk.State.{State}
-use Rattle.straight_walks.specs.Leads.{IsSettingOf, RefersOn, cut_to, state_at, state_of, to_servers}
+use Rattle.straight_walks.specs.Leads.{RefersOn, cut_to, state_at, state_of, to_servers}
 use Rattle.straight_walks.specs.Straight.{EndsSilent, GoesTo}
 use Rattle.straight_walks.specs.declared.asked.Asked.{Asked}
 

@@ -1,8 +1,8 @@
 -- The search for all names whose nearest origin is the same: it leads past a server where it does for the origin.
-use Rattle.std.proofs.Common.{◌≡◌, ℕ, ◌+◌, ◌<◌, ◌≤◌, List, [], ◌∷◌, ◌++◌, length, map, take, take_all, get_or, Bor, refl, sym, ap, ◌∙◌, subst, inl, inr, arith}
+use Rattle.std.proofs.Common.{◌≡◌, ℕ, ◌+◌, ◌<◌, ◌≤◌, List, [], ◌∷◌, ◌++◌, length, map, take, take_all, get_or, Bor, sym, ap, ◌∙◌, subst, inl, inr, arith}
 use Rattle.std.specs.Prelude.{◌⊎◌, Contains}
 use Rattle.std.specs.List.{AllByRecursion}
-use Rattle.std.proofs.lemmas.List.{append-nil, length-append, take_more, take-append-le}
+use Rattle.std.proofs.lemmas.List.{length-append, take_more, take-append-le}
 use Rattle.std.proofs.lemmas.List.Elements.{Contains-append_cases, Contains-append_left, Contains-append_right}
 use Rattle.dns_data.specs.Name.{Labels}
 use Rattle.dns_data.specs.declared.rr_type.RrType.{RrType}
@@ -17,7 +17,7 @@ use Rattle.net_model.specs.declared.config.Config.{Config}
 use Rattle.net_model.specs.declared.walk.Leaf.{Leaf}
 use Rattle.net_model.specs.declared.walk.State.{State}
 use Rattle.zone_tree.specs.Tree.{ZoneTree, name_of}
-use Rattle.straight_walks.specs.Leads.{Extends, HasBegun, IsSettingOf, LeadsBy, Passes, RefersOn, state_at, state_of}
+use Rattle.straight_walks.specs.Leads.{Extends, IsSettingOf, LeadsBy, Passes, RefersOn, state_at, state_of}
 use Rattle.straight_walks.specs.Regions.{HasBegunBelow, IsNearestOrigin, LeadsPast, SortsOut}
 use Rattle.straight_walks.specs.Straight.{StepsStraight}
 use Rattle.straight_walks.specs.declared.asked.Asked.{Asked}

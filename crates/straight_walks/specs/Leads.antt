@@ -10,13 +10,13 @@ use Rattle.net_model.specs.Lookup.{Deciding, ByCut, ByRecords, deciding}
 use Rattle.net_model.specs.Nearest.{held_zone, nearest_of}
 use Rattle.net_model.specs.Order.{in_order}
 use Rattle.net_model.specs.Step.{Setting, Branch, Go, End, next, referred, start}
-use Rattle.net_model.specs.Zone.{data_at, data_cmp, ns_names}
+use Rattle.net_model.specs.Zone.{data_at, data_cmp}
 use Rattle.net_model.specs.declared.config.Config.{Config}
 use Rattle.net_model.specs.declared.config.Zone.{Zone}
 use Rattle.net_model.specs.declared.place.Cut.{Cut}
 use Rattle.net_model.specs.declared.walk.Hop.TheVariants.{Refer}
 use Rattle.net_model.specs.declared.walk.Leaf.{Leaf}
-use Rattle.net_model.specs.declared.walk.Leaf.TheVariants.{Answer, NoData, NxDomain, Outside}
+use Rattle.net_model.specs.declared.walk.Leaf.TheVariants.{Answer, NoData, NxDomain}
 use Rattle.net_model.specs.declared.walk.State.{State}
 use Rattle.zone_tree.specs.Tree.{ZoneTree, IsNode, name_of}
 use Rattle.straight_walks.specs.Straight.{EndsSilent, FollowsLeast, GoesTo, IsSound, StepsStraight}

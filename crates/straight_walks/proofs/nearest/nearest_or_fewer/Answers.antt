@@ -1,4 +1,4 @@
-use Rattle.std.proofs.Common.{◌≡◌, ◌+◌, ◌<◌, ◌≤◌, ℕ, Equal, sym, ap, ◌∙◌, subst, arith}
+use Rattle.std.proofs.Common.{◌≡◌, ◌+◌, ℕ, Equal, sym, ap, ◌∙◌, subst, arith}
 use Rattle.std.specs.List.{common_prefix_len}
 use Rattle.dns_data.specs.Label.{label_eq}
 use Rattle.dns_data.specs.Name.{Labels, name_cmp}

@@ -1,6 +1,5 @@
-use Rattle.std.proofs.Common.{List, take, take_all, sym, ap, ◌∙◌, subst}
+use Rattle.std.proofs.Common.{List, take_all, sym, ◌∙◌, subst}
 use Rattle.std.specs.Prelude.{Contains}
-use Rattle.net_model.specs.declared.config.Config.{Config}
 use Rattle.net_model.specs.declared.config.Server.{Server}
 use Rattle.net_model.specs.declared.config.Zone.{Zone}
 use Rattle.straight_walks.specs.Regions.{HasOrigins}

@@ -1,4 +1,4 @@
-use Rattle.std.proofs.Common.{◌≡◌, map, take}
+use Rattle.std.proofs.Common.{◌≡◌, take}
 use Rattle.std.specs.List.{AllByRecursion}
 use Rattle.straight_walks.specs.Regions.{IsRegion, region_origins}
 use Rattle.straight_walks.proofs.OriginSets.{names_of}
