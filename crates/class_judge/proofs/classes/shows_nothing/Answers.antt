@@ -6,13 +6,13 @@ use Rattle.class_judge.specs.Setup.{AreSets, SomeNamePasses}
 use Rattle.class_judge.proofs.StraightVerdicts.{IsFew, IsSilent, straight_given}
 use Rattle.class_judge.proofs.classes.shows_nothing.Goals as goal
 
-pub returns-in-Some : goal.returns-in-Some
-returns-in-Some c =
+pub returns-in-Some-Some : goal.returns-in-Some-Some
+returns-in-Some-Some c =
     let setup = c.args.setup.now in
     let query = c.args.query.now in
-    let deps : Deps = c.in-Some.sets in
+    let deps : Deps = c.in-Some-Some.sets in
     let sets : AreSets setup.trees setup.rewrites setup.states deps =
-    subst (λ (o : Option Deps). MatchOption o (SomeNamePasses setup.trees setup.rewrites setup.states) (AreSets setup.trees setup.rewrites setup.states)) c.in-Some.is c.requires.setup.sets in
+    subst (λ (o : Option Deps). MatchOption o (SomeNamePasses setup.trees setup.rewrites setup.states) (AreSets setup.trees setup.rewrites setup.states)) c.in-Some-Some.is-0 c.requires.setup.sets in
     straight_given setup.trees setup.rewrites setup.states query deps sets c.goes_straight.result
     (subst (λ (config : Config). IfOk c.goes_straight.result (IsFew config setup.states query)) c.hosts.ensures c.goes_straight.ensures.few)
     (subst (λ (config : Config). IfOk c.goes_straight.result (IsSilent config query deps)) c.hosts.ensures c.goes_straight.ensures.shows_nothing)
