@@ -1,4 +1,6 @@
 pub mod Answers
+pub mod CommonLabels
+pub mod CommonOctets
 pub mod DataFacts
 pub mod DataTexts
 pub mod DifferentItems

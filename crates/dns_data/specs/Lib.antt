@@ -12,6 +12,7 @@ pub mod RrType
 pub mod Spelling
 pub mod DataText
 pub mod Encoding
+pub mod BigEndian
 pub mod Put
 pub mod TypeSet
 pub mod Storage

@@ -1,11 +1,12 @@
 //! The labels of a name, one after another.
 
-ghost use Rattle.std.specs.Prelude.{◌≡◌, ◌↔◌, ◌<◌, ◌≤◌, [], ◌∷◌, length, take, IsTrue, MatchOption, IfSome};
+ghost use Rattle.std.specs.Prelude.{◌≡◌, ◌↔◌, ◌<◌, ◌≤◌, [], ◌∷◌, length, take, IsTrue, MatchOption, IfSome, nat_eq, slice_index};
 ghost use Rattle.std.specs.List.{common_prefix_len};
 ghost use Rattle.dns_data.specs.Label.{IsLabel, label_eq};
 ghost use Rattle.dns_data.specs.Name.{name_cmp};
-ghost use Rattle.dns_data.specs.Encoding.{labels_of, EncodesName};
+ghost use Rattle.dns_data.specs.Encoding.{labels_of, EncodesName, IsPast};
 
+use crate::common::{common_octets, octets_order};
 use std::cmp::Ordering;
 use std::marker::Model;
 
@@ -116,42 +117,66 @@ impl<'a> Labels<'a> {
     }
 
     /// How many labels both begin with.
-    #[tactic(auto, using(crate::proofs::Encodings::few_labels))]
     pub fn common_len(&self, others: &Labels<'_>) -> u32
         ensures value { result ≡ common_prefix_len label_eq self.now others.now }
         ensures within { result ≤ length self.now }
     {
-        let mut left = self.copy();
-        let mut right = others.copy();
-        let mut common = 0;
-        while let Some(label) = left.next() {
-            match right.next() {
-                Some(other) if label == other => common += 1,
-                _ => return common,
-            }
-        }
-        common
+        past_common(self.octets, others.octets).0
     }
 
     /// How the labels stand to the others: label by label from the top, a proper front first.
     pub fn compare(&self, others: &Labels<'_>) -> Ordering
         ensures { result ≡ name_cmp self.now others.now }
     {
-        let mut left = self.copy();
-        let mut right = others.copy();
-        while let Some(label) = left.next() {
-            let Some(other) = right.next() else {
-                return Ordering::Greater;
-            };
-            let order = label.cmp(other);
-            if order != Ordering::Equal {
-                return order;
-            }
+        let (_, left, right, common) = past_common(self.octets, others.octets);
+        if common > 0 {
+            left[common].cmp(&right[common])
+        } else {
+            first_order(left, right)
         }
-        if right.is_empty() {
+    }
+}
+
+/// How many labels two names both begin with, the octets of each behind them, and how many of those both begin with,
+/// which are fewer than those of the label there.
+#[tactic(auto, using(crate::proofs::Encodings::few_labels))]
+fn past_common<'a, 'b>(left: &'a [u8], right: &'b [u8]) -> (u32, &'a [u8], &'b [u8], usize)
+    requires left { EncodesName left.now }
+    requires right { EncodesName right.now }
+    ensures past { IsPast (labels_of left.now) (labels_of right.now) result.0 result.1.now result.2.now result.3 }
+    ensures none { common_prefix_len label_eq (labels_of result.1.now) (labels_of result.2.now) ≡ 0 }
+    ensures within { 0 < result.3 → result.3 ≤ slice_index result.1.now 0 }
+{
+    let (mut left, mut right) = (left, right);
+    let mut common = common_octets(left, right);
+    let mut count = 0;
+    while common > 0 && (left[0] as usize) < common {
+        let size = left[0] as usize + 1;
+        left = &left[size..];
+        right = &right[size..];
+        common -= size;
+        count += 1;
+    }
+    (count, left, right, common)
+}
+
+/// How names stand to each other that don't begin with the same octet: by their first labels.
+fn first_order(left: &[u8], right: &[u8]) -> Ordering
+    requires left { EncodesName left.now }
+    requires right { EncodesName right.now }
+    requires apart { common_prefix_len nat_eq left.now right.now ≡ 0 }
+    ensures { result ≡ name_cmp (labels_of left.now) (labels_of right.now) }
+{
+    let (left, right) = (Labels::of(left), Labels::of(right));
+    let Some((label, _)) = left.split_first() else {
+        return if right.is_empty() {
             Ordering::Equal
         } else {
             Ordering::Less
-        }
-    }
+        };
+    };
+    let Some((other, _)) = right.split_first() else {
+        return Ordering::Greater;
+    };
+    octets_order(label, other)
 }

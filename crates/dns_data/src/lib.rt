@@ -2,6 +2,7 @@
 //! and want of memory in the plain values of every crate above.
 #![tactic(auto)]
 
+mod common;
 mod fault;
 mod label;
 mod labels;
