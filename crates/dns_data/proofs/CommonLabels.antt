@@ -46,11 +46,12 @@ more_of a b count x y c xs ys h within =
     let left : IsTop (x ∷ xs) (take x xs) (drop x xs) = top_of x xs h.left in
     let right : IsTop (y ∷ ys) (take x xs) (drop x ys) =
     subst (λ (l : List ℕ). IsTop (y ∷ ys) l (drop x ys)) (sym fronts) (subst (λ (n : ℕ). IsTop (y ∷ ys) (take n ys) (drop n ys)) heads (top_of y ys h.right)) in
+    let counts : both_begin (labels_of (x ∷ xs)) (labels_of (y ∷ ys)) ≡ both_begin (take x xs ∷ labels_of (drop x xs)) (take x xs ∷ labels_of (drop x ys)) = λ i. both_begin (left.same i) (right.same i) in
     record {
       left = left.flat;
       right = right.flat;
       order = sym (under_label (take x xs) (labels_of (drop x xs)) (labels_of (drop x ys))) ∙ (λ i. name_cmp (sym left.same i) (sym right.same i)) ∙ h.order;
-      passed = omega (arith, h.passed, (λ i. both_begin (left.same i) (right.same i)), one_more_label (take x xs) (labels_of (drop x xs)) (labels_of (drop x ys)));
+      passed = omega (arith, h.passed, counts, one_more_label (take x xs) (labels_of (drop x xs)) (labels_of (drop x ys)));
       begin = omega (arith, h.begin, split.0);
     }
   where
@@ -146,3 +147,8 @@ past_none xs ys c h k e = record { left = h; right = k; order = refl; passed = o
 -- of the labels of a name no more are passed over than it has
 pub few_passed : (a b : Labels) (count c : ℕ) (xs ys : List ℕ) → IsPast a b count xs ys c → count ≤ length a
 few_passed a b count c xs ys h = omega (arith, h.passed, common_prefix_len-le label_eq a b)
+
+-- in the end no label is left that both begin with
+pub past_end : (a b : Labels) (count c : ℕ) (xs ys : List ℕ) → IsPast a b count xs ys c → (0 < c → c ≤ get_or xs 0 0) → both_begin (labels_of xs) (labels_of ys) ≡ 0
+past_end a b count zero xs ys h within = none_begin xs ys h.left h.right (sym h.begin)
+past_end a b count (suc c) xs ys h within = (differs_in xs ys (suc c) h.left h.right h.begin (omega arith) (within (omega arith))).none

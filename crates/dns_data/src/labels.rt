@@ -139,7 +139,6 @@ impl<'a> Labels<'a> {
 
 /// How many labels two names both begin with, the octets of each behind them, and how many of those both begin with,
 /// which are fewer than those of the label there.
-#[tactic(auto, using(crate::proofs::Encodings::few_labels))]
 fn past_common<'a, 'b>(left: &'a [u8], right: &'b [u8]) -> (u32, &'a [u8], &'b [u8], usize)
     requires left { EncodesName left.now }
     requires right { EncodesName right.now }
@@ -152,8 +151,8 @@ fn past_common<'a, 'b>(left: &'a [u8], right: &'b [u8]) -> (u32, &'a [u8], &'b [
     let mut count = 0;
     while common > 0 && (left[0] as usize) < common {
         let size = left[0] as usize + 1;
-        left = &left[size..];
-        right = &right[size..];
+        left = left.split_at(size).1;
+        right = right.split_at(size).1;
         common -= size;
         count += 1;
     }
