@@ -4,16 +4,18 @@ use Rattle.std.specs.Prelude.{bit_xor}
 use Rattle.std.specs.List.{common_prefix_len}
 use Rattle.std.specs.Ordering.{nat_cmp, ordering_then}
 use Rattle.std.specs.declared.cmp.Ordering.TheVariants.{Less, Equal, Greater}
-use Rattle.std.specs.Cmp.Lexicographic.{slice_cmp}
+use Rattle.std.specs.Cmp.Lexicographic.{slice_cmp, bytes_decides}
+use lib.Pointwise.{pointwise}
 use Rattle.std.specs.Int.Bits.{xor_self, xor_add_and}
 use Rattle.std.specs.Int.Count.{count_leading_zeros}
 use Rattle.std.proofs.lemmas.Bool.{eqb-true, eqb-false, eq-eqb, ne_eqb, cases_lt}
 use Rattle.std.proofs.lemmas.Cmp.{ranked}
-use Rattle.std.proofs.lemmas.List.{length-take-le, length-drop}
+use Rattle.std.proofs.lemmas.List.{length-take-le, length-drop, take_all}
 use Rattle.std.proofs.lemmas.List.Sums.{common_prefix_len-le, common_prefix_len-drop_yes, common_prefix_len-drop_no}
 use Rattle.std.proofs.lemmas.Nat.{xor_lt, xor_block, and_le_l, and_le_r, leading_top, leading_length, pow-add, pow_pos, mul-add-lt}
 use Rattle.std.proofs.Math.Nat.{pow-le-pow_right, le-mul_of_pos_right, mul_comm}
 use Rattle.dns_data.specs.BigEndian.{number_of}
+use Rattle.dns_data.proofs.Searches.{same_truth}
 
 -- how many octets both begin with
 abbrev pub common : List ℕ → List ℕ → ℕ
@@ -264,3 +266,14 @@ order_inside xs ys n r e h k is =
 
 pub order_ends : (xs ys : List ℕ) (n : ℕ) (r : Ordering) → n ≡ common xs ys → min (length xs) (length ys) ≤ n → r ≡ nat_cmp (length xs) (length ys) → r ≡ slice_cmp nat_cmp xs ys
 order_ends xs ys n r e h is = is ∙ sym (common_ends xs ys (λ k l. absurd (omega arith)))
+
+-- all are the same exactly where both begin with all
+common_whole : (xs : List ℕ) → common xs xs ≡ length xs
+common_whole [] = refl
+common_whole (x ∷ xs) = ap (λ (b : Bool). cond b (1 + common xs xs) 0) (eq-eqb x x refl) ∙ omega (arith, common_whole xs)
+
+pub same_tell : (xs ys : List ℕ) (n : ℕ) → n ≡ common xs ys → length xs ≡ length ys → nat_eq n (length xs) ≡ pointwise nat_eq xs ys
+same_tell xs ys n e lengths = same_truth _ _
+    (λ all. let most : length xs ≤ common xs ys = omega (arith, e, eqb-true n (length xs) all) in
+    (bytes_decides xs ys).1 (sym (take_all (length xs) xs (omega arith)) ∙ (common_split (length xs) xs ys most).1 ∙ take_all (length xs) ys (omega (arith, lengths))))
+    (λ same. eq-eqb n (length xs) (e ∙ ap (common xs) (sym ((bytes_decides xs ys).0 same)) ∙ common_whole xs))

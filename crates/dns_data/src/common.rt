@@ -4,6 +4,7 @@ ghost use Rattle.std.specs.Prelude.{◌≡◌, ◌+◌, ◌<◌, ◌≤◌, leng
 ghost use Rattle.std.specs.List.{common_prefix_len};
 ghost use Rattle.std.specs.Ordering.{nat_cmp};
 ghost use Rattle.std.specs.Cmp.Lexicographic.{slice_cmp};
+ghost use lib.Pointwise.{pointwise};
 ghost use Rattle.dns_data.specs.BigEndian.{number_of};
 
 use std::cmp::Ordering;
@@ -66,8 +67,18 @@ fn number_at(octets: &[u8], at: usize) -> u64
     ])
 }
 
+/// Whether both are the same octets.
+pub fn same_octets(left: &[u8], right: &[u8]) -> bool
+    ensures { result ≡ pointwise nat_eq left.now right.now }
+{
+    if left.len() != right.len() {
+        return false;
+    }
+    common_octets(left, right) == left.len()
+}
+
 /// How octets stand to others: octet by octet, a proper front first.
-pub(crate) fn octets_order(left: &[u8], right: &[u8]) -> Ordering
+pub fn octets_order(left: &[u8], right: &[u8]) -> Ordering
     ensures { result ≡ slice_cmp nat_cmp left.now right.now }
 {
     let common = common_octets(left, right);

@@ -4,6 +4,7 @@ ghost use Rattle.std.specs.Prelude.{◌≡◌, ◌+◌, length, IfOk};
 ghost use Rattle.dns_data.specs.Answers.{AnswersOr};
 ghost use Rattle.dns_data.specs.Label.{IsLabel, label_of, label_eq, label_cmp};
 
+use crate::common::{octets_order, same_octets};
 use crate::fault::NameFault;
 use crate::memory::NoMemory;
 use crate::octets::Octets;
@@ -83,7 +84,7 @@ impl PartialEq for Label {
     ghost laws = { partial_equiv_from_equiv nat_list_eq_equiv };
 
     fn eq(&self, other: &Label) -> bool {
-        self.items() == other.items()
+        same_octets(self.items(), other.items())
     }
 }
 
@@ -119,6 +120,6 @@ impl Ord for Label {
     ghost matches_eq = { texts_ties };
 
     fn cmp(&self, other: &Label) -> Ordering {
-        self.items().cmp(other.items())
+        octets_order(self.items(), other.items())
     }
 }

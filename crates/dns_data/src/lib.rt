@@ -20,6 +20,7 @@ mod text;
 mod type_set;
 mod words;
 
+pub use common::{octets_order, same_octets};
 pub use fault::{JoinFault, NameFault};
 pub use label::Label;
 pub use labels::Labels;

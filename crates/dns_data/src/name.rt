@@ -8,6 +8,7 @@ ghost use Rattle.dns_data.specs.Spelling.{if_short};
 ghost use Rattle.dns_data.specs.Name.{IsName, wire_octets, is_prefix, name_cmp, name_eq};
 ghost use Rattle.dns_data.specs.Encoding.{encoded, labels_of, EncodesName};
 
+use crate::common::same_octets;
 use crate::fault::{JoinFault, NameFault};
 use crate::label::Label;
 use crate::labels::Labels;
@@ -215,7 +216,7 @@ impl PartialEq for Name {
 
     #[tactic(auto, using(crate::proofs::Encodings::octets_same))]
     fn eq(&self, other: &Name) -> bool {
-        self.octets.items() == other.octets.items()
+        same_octets(self.octets.items(), other.octets.items())
     }
 }
 

@@ -2,6 +2,7 @@
 
 ghost use Rattle.std.specs.Prelude.{◌≡◌, ◌+◌, ◌≤◌, [], ◌∷◌, ◌++◌, length, take, ◌↔◌, IsTrue, IfOk, OnOk, OnErr};
 
+use crate::common::{octets_order, same_octets};
 use crate::memory::NoMemory;
 use std::alloc::Global;
 use std::cmp::Ordering;
@@ -286,7 +287,7 @@ impl PartialEq for Octets {
     ghost laws = { partial_equiv_from_equiv nat_list_eq_equiv };
 
     fn eq(&self, other: &Octets) -> bool {
-        self.items() == other.items()
+        same_octets(self.items(), other.items())
     }
 }
 
@@ -324,6 +325,6 @@ impl Ord for Octets {
     ghost matches_eq = { texts_ties };
 
     fn cmp(&self, other: &Octets) -> Ordering {
-        self.items().cmp(other.items())
+        octets_order(self.items(), other.items())
     }
 }
