@@ -137,8 +137,8 @@ impl<'a> Labels<'a> {
     }
 }
 
-/// How many labels two names both begin with, the octets of each behind them, and how many of those both begin with,
-/// which are fewer than those of the label there.
+/// How many labels two names both begin with, the octets of each behind them, and how many of those octets both begin
+/// with, which are fewer than the next label takes.
 fn past_common<'a, 'b>(left: &'a [u8], right: &'b [u8]) -> (u32, &'a [u8], &'b [u8], usize)
     requires left { EncodesName left.now }
     requires right { EncodesName right.now }
