@@ -3,10 +3,13 @@
 //! The layer above may rest on this: where `goes_straight` answers yes, the query shows no fault and reaches no more pairs of
 //! state and type than are allowed. Where it answers no, nothing is said.
 //!
-//! Costs: of each of at most 32 states, what decides at the name is looked for once, and once more where several zones tell
-//! something of it: then their data are compared, type by type. Each name server of a zone cut is looked into once: of one
-//! that isn't configured its glue alone is looked for, beside the zone cut, and nothing is copied; for one that is, four names
-//! are copied. No graph is made.
+//! Costs: for each origin of a zone, once, what decides at it is looked for at each of at most 32 states, and each name server of
+//! a zone cut is looked into: of one that isn't configured its glue alone is looked for, beside the zone cut, and nothing is
+//! copied; for one that is, four names are copied. An origin keeps 16 octets of each state. For a query there is a search among
+//! the origins, as there is one among a server's zones for the nearest zone; its nearest origin's states are copied, and the same
+//! is looked for as for an origin, but only at the servers whose zones tell something of the origin, or to which they refer the
+//! query. Where several zones tell something of the name, what decides is looked for once more, and their data are compared,
+//! type by type. No graph is made.
 #![tactic(auto)]
 
 mod asked;
