@@ -10,6 +10,7 @@ pub mod FirstClasses
 pub mod FirstFound
 pub mod FirstWalksShow
 pub mod FollowedAlike
+pub mod FoundNothing
 pub mod FoundRight
 pub mod JudgedItems
 pub mod LiveAbove

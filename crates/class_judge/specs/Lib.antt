@@ -3,6 +3,7 @@ pub use Rattle.verdict_book.specs.Items
 pub use Rattle.verdict_book.specs.Lists
 pub mod Carried
 pub mod Entries
+pub mod FiledVerdict
 pub mod Passed
 pub mod Rows
 pub mod Setup

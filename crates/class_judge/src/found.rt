@@ -2,6 +2,7 @@
 
 ghost use Rattle.std.specs.Prelude.{◌≡◌, ◌-◌, ◌∷◌, ◌++◌, [], IfOk, OnOk, if◌then◌else◌, length, slice_get};
 ghost use Rattle.class_judge.specs.Rows.{AreFirstClasses, found_at, found_below, found_cmp, found_in, found_of, is_new_fault, with_class};
+ghost use Rattle.net_model.specs.declared.class.Class.TheVariants.{Exact};
 
 use crate::rows::Row;
 use crate::verdict::{ClassVerdict, NameVerdict};
@@ -32,11 +33,27 @@ pub(crate) fn found_of(alloc: Global, rows: Vec<Row>) -> Result<List<Found>, NoM
 }
 
 /// Puts the faults of the classes of a name at the end.
+#[tactic(auto, using(crate::proofs::FoundNothing::none_found))]
 fn put_row(alloc: Global, row: Row, found: &mut List<Found>) -> Result<(), NoMemory>
     ensures { OnOk result (found.new ≡ found.old ++ found_at row) }
 {
-    let class = Class::Exact(row.name.copy(alloc)?);
     let Row { name, verdict } = row;
+    match verdict.into_told() {
+        Some(verdict) => put_verdict(alloc, name, verdict, found),
+        None => Ok(()),
+    }
+}
+
+/// Puts the faults that a verdict tells at the end.
+fn put_verdict(
+    alloc: Global,
+    name: Name,
+    verdict: NameVerdict,
+    found: &mut List<Found>,
+) -> Result<(), NoMemory>
+    ensures { OnOk result (found.new ≡ found.old ++ (found_in (Exact name) verdict.exact ++ found_below name verdict.below)) }
+{
+    let class = Class::Exact(name.copy(alloc)?);
     put_classes(alloc, &class, name, verdict, found)
 }
 

@@ -6,10 +6,10 @@ ghost use Rattle.class_judge.specs.Values.{AreValues};
 ghost use Rattle.dns_data.proofs.Names.{same_names};
 
 use crate::classes::judge_name;
+use crate::filed_verdict::FiledVerdict;
 use crate::naming::Naming;
 use crate::setup::Setup;
 use crate::tree_name::TreeName;
-use crate::verdict::NameVerdict;
 use dns_data::{List, NoMemory};
 use std::marker::{Model, PhantomData};
 use verdict_book::{JudgeShare, Work};
@@ -36,7 +36,7 @@ impl<'a, N: Naming> Model for Judge<'a, N> {
 impl<'a, N: Naming + Send> Work for Judge<'a, N> {
     type Item = TreeName<N>;
 
-    type Verdict = NameVerdict;
+    type Verdict = FiledVerdict;
 
     ghost first_item = { [] };
 
@@ -52,10 +52,11 @@ impl<'a, N: Naming + Send> Work for Judge<'a, N> {
         item.children(self.setup.alloc, &self.setup.graph)
     }
 
-    fn judge(&self, item: &TreeName<N>, share: &mut JudgeShare) -> Result<NameVerdict, NoMemory> {
+    fn judge(&self, item: &TreeName<N>, share: &mut JudgeShare) -> Result<FiledVerdict, NoMemory> {
         share.raise();
         let name = item.live_name(self.setup.alloc, &self.setup.graph)?;
-        judge_name(&self.setup, &name)
+        let verdict = judge_name(&self.setup, &name)?;
+        FiledVerdict::of(self.setup.alloc, verdict)
     }
 
     fn copy_item(&self, item: &TreeName<N>) -> Result<TreeName<N>, NoMemory> {

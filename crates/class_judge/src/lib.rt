@@ -7,14 +7,15 @@
 //! Costs: `prepare` makes the trees of all zones, the graph of base names and a graph of each server's name, once. A name of
 //! the tree goes one label on from the live set of the name above it, which all names below that one share; none is walked to
 //! from the root to be judged. Judging a name makes a graph for each of its classes, which is dropped when its faults are
-//! found: a verdict keeps no walk. None is made where the representative's walks are seen to go straight to their ends, and it
-//! is restricted to the least set of learnt addresses only where some configured server is neither in that set nor a top
-//! server.
+//! found: a verdict keeps no walk, and takes no memory of its own where no class of the name shows a fault. None is made where
+//! the representative's walks are seen to go straight to their ends, and it is restricted to the least set of learnt addresses
+//! only where some configured server is neither in that set nor a top server.
 #![tactic(auto)]
 
 mod classes;
 mod entries;
 mod faults;
+mod filed_verdict;
 mod found;
 mod judge;
 pub mod laws;
@@ -28,6 +29,7 @@ mod setup;
 mod tree_name;
 mod verdict;
 
+pub use filed_verdict::FiledVerdict;
 pub use judge::Judge;
 pub use naming::Naming;
 pub use report::ReportFault;

@@ -1,9 +1,8 @@
 //! The first class whose representative reaches more pairs of state and type than are looked at.
 
-ghost use Rattle.std.specs.Prelude.{◌≡◌, IfOk, MatchOption, false};
-ghost use Rattle.std.specs.Option.{option_map_or};
+ghost use Rattle.std.specs.Prelude.{◌≡◌, IfOk, MatchOption};
 ghost use Rattle.class_judge.specs.Passed.{SomeClassPasses, IsFirstPassed};
-ghost use Rattle.class_judge.specs.Rows.{AreRows, IsPassedAt, passes};
+ghost use Rattle.class_judge.specs.Rows.{AreRows, IsPassedAt};
 ghost use Rattle.class_judge.specs.Setup.{IsSetup};
 ghost use Rattle.class_judge.specs.Verdict.{IsNameVerdict};
 ghost use Rattle.net_model.specs.Reading.{ground_of};
@@ -12,7 +11,6 @@ ghost use Rattle.query_classes.specs.Children.{IsInTree};
 use crate::classes::representative_below;
 use crate::rows::Row;
 use crate::setup::Setup;
-use crate::verdict::ClassVerdict;
 use dns_data::{Name, NoMemory};
 
 /// The first representative that reaches more pairs, or `None` where none does.
@@ -37,28 +35,11 @@ fn passed_at(setup: &Setup<'_>, row: &Row) -> Result<Option<Name>, NoMemory>
     requires verdict { IsNameVerdict setup.now.trees setup.now.rewrites setup.now.states row.now.name row.now.verdict }
     ensures { IfOk result (IsPassedAt setup.now.trees setup.now.rewrites setup.now.states row.now.name) }
 {
-    if passes(&row.verdict.exact) {
+    if row.verdict.exact_passes() {
         return Ok(Some(row.name.copy(setup.alloc)?));
     }
-    if passes_below(&row.verdict.below) {
+    if row.verdict.below_passes() {
         return representative_below(setup, &row.name);
     }
     Ok(None)
-}
-
-/// Whether the representative of the class reaches more pairs.
-fn passes(verdict: &ClassVerdict) -> bool
-    ensures { result ≡ passes verdict.now }
-{
-    matches!(verdict, ClassVerdict::StatesPassed)
-}
-
-/// Whether there is a class below the name, and its representative reaches more pairs.
-fn passes_below(below: &Option<ClassVerdict>) -> bool
-    ensures { result ≡ option_map_or passes below.now false }
-{
-    match below {
-        Some(verdict) => passes(verdict),
-        None => false,
-    }
 }

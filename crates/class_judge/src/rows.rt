@@ -3,9 +3,9 @@
 ghost use Rattle.std.specs.Prelude.{◌≡◌, ◌≤◌, IfOk, map, length};
 ghost use Rattle.class_judge.specs.Rows.{below_count};
 
+use crate::filed_verdict::FiledVerdict;
 use crate::naming::Naming;
 use crate::tree_name::TreeName;
-use crate::verdict::NameVerdict;
 use dns_data::{List, Name, NoMemory};
 use std::alloc::Global;
 use std::collections::VecDeque;
@@ -15,11 +15,11 @@ use verdict_book::{Filed, Work};
 #[derive(Drop)]
 pub(crate) struct Row {
     pub name: Name,
-    pub verdict: NameVerdict,
+    pub verdict: FiledVerdict,
 }
 
 /// The rows of what was filed, in its order.
-pub(crate) fn rows_of<N: Naming, W: Work<Item = TreeName<N>, Verdict = NameVerdict>>(
+pub(crate) fn rows_of<N: Naming, W: Work<Item = TreeName<N>, Verdict = FiledVerdict>>(
     alloc: Global,
     filed: List<Filed<W>>,
 ) -> Result<Vec<Row>, NoMemory>
@@ -40,7 +40,5 @@ pub(crate) fn below_count(rows: &[Row]) -> usize
     ensures value { result ≡ below_count rows.now }
     ensures within { result ≤ length rows.now }
 {
-    rows.iter()
-        .filter(|row| row.verdict.below.is_some())
-        .count()
+    rows.iter().filter(|row| row.verdict.has_below()).count()
 }

@@ -6,24 +6,24 @@ use Rattle.class_judge.specs.Rows.{IsFirstPassedAt, IsPassedAt}
 use Rattle.class_judge.proofs.ReportPassed.{exact_passes, below_found, none_passes_at}
 use Rattle.class_judge.proofs.passed.passed_at.Goals as goal
 
-pub returns-then-passes : goal.returns-then-passes
-returns-then-passes c =
+pub returns-then-exact_passes : goal.returns-then-exact_passes
+returns-then-exact_passes c =
     let setup = c.args.setup.now in
     let row = c.args.row.now in
     subst (IsFirstPassedAt setup.trees setup.rewrites setup.states row.name) (sym c.in_ok-copy.ensures)
-    (exact_passes setup.trees setup.rewrites setup.states row.name c.requires.in_tree row.verdict.exact c.requires.verdict.exact (sym c.passes.ensures ∙ c.if-passes.true))
+    (exact_passes setup.trees setup.rewrites setup.states row.name c.requires.in_tree row.verdict.exact c.requires.verdict.exact (sym c.exact_passes.ensures ∙ c.if-exact_passes.true))
 
-pub returns-then-passes_below : goal.returns-then-passes_below
-returns-then-passes_below c =
+pub returns-then-below_passes : goal.returns-then-below_passes
+returns-then-below_passes c =
     let setup = c.args.setup.now in
     let row = c.args.row.now in
     IfOk-weaker c.representative_below.result (IsBelow (ground_of setup.trees) row.name) (IsPassedAt setup.trees setup.rewrites setup.states row.name)
     (below_found setup.trees setup.rewrites setup.states row.name c.requires.in_tree row.verdict.exact row.verdict.below c.requires.verdict.exact c.requires.verdict.below
-    (sym c.passes.ensures ∙ c.if-passes.false) (sym c.passes_below.ensures ∙ c.if-passes_below.true)) c.representative_below.ensures
+    (sym c.exact_passes.ensures ∙ c.if-exact_passes.false) (sym c.below_passes.ensures ∙ c.if-below_passes.true)) c.representative_below.ensures
 
 pub returns : goal.returns
 returns c =
     let setup = c.args.setup.now in
     let row = c.args.row.now in
     none_passes_at setup.trees setup.rewrites setup.states row.name c.requires.in_tree row.verdict.exact row.verdict.below c.requires.verdict.exact c.requires.verdict.below
-    (sym c.passes.ensures ∙ c.if-passes.false) (sym c.passes_below.ensures ∙ c.if-passes_below.false)
+    (sym c.exact_passes.ensures ∙ c.if-exact_passes.false) (sym c.below_passes.ensures ∙ c.if-below_passes.false)

@@ -1,4 +1,4 @@
-use Rattle.std.proofs.Common.{◌≡◌, sym, subst}
+use Rattle.std.proofs.Common.{◌≡◌, ◌∙◌, sym, subst}
 use Rattle.std.proofs.lemmas.Result.{IfOk-weaker}
 use Rattle.dns_data.specs.Name.{Labels}
 use Rattle.net_model.specs.Reading.{ground_of}
@@ -27,6 +27,7 @@ returns-clause-verdict g c =
     let N = g.N.Naming in
     let setup = c.self.inside.setup in
     let item = c.args.item.now in
-    IfOk-weaker c.judge_name.result (IsNameVerdict setup.trees setup.rewrites setup.states c.in_ok-name.name.name) (λ verdict. verdict ≡ N.verdict_of item)
-    (λ verdict is. verdict_picked N.config N.rewrites N.states N.children_of N.verdict_of c.self.invariant.1 setup c.self.invariant.0 item c.requires verdict
-    (subst (λ (n : Labels). IsNameVerdict setup.trees setup.rewrites setup.states n verdict) c.in_ok-name.ensures.name is)) c.judge_name.ensures
+    let verdict = c.in_ok-verdict.verdict in
+    IfOk-weaker c.of.result (λ filed. filed ≡ verdict) (λ filed. filed ≡ N.verdict_of item)
+    (λ filed is. is ∙ verdict_picked N.config N.rewrites N.states N.children_of N.verdict_of c.self.invariant.1 setup c.self.invariant.0 item c.requires verdict
+    (subst (λ (n : Labels). IsNameVerdict setup.trees setup.rewrites setup.states n verdict) c.in_ok-name.ensures.name c.in_ok-verdict.ensures)) c.of.ensures
