@@ -1,4 +1,5 @@
 pub mod Answers
+pub mod CommonFronts
 pub mod CommonLabels
 pub mod CommonOctets
 pub mod DataFacts
@@ -16,6 +17,7 @@ pub mod NameFaults
 pub mod NameFronts
 pub mod NameOrder
 pub mod Names
+pub mod NumbersBelow
 pub mod OrderedLists
 pub mod Pieces
 pub mod Plain

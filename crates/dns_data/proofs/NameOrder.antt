@@ -1,15 +1,18 @@
 -- How names stand in their order: prefixes, names between others, and lists in which each name stands before the later ones.
-use Rattle.std.proofs.Common.{◌≡◌, ℕ, Bool, true, false, cond, List, [], ◌∷◌, ◌++◌, map, Contains, AllPairs, filter, Ordering, Less, Equal, Greater, is_lt, is_gt, is_eq, sym, refl, ap, ◌∙◌, subst, inl, inr, true≢false}
+use Rattle.std.proofs.Common.{◌≡◌, ℕ, zero, suc, ◌<◌, Bool, true, false, cond, List, [], ◌∷◌, ◌++◌, map, length, get_or, Contains, AllPairs, filter, Ordering, Less, Equal, Greater, is_lt, is_gt, is_eq, sym, refl, ap, ◌∙◌, subst, inl, inr, true≢false, arith}
 use Rattle.std.specs.Cmp.{IsTotalOrder}
 use Rattle.std.specs.Cmp.Lexicographic.{nat_list_cmp_total, lists_total, texts_ties, bytes_decides}
+use Rattle.std.specs.List.Sorted.{IsStrictlySortedBy}
 use Rattle.std.specs.Ordering.{ordering_then, ordering_reverse}
 use Rattle.std.proofs.lemmas.Cmp.{tied_itself}
 use Rattle.std.proofs.lemmas.List.Elements.{Contains-append_cases}
 use Rattle.std.proofs.lemmas.List.Kept.{AllPairs-cons}
+use Rattle.std.proofs.lemmas.Map.Keys.{sorted_tail}
+use Rattle.std.proofs.lemmas.Map.Views.{All-after_first}
 use Rattle.dns_data.specs.Label.{label_cmp}
-use Rattle.dns_data.specs.Name.{Labels, name_cmp, name_eq}
+use Rattle.dns_data.specs.Name.{Labels, is_prefix, name_cmp, name_eq}
 use Rattle.dns_data.proofs.Membership.{none_in_nil, has_first, has_later, from_map, from_filter, all_from_contains}
-use Rattle.dns_data.proofs.NameFronts.{Begins}
+use Rattle.dns_data.proofs.NameFronts.{Begins, is_prefix_tells, is_prefix_told}
 use Rattle.dns_data.proofs.Names.{name_eq_decides, same_names}
 use Rattle.dns_data.proofs.OrderedLists.{never_before_itself}
 
@@ -89,6 +92,23 @@ new_prefix_after (other ∷ a) (label ∷ above) below le new =
     by Equal e h rest =
         rest h (λ (below', same). new (below', ap (λ (xs : Labels). label ∷ xs) same ∙ ap (λ (x : List ℕ). x ∷ a) (sym (same_labels other label e))))
     by Greater e h rest = absurd (true≢false h)
+
+-- what stands between a name and one below it has the name's labels first
+pub between : (above name below : Labels) → UpTo above name → UpTo name (above ++ below) → Begins above name
+between above name below low high = by (is_prefix above name) refl where
+  by : (b : Bool) → is_prefix above name ≡ b → Begins above name
+  by true e = is_prefix_tells above name e
+  by false e =
+      absurd (never_before_itself name_cmp names_total above (up_to_before above name above low
+      (new_prefix_after name above below high (λ begins. true≢false (sym (is_prefix_told above name begins) ∙ e)))))
+
+-- each name of a strictly sorted list stands before the later ones
+pub before_later : (names : List Labels) → IsStrictlySortedBy name_cmp names → (i j : ℕ) (d : Labels) → i < j → j < length names
+    → Before (get_or names i d) (get_or names j d)
+before_later [] sorted i j d lower within = absurd (omega arith)
+before_later (name ∷ names) sorted i zero d lower within = absurd (omega arith)
+before_later (name ∷ names) sorted zero (suc j) d lower within = All-after_first name_cmp name names sorted j d (omega arith)
+before_later (name ∷ names) sorted (suc i) (suc j) d lower within = before_later names (sorted_tail name_cmp name names sorted) i j d (omega arith) (omega arith)
 
 -- each name of the list stands before the later ones
 abbrev pub Rising : List Labels → Type 0

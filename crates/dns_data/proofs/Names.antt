@@ -126,3 +126,13 @@ pub is_name_tells : (name : Labels) → is_name name ≡ true → IsName name
 is_name_tells name e =
     let parts = and_parts (list_all is_label name) (nat_le (wire_octets name) 255) e in
     record { labels = labels_tell name parts.0; short = leb-true (wire_octets name) 255 parts.1 }
+
+-- labels all pass
+labels_told : (labels : Labels) → AllByRecursion IsLabel labels → list_all is_label labels ≡ true
+labels_told [] each = refl
+labels_told (label ∷ labels) each = and_from (is_label label) (list_all is_label labels) (is_label_told label each.0) (labels_told labels each.1)
+
+-- and a name passes
+pub is_name_told : (name : Labels) → IsName name → is_name name ≡ true
+is_name_told name is =
+    and_from (list_all is_label name) (nat_le (wire_octets name) 255) (labels_told name is.labels) (le-leb (wire_octets name) 255 is.short)

@@ -49,6 +49,16 @@ impl Label {
         Ok(Label { octets: label })
     }
 
+    /// The label with these octets, which are a label's: none is folded.
+    pub fn with_octets(alloc: Global, octets: &[u8]) -> Result<Label, NoMemory>
+        requires { IsLabel octets.now }
+        ensures { IfOk result (λ label. label ≡ octets.now) }
+    {
+        Ok(Label {
+            octets: Octets::from_octets(alloc, octets)?,
+        })
+    }
+
     /// The octets of the label.
     pub fn items(&self) -> &[u8]
         ensures same { result.now ≡ self.now }
