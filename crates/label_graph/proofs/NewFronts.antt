@@ -1,28 +1,15 @@
 -- Fronts of a name that are put to names which have the root and the prefixes of each.
-use Rattle.std.proofs.Common.{◌≡◌, ℕ, zero, suc, ◌+◌, ◌<◌, ◌≤◌, Bool, cond, ◌⊎◌, List, [], ◌∷◌, ◌++◌, take, drop, Contains, inl, inr, sym, refl, ap, ◌∙◌, subst, arith}
+use Rattle.std.proofs.Common.{ℕ, ◌+◌, ◌<◌, ◌⊎◌, List, [], ◌++◌, take, drop, Contains, inl, inr, sym, subst, arith}
 use Rattle.std.specs.Prelude.{◌↔◌}
 use Rattle.std.specs.List.{common_prefix_len}
-use Rattle.std.proofs.lemmas.Bool.{cases_lt, cases_Bool}
+use Rattle.std.proofs.lemmas.Bool.{cases_lt}
 use Rattle.std.proofs.lemmas.List.{take-append-drop}
 use Rattle.dns_data.specs.Label.{label_eq}
 use Rattle.dns_data.specs.Name.{Labels}
-use Rattle.dns_data.proofs.Names.{label_eq_decides}
+use Rattle.dns_data.proofs.CommonFronts.{common_front}
 use Rattle.label_graph.specs.LiveSet.{HavePrefixes}
 use Rattle.label_graph.specs.Targets.{IsPrefixFrom}
 use Rattle.label_graph.proofs.TargetLinks.{front_above}
-
--- labels with which two names begin
-common_front : (count : ℕ) (a b : Labels) → count ≤ common_prefix_len label_eq a b → take count a ≡ take count b
-common_front zero a b few = refl
-common_front (suc count) [] b few = absurd (omega arith)
-common_front (suc count) (x ∷ a) [] few = absurd (omega arith)
-common_front (suc count) (x ∷ a) (y ∷ b) few =
-    elim (cases_Bool (label_eq x y)) [
-      | inl same ↦ (
-          let rest : count ≤ common_prefix_len label_eq a b = omega (arith, few, ap (λ (t : Bool). cond t (1 + common_prefix_len label_eq a b) 0) same) in
-          ap (λ (l : List ℕ). l ∷ take count a) ((label_eq_decides x y).0 same) ∙ ap (λ (n : Labels). y ∷ n) (common_front count a b rest))
-      | inr apart ↦ absurd (omega (arith, few, ap (λ (t : Bool). cond t (1 + common_prefix_len label_eq a b) 0) apart))
-    ]
 
 -- so many labels of a name, or fewer, make one of the names, if it begins with so many of one of them
 pub shared_known : (names : List Labels) (last name : Labels) → HavePrefixes names → Contains names last → (count : ℕ)

@@ -1,25 +1,16 @@
 -- The name one label above another among names in order.
-use Rattle.std.proofs.Common.{◌≡◌, ◌∙◌, ℕ, ◌-◌, Bool, true, false, ◌<◌, ◌≤◌, List, [], ◌∷◌, ◌++◌, length, drop, get_or, Contains, Less, is_gt, sym, refl, ap, subst, inl, inr, true≢false, append-nil, arith}
+use Rattle.std.proofs.Common.{◌≡◌, ◌∙◌, ℕ, ◌-◌, ◌<◌, ◌≤◌, List, [], ◌∷◌, ◌++◌, length, drop, get_or, Contains, Less, is_gt, sym, refl, ap, subst, inl, inr, append-nil, arith}
 use Rattle.std.proofs.lemmas.Bool.{cases_lt}
 use Rattle.std.proofs.lemmas.Cmp.{tied_itself}
 use Rattle.std.proofs.lemmas.List.{length-append}
-use Rattle.dns_data.specs.Name.{Labels, is_prefix, name_cmp}
-use Rattle.dns_data.proofs.NameFronts.{Begins, is_prefix_tells, is_prefix_told}
-use Rattle.dns_data.proofs.NameOrder.{UpTo, names_total, prefix_up_to, up_to_before, new_prefix_after}
+use Rattle.dns_data.specs.Name.{Labels, name_cmp}
+use Rattle.dns_data.proofs.NameFronts.{Begins}
+use Rattle.dns_data.proofs.NameOrder.{UpTo, names_total, prefix_up_to, up_to_before, between}
 use Rattle.dns_data.proofs.OrderedLists.{never_before_itself}
 use Rattle.label_graph.specs.LiveSet.{AreInOrder, HavePrefixes, name_at}
 use Rattle.label_graph.specs.NameTree.{IsNextBelow}
 use Rattle.label_graph.proofs.NamePlaces.{last_label}
 use Rattle.label_graph.proofs.TargetLinks.{place_among, among_place}
-
--- what stands between a name and one below it has the name's labels first
-between : (above name below : Labels) → UpTo above name → UpTo name (above ++ below) → Begins above name
-between above name below low high = by (is_prefix above name) refl where
-  by : (b : Bool) → is_prefix above name ≡ b → Begins above name
-  by true e = is_prefix_tells above name e
-  by false e =
-      absurd (never_before_itself name_cmp names_total above (up_to_before above name above low
-      (new_prefix_after name above below high (λ begins. true≢false (sym (is_prefix_told above name begins) ∙ e)))))
 
 -- a front of a name that isn't the whole name begins the name one label above
 pub begins_above : (front below parent : Labels) (label : List ℕ) → front ++ below ≡ parent ++ label ∷ [] → length front ≤ length parent → Begins front parent

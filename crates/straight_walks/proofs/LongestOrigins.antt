@@ -1,50 +1,20 @@
 -- Where a search for a front of a name among names in order finds nothing, what the name before its place tells of the names
 -- that stand at or above it.
-use Rattle.std.proofs.Common.{◌≡◌, ℕ, zero, suc, ◌+◌, ◌-◌, ◌<◌, ◌≤◌, true, cond, List, [], ◌∷◌, ◌++◌, map, length, take, drop, get_or, Err, is_gt, is_lt, Less, Greater, sym, refl, ap, ◌∙◌, subst, inl, inr, true≢false, arith, length-append}
+use Rattle.std.proofs.Common.{◌≡◌, ℕ, zero, suc, ◌+◌, ◌-◌, ◌<◌, ◌≤◌, true, List, [], ◌∷◌, ◌++◌, map, length, take, drop, get_or, Err, is_gt, is_lt, Less, Greater, sym, ap, ◌∙◌, subst, inl, inr, true≢false, arith, length-append}
 use Rattle.std.specs.Prelude.{Contains}
 use Rattle.std.specs.List.{common_prefix_len}
 use Rattle.std.specs.List.Sorted.{IsBinarySearchResult, IsPartitionPoint, IsSortedBy, IsStrictlySortedBy}
 use Rattle.std.specs.Ordering.{ordering_reverse}
-use Rattle.std.proofs.lemmas.Bool.{cases_Bool, cases_lt}
+use Rattle.std.proofs.lemmas.Bool.{cases_lt}
 use Rattle.std.proofs.lemmas.Cmp.{tied_itself}
 use Rattle.std.proofs.lemmas.List.{get_or-map, get_or_default, length-map, take-append-drop}
 use Rattle.std.proofs.lemmas.List.Sorted.{searchable_from_sorted}
-use Rattle.std.proofs.lemmas.Map.Keys.{sorted_tail}
-use Rattle.std.proofs.lemmas.Map.Views.{All-after_first}
 use Rattle.dns_data.specs.Label.{label_eq}
 use Rattle.dns_data.specs.Name.{Labels, is_prefix, name_cmp}
+use Rattle.dns_data.proofs.CommonFronts.{common_front, shared_front}
 use Rattle.dns_data.proofs.NameFronts.{Begins, is_prefix_tells}
-use Rattle.dns_data.proofs.NameOrder.{Before, UpTo, before_up_to, names_total, prefix_up_to}
-use Rattle.dns_data.proofs.Names.{label_eq_decides}
+use Rattle.dns_data.proofs.NameOrder.{Before, UpTo, before_later, before_up_to, between, names_total, prefix_up_to}
 use Rattle.dns_data.proofs.OrderedLists.{never_before_itself}
-use Rattle.zone_tree.proofs.SearchedNames.{between}
-
--- labels with which two names begin
-common_front : (count : ℕ) (a b : Labels) → count ≤ common_prefix_len label_eq a b → take count a ≡ take count b
-common_front zero a b few = refl
-common_front (suc count) [] b few = absurd (omega arith)
-common_front (suc count) (x ∷ a) [] few = absurd (omega arith)
-common_front (suc count) (x ∷ a) (y ∷ b) few =
-    elim (cases_Bool (label_eq x y)) [
-      | inl same ↦ (
-          let rest : count ≤ common_prefix_len label_eq a b = omega (arith, few, ap (λ t. cond t (1 + common_prefix_len label_eq a b) 0) same) in
-          ap (λ (l : List ℕ). l ∷ take count a) ((label_eq_decides x y).0 same) ∙ ap (λ (n : Labels). y ∷ n) (common_front count a b rest))
-      | inr apart ↦ absurd (omega (arith, few, ap (λ t. cond t (1 + common_prefix_len label_eq a b) 0) apart))
-    ]
-
--- two names that one begins have its labels in common
-shared_front : (above x y : Labels) → length above ≤ common_prefix_len label_eq (above ++ x) (above ++ y)
-shared_front [] x y = omega arith
-shared_front (label ∷ above) x y =
-    omega (arith, shared_front above x y, ap (λ t. cond t (1 + common_prefix_len label_eq (above ++ x) (above ++ y)) 0) ((label_eq_decides label label).1 refl))
-
--- each name of a strictly sorted list stands before the later ones
-before_any : (names : List Labels) → IsStrictlySortedBy name_cmp names → (i j : ℕ) (d : Labels) → i < j → j < length names
-    → Before (get_or names i d) (get_or names j d)
-before_any [] sorted i j d lower within = absurd (omega arith)
-before_any (name ∷ names) sorted i zero d lower within = absurd (omega arith)
-before_any (name ∷ names) sorted zero (suc j) d lower within = All-after_first name_cmp name names sorted j d (omega arith)
-before_any (name ∷ names) sorted (suc i) (suc j) d lower within = before_any names (sorted_tail name_cmp name names sorted) i j d (omega arith) (omega arith)
 
 -- a name at or above another, of at most so many labels, begins the front of so many
 begins_front : (above name : Labels) (count : ℕ) → is_prefix above name ≡ true → length above ≤ count → (rest : Labels) × (above ++ rest ≡ take count name)
@@ -65,7 +35,7 @@ module _ {X : Type 0} (key : X → Labels) (xs : List X) (sorted : IsStrictlySor
   key_before i j d lower below =
       ap (λ (a : Labels). name_cmp a (key (get_or xs j d))) (sym (get_or-map key xs i d [] (omega arith)))
       ∙ ap (name_cmp (get_or (map key xs) i [])) (sym (get_or-map key xs j d [] below))
-      ∙ before_any (map key xs) sorted i j [] lower (omega (arith, length-map xs key))
+      ∙ before_later (map key xs) sorted i j [] lower (omega (arith, length-map xs key))
 
   rises : IsSortedBy (λ a b. is_lt (name_cmp (key a) (key b))) xs
   rises = λ k d low high.

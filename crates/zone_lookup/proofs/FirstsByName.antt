@@ -16,7 +16,7 @@ use Rattle.std.proofs.lemmas.Map.Keys.{sorted_tail}
 use Rattle.std.proofs.lemmas.Map.Views.{All-after_first}
 use Rattle.dns_data.specs.Label.{label_cmp}
 use Rattle.dns_data.specs.Name.{Labels, name_eq, name_cmp}
-use Rattle.dns_data.proofs.NameOrder.{names_total, before_differs, behind_differs}
+use Rattle.dns_data.proofs.NameOrder.{names_total, before_differs, before_later, behind_differs}
 use Rattle.dns_data.proofs.Names.{same_names, name_eq_decides}
 use Rattle.dns_data.proofs.Searches.{find_none}
 use Rattle.zone_lookup.specs.Hosts.{AreFirsts, FindsFirsts}
@@ -119,13 +119,6 @@ module _ {X Y : Type 0} (tell : X → Y) (name_of : Y → Labels) where
 
 -- ---- a search in a list in the order of names
 
--- each name of a strictly sorted list stands before the later ones
-before_later : (names : List Labels) → IsStrictlySortedBy name_cmp names → (k : ℕ) (d : Labels) → suc k < length names
-    → name_cmp (get_or names k d) (get_or names (suc k) d) ≡ Less
-before_later [] sorted k d within = absurd (omega arith)
-before_later (name ∷ names) sorted zero d within = All-after_first name_cmp name names sorted 0 d (omega arith)
-before_later (name ∷ names) sorted (suc k) d within = before_later names (sorted_tail name_cmp name names sorted) k d (omega arith)
-
 module _ {X : Type 0} (key : X → Labels) (name : Labels) where
   abbrev has_name : X → Bool
   has_name x = name_eq (key x) name
@@ -149,7 +142,7 @@ module _ {X : Type 0} (key : X → Labels) (name : Labels) where
       ap (λ (a : Labels). name_cmp a (key (get_or xs (k + 1) d))) (sym (get_or-map key xs k d [] (omega arith)))
       ∙ ap (name_cmp (get_or (map key xs) k [])) (sym (get_or-map key xs (k + 1) d [] high))
       ∙ ap (λ (n : ℕ). name_cmp (get_or (map key xs) k []) (get_or (map key xs) n [])) (let e : k + 1 ≡ suc k = omega arith in e)
-      ∙ before_later (map key xs) sorted k [] (omega (arith, length-map xs key)) in
+      ∙ before_later (map key xs) sorted k (suc k) [] (omega arith) (omega (arith, length-map xs key)) in
       ap is_lt (names_total.antisymm (key (get_or xs (k + 1) d)) (key (get_or xs k d)) ∙ ap ordering_reverse less)
 
   -- what a binary search finds is what a search finds

@@ -1,53 +1,24 @@
 -- Where a search for a front of a name among names in order finds nothing, what the name before its place tells of the
 -- shorter fronts.
-use Rattle.std.proofs.Common.{◌≡◌, ℕ, zero, suc, ◌+◌, ◌-◌, ◌<◌, ◌≤◌, Bool, true, false, cond, List, [], ◌∷◌, ◌++◌, map, length, take, drop, get_or, Option, Some, Err, find, Less, Greater, is_gt, is_some, sym, refl, ap, ◌∙◌, subst, inl, inr, true≢false, arith}
+use Rattle.std.proofs.Common.{◌≡◌, ℕ, ◌+◌, ◌-◌, ◌<◌, ◌≤◌, Bool, true, false, List, [], ◌++◌, map, length, take, drop, get_or, Option, Some, Err, find, Less, Greater, is_gt, is_some, sym, refl, ap, ◌∙◌, subst, inl, inr, true≢false, arith}
 use Rattle.std.specs.List.{common_prefix_len}
 use Rattle.std.specs.List.Sorted.{IsStrictlySortedBy, IsPartitionPoint, IsBinarySearchResult}
-use Rattle.std.proofs.lemmas.Bool.{cases_lt, cases_Bool}
+use Rattle.std.proofs.lemmas.Bool.{cases_lt}
 use Rattle.std.proofs.lemmas.List.{take-append-drop, take-take, take_all, length-take-le, get_or-map, get_or_default, length-map}
 use Rattle.std.proofs.lemmas.Cmp.{tied_itself}
 use Rattle.std.proofs.lemmas.List.Sorted.{searchable_from_sorted}
-use Rattle.std.proofs.lemmas.Map.Keys.{sorted_tail}
-use Rattle.std.proofs.lemmas.Map.Views.{All-after_first}
 use Rattle.dns_data.specs.Label.{label_eq}
 use Rattle.dns_data.specs.Name.{Labels, name_eq, name_cmp}
-use Rattle.dns_data.proofs.NameOrder.{UpTo, Before, names_total, prefix_up_to, before_up_to}
-use Rattle.dns_data.proofs.Names.{label_eq_decides, name_eq_decides}
+use Rattle.dns_data.proofs.CommonFronts.{common_front, shared_front}
+use Rattle.dns_data.proofs.NameOrder.{UpTo, Before, names_total, prefix_up_to, before_up_to, between, before_later}
+use Rattle.dns_data.proofs.Names.{name_eq_decides}
 use Rattle.dns_data.proofs.OrderedLists.{never_before_itself}
 use Rattle.dns_data.proofs.Searches.{find_none}
-use Rattle.zone_tree.proofs.SearchedNames.{between}
 use Rattle.zone_lookup.proofs.FirstsByName.{found_in_order, rises}
-
--- labels with which two names begin
-common_front : (count : ℕ) (a b : Labels) → count ≤ common_prefix_len label_eq a b → take count a ≡ take count b
-common_front zero a b few = refl
-common_front (suc count) [] b few = absurd (omega arith)
-common_front (suc count) (x ∷ a) [] few = absurd (omega arith)
-common_front (suc count) (x ∷ a) (y ∷ b) few =
-    elim (cases_Bool (label_eq x y)) [
-      | inl same ↦ (
-          let rest : count ≤ common_prefix_len label_eq a b = omega (arith, few, ap (λ (t : Bool). cond t (1 + common_prefix_len label_eq a b) 0) same) in
-          ap (λ (l : List ℕ). l ∷ take count a) ((label_eq_decides x y).0 same) ∙ ap (λ (n : Labels). y ∷ n) (common_front count a b rest))
-      | inr apart ↦ absurd (omega (arith, few, ap (λ (t : Bool). cond t (1 + common_prefix_len label_eq a b) 0) apart))
-    ]
-
--- two names that one begins have its labels in common
-shared_front : (above x y : Labels) → length above ≤ common_prefix_len label_eq (above ++ x) (above ++ y)
-shared_front [] x y = omega arith
-shared_front (label ∷ above) x y =
-    omega (arith, shared_front above x y, ap (λ (t : Bool). cond t (1 + common_prefix_len label_eq (above ++ x) (above ++ y)) 0) ((label_eq_decides label label).1 refl))
 
 -- no name stands before itself
 not_itself : (name : Labels) → Before name name → ⊥
 not_itself name less = never_before_itself name_cmp names_total name less
-
--- each name of a strictly sorted list stands before the later ones
-before_any : (names : List Labels) → IsStrictlySortedBy name_cmp names → (i j : ℕ) (d : Labels) → i < j → j < length names
-    → Before (get_or names i d) (get_or names j d)
-before_any [] sorted i j d lower within = absurd (omega arith)
-before_any (name ∷ names) sorted i zero d lower within = absurd (omega arith)
-before_any (name ∷ names) sorted zero (suc j) d lower within = All-after_first name_cmp name names sorted j d (omega arith)
-before_any (name ∷ names) sorted (suc i) (suc j) d lower within = before_any names (sorted_tail name_cmp name names sorted) i j d (omega arith) (omega arith)
 
 module _ {X : Type 0} (key : X → Labels) (xs : List X) (sorted : IsStrictlySortedBy name_cmp (map key xs)) (name : Labels) (count : ℕ) (within : count ≤ length name) where
   abbrev found : Labels → Option X
@@ -111,7 +82,7 @@ module _ {X : Type 0} (key : X → Labels) (xs : List X) (sorted : IsStrictlySor
         | inl before ↦ ap is_gt (
             ap (λ (a : Labels). name_cmp a (key last)) (sym (get_or-map key xs i x [] (omega arith)))
             ∙ ap (λ (a : Labels). name_cmp (get_or (map key xs) i []) a) (ap key is_last ∙ sym (get_or-map key xs (place - 1) last [] (omega arith)))
-            ∙ before_any (map key xs) sorted i (place - 1) [] before (omega (arith, length-map xs key)))
+            ∙ before_later (map key xs) sorted i (place - 1) [] before (omega (arith, length-map xs key)))
         | inr same ↦ (
             let here : i ≡ place - 1 = omega (arith, lower, same) in
             let is : get_or xs i x ≡ last = ap (λ (n : ℕ). get_or xs n x) here ∙ get_or_default xs (place - 1) x last (omega arith) ∙ sym is_last in

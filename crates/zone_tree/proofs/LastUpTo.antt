@@ -1,10 +1,10 @@
 -- The last of names in order that doesn't stand behind another: where a search leaves it, and that no existing prefix of the
 -- other name has more labels than both share.
-use Rattle.std.proofs.Common.{◌≡◌, ℕ, zero, suc, ◌+◌, ◌-◌, ◌<◌, ◌≤◌, Bool, true, false, cond, List, [], ◌∷◌, ◌++◌, length, take, drop, get_or, Contains, Some, Err, Less, Equal, Greater, is_gt, sym, refl, ap, ◌∙◌, subst, inl, inr, true≢false, arith}
+use Rattle.std.proofs.Common.{◌≡◌, ℕ, ◌+◌, ◌-◌, ◌<◌, ◌≤◌, true, false, List, [], ◌++◌, length, take, drop, get_or, Contains, Some, Err, Less, Equal, Greater, is_gt, sym, ap, ◌∙◌, subst, inl, inr, true≢false, arith}
 use Rattle.std.specs.List.{common_prefix_len}
 use Rattle.std.specs.List.Sorted.{IsBinarySearchResult, IsPartitionPoint}
 use Rattle.std.specs.Ordering.{ordering_reverse}
-use Rattle.std.proofs.lemmas.Bool.{cases_lt, cases_Bool, false_from_ne_true}
+use Rattle.std.proofs.lemmas.Bool.{cases_lt, false_from_ne_true}
 use Rattle.std.proofs.lemmas.Cmp.{tied_itself}
 use Rattle.std.proofs.lemmas.List.{take-append-drop, take_all, length-take-le, get_or_default}
 use Rattle.std.proofs.lemmas.List.Elements.{Contains-get_or}
@@ -12,9 +12,10 @@ use Rattle.std.proofs.lemmas.List.Sorted.{searchable_from_sorted}
 use Rattle.std.proofs.lemmas.List.Sums.{common_prefix_len-le}
 use Rattle.dns_data.specs.Label.{label_eq}
 use Rattle.dns_data.specs.Name.{Labels, is_prefix, name_cmp}
+use Rattle.dns_data.proofs.CommonFronts.{common_front, both_begin}
 use Rattle.dns_data.proofs.NameFronts.{Begins, is_prefix_tells}
-use Rattle.dns_data.proofs.NameOrder.{UpTo, Before, names_total, before_up_to}
-use Rattle.dns_data.proofs.Names.{label_eq_decides, same_names}
+use Rattle.dns_data.proofs.NameOrder.{UpTo, Before, names_total, before_up_to, between}
+use Rattle.dns_data.proofs.Names.{same_names}
 use Rattle.dns_data.proofs.OrderedLists.{never_before_itself}
 use Rattle.net_model.specs.declared.config.Zone.{Zone}
 use Rattle.net_model.specs.Lookup.{closest_encloser}
@@ -27,7 +28,7 @@ use Rattle.zone_tree.specs.declared.places.Preceding.{Preceding}
 use Rattle.zone_tree.proofs.Descents.{origin_begins, encloser_at}
 use Rattle.zone_tree.proofs.Existing.{existing_within, begins_up_to}
 use Rattle.zone_tree.proofs.Prefixes.{longest_itself}
-use Rattle.zone_tree.proofs.SearchedNames.{rises, between}
+use Rattle.zone_tree.proofs.SearchedNames.{rises}
 use Rattle.zone_tree.proofs.SortedTree.{both_up_to}
 
 -- a name that ties with another, or stands before it, doesn't stand behind it
@@ -75,30 +76,6 @@ module _ (names : List Labels) (name : Labels) (ordered : Ordered names) where
     }
 
 -- ---- the prefixes of a name that begin the last name up to it
-
--- labels with which two names begin
-common_front : (count : ℕ) (a b : Labels) → count ≤ common_prefix_len label_eq a b → take count a ≡ take count b
-common_front zero a b few = refl
-common_front (suc count) [] b few = absurd (omega arith)
-common_front (suc count) (x ∷ a) [] few = absurd (omega arith)
-common_front (suc count) (x ∷ a) (y ∷ b) few =
-    elim (cases_Bool (label_eq x y)) [
-      | inl same ↦ (
-          let rest : count ≤ common_prefix_len label_eq a b = omega (arith, few, ap (λ (t : Bool). cond t (1 + common_prefix_len label_eq a b) 0) same) in
-          ap (λ (l : List ℕ). l ∷ take count a) ((label_eq_decides x y).0 same) ∙ ap (λ (n : Labels). y ∷ n) (common_front count a b rest))
-      | inr apart ↦ absurd (omega (arith, few, ap (λ (t : Bool). cond t (1 + common_prefix_len label_eq a b) 0) apart))
-    ]
-
--- two names that one begins have its labels in common
-shared_front : (above x y : Labels) → length above ≤ common_prefix_len label_eq (above ++ x) (above ++ y)
-shared_front [] x y = omega arith
-shared_front (label ∷ above) x y =
-    omega (arith, shared_front above x y, ap (λ (t : Bool). cond t (1 + common_prefix_len label_eq (above ++ x) (above ++ y)) 0) ((label_eq_decides label label).1 refl))
-
-both_begin : (above a b : Labels) → Begins above a → Begins above b → length above ≤ common_prefix_len label_eq a b
-both_begin above a b (x, e) (y, f) =
-    subst (λ (n : Labels). length above ≤ common_prefix_len label_eq n b) e
-    (subst (λ (n : Labels). length above ≤ common_prefix_len label_eq (above ++ x) n) f (shared_front above x y))
 
 -- a front of a name begins it
 pub front_begins : (name : Labels) (k : ℕ) → Begins (take k name) name

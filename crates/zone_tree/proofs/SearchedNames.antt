@@ -1,5 +1,5 @@
 -- Where a name stands among names in order.
-use Rattle.std.proofs.Common.{◌≡◌, ◌≢◌, ℕ, Bool, true, false, ◌+◌, ◌<◌, List, [], ◌∷◌, ◌++◌, Contains, get_or, length, is_lt, Less, Equal, Greater, Result, Ok, Err, sym, refl, ap, ◌∙◌, subst, inl, inr, true≢false, length-append, is_gt, arith}
+use Rattle.std.proofs.Common.{◌≡◌, ◌≢◌, ℕ, false, ◌+◌, ◌<◌, List, [], ◌∷◌, Contains, get_or, length, is_lt, Less, Equal, Greater, Result, Ok, Err, sym, ap, ◌∙◌, subst, inl, inr, true≢false, length-append, is_gt, arith}
 use Rattle.std.specs.Result.{MatchResult}
 use Rattle.std.specs.List.Sorted.{IsSearchInRange, IsBinarySearchResult, IsSortedBy}
 use Rattle.std.proofs.lemmas.Bool.{cases_lt}
@@ -8,9 +8,9 @@ use Rattle.std.proofs.lemmas.List.{get_or_default}
 use Rattle.std.proofs.lemmas.List.Sorted.{searchable_from_sorted}
 use Rattle.std.specs.Ordering.{ordering_reverse}
 use Rattle.dns_data.specs.Name.{Labels, is_prefix, name_cmp, name_eq}
-use Rattle.dns_data.proofs.NameFronts.{Begins, is_prefix_tells, is_prefix_told}
+use Rattle.dns_data.proofs.NameFronts.{is_prefix_told}
 use Rattle.dns_data.proofs.Names.{same_names}
-use Rattle.dns_data.proofs.NameOrder.{UpTo, Before, names_total, before_differs, behind_differs, prefix_up_to, up_to_before, new_prefix_after}
+use Rattle.dns_data.proofs.NameOrder.{UpTo, Before, names_total, before_differs, behind_differs, prefix_up_to, up_to_before, between}
 use Rattle.dns_data.proofs.OrderedLists.{never_before_itself}
 use Rattle.zone_tree.specs.Names.{Ordered, IsBelow}
 
@@ -48,15 +48,6 @@ apart names i j ordered first second other =
       | inl lower ↦ before_differs (get_or names i []) (get_or names j []) (ordered i j [] lower second)
       | inr higher ↦ behind_differs (get_or names i []) (get_or names j []) (ordered j i [] (let e : i ≢ j = other in omega arith) first)
     ]
-
--- what stands between a name and one below it has the name's labels first
-pub between : (above name below : Labels) → UpTo above name → UpTo name (above ++ below) → Begins above name
-between above name below low high = by (is_prefix above name) refl where
-  by : (b : Bool) → is_prefix above name ≡ b → Begins above name
-  by true e = is_prefix_tells above name e
-  by false e =
-      absurd (never_before_itself name_cmp names_total above (up_to_before above name above low
-      (new_prefix_after name above below high (λ begins. true≢false (sym (is_prefix_told above name begins) ∙ e)))))
 
 -- where the next name isn't below the one at a place, or there is none, no name is
 module _ (names : List Labels) (place : ℕ) (ordered : Ordered names) (within : place < length names)
