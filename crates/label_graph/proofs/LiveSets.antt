@@ -1,40 +1,15 @@
 -- Each name has a live set in a graph, found label by label.
-use Rattle.std.proofs.Common.{◌≡◌, ℕ, zero, suc, ◌<◌, List, [], ◌∷◌, ◌++◌, filter, flat_map, length, get_or, Contains, inl, inr, sym, subst, append_assoc, append-nil, arith}
+use Rattle.std.proofs.Common.{ℕ, List, [], ◌∷◌, ◌++◌, filter, flat_map, length, get_or, Contains, inl, inr, sym, subst, append_assoc, append-nil}
 use Rattle.std.specs.Prelude.{◌↔◌}
-use Rattle.std.proofs.lemmas.Bool.{cases_lt}
 use Rattle.dns_data.specs.Name.{Labels, name_eq}
-use Rattle.dns_data.proofs.Membership.{none_in_nil, has_first, has_later, first_or_later, filter_has, from_filter, flat_map_has, from_flat_map}
+use Rattle.dns_data.proofs.Membership.{has_first, has_later, first_or_later, filter_has, from_filter, flat_map_has, from_flat_map}
 use Rattle.dns_data.proofs.Names.{name_eq_decides}
+use Rattle.dns_data.proofs.NumbersBelow.{numbers_below, numbers_below_have, from_numbers_below}
 use Rattle.label_graph.specs.Graphs.{IsGraph, SomeItem, IsStep, IsFrom}
 use Rattle.label_graph.specs.LiveSet.{IsLiveSet, name_at}
 use Rattle.label_graph.specs.Targets.{Targets, ground_in}
 use Rattle.label_graph.proofs.GraphSets.{root_set, step_set}
 use Rattle.label_graph.proofs.TargetLinks.{place_among}
-
--- the numbers below a number
-places_below : ℕ → List ℕ
-places_below zero = []
-places_below (suc n) = n ∷ places_below n
-
-below_has : (n k : ℕ) → k < n → Contains (places_below n) k
-unfolding places_below
-below_has zero k below = absurd (omega arith)
-below_has (suc n) k below =
-    elim (cases_lt k n) [
-      | inl lower ↦ has_later n (places_below n) k (below_has n k lower)
-      | inr last ↦ (
-          let same : n ≡ k = omega arith in
-          subst (λ (m : ℕ). Contains (n ∷ places_below n) m) same (has_first n (places_below n)))
-    ]
-
-from_below : (n k : ℕ) → Contains (places_below n) k → k < n
-unfolding places_below
-from_below zero k has = absurd (none_in_nil k has)
-from_below (suc n) k has =
-    elim (first_or_later n (places_below n) k has) [
-      | inl same ↦ omega (arith, same)
-      | inr later ↦ (let lower : k < n = from_below n k later in omega arith)
-    ]
 
 module _ (targets : Targets) (reads : List (List ℕ)) (is : IsGraph targets reads) where
   -- a place with those that its targets read on to
@@ -60,21 +35,21 @@ module _ (targets : Targets) (reads : List (List ℕ)) (is : IsGraph targets rea
 
   -- the places of a name one label below
   abbrev step : List ℕ → ℕ → List ℕ
-  step label place = filter (λ (k : ℕ). name_eq (name_at targets.names k) (name_at targets.names place ++ label ∷ [])) (places_below (length targets.names))
+  step label place = filter (λ (k : ℕ). name_eq (name_at targets.names k) (name_at targets.names place ++ label ∷ [])) (numbers_below (length targets.names))
 
   step_has : (label : List ℕ) (live : List ℕ) (other : ℕ) → Contains (flat_map (step label) live) other ↔ SomeItem (IsStep targets.names label other) live
   step_has label live other = (there, back) where
     there : Contains (flat_map (step label) live) other → SomeItem (IsStep targets.names label other) live
     there has =
         let (place, among, inner) = from_flat_map (step label) live other has in
-        let found = from_filter (λ (k : ℕ). name_eq (name_at targets.names k) (name_at targets.names place ++ label ∷ [])) (places_below (length targets.names)) other inner in
-        (place, among, (from_below (length targets.names) other found.0, (name_eq_decides (name_at targets.names other) (name_at targets.names place ++ label ∷ [])).0 found.1))
+        let found = from_filter (λ (k : ℕ). name_eq (name_at targets.names k) (name_at targets.names place ++ label ∷ [])) (numbers_below (length targets.names)) other inner in
+        (place, among, (from_numbers_below (length targets.names) other found.0, (name_eq_decides (name_at targets.names other) (name_at targets.names place ++ label ∷ [])).0 found.1))
 
     back : SomeItem (IsStep targets.names label other) live → Contains (flat_map (step label) live) other
     back (place, among, (within, at)) =
         flat_map_has (step label) live place other among
-        (filter_has (λ (k : ℕ). name_eq (name_at targets.names k) (name_at targets.names place ++ label ∷ [])) (places_below (length targets.names)) other
-        (below_has (length targets.names) other within)
+        (filter_has (λ (k : ℕ). name_eq (name_at targets.names k) (name_at targets.names place ++ label ∷ [])) (numbers_below (length targets.names)) other
+        (numbers_below_have (length targets.names) other within)
         ((name_eq_decides (name_at targets.names other) (name_at targets.names place ++ label ∷ [])).1 at))
 
   live_further : (front rest : Labels) (live : List ℕ) → IsLiveSet (ground_in targets) front live

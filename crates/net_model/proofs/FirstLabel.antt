@@ -1,5 +1,5 @@
 -- Below a name with a free label there is a label that is tried first among the free ones.
-use Rattle.std.proofs.Common.{◌≡◌, ℕ, zero, suc, ◌<◌, ◌≤◌, Bool, true, false, cond, not, ◌&&◌, ◌⊎◌, List, [], ◌∷◌, ◌++◌, map, flat_map, length, Contains, nat_eq, nat_lt, Ordering, Less, Equal, Greater, nat_cmp, sym, refl, ap, ◌∙◌, subst, inl, inr, true≢false, arith, le_refl, le_trans, lt-ltb, ltb-true}
+use Rattle.std.proofs.Common.{◌≡◌, ℕ, zero, suc, ◌<◌, ◌≤◌, Bool, true, false, cond, not, ◌&&◌, ◌⊎◌, List, [], ◌∷◌, ◌++◌, map, flat_map, length, Contains, nat_eq, nat_lt, Ordering, Less, Equal, Greater, nat_cmp, sym, refl, ap, ◌∙◌, inl, inr, true≢false, arith, le_refl, le_trans, lt-ltb, ltb-true}
 use Rattle.std.specs.List.{list_any, list_all}
 use Rattle.std.specs.Cmp.Lexicographic.{slice_cmp}
 use Rattle.std.specs.Ordering.{ordering_then}
@@ -9,6 +9,7 @@ use Rattle.dns_data.specs.Name.{Labels, name_eq}
 use Rattle.dns_data.proofs.Names.{is_label, is_label_tells, is_label_told}
 use Rattle.dns_data.proofs.LeastItems.{IsLeastItem, least_or_none}
 use Rattle.dns_data.proofs.Membership.{has_first, has_later, map_has, flat_map_has}
+use Rattle.dns_data.proofs.NumbersBelow.{numbers_below, numbers_below_have}
 use Rattle.net_model.specs.Class.{octet_rank, trial_cmp, IsFirstUnnamed}
 use Rattle.net_model.specs.Reading.{Ground, IsNamed}
 use Rattle.net_model.proofs.Naming.{is_listed, from_listed, named_among, among_named}
@@ -43,23 +44,6 @@ first_not_longer a b e =
     ]
 
 -- ---- lists of octets
-
--- the numbers below a number
-pub numbers_below : ℕ → List ℕ
-numbers_below zero = []
-numbers_below (suc n) = n ∷ numbers_below n
-
--- a number below it is among these
-pub numbers_below_have : (n k : ℕ) → k < n → Contains (numbers_below n) k
-unfolding numbers_below
-numbers_below_have zero k below = absurd (omega arith)
-numbers_below_have (suc n) k below =
-    elim (cases_lt k n) [
-      | inl lower ↦ has_later n (numbers_below n) k (numbers_below_have n k lower)
-      | inr last ↦ (
-          let same : n ≡ k = omega arith in
-          subst (λ (m : ℕ). Contains (n ∷ numbers_below n) m) same (has_first n (numbers_below n)))
-    ]
 
 -- all lists of at most so many numbers below a number
 pub words : (bound most : ℕ) → List (List ℕ)
