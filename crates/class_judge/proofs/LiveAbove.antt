@@ -6,16 +6,9 @@ use Rattle.dns_data.proofs.NameOrder.{names_total}
 use Rattle.dns_data.proofs.OrderedLists.{same_rising}
 use Rattle.label_graph.specs.LiveSet.{IsLiveSet, name_at}
 use Rattle.net_model.specs.declared.config.Config.{Config}
-use Rattle.net_model.specs.Reading.{Redirection, Ground, ReadsAlong, ReadsOnTo}
+use Rattle.net_model.specs.Reading.{Redirection, Ground, ReadsOnTo}
+use Rattle.query_classes.proofs.SameGrounds.{along_same}
 use Rattle.class_judge.specs.TreeNames.{IsGraphOf, IsLiveIn, IsLiveAbove}
-
-along : (one other : List Redirection) → ((redirection : Redirection) → Contains one redirection → Contains other redirection)
-    → (name : Labels) (between : List Labels) (last : Labels) → ReadsAlong one name between last → ReadsAlong other name between last
-along one other more name [] last is = is
-along one other more name (next ∷ between) last (once, rest) = (
-  record { redirection = once.redirection; among = more once.redirection once.among; below = once.below; before = once.before; after = once.after },
-  along one other more next between last rest,
-)
 
 module _ (config : Config) where
   module _ (one other : Ground) (is : IsGraphOf config one) (also : IsGraphOf config other) where
@@ -27,7 +20,7 @@ module _ (config : Config) where
 
     -- what a name reads on to
     reads_on : (name last : Labels) → ReadsOnTo one.redirections name last → ReadsOnTo other.redirections name last
-    reads_on name last (between, reads) = (between, along one.redirections other.redirections has_redirection name between last reads)
+    reads_on name last (between, reads) = (between, along_same one.redirections other.redirections has_redirection name between last reads)
 
   module _ (one other : Ground) (is : IsGraphOf config one) (also : IsGraphOf config other) where
     same_names : one.names ≡ other.names

@@ -1,11 +1,7 @@
 -- The verdict of each name of a class tree, as a value of the configuration: it is the only one.
-use Rattle.std.proofs.Common.{◌≡◌, ◌∙◌, ℕ, Bool, true, false, [], ◌∷◌, Option, Some, None, refl, sym, ap, subst, true≢false}
-use Rattle.std.specs.Prelude.{nat_le}
-use Rattle.std.specs.List.{AllByRecursion, list_all}
-use Rattle.std.proofs.lemmas.Bool.{and_from, le-leb}
-use Rattle.dns_data.specs.Label.{IsLabel}
-use Rattle.dns_data.specs.Name.{Labels, IsName, wire_octets}
-use Rattle.dns_data.proofs.Names.{is_label, is_label_told, is_name, is_name_tells}
+use Rattle.std.proofs.Common.{◌≡◌, ◌∙◌, ℕ, Bool, true, false, [], Option, Some, None, refl, sym, ap, subst, true≢false}
+use Rattle.dns_data.specs.Name.{Labels, IsName}
+use Rattle.dns_data.proofs.Names.{is_name, is_name_tells, is_name_told}
 use Rattle.net_model.specs.declared.class.Class.TheVariants.{Below}
 use Rattle.net_model.specs.declared.config.Config.{Config}
 use Rattle.net_model.specs.Reading.{ground_of}
@@ -23,15 +19,6 @@ use Rattle.class_judge.proofs.OneVerdict.{one_verdict}
 -- each name is in one class
 pub in_class : (config : Config) (query : Labels) → IsName query → IsInOneClass (ground_of config) query
 in_class config query is = in_one_class (ground_of config) (ground_closed config) (live_set_of config) query is
-
--- a name passes the test of names
-labels_told : (labels : Labels) → AllByRecursion IsLabel labels → list_all is_label labels ≡ true
-labels_told [] each = refl
-labels_told (label ∷ labels) each = and_from (is_label label) (list_all is_label labels) (is_label_told label each.0) (labels_told labels each.1)
-
-name_told : (name : Labels) → IsName name → is_name name ≡ true
-name_told name is =
-    and_from (list_all is_label name) (nat_le (wire_octets name) 255) (labels_told name is.labels) (le-leb (wire_octets name) 255 is.short)
 
 module _ (config : Config) (rewrites states : ℕ) where
   exists : (name : Labels) → IsName name → (verdict : NameVerdict) × IsNameVerdict config rewrites states name verdict
@@ -51,7 +38,7 @@ module _ (config : Config) (rewrites states : ℕ) where
   tested : (name : Labels) (test : Bool) (e : is_name name ≡ test) → IsName name → IsNameVerdict config rewrites states name (by_test name test e)
   unfolding by_test
   tested name true e is = (exists name (is_name_tells name e)).1
-  tested name false e is = let told : is_name name ≡ true = name_told name is in absurd (true≢false (sym told ∙ e))
+  tested name false e is = let told : is_name name ≡ true = is_name_told name is in absurd (true≢false (sym told ∙ e))
 
   pub verdict_is : (name : Labels) → IsName name → IsNameVerdict config rewrites states name (verdict_of name)
   unfolding verdict_of

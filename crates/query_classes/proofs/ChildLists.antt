@@ -1,14 +1,10 @@
 -- The names of the class tree one label below a name: there is a list of them, and only one.
-use Rattle.std.proofs.Common.{◌≡◌, ◌∙◌, ℕ, ◌⊎◌, true, List, [], ◌∷◌, ◌++◌, filter, Contains, Ordering, Less, Equal, Greater, inl, inr, sym, refl, ap, subst}
+use Rattle.std.proofs.Common.{◌≡◌, ◌∙◌, ℕ, ◌⊎◌, List, [], ◌∷◌, ◌++◌, filter, Contains, Ordering, Less, Equal, Greater, inl, inr, sym, refl, ap, subst}
 use Rattle.std.specs.Ordering.{ordering_reverse}
-use Rattle.std.specs.List.{AllByRecursion, list_all}
-use Rattle.std.specs.Prelude.{nat_le}
-use Rattle.std.proofs.lemmas.Bool.{and_from, le-leb}
-use Rattle.dns_data.specs.Label.{IsLabel}
-use Rattle.dns_data.specs.Name.{Labels, IsName, name_cmp, wire_octets}
+use Rattle.dns_data.specs.Name.{Labels, name_cmp}
 use Rattle.dns_data.proofs.Membership.{none_in_nil, has_first, has_later, first_or_later, filter_has, from_filter}
 use Rattle.dns_data.proofs.NameOrder.{Before, Rising, names_total, pairs_from_rising}
-use Rattle.dns_data.proofs.Names.{is_label, is_label_told, is_name, is_name_tells, same_names}
+use Rattle.dns_data.proofs.Names.{is_name, is_name_tells, is_name_told, same_names}
 use Rattle.dns_data.proofs.OrderedLists.{same_rising}
 use Rattle.net_model.specs.Order.{put_in_order, in_order, beside}
 use Rattle.net_model.specs.Reading.{Ground, IsNamed}
@@ -99,15 +95,6 @@ order_rises (item ∷ names) = put_rises item (in_order name_cmp names) (order_r
 
 -- ---- the list of children
 
-labels_told : (labels : Labels) → AllByRecursion IsLabel labels → list_all is_label labels ≡ true
-labels_told [] each = refl
-labels_told (label ∷ labels) each = and_from (is_label label) (list_all is_label labels) (is_label_told label each.0) (labels_told labels each.1)
-
--- a name passes the test of names
-name_told : (name : Labels) → IsName name → is_name name ≡ true
-name_told name is =
-    and_from (list_all is_label name) (nat_le (wire_octets name) 255) (labels_told name is.labels) (le-leb (wire_octets name) 255 is.short)
-
 -- there is such a list, where a live set of the name is known
 pub children_exist : (ground : Ground) → IsClosed ground → (above : Labels) (live : List ℕ) → IsLiveSet ground above live
     → (names : List Labels) × AreChildren ground above names
@@ -129,4 +116,4 @@ children_exist ground closed above live of = (
         order_has (filter is_name (taken ground closed above live of)) name
         (filter_has is_name (taken ground closed above live of) name
         (subst (Contains (taken ground closed above live of)) (sym is) (named_taken ground closed above live of label (subst (IsNamed ground) is named)))
-        (name_told name is_a_name))
+        (is_name_told name is_a_name))

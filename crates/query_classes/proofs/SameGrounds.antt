@@ -21,7 +21,8 @@ same_back one other same =
       redirections = λ redirection. ((same.redirections redirection).1, (same.redirections redirection).0);
     }
 
-along_same : (one other : List Redirection) → ((redirection : Redirection) → Contains one redirection → Contains other redirection)
+-- what is read along some redirections is read along more
+pub along_same : (one other : List Redirection) → ((redirection : Redirection) → Contains one redirection → Contains other redirection)
     → (name : Labels) (between : List Labels) (last : Labels) → ReadsAlong one name between last → ReadsAlong other name between last
 along_same one other more name [] last is = is
 along_same one other more name (next ∷ between) last (once, rest) = (
