@@ -113,20 +113,10 @@ fn put_all(
 {
     let mut left = VecDeque::from_vec(shown.into_vec());
     while let Some(seen) = left.pop_front() {
-        let class = copied(alloc, class)?;
+        let class = class.copy(alloc)?;
         found.push(Found { seen, class })?;
     }
     Ok(())
-}
-
-/// An equal class.
-fn copied(alloc: Global, class: &Class) -> Result<Class, NoMemory>
-    ensures { IfOk result (λ copy. copy ≡ class.now) }
-{
-    match class {
-        Class::Exact(name) => Ok(Class::Exact(name.copy(alloc)?)),
-        Class::Below(name) => Ok(Class::Below(name.copy(alloc)?)),
-    }
 }
 
 /// Of each fault the first class that shows it, in fault order. The list is sorted and then passed over once.

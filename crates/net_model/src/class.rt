@@ -1,9 +1,10 @@
 //! Classes of query names.
 
-ghost use Rattle.std.specs.Prelude.{◌≡◌};
+ghost use Rattle.std.specs.Prelude.{◌≡◌, IfOk};
 ghost use Rattle.net_model.specs.Class.{class_cmp};
 
-use dns_data::Name;
+use dns_data::{Name, NoMemory};
+use std::alloc::Global;
 use std::cmp::Ordering;
 
 /// A class of query names: one name alone, or all names below a name of which no longer prefix is told apart.
@@ -14,6 +15,16 @@ pub enum Class {
 }
 
 impl Class {
+    /// An equal class.
+    pub fn copy(&self, alloc: Global) -> Result<Class, NoMemory>
+        ensures { IfOk result (λ class. class ≡ self.now) }
+    {
+        match self {
+            Class::Exact(name) => Ok(Class::Exact(name.copy(alloc)?)),
+            Class::Below(name) => Ok(Class::Below(name.copy(alloc)?)),
+        }
+    }
+
     /// How the class stands to the other: by their names, the name alone before those below it.
     pub fn compare(&self, other: &Class) -> Ordering
         ensures { result ≡ class_cmp self.now other.now }

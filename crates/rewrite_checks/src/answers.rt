@@ -1,6 +1,6 @@
 //! Differing answers: two authoritative ends of one type that aren't equal.
 
-ghost use Rattle.std.specs.Prelude.{◌≡◌, ◌∷◌, [], ◌↔◌, false, true, IfOk, OnOk, MatchOption};
+ghost use Rattle.std.specs.Prelude.{◌≡◌, ◌∷◌, [], ◌↔◌, false, true, OnOk, MatchOption};
 ghost use Rattle.dns_data.specs.RrType.{types};
 ghost use Rattle.net_model.specs.declared.walk.Leaf.{Leaf as LeafOf};
 ghost use Rattle.rewrite_checks.specs.Answers.{BranchEndsIn, Differ, EndsIn, NodeEndsIn, PutsAnswers, is_other};
@@ -36,7 +36,7 @@ fn put_type(
     ensures { OnOk result (PutsAnswers class.now graph.now (rtype ∷ []) seen.old seen.new) }
 {
     if answers_differ(graph, rtype) {
-        let fault = Fault::Answers(copied_class(alloc, class)?, rtype);
+        let fault = Fault::Answers(class.copy(alloc)?, rtype);
         return seen.push(Seen { fault, rtype });
     }
     Ok(())
@@ -98,14 +98,4 @@ fn is_other(than: &Leaf, leaf: &Leaf) -> bool
     ensures { result ≡ is_other than.now leaf.now }
 {
     is_authoritative(leaf) && !is_same_answer(than, leaf)
-}
-
-/// An equal class.
-fn copied_class(alloc: Global, class: &Class) -> Result<Class, NoMemory>
-    ensures { IfOk result (λ copy. copy ≡ class.now) }
-{
-    match class {
-        Class::Exact(name) => Ok(Class::Exact(name.copy(alloc)?)),
-        Class::Below(name) => Ok(Class::Below(name.copy(alloc)?)),
-    }
 }
