@@ -8,7 +8,7 @@ ghost use Rattle.zone_tree.specs.Names.{Ordered, IsBelow};
 ghost use Rattle.zone_tree.specs.Preceding.{IsLastUpTo};
 
 use crate::node::NodeId;
-use dns_data::{Labels, Name};
+use dns_data::{Labels, Name, octets_order};
 use std::cmp::Ordering;
 
 /// The node of the last existing name that doesn't stand behind a name, and with how many labels both begin.
@@ -109,7 +109,7 @@ fn compare_below(labels: &Labels<'_>, above: &Labels<'_>, label: &[u8]) -> Order
         let Some(first) = left.next() else {
             return Ordering::Less;
         };
-        let order = first.cmp(other);
+        let order = octets_order(first, other);
         if order != Ordering::Equal {
             return order;
         }
@@ -117,7 +117,7 @@ fn compare_below(labels: &Labels<'_>, above: &Labels<'_>, label: &[u8]) -> Order
     let Some(last) = left.next() else {
         return Ordering::Less;
     };
-    let order = last.cmp(label);
+    let order = octets_order(last, label);
     if order != Ordering::Equal {
         return order;
     }
