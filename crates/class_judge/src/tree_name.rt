@@ -170,10 +170,7 @@ fn last_label(alloc: Global, name: &Name) -> Result<Option<Label>, NoMemory>
         last = Some(label);
     }
     match last {
-        Some(octets) => match Label::from_octets(alloc, octets) {
-            Ok(label) => Ok(Some(label)),
-            Err(_) => Err(NoMemory),
-        },
+        Some(octets) => Ok(Some(Label::with_octets(alloc, octets)?)),
         None => Ok(None),
     }
 }

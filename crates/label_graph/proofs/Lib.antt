@@ -1,6 +1,5 @@
 pub mod BaseGround
 pub mod Children
-pub mod FoldedLabels
 pub mod GraphSets
 pub mod InOrder
 pub mod KeptLinks

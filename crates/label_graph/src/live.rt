@@ -2,7 +2,7 @@
 
 ghost use Rattle.std.specs.Prelude.{◌≡◌, ◌↔◌, ◌⊎◌, ◌<◌, ℕ, List, [], ◌∷◌, ◌++◌, length, slice_index_or, Contains, All, AllPairs, IsTrue, IfOk, OnOk};
 ghost use Rattle.std.specs.declared.cmp.Ordering.TheVariants.{Less};
-ghost use Rattle.dns_data.specs.Label.{IsLabel, label_cmp};
+ghost use Rattle.dns_data.specs.Label.{label_cmp};
 ghost use Rattle.label_graph.specs.Graphs.{AreLabelsBelow, HasChild, IsFrom, IsStep, SomeItem};
 
 use crate::names::NameTree;
@@ -276,18 +276,7 @@ fn put_labels(
 {
     let _ = base.items();
     for other in base.below(place) {
-        labels.push(plain_label(alloc, base.last_label(place, *other))?)?;
+        labels.push(Label::with_octets(alloc, base.last_label(place, *other))?)?;
     }
     Ok(())
-}
-
-/// The label with these octets.
-fn plain_label(alloc: Global, octets: &[u8]) -> Result<Label, NoMemory>
-    requires { IsLabel octets.now }
-    ensures { IfOk result (λ label. label ≡ octets.now) }
-{
-    match Label::from_octets(alloc, octets) {
-        Ok(label) => Ok(label),
-        Err(_) => Err(NoMemory),
-    }
 }

@@ -7,7 +7,6 @@ ghost use Rattle.net_model.specs.Class.{IsClassOf};
 ghost use Rattle.net_model.specs.Reading.{IsNamed};
 ghost use Rattle.query_classes.specs.Members.{class_name, IsEmptyClass, RepresentsClass};
 
-use crate::free::label_with;
 use crate::live_name::LiveName;
 use dns_data::{Label, Name, NoMemory};
 use label_graph::LabelGraph;
@@ -28,7 +27,7 @@ pub fn class_of(alloc: Global, graph: &LabelGraph, q: &Name) -> Result<Class, No
     let mut above = Name::root();
     let mut rest = q.labels();
     while let Some(octets) = rest.next() {
-        let label = label_with(alloc, octets)?;
+        let label = Label::with_octets(alloc, octets)?;
         let next = graph.advance(alloc, &live, &label)?;
         if next.is_empty() {
             return Ok(Class::Below(above));

@@ -1,7 +1,6 @@
 //! The first label that makes an unnamed name.
 
 ghost use Rattle.std.specs.Prelude.{◌≡◌, [], ◌∷◌, IfOk};
-ghost use Rattle.dns_data.specs.Label.{IsLabel};
 ghost use Rattle.dns_data.specs.Name.{Labels};
 ghost use Rattle.label_graph.specs.LiveSet.{IsLiveSet};
 ghost use Rattle.query_classes.specs.Free.{IsFree};
@@ -37,19 +36,5 @@ pub(crate) fn free_label(
 fn first_label(alloc: Global) -> Result<Label, NoMemory>
     ensures { IfOk result (λ label. label ≡ 97 ∷ []) }
 {
-    match Label::from_octets(alloc, b"a") {
-        Ok(label) => Ok(label),
-        Err(_) => Err(NoMemory),
-    }
-}
-
-/// The label with these octets.
-pub(crate) fn label_with(alloc: Global, octets: &[u8]) -> Result<Label, NoMemory>
-    requires { IsLabel octets.now }
-    ensures { IfOk result (λ label. label ≡ octets.now) }
-{
-    match Label::from_octets(alloc, octets) {
-        Ok(label) => Ok(label),
-        Err(_) => Err(NoMemory),
-    }
+    Label::with_octets(alloc, b"a")
 }

@@ -6,7 +6,7 @@ ghost use Rattle.label_graph.specs.LiveSet.{IsLiveSet};
 ghost use Rattle.net_model.specs.Reading.{IsNamed};
 ghost use Rattle.query_classes.specs.Children.{AreChildren, IsBelow, of_name_length};
 
-use crate::free::{free_label, label_with};
+use crate::free::free_label;
 use dns_data::{JoinFault, Label, List, Name, NoMemory};
 use label_graph::laws::graph_is_closed;
 use label_graph::{LabelGraph, LiveSet};
@@ -130,7 +130,7 @@ fn live_of(alloc: Global, graph: &LabelGraph, name: &Name) -> Result<LiveSet, No
     let mut live = graph.start(alloc)?;
     let mut rest = name.labels();
     while let Some(octets) = rest.next() {
-        let label = label_with(alloc, octets)?;
+        let label = Label::with_octets(alloc, octets)?;
         live = graph.advance(alloc, &live, &label)?;
     }
     Ok(live)

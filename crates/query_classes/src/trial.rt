@@ -18,10 +18,7 @@ pub(crate) fn next_label(alloc: Global, label: &Label) -> Result<Option<Label>, 
         return Ok(None);
     }
     let next = next_octets(alloc, octets, place)?;
-    match Label::from_octets(alloc, next.as_slice()) {
-        Ok(next) => Ok(Some(next)),
-        Err(_) => Err(NoMemory),
-    }
+    Ok(Some(Label::with_octets(alloc, next.as_slice())?))
 }
 
 /// How many octets stand before those at the end that are the last to be tried.

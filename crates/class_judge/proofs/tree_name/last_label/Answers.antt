@@ -2,7 +2,6 @@ use Rattle.std.proofs.Common.{◌≡◌, ◌∙◌, ℕ, List, [], ◌∷◌, �
 use Rattle.std.specs.Prelude.{MatchOption}
 use Rattle.dns_data.specs.Label.{IsLabel}
 use Rattle.dns_data.specs.Name.{Labels}
-use Rattle.label_graph.proofs.FoldedLabels.{told}
 use Rattle.class_judge.proofs.tree_name.last_label.Goals as goal
 
 -- one label passed more
@@ -23,8 +22,11 @@ pub loop-label-preserved : goal.loop-label-preserved
 loop-label-preserved c =
     (c.in-Some.ensures.label, passed _ _ _ c.loop-label.last c.in-Some.label.now c.in-Some.ensures.first c.loop-label.invariant)
 
-pub returns-in-Ok : goal.returns-in-Ok
-returns-in-Ok c =
+pub with_octets-requires : goal.with_octets-requires
+with_octets-requires c =
+    let last = rw c.in-Some-last.is at c.loop-label.invariant in last.0
+
+pub returns-in_ok-with_octets : goal.returns-in_ok-with_octets
+returns-in_ok-with_octets c =
     let last = rw c.in-Some-last.is at c.loop-label.invariant in
-    let label : c.in-Ok.label ≡ c.in-Some-last.octets.now = told c.in-Some-last.octets.now c.in-Ok.label last.0 c.in-Ok.ensures in
-    ended c.args.name.now c.loop-label.rest c.in-Ok.label c.in-Some-last.octets.now last.1 c.in_default.ensures.first label
+    ended c.args.name.now c.loop-label.rest c.in_ok-with_octets.field-0 c.in-Some-last.octets.now last.1 c.in_default.ensures.first c.in_ok-with_octets.ensures
