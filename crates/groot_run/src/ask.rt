@@ -37,7 +37,7 @@ fn ask_at(alloc: Global, hosts: &Hosts<'_>, name: &Name, rtype: RrType) -> Endin
     ensures { Asks name.now rtype hosts.now result ⊎ (result ≡ no_memory) }
 {
     let none = List::new(alloc);
-    match learnt_at(alloc, hosts, REWRITES, none.items(), MOST_LEARNING_WALKS) {
+    match learnt_at(alloc, hosts, REWRITES, &none, MOST_LEARNING_WALKS) {
         Ok(followed) => answer(alloc, hosts, followed.items(), name, rtype),
         Err(LearntFault::WalksPassed(server)) => Ending::too_many_to_learn(alloc, &server),
         Err(LearntFault::NoMemory) => Ending::no_memory(),

@@ -22,7 +22,7 @@ pub fn learnt(
     alloc: Global,
     config: &Config,
     rewrites: u32,
-    from: &[Name],
+    from: &List<Name>,
     most: u32,
 ) -> Result<List<Name>, LearntFault>
     ensures rounds { IfOk result (λ learnt. AfterRounds config.now rewrites (length config.now.servers) from.now learnt) }
@@ -38,14 +38,14 @@ pub fn learnt_at(
     alloc: Global,
     hosts: &Hosts<'_>,
     rewrites: u32,
-    from: &[Name],
+    from: &List<Name>,
     most: u32,
 ) -> Result<List<Name>, LearntFault>
     ensures rounds { IfOk result (λ learnt. AfterRounds hosts.now rewrites (length hosts.now.servers) from.now learnt) }
     ensures few { OnOk result (NoneInRounds hosts.now rewrites most from.now (length hosts.now.servers)) }
     ensures passed { (name : Labels) → IsErrOf result (LearntFault.WalksPassed name) → IsFirstWithTooMany hosts.now rewrites most from.now name }
 {
-    let mut followed = copies(alloc, from)?;
+    let mut followed = from.copy(alloc)?;
     for _round in 0..hosts.config().servers.items().len() {
         let learnt = learnt_while(alloc, hosts, rewrites, followed.items(), most)?;
         if learnt == followed {
@@ -54,17 +54,6 @@ pub fn learnt_at(
         followed = learnt;
     }
     Ok(followed)
-}
-
-/// Copies of names.
-fn copies(alloc: Global, names: &[Name]) -> Result<List<Name>, NoMemory>
-    ensures { IfOk result (λ copies. copies ≡ names.now) }
-{
-    let mut copies = List::new(alloc);
-    for name in names {
-        copies.push(name.copy(alloc)?)?;
-    }
-    Ok(copies)
 }
 
 /// The names of the servers whose addresses can be learnt while these are followed, in the order of the servers.

@@ -1,5 +1,5 @@
 -- The servers that are followed are learnt from none.
-use Rattle.std.proofs.Common.{◌≡◌, ◌∙◌, List, [], length, Result, Err, inl, inr, sym, ap, subst}
+use Rattle.std.proofs.Common.{◌≡◌, List, [], length, Result, Err, inl, inr, sym, ap, subst}
 use Rattle.dns_data.specs.Name.{Labels}
 use Rattle.net_model.specs.declared.config.Config.{Config}
 use Rattle.net_model.specs.Learnt.{AfterRounds, IsLeast}
@@ -26,13 +26,12 @@ first_from_none config begin server none first =
 
 pub returns-in-Ok : goal.returns-in-Ok
 returns-in-Ok c =
-    let none : c.items.result.now ≡ [] = c.items.ensures ∙ c.new-none.ensures in
     elim c.answer.ensures [
       | inl is ↦ inl (inr (record {
-        followed = c.items-in-Ok.result.now;
+        followed = c.items.result.now;
         in_force =
-            learnt_from_none c.args.hosts.now c.items.result.now c.items-in-Ok.result.now _ none c.items-in-Ok.ensures c.in-Ok.ensures.rounds;
-        few = few_from_none c.args.hosts.now c.items.result.now none c.in-Ok.ensures.few;
+            learnt_from_none c.args.hosts.now c.new-none.result c.items.result.now _ c.new-none.ensures c.items.ensures c.in-Ok.ensures.rounds;
+        few = few_from_none c.args.hosts.now c.new-none.result c.new-none.ensures c.in-Ok.ensures.few;
         answer = is;
       }))
       | inr ran_out ↦ inr ran_out
@@ -40,11 +39,10 @@ returns-in-Ok c =
 
 pub returns-in-Err-WalksPassed : goal.returns-in-Err-WalksPassed
 returns-in-Err-WalksPassed c =
-    let none : c.items.result.now ≡ [] = c.items.ensures ∙ c.new-none.ensures in
     elim c.too_many_to_learn.ensures [
       | inl ends ↦ inl (inl (
         c.in-Err-WalksPassed.server,
-        first_from_none c.args.hosts.now c.items.result.now c.in-Err-WalksPassed.server none
+        first_from_none c.args.hosts.now c.new-none.result c.in-Err-WalksPassed.server c.new-none.ensures
             (c.in-Err-WalksPassed.ensures.passed c.in-Err-WalksPassed.server
             (ap {B = Result (List Labels) LearntFault} (λ (fault : LearntFault). Err fault) c.in-Err-WalksPassed.field-0-is)),
         let same : c.too_many_to_learn.result ≡ too_many_to_learn c.in-Err-WalksPassed.server = cc ends in same,
