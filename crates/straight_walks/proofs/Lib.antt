@@ -11,6 +11,5 @@ pub mod Unhosted
 pub mod BelowOrigins
 pub mod OtherNames
 pub mod RegionSearch
-pub mod LongestOrigins
 pub mod NearestRegions
 pub mod OriginSets

@@ -1,6 +1,6 @@
 -- Names by the longest origin of a zone at or above them, for all of which walks lead the same way as long as no zone tells
 -- anything: for the contracts of inner calls alone.
-use Rattle.std.specs.Prelude.{◌≡◌, ◌+◌, ◌≤◌, ◌<◌, ℕ, true, List, [], ◌∷◌, ◌++◌, ◌⊎◌, map, length, None, Contains}
+use Rattle.std.specs.Prelude.{◌≡◌, ◌<◌, ℕ, true, List, [], ◌∷◌, ◌++◌, ◌⊎◌, map, length, None, Contains}
 use Rattle.std.specs.List.{AllByRecursion}
 use Rattle.std.specs.List.Sorted.{IsStrictlySortedBy}
 use Rattle.dns_data.specs.Name.{Labels, is_prefix, name_cmp}
@@ -61,14 +61,3 @@ pub record AreRegions (config : Config) (deps : Deps) (regions : List Region) : 
   pub ordered : IsStrictlySortedBy name_cmp (region_origins regions)
   pub each : AllByRecursion (IsRegion config deps) regions
   pub all : HasEachOrigin config (region_origins regions)
-
--- of the regions at or above the name, with at most so many labels, each has fewer than so many
-abbrev pub HasFewer : List Region → Labels → ℕ → ℕ → Type 0
-HasFewer regions name count fewer =
-    (region : Region) → Contains regions region → is_prefix region.origin.now name ≡ true → length region.origin.now ≤ count → length region.origin.now < fewer
-
--- of them this one has the most labels
-pub record IsLongest (regions : List Region) (name : Labels) (count : ℕ) (region : Region) : Type 0 where
-  pub among : Contains regions region
-  pub above : is_prefix region.origin.now name ≡ true
-  pub none_longer : HasFewer regions name count (length region.origin.now + 1)

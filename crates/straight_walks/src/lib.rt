@@ -15,7 +15,6 @@
 mod asked;
 mod begun;
 mod name_server;
-mod nearest;
 mod origins;
 mod referrals;
 mod region;

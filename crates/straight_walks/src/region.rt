@@ -11,13 +11,21 @@ use crate::straight::MOST;
 use delegation_checks::LearntSets;
 use dns_data::{Name, NoMemory};
 use std::alloc::Global;
-use zone_lookup::Hosts;
+use zone_lookup::{Hosts, Named};
 
 /// An origin of a zone, with the search for each name whose nearest origin it is.
 #[derive(Drop)]
 pub(crate) struct Region<'a> {
     pub origin: &'a Name,
     pub begun: Begun<'a>,
+}
+
+impl<'a> Named for Region<'a> {
+    ghost name_of = { λ region. region.origin.now };
+
+    fn its_name(&self) -> &Name {
+        self.origin
+    }
 }
 
 /// The search for each name whose nearest origin this is. It has begun with all servers up to those whose zones tell something

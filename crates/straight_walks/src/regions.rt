@@ -7,7 +7,6 @@ ghost use Rattle.straight_walks.specs.MadeOf.{made_of};
 ghost use Rattle.straight_walks.specs.Regions.{IsRegion, region_origins};
 
 use crate::begun::Begun;
-use crate::nearest::nearest_region;
 use crate::origins::origins_of;
 use crate::region::{Region, begun_below};
 use delegation_checks::LearntSets;
@@ -16,7 +15,7 @@ use graph_form::Deps;
 use net_model::Config;
 use std::alloc::Global;
 use std::marker::Model;
-use zone_lookup::Hosts;
+use zone_lookup::{Hosts, nearest_item};
 
 /// The origins of a configuration's zones, each with the servers that walks ask for the names below it, as far as this is the
 /// same for all names that have no other origin between. Contracts see the configuration and the two sets of learnt addresses.
@@ -63,7 +62,7 @@ impl<'a> Regions<'a> {
     pub(crate) fn begun(&self, alloc: Global, query: &Name) -> Result<Begun<'a>, NoMemory>
         ensures { IfOk result (HasBegun self.now.config self.now.deps query.now) }
     {
-        match nearest_region(self.regions.as_slice(), query) {
+        match nearest_item(self.regions.as_slice(), query) {
             Some(region) => region.begun.copy(alloc),
             None => Begun::at_top(alloc, self.config),
         }

@@ -10,7 +10,8 @@ use Rattle.net_model.specs.declared.config.Zone.{Zone}
 use Rattle.net_model.specs.Nearest.{zone_with_origin, nearest}
 use Rattle.net_model.specs.Prefix.{prefixes, longest}
 use Rattle.zone_tree.specs.Tree.{ZoneTree}
-use Rattle.zone_lookup.specs.Hosts.{tree_at, NoneFrom, IsAtLongest}
+use Rattle.zone_lookup.specs.Hosts.{tree_at}
+use Rattle.zone_lookup.specs.Named.{NoneFrom, IsAtLongest}
 use Rattle.dns_data.proofs.Membership.{none_in_nil, from_map}
 use Rattle.dns_data.proofs.NameFronts.{is_prefix_told}
 use Rattle.dns_data.proofs.Names.{name_eq_decides}

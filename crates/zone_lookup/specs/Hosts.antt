@@ -1,16 +1,17 @@
 -- Servers and zones in the order of names, each once. The contracts of inner calls alone cite it.
-use Rattle.std.specs.Prelude.{◌≡◌, ℕ, ◌+◌, ◌≤◌, false, List, map, take, Option, Some}
+use Rattle.std.specs.Prelude.{◌≡◌, List, map, Option}
 use Rattle.std.specs.Borrow.{Bor}
 use Rattle.std.specs.BTreeMap.{BTreeMap}
 use Rattle.std.specs.List.{find, AllByRecursion}
 use Rattle.std.specs.List.Sorted.{IsStrictlySortedBy}
 use Rattle.std.specs.Map.{lookup}
-use Rattle.std.specs.Option.{option_map, is_some}
+use Rattle.std.specs.Option.{option_map}
 use Rattle.std.specs.Ordering.{is_eq}
 use Rattle.dns_data.specs.Name.{Labels, name_eq, name_cmp}
 use Rattle.net_model.specs.declared.config.Server.{Server}
 use Rattle.net_model.specs.declared.config.Zone.{Zone}
 use Rattle.zone_tree.specs.Tree.{ZoneTree}
+use Rattle.zone_lookup.specs.Named.{item_named}
 
 module _ {X Y : Type 0} (tell : X → Y) (name_of : Y → Labels) where
   -- the items stand in the order of their names, and of each name there is the first of all that have it
@@ -39,16 +40,4 @@ FindsHosts servers hosts = FindsFirsts (λ host. host) (λ server. server.name) 
 
 -- the tree whose zone has this origin
 abbrev pub tree_at : List ZoneTree → Labels → Option ZoneTree
-tree_at trees origin = find (λ tree. name_eq tree.zone.origin origin) trees
-
-module _ {X : Type 0} (item_at : Labels → Option X) (name : Labels) (count : ℕ) where
-  -- there is no item at a prefix of the name with so many labels or more, up to the count
-  abbrev pub NoneFrom : ℕ → Type 0
-  NoneFrom fewer = (k : ℕ) → fewer ≤ k → k ≤ count → is_some (item_at (take k name)) ≡ false
-
-  -- the item is at the longest prefix of the name, of those with at most this count of labels, that has one
-  pub record IsAtLongest (item : X) : Type 0 where
-    pub labels : ℕ
-    pub within : labels ≤ count
-    pub there : item_at (take labels name) ≡ Some item
-    pub none_longer : NoneFrom (labels + 1)
+tree_at trees = item_named (λ tree. tree.zone.origin) trees

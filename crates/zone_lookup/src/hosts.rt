@@ -1,17 +1,15 @@
 //! Servers with the trees of their zones.
 
-ghost use Rattle.std.specs.Prelude.{◌≡◌, ◌≤◌, true, map, length, IfOk, IfErr, IfSome, IfNone};
-ghost use Rattle.std.specs.List.{find};
-ghost use Rattle.std.specs.List.Sorted.{IsStrictlySortedBy, IsSearchInRange, IsBinarySearchResult};
+ghost use Rattle.std.specs.Prelude.{◌≡◌, true, map, IfOk, IfSome};
 ghost use Rattle.std.specs.Option.{option_map};
-ghost use Rattle.dns_data.specs.Name.{name_eq, name_cmp, is_prefix};
+ghost use Rattle.dns_data.specs.Name.{is_prefix};
 ghost use Rattle.net_model.specs.Nearest.{server_named, zone_with_origin, held_zone, nearest, nearest_of};
-ghost use Rattle.zone_lookup.specs.Hosts.{AreTreesOf, FindsTrees, AreHostsOf, FindsHosts, tree_at, NoneFrom, IsAtLongest};
+ghost use Rattle.zone_lookup.specs.Hosts.{AreTreesOf, FindsTrees, AreHostsOf, FindsHosts};
 
+use crate::named::{Named, item_named, nearest_item};
 use dns_data::{Labels, Name, NoMemory};
 use net_model::{Config, Server, Zone};
 use std::alloc::Global;
-use std::cmp::Ordering;
 use std::collections::BTreeMap;
 use std::marker::Model;
 use zone_tree::Tree;
@@ -54,7 +52,7 @@ impl<'a> Hosts<'a> {
     pub fn host(&self, name: &Name) -> Option<&Host<'a>>
         ensures { option_map (λ host. host.now) result ≡ server_named self.now name.now }
     {
-        host_named(self.hosts.as_slice(), name)
+        item_named(self.hosts.as_slice(), &name.labels())
     }
 
     /// The tree of the zone in which the server of this name looks a name up, or `None` where the server isn't
@@ -120,7 +118,7 @@ impl<'a> Host<'a> {
         ensures zone { option_map (λ tree. tree.now.zone) result ≡ nearest self.now name.now }
         ensures inside { IfSome result (λ tree. is_prefix tree.now.zone.origin name.now ≡ true) }
     {
-        nearest_tree(self.trees.as_slice(), name)
+        nearest_item(self.trees.as_slice(), name)
     }
 
     /// The tree of the server's zone with this origin, the first of several.
@@ -134,93 +132,23 @@ impl<'a> Host<'a> {
     fn tree_of(&self, origin: &Labels<'_>) -> Option<&Tree<'a>>
         ensures { option_map (λ tree. tree.now.zone) result ≡ zone_with_origin self.now origin.now }
     {
-        tree_with_origin(self.trees.as_slice(), origin)
+        item_named(self.trees.as_slice(), origin)
     }
 }
 
-/// The tree whose zone has this origin, among trees in the order of their origins.
-fn tree_with_origin<'t, 'a>(trees: &'t [Tree<'a>], origin: &Labels<'_>) -> Option<&'t Tree<'a>>
-    requires { IsStrictlySortedBy name_cmp (map (λ tree. tree.zone.origin) trees.now) }
-    ensures { option_map (λ tree. tree.now) result ≡ find (λ tree. name_eq tree.zone.origin origin.now) trees.now }
-{
-    match place_of(trees, origin) {
-        Ok(place) => Some(&trees[place]),
-        Err(_) => None,
+impl<'a> Named for Host<'a> {
+    ghost name_of = { λ server. server.name };
+
+    fn its_name(&self) -> &Name {
+        self.name()
     }
 }
 
-/// The tree with the longest origin at or above the name, among trees in the order of their origins.
-fn nearest_tree<'t, 'a>(trees: &'t [Tree<'a>], name: &Name) -> Option<&'t Tree<'a>>
-    requires { IsStrictlySortedBy name_cmp (map (λ tree. tree.zone.origin) trees.now) }
-    ensures some { IfSome result (λ tree. IsAtLongest (tree_at trees.now) name.now (length name.now) tree.now) }
-    ensures none { IfNone result (NoneFrom (tree_at trees.now) name.now (length name.now) 0) }
-{
-    let mut count = name.len() as usize + 1;
-    while count > 0 {
-        match nearest_or_fewer(trees, name, count - 1) {
-            Ok(tree) => return Some(tree),
-            Err(fewer) => count = fewer,
-        }
-    }
-    None
-}
+impl<'a> Named for Tree<'a> {
+    ghost name_of = { λ tree. tree.zone.origin };
 
-/// The tree with the longest origin among the name's prefixes of at most `count` labels, or a number of labels which all
-/// such origins stay below.
-fn nearest_or_fewer<'t, 'a>(
-    trees: &'t [Tree<'a>],
-    name: &Name,
-    count: usize,
-) -> Result<&'t Tree<'a>, usize>
-    requires ordered { IsStrictlySortedBy name_cmp (map (λ tree. tree.zone.origin) trees.now) }
-    requires within { count ≤ length name.now }
-    ensures ok { IfOk result (λ tree. IsAtLongest (tree_at trees.now) name.now count tree.now) }
-    ensures fewer { IfErr result (λ fewer. fewer ≤ count) }
-    ensures none { IfErr result (λ fewer. NoneFrom (tree_at trees.now) name.now count fewer) }
-{
-    match place_of(trees, &name.front(count)) {
-        Ok(place) => Ok(&trees[place]),
-        Err(0) => Err(0),
-        Err(place) => {
-            let tree = &trees[place - 1];
-            let origin = tree.zone().origin.labels();
-            let common = origin.common_len(&name.labels());
-            if common == origin.len() {
-                Ok(tree)
-            } else {
-                Err(common as usize + 1)
-            }
-        }
-    }
-}
-
-/// The place of the tree whose zone has this origin, among trees in the order of their origins, or how many of the trees
-/// stand before the origin.
-fn place_of(trees: &[Tree<'_>], origin: &Labels<'_>) -> Result<usize, usize>
-    requires { IsStrictlySortedBy name_cmp (map (λ tree. tree.zone.origin) trees.now) }
-    ensures range { IsSearchInRange result (length trees.now) }
-    ensures position { IsBinarySearchResult (λ tree. name_cmp tree.zone.origin origin.now) trees.now result }
-{
-    trees.binary_search_by(
-        |tree: &Tree<'_>| -> Ordering
-            ensures { result ≡ name_cmp tree.now.zone.origin origin.entry.now }
-        { tree.zone().origin.labels().compare(origin) },
-    )
-}
-
-/// The server of this name, among servers in the order of their names.
-fn host_named<'h, 'a>(hosts: &'h [Host<'a>], name: &Name) -> Option<&'h Host<'a>>
-    requires { IsStrictlySortedBy name_cmp (map (λ host. host.name) hosts.now) }
-    ensures { option_map (λ host. host.now) result ≡ find (λ server. name_eq server.name name.now) hosts.now }
-{
-    let found = hosts.binary_search_by(
-        |host: &Host<'_>| -> Ordering
-            ensures { result ≡ name_cmp host.now.name name.entry.now }
-        { host.name().compare(name) },
-    );
-    match found {
-        Ok(place) => Some(&hosts[place]),
-        Err(_) => None,
+    fn its_name(&self) -> &Name {
+        &self.zone().origin
     }
 }
 

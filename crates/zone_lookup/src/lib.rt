@@ -15,8 +15,10 @@ mod answers;
 mod follow;
 mod hosts;
 mod lookup;
+mod named;
 
 pub use answers::{at_name, referral};
 pub use follow::has_glue_below;
 pub use hosts::{Host, Hosts};
 pub use lookup::find;
+pub use named::{Named, nearest_item};

@@ -4,7 +4,8 @@ use Rattle.dns_data.specs.Name.{Labels, is_prefix}
 use Rattle.net_model.specs.declared.config.Server.{Server}
 use Rattle.net_model.specs.Nearest.{nearest, zone_with_origin}
 use Rattle.zone_tree.specs.Tree.{ZoneTree}
-use Rattle.zone_lookup.specs.Hosts.{tree_at, NoneFrom, IsAtLongest}
+use Rattle.zone_lookup.specs.Hosts.{tree_at}
+use Rattle.zone_lookup.specs.Named.{NoneFrom, IsAtLongest}
 use Rattle.zone_lookup.proofs.NearestZones.{nearest_of_tree, tree_has, nearest_of_none}
 use Rattle.zone_lookup.proofs.hosts.Host.nearest.Goals as goal
 
@@ -25,11 +26,11 @@ returns-clause-zone c =
     zone_by c.args.self.now c.args.name.now c.as_slice.result.now
     (λ origin. ap (λ (trees : List ZoneTree). option_map (λ (tree : ZoneTree). tree.zone) (tree_at trees origin)) c.as_slice.ensures.value
     ∙ c.self.invariant.firsts origin ∙ ap (λ (s : Server). zone_with_origin s origin) c.self.view_is)
-    c.nearest_tree.result c.nearest_tree.ensures.some c.nearest_tree.ensures.none
+    c.nearest_item.result c.nearest_item.ensures.some c.nearest_item.ensures.none
 
 pub returns-clause-inside : goal.returns-clause-inside
 returns-clause-inside c =
     inside_by c.args.self.now c.args.name.now c.as_slice.result.now
     (λ origin. ap (λ (trees : List ZoneTree). option_map (λ (tree : ZoneTree). tree.zone) (tree_at trees origin)) c.as_slice.ensures.value
     ∙ c.self.invariant.firsts origin ∙ ap (λ (s : Server). zone_with_origin s origin) c.self.view_is)
-    c.nearest_tree.result c.nearest_tree.ensures.some
+    c.nearest_item.result c.nearest_item.ensures.some

@@ -10,7 +10,7 @@ pub returns : goal.returns
 returns c =
     let origin = c.args.origin.now in
     let test : ZoneTree → Bool = λ (tree : ZoneTree). name_eq tree.zone.origin origin in
-    told (λ (tree : ZoneTree). tree.zone) c.tree_with_origin.result (find test c.self.inside.trees.items)
-    (c.tree_with_origin.ensures ∙ ap (find test) c.as_slice.ensures.value)
+    told (λ (tree : ZoneTree). tree.zone) c.item_named.result (find test c.self.inside.trees.items)
+    (c.item_named.ensures ∙ ap (find test) c.as_slice.ensures.value)
     ∙ c.self.invariant.firsts origin
     ∙ ap (λ (server : Server). find (λ (zone : Zone). name_eq zone.origin origin) server.zones) c.self.view_is
