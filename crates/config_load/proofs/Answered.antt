@@ -2,7 +2,7 @@
 use Rattle.std.proofs.Common.{◌≡◌, ◌≢◌, ℕ, ◌⊎◌, Bool, true, false, List, Result, Ok, Err, if◌then◌else◌, refl, subst, sym, ap, ◌∙◌, inl, inr, nat_eq}
 use lib.Pointwise.{pointwise}
 use Rattle.dns_data.proofs.Names.{label_eq_decides}
-use Rattle.io_edges.specs.Files.{Told, Untold}
+use Rattle.io_edges.specs.Files.{FilesTold, Untold}
 use Rattle.net_model.specs.declared.config.Config.{Config}
 use Rattle.config_load.specs.Conf.{conf}
 use Rattle.config_load.specs.Faults.{FailedAt}
@@ -14,14 +14,14 @@ use Rattle.config_load.specs.declared.fault.LoadFault.TheVariants.{Read, TooLong
 use Rattle.config_load.proofs.Follows.{TellsNoOther-self}
 
 module _ {A : Type 0} where
-  at_end : (told : List ℕ → Told) (first : ByTold A) (last : Reading A) → Follows told first (λ _. last) → first told ≡ last
+  at_end : (told : FilesTold) (first : ByTold A) (last : Reading A) → Follows told first (λ _. last) → first told ≡ last
   at_end told first last follows = by_cases (follows told (TellsNoOther-self told)) where
     by_cases : (first told ≡ last) ⊎ StopsEarly told told (first told) → first told ≡ last
     by_cases (inl e) = e
     by_cases (inr (name, is, untold, some)) = absurd (some untold)
 
   -- an answer is what the reading gives of what is told
-  pub Gives-answers : (told : List ℕ → Told) (reading : ByTold A) (result : Result A LoadFault) → Answers told reading result → Gives (reading told) result
+  pub Gives-answers : (told : FilesTold) (reading : ByTold A) (result : Result A LoadFault) → Answers told reading result → Gives (reading told) result
   Gives-answers told reading (Ok value) a = at_end told reading (Reads value) a
   Gives-answers told reading (Err (Read file)) a = tt
   Gives-answers told reading (Err NoMemory) a = tt
@@ -60,24 +60,24 @@ module _ {A : Type 0} where
   IsReadFault-unknown reading file (Err (ZoneTwice row)) is a = absurd (refuses_unknown (ZoneTwice row) file (sym a ∙ is))
 
 -- without a file nothing else is told
-TellsNoOther-without : (told : List ℕ → Told) (file : List ℕ) → TellsNoOther told (without file told)
+TellsNoOther-without : (told : FilesTold) (file : List ℕ) → TellsNoOther told (without file told)
 TellsNoOther-without told file name =
     elim (pointwise nat_eq name file) as (λ b. (told name ≡ Untold) ⊎ (((if b then Untold else told name) ≡ told name) ⊎ ((if b then Untold else told name) ≡ Untold)))
     [ true ↦ inr (inr refl) | false ↦ inr (inl refl) ]
 
 -- and nothing of that file
-without-here : (told : List ℕ → Told) (file : List ℕ) → without file told file ≡ Untold
+without-here : (told : FilesTold) (file : List ℕ) → without file told file ≡ Untold
 without-here told file = ap (λ b. if b then Untold else told file) ((label_eq_decides file file).1 refl)
 
 -- it alone is told, and not without it
-without-only : (told : List ℕ → Told) (file name : List ℕ) → without file told name ≡ Untold → told name ≢ Untold → name ≡ file
+without-only : (told : FilesTold) (file name : List ℕ) → without file told name ≡ Untold → told name ≢ Untold → name ≡ file
 without-only told file name untold some = by_test (pointwise nat_eq name file) refl untold where
   by_test : (same : Bool) → pointwise nat_eq name file ≡ same → (if same then Untold else told name) ≡ Untold → name ≡ file
   by_test true same gone = (label_eq_decides name file).0 same
   by_test false apart gone = absurd (some gone)
 
 -- a failed read is of a file to which the reading comes
-pub FailedWhereItCame-answers : (told : List ℕ → Told) (meta : List ℕ) (result : Result Config LoadFault) → Answers told (conf meta) result → FailedWhereItCame meta told result
+pub FailedWhereItCame-answers : (told : FilesTold) (meta : List ℕ) (result : Result Config LoadFault) → Answers told (conf meta) result → FailedWhereItCame meta told result
 FailedWhereItCame-answers told meta (Err (Read file)) a = by_cases (a (without file told) (TellsNoOther-without told file) (without-here told file)) where
   by_cases : (conf meta (without file told) ≡ Unknown file) ⊎ StopsEarly told (without file told) (conf meta (without file told)) → ReadingComesTo meta told file
   by_cases (inl e) = e
@@ -91,7 +91,7 @@ FailedWhereItCame-answers told meta (Err (Rule file line cause)) a = tt
 FailedWhereItCame-answers told meta (Err (ZoneTwice row)) a = tt
 
 -- where no read failed the answer is the whole of what the reading gives
-pub IsWhole-answers : (told : List ℕ → Told) (meta : List ℕ) (before after : List ℕ → ℕ) (reading : Reading Config) (result : Result Config LoadFault) → Gives reading result → FailedAt before after result → FailedWhereItCame meta told result → NoReadFailed meta told before after → IsWhole reading result
+pub IsWhole-answers : (told : FilesTold) (meta : List ℕ) (before after : List ℕ → ℕ) (reading : Reading Config) (result : Result Config LoadFault) → Gives reading result → FailedAt before after result → FailedWhereItCame meta told result → NoReadFailed meta told before after → IsWhole reading result
 IsWhole-answers told meta before after reading (Ok value) gives rose came none = subst (λ r. IsWhole r (Ok value)) (sym gives) (inl refl)
 IsWhole-answers told meta before after reading (Err (Read file)) gives rose came none = absurd (none file (inr (inr came)) rose)
 IsWhole-answers told meta before after (Reads value) (Err NoMemory) gives rose came none = inr refl

@@ -1,7 +1,7 @@
 -- How far a reading has come: step by step, and what that says of what is told at the end.
 use Rattle.std.proofs.Common.{◌≡◌, ℕ, ◌<◌, ◌≤◌, ◌⊎◌, List, length, Result, Ok, Err, IsErrAnd, refl, subst, sym, ap, ◌∙◌, inl, inr, arith}
 use Rattle.std.proofs.lemmas.Bool.Decides.{nat_tests}
-use Rattle.io_edges.specs.Files.{Told, Untold, NotHeld, Holds, IsToldAnd, StaysTold}
+use Rattle.io_edges.specs.Files.{FilesTold, Told, Untold, NotHeld, Holds, IsToldAnd, StaysTold}
 use Rattle.config_load.specs.Faults.{IsTooLongOf}
 use Rattle.config_load.specs.Follows.{ByTold, TellsNoOther, StopsEarly, Follows, Reaches, Answers}
 use Rattle.config_load.specs.Reading.{Reading, Reads, Refuses, Unknown, ◌>>=◌, file_octets, told_octets, most_octets}
@@ -9,11 +9,11 @@ use Rattle.config_load.specs.declared.fault.LoadFault.{LoadFault}
 use Rattle.config_load.specs.declared.fault.LoadFault.TheVariants.{Read, TooLong, Meta, Text, Rule, ZoneTwice, NoMemory}
 
 -- what is told tells no other than itself
-pub TellsNoOther-self : (told : List ℕ → Told) → TellsNoOther told told
+pub TellsNoOther-self : (told : FilesTold) → TellsNoOther told told
 TellsNoOther-self told name = inr (inl refl)
 
 -- what tells no other than what is told later tells no other than what was told
-pub TellsNoOther-stays : (old new other : List ℕ → Told) → StaysTold old new → TellsNoOther new other → TellsNoOther old other
+pub TellsNoOther-stays : (old new other : FilesTold) → StaysTold old new → TellsNoOther new other → TellsNoOther old other
 TellsNoOther-stays old new other stays no_other name = at_name (stays name) (no_other name) where
   at_name : (old name ≡ Untold) ⊎ (new name ≡ old name) → (new name ≡ Untold) ⊎ ((other name ≡ new name) ⊎ (other name ≡ Untold)) → (old name ≡ Untold) ⊎ ((other name ≡ old name) ⊎ (other name ≡ Untold))
   at_name (inl untold) case = inl untold
@@ -23,18 +23,18 @@ TellsNoOther-stays old new other stays no_other name = at_name (stays name) (no_
 
 module _ {A : Type 0} where
   -- a reading that stops early, by what was told, does so by what is told later
-  pub StopsEarly-stays : (old new other : List ℕ → Told) (reading : Reading A) → StaysTold old new → StopsEarly old other reading → StopsEarly new other reading
+  pub StopsEarly-stays : (old new other : FilesTold) (reading : Reading A) → StaysTold old new → StopsEarly old other reading → StopsEarly new other reading
   StopsEarly-stays old new other reading stays (name, is, untold, told) = (name, is, untold, λ gone. told (before (stays name) gone)) where
     before : (old name ≡ Untold) ⊎ (new name ≡ old name) → new name ≡ Untold → old name ≡ Untold
     before (inl none) gone = none
     before (inr same) gone = sym same ∙ gone
 
   -- nothing was read so far
-  pub Follows-same : (told : List ℕ → Told) (first second : ByTold A) → ((other : List ℕ → Told) → first other ≡ second other) → Follows told first second
+  pub Follows-same : (told : FilesTold) (first second : ByTold A) → ((other : FilesTold) → first other ≡ second other) → Follows told first second
   Follows-same told first second same other no_other = inl (same other)
 
   -- a part of the way, and the next
-  pub Follows-then : (old new : List ℕ → Told) (first second third : ByTold A) → StaysTold old new → Follows old first second → Follows new second third → Follows new first third
+  pub Follows-then : (old new : FilesTold) (first second third : ByTold A) → StaysTold old new → Follows old first second → Follows new second third → Follows new first third
   Follows-then old new first second third stays a b other no_other = by_cases (a other (TellsNoOther-stays old new other stays no_other)) (b other no_other) where
     by_cases : (first other ≡ second other) ⊎ StopsEarly old other (first other) → (second other ≡ third other) ⊎ StopsEarly new other (second other) → (first other ≡ third other) ⊎ StopsEarly new other (first other)
     by_cases (inl e) (inl f) = inl (e ∙ f)
@@ -44,7 +44,7 @@ module _ {A : Type 0} where
       stops_early = stays
 
   -- what is reached behind a part of the way
-  pub Reaches-then : (old new : List ℕ → Told) (first second : ByTold A) (file : List ℕ) → StaysTold old new → Follows old first second → Reaches new second file → Reaches new first file
+  pub Reaches-then : (old new : FilesTold) (first second : ByTold A) (file : List ℕ) → StaysTold old new → Follows old first second → Reaches new second file → Reaches new first file
   Reaches-then old new first second file stays a b other no_other gone = by_cases (a other (TellsNoOther-stays old new other stays no_other)) (b other no_other gone) where
     by_cases : (first other ≡ second other) ⊎ StopsEarly old other (first other) → (second other ≡ Unknown file) ⊎ StopsEarly new other (second other) → (first other ≡ Unknown file) ⊎ StopsEarly new other (first other)
     by_cases (inl e) (inl f) = inl (e ∙ f)
@@ -52,7 +52,7 @@ module _ {A : Type 0} where
     by_cases (inr stops) case = inr (StopsEarly-stays old new other (first other) stays stops)
 
   -- what is answered behind a part of the way is answered
-  pub Answers-then : (old new : List ℕ → Told) (first second : ByTold A) (result : Result A LoadFault) → StaysTold old new → Follows old first second → Answers new second result → Answers new first result
+  pub Answers-then : (old new : FilesTold) (first second : ByTold A) (result : Result A LoadFault) → StaysTold old new → Follows old first second → Answers new second result → Answers new first result
   Answers-then old new first second (Ok value) stays a b = Follows-then old new first second (λ _. Reads value) stays a b
   Answers-then old new first second (Err (Read file)) stays a b = Reaches-then old new first second file stays a b
   Answers-then old new first second (Err NoMemory) stays a b = tt
@@ -63,24 +63,24 @@ module _ {A : Type 0} where
   Answers-then old new first second (Err (ZoneTwice row)) stays a b = Follows-then old new first second (λ _. Refuses (ZoneTwice row)) stays a b
 
 module _ {A B : Type 0} where
-  StopsEarly-bind : (told other : List ℕ → Told) (reading : Reading A) (next : A → Reading B) → StopsEarly told other reading → StopsEarly told other (reading >>= next)
+  StopsEarly-bind : (told other : FilesTold) (reading : Reading A) (next : A → Reading B) → StopsEarly told other reading → StopsEarly told other (reading >>= next)
   StopsEarly-bind told other reading next (name, is, untold, some) = (name, ap (λ r. r >>= next) is, untold, some)
 
   -- the first step of a reading
-  pub Follows-bind : (told : List ℕ → Told) (first second : ByTold A) (next : (List ℕ → Told) → A → Reading B) → Follows told first second → Follows told (λ t. first t >>= next t) (λ t. second t >>= next t)
+  pub Follows-bind : (told : FilesTold) (first second : ByTold A) (next : FilesTold → A → Reading B) → Follows told first second → Follows told (λ t. first t >>= next t) (λ t. second t >>= next t)
   Follows-bind told first second next a other no_other = by_cases (a other no_other) where
     by_cases : (first other ≡ second other) ⊎ StopsEarly told other (first other) → (first other >>= next other ≡ second other >>= next other) ⊎ StopsEarly told other (first other >>= next other)
     by_cases (inl e) = inl (ap (λ r. r >>= next other) e)
     by_cases (inr stops) = inr (StopsEarly-bind told other (first other) (next other) stops)
 
-  Reaches-bind : (told : List ℕ → Told) (first : ByTold A) (next : (List ℕ → Told) → A → Reading B) (file : List ℕ) → Reaches told first file → Reaches told (λ t. first t >>= next t) file
+  Reaches-bind : (told : FilesTold) (first : ByTold A) (next : FilesTold → A → Reading B) (file : List ℕ) → Reaches told first file → Reaches told (λ t. first t >>= next t) file
   Reaches-bind told first next file a other no_other gone = by_cases (a other no_other gone) where
     by_cases : (first other ≡ Unknown file) ⊎ StopsEarly told other (first other) → (first other >>= next other ≡ Unknown file) ⊎ StopsEarly told other (first other >>= next other)
     by_cases (inl e) = inl (ap (λ r. r >>= next other) e)
     by_cases (inr stops) = inr (StopsEarly-bind told other (first other) (next other) stops)
 
   -- a fault of the first step is that of the reading
-  pub Answers-bind : (told : List ℕ → Told) (first : ByTold A) (next : (List ℕ → Told) → A → Reading B) (fault : LoadFault) → (let answer : Result A LoadFault = Err fault in Answers told first answer) → (let answer : Result B LoadFault = Err fault in Answers told (λ t. first t >>= next t) answer)
+  pub Answers-bind : (told : FilesTold) (first : ByTold A) (next : FilesTold → A → Reading B) (fault : LoadFault) → (let answer : Result A LoadFault = Err fault in Answers told first answer) → (let answer : Result B LoadFault = Err fault in Answers told (λ t. first t >>= next t) answer)
   Answers-bind told first next (Read file) a = Reaches-bind told first next file a
   Answers-bind told first next NoMemory a = tt
   Answers-bind told first next (TooLong file) a = Follows-bind told first (λ _. Refuses (TooLong file)) next a
@@ -91,18 +91,18 @@ module _ {A B : Type 0} where
 
 module _ {A B : Type 0} where
   -- a fault of the first step that is passed on
-  pub Answers-passed : (told : List ℕ → Told) (first : ByTold A) (next : (List ℕ → Told) → A → Reading B) (fault : LoadFault) (result : Result B LoadFault) → IsErrAnd result (λ passed. passed ≡ fault) → (let answer : Result A LoadFault = Err fault in Answers told first answer) → Answers told (λ t. first t >>= next t) result
+  pub Answers-passed : (told : FilesTold) (first : ByTold A) (next : FilesTold → A → Reading B) (fault : LoadFault) (result : Result B LoadFault) → IsErrAnd result (λ passed. passed ≡ fault) → (let answer : Result A LoadFault = Err fault in Answers told first answer) → Answers told (λ t. first t >>= next t) result
   Answers-passed told first next fault (Ok value) is a = absurd is
   Answers-passed told first next fault (Err passed) is a =
       subst (λ f. let answer : Result B LoadFault = Err f in Answers told (λ t. first t >>= next t) answer) (sym is) (Answers-bind told first next fault a)
 
   -- what the second step answers behind the first
-  pub Answers-next : (old new : List ℕ → Told) (first : ByTold A) (value : A) (next : (List ℕ → Told) → A → Reading B) (result : Result B LoadFault) → StaysTold old new → Follows old first (λ _. Reads value) → Answers new (λ t. next t value) result → Answers new (λ t. first t >>= next t) result
+  pub Answers-next : (old new : FilesTold) (first : ByTold A) (value : A) (next : FilesTold → A → Reading B) (result : Result B LoadFault) → StaysTold old new → Follows old first (λ _. Reads value) → Answers new (λ t. next t value) result → Answers new (λ t. first t >>= next t) result
   Answers-next old new first value next result stays a b =
       Answers-then old new (λ t. first t >>= next t) (λ t. next t value) result stays (Follows-bind old first (λ _. Reads value) next a) b
 
 -- a file of which octets are told
-follows_holds : (told : List ℕ → Told) (name octets : List ℕ) (reading : Reading (List ℕ)) → told name ≡ Holds octets → told_octets name (Holds octets) ≡ reading → Follows told (file_octets name) (λ _. reading)
+follows_holds : (told : FilesTold) (name octets : List ℕ) (reading : Reading (List ℕ)) → told name ≡ Holds octets → told_octets name (Holds octets) ≡ reading → Follows told (file_octets name) (λ _. reading)
 follows_holds told name octets reading here is other no_other = by_cases (no_other name) where
   by_cases : (told name ≡ Untold) ⊎ ((other name ≡ told name) ⊎ (other name ≡ Untold)) → (file_octets name other ≡ reading) ⊎ StopsEarly told other (file_octets name other)
   by_cases (inl untold) = let no : Holds octets ≡ Untold = sym here ∙ untold in absurd cc
@@ -110,11 +110,11 @@ follows_holds told name octets reading here is other no_other = by_cases (no_oth
   by_cases (inr (inr untold)) = inr (name, ap (told_octets name) untold, untold, λ gone. let no : Holds octets ≡ Untold = sym here ∙ gone in absurd cc)
 
 -- a file that was read to its end
-pub Follows-whole : (told : List ℕ → Told) (name octets : List ℕ) → told name ≡ Holds octets → length octets ≤ most_octets → Follows told (file_octets name) (λ _. Reads octets)
+pub Follows-whole : (told : FilesTold) (name octets : List ℕ) → told name ≡ Holds octets → length octets ≤ most_octets → Follows told (file_octets name) (λ _. Reads octets)
 Follows-whole told name octets here short = follows_holds told name octets (Reads octets) here (grind (arith, nat_tests))
 
 -- a file that is too long
-pub Follows-too_long : (told : List ℕ → Told) (name : List ℕ) → IsToldAnd (told name) (λ octets. most_octets < length octets) → Follows told (file_octets name) (λ _. Refuses (TooLong name))
+pub Follows-too_long : (told : FilesTold) (name : List ℕ) → IsToldAnd (told name) (λ octets. most_octets < length octets) → Follows told (file_octets name) (λ _. Refuses (TooLong name))
 Follows-too_long told name long = by_told (told name) refl long where
   by_told : (is : Told) → told name ≡ is → IsToldAnd is (λ octets. most_octets < length octets) → Follows told (file_octets name) (λ _. Refuses (TooLong name))
   by_told Untold here long = absurd long
@@ -122,11 +122,11 @@ Follows-too_long told name long = by_told (told name) refl long where
   by_told (Holds octets) here long = follows_holds told name octets (Refuses (TooLong name)) here (grind (arith, nat_tests))
 
 -- a file whose reading fails
-pub Reaches-here : (told : List ℕ → Told) (name : List ℕ) → Reaches told (file_octets name) name
+pub Reaches-here : (told : FilesTold) (name : List ℕ) → Reaches told (file_octets name) name
 Reaches-here told name other no_other gone = inl (ap (told_octets name) gone)
 
 -- the fault of a file that is too long
-pub Answers-too_long : (told : List ℕ → Told) (name : List ℕ) (fault : LoadFault) → IsTooLongOf name fault → IsToldAnd (told name) (λ octets. most_octets < length octets) → (let answer : Result (List ℕ) LoadFault = Err fault in Answers told (file_octets name) answer)
+pub Answers-too_long : (told : FilesTold) (name : List ℕ) (fault : LoadFault) → IsTooLongOf name fault → IsToldAnd (told name) (λ octets. most_octets < length octets) → (let answer : Result (List ℕ) LoadFault = Err fault in Answers told (file_octets name) answer)
 Answers-too_long told name NoMemory is long = tt
 Answers-too_long told name (TooLong file) is long = subst (λ n. Follows told (file_octets name) (λ _. Refuses (TooLong n))) (sym is) (Follows-too_long told name long)
 Answers-too_long told name (Read file) is long = absurd is

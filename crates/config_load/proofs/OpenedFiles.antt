@@ -2,7 +2,7 @@
 use Rattle.std.proofs.Common.{◌≡◌, ℕ, zero, suc, ◌+◌, ◌≤◌, true, false, ◌||◌, List, [], ◌∷◌, ◌++◌, length, length-append, unwrap_or, Result, Ok, Err, IsErrAnd, refl, sym, ap, ◌∙◌, inl, inr, arith}
 use Rattle.dns_data.specs.Answers.{AnswersOr, with_fault}
 use Rattle.dns_data.specs.Name.{Labels}
-use Rattle.io_edges.specs.Files.{Told, StaysTold}
+use Rattle.io_edges.specs.Files.{FilesTold, StaysTold}
 use Rattle.master_read.proofs.Counts.{texts_ask}
 use Rattle.master_read.specs.Reader.{Held, IsReaderOf, HasEnded, asked_by, is_over, is_no_memory}
 use Rattle.master_read.specs.ZoneText.{Unread, Faulty, Asks, zone_text}
@@ -30,7 +30,7 @@ next_file meta origin left times names texts name told =
     file_octets name told >>= λ text. files_behind meta origin left times (names ++ name ∷ []) (texts ++ text ∷ []) told
 
 -- it begins with the row's file
-pub zone_files-first : (meta : List ℕ) (row : MetaRow) (left : Left) (told : List ℕ → Told) → zone_files meta row left told ≡ next_file meta (unwrap_or row.origin []) left left.includes [] [] (joined meta row.file) told
+pub zone_files-first : (meta : List ℕ) (row : MetaRow) (left : Left) (told : FilesTold) → zone_files meta row left told ≡ next_file meta (unwrap_or row.origin []) left left.includes [] [] (joined meta row.file) told
 unfolding zone_files
 zone_files-first meta row left told = refl
 
@@ -46,25 +46,25 @@ is_done (Include file) never = absurd (never file refl)
 is_done Done never = refl
 
 -- texts that ask for a file go on with it
-pub files_behind-asks : (meta : List ℕ) (origin : Labels) (left : Left) (times : ℕ) (names texts : List (List ℕ)) (file : List ℕ) (told : List ℕ → Told) → zone_text origin left.records left.includes texts ≡ Err (Asks file) → files_behind meta origin left (suc times) names texts told ≡ next_file meta origin left times names texts (joined meta file) told
+pub files_behind-asks : (meta : List ℕ) (origin : Labels) (left : Left) (times : ℕ) (names texts : List (List ℕ)) (file : List ℕ) (told : FilesTold) → zone_text origin left.records left.includes texts ≡ Err (Asks file) → files_behind meta origin left (suc times) names texts told ≡ next_file meta origin left times names texts (joined meta file) told
 unfolding files_behind
 files_behind-asks meta origin left times names texts file told asks =
     ap (settled names (λ file. file_octets (joined meta file) told >>= λ text. files_behind meta origin left times (names ++ joined meta file ∷ []) (texts ++ text ∷ []) told)) asks
 
-files_behind-gives : (meta : List ℕ) (origin : Labels) (left : Left) (times : ℕ) (names texts : List (List ℕ)) (text : ZoneText) (told : List ℕ → Told) → zone_text origin left.records left.includes texts ≡ Ok text → files_behind meta origin left times names texts told ≡ Reads (record { names = names; text = text })
+files_behind-gives : (meta : List ℕ) (origin : Labels) (left : Left) (times : ℕ) (names texts : List (List ℕ)) (text : ZoneText) (told : FilesTold) → zone_text origin left.records left.includes texts ≡ Ok text → files_behind meta origin left times names texts told ≡ Reads (record { names = names; text = text })
 unfolding files_behind
 files_behind-gives meta origin left zero names texts text told gives = ap (settled names (λ file. Unknown (joined meta file))) gives
 files_behind-gives meta origin left (suc times) names texts text told gives =
     ap (settled names (λ file. file_octets (joined meta file) told >>= λ text. files_behind meta origin left times (names ++ joined meta file ∷ []) (texts ++ text ∷ []) told)) gives
 
-files_behind-faulty : (meta : List ℕ) (origin : Labels) (left : Left) (times : ℕ) (names texts : List (List ℕ)) (fault : TextFault) (told : List ℕ → Told) → zone_text origin left.records left.includes texts ≡ Err (Faulty fault) → files_behind meta origin left times names texts told ≡ Refuses (of_text names fault)
+files_behind-faulty : (meta : List ℕ) (origin : Labels) (left : Left) (times : ℕ) (names texts : List (List ℕ)) (fault : TextFault) (told : FilesTold) → zone_text origin left.records left.includes texts ≡ Err (Faulty fault) → files_behind meta origin left times names texts told ≡ Refuses (of_text names fault)
 unfolding files_behind
 files_behind-faulty meta origin left zero names texts fault told faulty = ap (settled names (λ file. Unknown (joined meta file))) faulty
 files_behind-faulty meta origin left (suc times) names texts fault told faulty =
     ap (settled names (λ file. file_octets (joined meta file) told >>= λ text. files_behind meta origin left times (names ++ joined meta file ∷ []) (texts ++ text ∷ []) told)) faulty
 
 -- what texts give that have ended
-pub Answers-ended : (meta : List ℕ) (origin : Labels) (left : Left) (times : ℕ) (names texts : List (List ℕ)) (told : List ℕ → Told) (given : Result ZoneText TextFault) → AnswersOr (Faulty text_faults.NoMemory) (with_fault Faulty given) (zone_text origin left.records left.includes texts) → Answers told (files_behind meta origin left times names texts) (read_files names given)
+pub Answers-ended : (meta : List ℕ) (origin : Labels) (left : Left) (times : ℕ) (names texts : List (List ℕ)) (told : FilesTold) (given : Result ZoneText TextFault) → AnswersOr (Faulty text_faults.NoMemory) (with_fault Faulty given) (zone_text origin left.records left.includes texts) → Answers told (files_behind meta origin left times names texts) (read_files names given)
 Answers-ended meta origin left times names texts told (Ok text) gives =
     Follows-same told (files_behind meta origin left times names texts) (λ _. Reads (record { names = names; text = text })) (λ other. files_behind-gives meta origin left times names texts text other gives)
 Answers-ended meta origin left times names texts told (Err (text_faults.At file line cause)) (inl none) = absurd cc
@@ -73,13 +73,13 @@ Answers-ended meta origin left times names texts told (Err (text_faults.At file 
 Answers-ended meta origin left times names texts told (Err text_faults.NoMemory) answered = tt
 
 -- a file that was read, behind those before
-pub Follows-read : (first : ByTold ZoneFiles) (old new : List ℕ → Told) (meta : List ℕ) (origin : Labels) (left : Left) (times : ℕ) (names texts : List (List ℕ)) (name octets : List ℕ) → StaysTold old new → Follows old first (next_file meta origin left times names texts name) → Follows new (file_octets name) (λ _. Reads octets) → Follows new first (files_behind meta origin left times (names ++ name ∷ []) (texts ++ octets ∷ []))
+pub Follows-read : (first : ByTold ZoneFiles) (old new : FilesTold) (meta : List ℕ) (origin : Labels) (left : Left) (times : ℕ) (names texts : List (List ℕ)) (name octets : List ℕ) → StaysTold old new → Follows old first (next_file meta origin left times names texts name) → Follows new (file_octets name) (λ _. Reads octets) → Follows new first (files_behind meta origin left times (names ++ name ∷ []) (texts ++ octets ∷ []))
 Follows-read first old new meta origin left times names texts name octets stays so_far whole =
     Follows-then old new first (next_file meta origin left times names texts name) _ stays so_far
     (Follows-bind new (file_octets name) (λ _. Reads octets) (λ told text. files_behind meta origin left times (names ++ name ∷ []) (texts ++ text ∷ []) told) whole)
 
 -- The files that were opened of a row's zone: the file of this name is open, and the reader was fed nothing of it.
-pub record HasOpened (meta : List ℕ) (row : MetaRow) (left : Left) (told : List ℕ → Told) (names : List (List ℕ)) (name : List ℕ) (reader : Held) : Type 0 where
+pub record HasOpened (meta : List ℕ) (row : MetaRow) (left : Left) (told : FilesTold) (names : List (List ℕ)) (name : List ℕ) (reader : Held) : Type 0 where
   pub texts : List (List ℕ)
   pub times : ℕ
   pub few : times + length names ≡ left.includes
@@ -89,7 +89,7 @@ pub record HasOpened (meta : List ℕ) (row : MetaRow) (left : Left) (told : Lis
 
 module _ (meta : List ℕ) (row : MetaRow) (left : Left) where
   -- the row's file
-  pub HasOpened-first : (told : List ℕ → Told) (name : List ℕ) (reader : Held) → name ≡ joined meta row.file → IsReaderOf reader (unwrap_or row.origin []) left.records left.includes [] [] → HasOpened meta row left told [] name reader
+  pub HasOpened-first : (told : FilesTold) (name : List ℕ) (reader : Held) → name ≡ joined meta row.file → IsReaderOf reader (unwrap_or row.origin []) left.records left.includes [] [] → HasOpened meta row left told [] name reader
   HasOpened-first told name reader is stands = record {
     texts = [];
     times = left.includes;
@@ -100,7 +100,7 @@ module _ (meta : List ℕ) (row : MetaRow) (left : Left) where
         (λ other. zone_files-first meta row left other ∙ ap (λ n. next_file meta (unwrap_or row.origin []) left left.includes [] [] n other) (sym is));
   }
 
-  module _ (old new : List ℕ → Told) (names : List (List ℕ)) (name : List ℕ) (reader after : Held) where
+  module _ (old new : FilesTold) (names : List (List ℕ)) (name : List ℕ) (reader after : Held) where
     -- what the texts ask for
     asked : (file octets : List ℕ) (opened : HasOpened meta row left old names name reader) → HasEndedFile reader octets (Include file) after → zone_text (unwrap_or row.origin []) left.records left.includes (opened.texts ++ octets ∷ []) ≡ Err (Asks file)
     asked file octets opened ended = asks-asked _ file (ended (unwrap_or row.origin []) left.records left.includes opened.texts opened.stands).0

@@ -3,7 +3,7 @@ use Rattle.std.proofs.Common.{◌≡◌, ◌≢◌, ℕ, zero, suc, ◌+◌, Boo
 use Rattle.std.specs.Result.{IfErr}
 use Rattle.dns_data.proofs.Answers.{if_err_either}
 use Rattle.dns_data.specs.Name.{Labels}
-use Rattle.io_edges.specs.Files.{Told, Untold, NotHeld, Holds}
+use Rattle.io_edges.specs.Files.{FilesTold, Told, Untold, NotHeld, Holds}
 use Rattle.master_read.specs.ZoneText.{Unread, Faulty, Asks, zone_text}
 use Rattle.master_read.specs.declared.fault.TextFault.{TextFault}
 use Rattle.master_read.specs.declared.fault.TextFault.TheVariants as text_faults
@@ -76,7 +76,7 @@ settled_own names next (Ok text) told others = tt
 settled_own names next (Err (Faulty fault)) told others = text_own names fault told
 settled_own names next (Err (Asks file)) told others = others file
 
-files_own : (meta : List ℕ) (origin : Labels) (left : Left) (times : ℕ) (names texts : List (List ℕ)) (told : List ℕ → Told) → RefusesOwn (files_behind meta origin left times names texts told)
+files_own : (meta : List ℕ) (origin : Labels) (left : Left) (times : ℕ) (names texts : List (List ℕ)) (told : FilesTold) → RefusesOwn (files_behind meta origin left times names texts told)
 unfolding files_behind
 files_own meta origin left zero names texts told =
     settled_own names _ (zone_text origin left.records left.includes texts) (texts_told origin left.records left.includes texts) (λ file. tt)
@@ -85,7 +85,7 @@ files_own meta origin left (suc times) names texts told =
     (λ file. own_then (file_octets (joined meta file) told) _ (octets_own (joined meta file) (told (joined meta file)))
     (λ text. files_own meta origin left times (names ++ joined meta file ∷ []) (texts ++ text ∷ []) told))
 
-zone_files_own : (meta : List ℕ) (row : MetaRow) (left : Left) (told : List ℕ → Told) → RefusesOwn (zone_files meta row left told)
+zone_files_own : (meta : List ℕ) (row : MetaRow) (left : Left) (told : FilesTold) → RefusesOwn (zone_files meta row left told)
 unfolding zone_files
 zone_files_own meta row left told =
     own_then (file_octets (joined meta row.file) told) _ (octets_own (joined meta row.file) (told (joined meta row.file)))
@@ -96,7 +96,7 @@ rule_own : (names : List (List ℕ)) (fault : RuleFault) → IsRuleFault fault �
 rule_own names (rule_faults.At number line cause) own = tt
 rule_own names rule_faults.NoMemory own = own
 
-zone_read_own : (meta : List ℕ) (row : MetaRow) (left : Left) (told : List ℕ → Told) → RefusesOwn (zone_read meta row left told)
+zone_read_own : (meta : List ℕ) (row : MetaRow) (left : Left) (told : FilesTold) → RefusesOwn (zone_read meta row left told)
 unfolding zone_read
 zone_read_own meta row left told =
     own_then (zone_files meta row left told) _ (zone_files_own meta row left told)
@@ -108,7 +108,7 @@ zone_read_own meta row left told =
 given_own : (number : ℕ) (name : Labels) (zone : Zone) (servers : List Server) → IfErr (given number name zone servers) IsOwn
 given_own number name zone servers = if_err_either IsOwn (has_zone name zone.origin servers) _ _ tt tt
 
-row_own : (meta : List ℕ) (number : ℕ) (row : MetaRow) (rows : Rows) (told : List ℕ → Told) → RefusesOwn (with_row meta number row rows told)
+row_own : (meta : List ℕ) (number : ℕ) (row : MetaRow) (rows : Rows) (told : FilesTold) → RefusesOwn (with_row meta number row rows told)
 unfolding with_row
 row_own meta number row rows told =
     own_then (zone_read meta row rows.left told) _ (zone_read_own meta row rows.left told)
@@ -116,7 +116,7 @@ row_own meta number row rows told =
     (own_unless IsOwn (λ fault. fault) (given number row.server read.zone rows.servers) (given_own number row.server read.zone rows.servers) (λ fault own. own))
     (λ servers. tt))
 
-rows_own : (meta : List ℕ) (number : ℕ) (more : List MetaRow) (rows : Rows) (told : List ℕ → Told) → RefusesOwn (with_rows meta number more rows told)
+rows_own : (meta : List ℕ) (number : ℕ) (more : List MetaRow) (rows : Rows) (told : FilesTold) → RefusesOwn (with_rows meta number more rows told)
 unfolding with_rows
 rows_own meta number [] rows told = tt
 rows_own meta number (row ∷ more) rows told =
@@ -132,14 +132,14 @@ meta_own meta_faults.NoTops own = tt
 meta_own meta_faults.TooManyRows own = tt
 meta_own meta_faults.NoMemory own = own
 
-metadata_read_own : (meta : List ℕ) (told : List ℕ → Told) → RefusesOwn (metadata meta told)
+metadata_read_own : (meta : List ℕ) (told : FilesTold) → RefusesOwn (metadata meta told)
 unfolding metadata
 metadata_read_own meta told =
     own_then (file_octets meta told) _ (octets_own meta (told meta))
     (λ octets. own_unless IsMetadataFault of_metadata (metadata_of octets) (metadata_own octets) meta_own)
 
 -- the refusal of files says something of them
-pub conf_own : (meta : List ℕ) (told : List ℕ → Told) → RefusesOwn (conf meta told)
+pub conf_own : (meta : List ℕ) (told : FilesTold) → RefusesOwn (conf meta told)
 unfolding conf
 conf_own meta told =
     own_then (metadata meta told) _ (metadata_read_own meta told)

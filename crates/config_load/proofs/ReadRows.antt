@@ -1,7 +1,7 @@
 -- Zones, rows and the configuration, step by step.
 use Rattle.std.proofs.Common.{◌≡◌, ℕ, ◌+◌, List, ◌∷◌, Result, Ok, Err, IsErrAnd, refl, sym, ap, inr}
 use Rattle.dns_data.specs.Answers.{AnswersOr, with_fault}
-use Rattle.io_edges.specs.Files.{Told, StaysTold}
+use Rattle.io_edges.specs.Files.{FilesTold, StaysTold}
 use Rattle.meta_read.specs.declared.meta.Meta.{Meta as Metadata}
 use Rattle.meta_read.specs.declared.meta.MetaRow.{MetaRow}
 use Rattle.net_model.specs.declared.config.Config.{Config}
@@ -23,10 +23,10 @@ use Rattle.config_load.proofs.Follows.{Follows-same, Follows-bind, Answers-passe
 use Rattle.config_load.proofs.Steps.{IsNoRead-of_rule, Answers-told, Answers-given}
 
 -- nothing is told meanwhile
-still : (told : List ℕ → Told) → StaysTold told told
+still : (told : FilesTold) → StaysTold told told
 still told name = inr refl
 
-module _ (meta : List ℕ) (row : MetaRow) (left : Left) (told : List ℕ → Told) where
+module _ (meta : List ℕ) (row : MetaRow) (left : Left) (told : FilesTold) where
   -- a row's files that aren't read
   pub Answers-no_files : (fault : LoadFault) (result : Result ReadZone LoadFault) → IsErrAnd result (λ passed. passed ≡ fault) → (let answer : Result ZoneFiles LoadFault = Err fault in Answers told (zone_files meta row left) answer) → Answers told (zone_read meta row left) result
   unfolding zone_read
@@ -52,7 +52,7 @@ module _ (meta : List ℕ) (row : MetaRow) (left : Left) (told : List ℕ → To
       (Answers-told told (of_rule read.names) (zone_of row.origin read.text.rrs) said (IsNoRead-of_rule read.names) answered)
       (Follows-same told (λ _. Reads (record { zone = zone; left = left_behind left read.text })) (λ _. Reads (record { zone = zone; left = behind })) (λ other. ap (λ (l : Left). Reads (record { zone = zone; left = l })) (sym is))))
 
-module _ (meta : List ℕ) (number : ℕ) (row : MetaRow) (rows : Rows) (told : List ℕ → Told) where
+module _ (meta : List ℕ) (number : ℕ) (row : MetaRow) (rows : Rows) (told : FilesTold) where
   -- a row whose zone isn't read
   pub Answers-no_row : (fault : LoadFault) (result : Result Rows LoadFault) → IsErrAnd result (λ passed. passed ≡ fault) → (let answer : Result ReadZone LoadFault = Err fault in Answers told (zone_read meta row rows.left) answer) → Answers told (with_row meta number row rows) result
   unfolding with_row
@@ -80,33 +80,33 @@ module _ (meta : List ℕ) (number : ℕ) (row : MetaRow) (rows : Rows) (told : 
 
 module _ (meta : List ℕ) (number : ℕ) (row : MetaRow) (others : List MetaRow) (rows : Rows) where
   -- a row that ends the reading
-  pub Answers-first_row : (told : List ℕ → Told) (fault : LoadFault) (result : Result Rows LoadFault) → IsErrAnd result (λ passed. passed ≡ fault) → (let answer : Result Rows LoadFault = Err fault in Answers told (with_row meta number row rows) answer) → Answers told (with_rows meta number (row ∷ others) rows) result
+  pub Answers-first_row : (told : FilesTold) (fault : LoadFault) (result : Result Rows LoadFault) → IsErrAnd result (λ passed. passed ≡ fault) → (let answer : Result Rows LoadFault = Err fault in Answers told (with_row meta number row rows) answer) → Answers told (with_rows meta number (row ∷ others) rows) result
   unfolding with_rows
   Answers-first_row told fault result is a =
       Answers-passed told (with_row meta number row rows) (λ t rows. with_rows meta (number + 1) others rows t) fault result is a
 
   -- a row, and those behind it
-  pub Follows-first_row : (told : List ℕ → Told) (more : Rows) → Follows told (with_row meta number row rows) (λ _. Reads more) → Follows told (with_rows meta number (row ∷ others) rows) (with_rows meta (number + 1) others more)
+  pub Follows-first_row : (told : FilesTold) (more : Rows) → Follows told (with_row meta number row rows) (λ _. Reads more) → Follows told (with_rows meta number (row ∷ others) rows) (with_rows meta (number + 1) others more)
   unfolding with_rows
   Follows-first_row told more whole =
       Follows-bind told (with_row meta number row rows) (λ _. Reads more) (λ t rows. with_rows meta (number + 1) others rows t) whole
 
 module _ (meta : List ℕ) where
   -- metadata that don't read
-  pub Answers-no_metadata : (told : List ℕ → Told) (fault : LoadFault) (result : Result Config LoadFault) → IsErrAnd result (λ passed. passed ≡ fault) → (let answer : Result Metadata LoadFault = Err fault in Answers told (metadata meta) answer) → Answers told (conf meta) result
+  pub Answers-no_metadata : (told : FilesTold) (fault : LoadFault) (result : Result Config LoadFault) → IsErrAnd result (λ passed. passed ≡ fault) → (let answer : Result Metadata LoadFault = Err fault in Answers told (metadata meta) answer) → Answers told (conf meta) result
   unfolding conf
   Answers-no_metadata told fault result is a =
       Answers-passed told (metadata meta) (λ t found. with_rows meta 1 found.rows no_rows t >>= λ rows. Reads (record { tops = found.tops; servers = rows.servers })) fault result is a
 
   -- rows that don't read
-  pub Answers-no_rows : (old new : List ℕ → Told) (found : Metadata) (fault : LoadFault) (result : Result Config LoadFault) → StaysTold old new → IsErrAnd result (λ passed. passed ≡ fault) → Follows old (metadata meta) (λ _. Reads found) → (let answer : Result Rows LoadFault = Err fault in Answers new (with_rows meta 1 found.rows no_rows) answer) → Answers new (conf meta) result
+  pub Answers-no_rows : (old new : FilesTold) (found : Metadata) (fault : LoadFault) (result : Result Config LoadFault) → StaysTold old new → IsErrAnd result (λ passed. passed ≡ fault) → Follows old (metadata meta) (λ _. Reads found) → (let answer : Result Rows LoadFault = Err fault in Answers new (with_rows meta 1 found.rows no_rows) answer) → Answers new (conf meta) result
   unfolding conf
   Answers-no_rows old new found fault result stays is whole a =
       Answers-next old new (metadata meta) found (λ t found. with_rows meta 1 found.rows no_rows t >>= λ rows. Reads (record { tops = found.tops; servers = rows.servers })) result stays whole
       (Answers-passed new (with_rows meta 1 found.rows no_rows) (λ _ rows. Reads (record { tops = found.tops; servers = rows.servers })) fault result is a)
 
   -- the configuration
-  pub Follows-config : (old new : List ℕ → Told) (found : Metadata) (rows : Rows) → StaysTold old new → Follows old (metadata meta) (λ _. Reads found) → Follows new (with_rows meta 1 found.rows no_rows) (λ _. Reads rows) → Follows new (conf meta) (λ _. Reads (record { tops = found.tops; servers = rows.servers }))
+  pub Follows-config : (old new : FilesTold) (found : Metadata) (rows : Rows) → StaysTold old new → Follows old (metadata meta) (λ _. Reads found) → Follows new (with_rows meta 1 found.rows no_rows) (λ _. Reads rows) → Follows new (conf meta) (λ _. Reads (record { tops = found.tops; servers = rows.servers }))
   unfolding conf
   Follows-config old new found rows stays whole all =
       let answer : Result Config LoadFault = Ok (record { tops = found.tops; servers = rows.servers }) in

@@ -4,7 +4,7 @@ use Rattle.std.proofs.Math.Seq.{drop-cons}
 use Rattle.std.proofs.Math.ListN.{drop_of_length-le}
 use Rattle.dns_data.specs.Answers.{AnswersOr, with_fault}
 use Rattle.dns_data.specs.Name.{Labels}
-use Rattle.io_edges.specs.Files.{Told}
+use Rattle.io_edges.specs.Files.{FilesTold}
 use Rattle.meta_read.specs.declared.fault.MetaFault.{MetaFault}
 use Rattle.meta_read.specs.declared.fault.MetaFault.TheVariants as meta_faults
 use Rattle.meta_read.specs.declared.meta.MetaRow.{MetaRow}
@@ -42,7 +42,7 @@ IsNoRead-of_rule names rule_faults.NoMemory = tt
 
 module _ {A : Type 0} where
   -- a refusal that the reading gives is answered
-  pub Answers-refused : (told : List ℕ → Told) (reading : ByTold A) (fault : LoadFault) → IsNoRead fault → Follows told reading (λ _. Refuses fault) → (let answer : Result A LoadFault = Err fault in Answers told reading answer)
+  pub Answers-refused : (told : FilesTold) (reading : ByTold A) (fault : LoadFault) → IsNoRead fault → Follows told reading (λ _. Refuses fault) → (let answer : Result A LoadFault = Err fault in Answers told reading answer)
   Answers-refused told reading (Read file) never a = absurd never
   Answers-refused told reading NoMemory never a = tt
   Answers-refused told reading (TooLong file) never a = a
@@ -52,12 +52,12 @@ module _ {A : Type 0} where
   Answers-refused told reading (ZoneTwice row) never a = a
 
   -- want of memory answers any reading
-  pub Answers-free : (told : List ℕ → Told) (reading : ByTold A) (fault : LoadFault) → fault ≡ NoMemory → (let answer : Result A LoadFault = Err fault in Answers told reading answer)
+  pub Answers-free : (told : FilesTold) (reading : ByTold A) (fault : LoadFault) → fault ≡ NoMemory → (let answer : Result A LoadFault = Err fault in Answers told reading answer)
   Answers-free told reading fault free = subst (λ f. let answer : Result A LoadFault = Err f in Answers told reading answer) (sym free) tt
 
 module _ {A : Type 0} where
   -- the same of a call's fault that is passed on
-  pub Answers-wanting : (told : List ℕ → Told) (reading : ByTold A) (result : Result A LoadFault) → IsErrAnd result (λ fault. fault ≡ NoMemory) → Answers told reading result
+  pub Answers-wanting : (told : FilesTold) (reading : ByTold A) (result : Result A LoadFault) → IsErrAnd result (λ fault. fault ≡ NoMemory) → Answers told reading result
   Answers-wanting told reading (Ok value) wants = absurd wants
   Answers-wanting told reading (Err fault) wants = Answers-free told reading fault wants
 
@@ -69,7 +69,7 @@ FailedAt-wanting {A} before after (Err fault) wants =
 
 module _ {T E : Type 0} where
   -- what a definition says is answered, or want of memory
-  pub Answers-told : (told : List ℕ → Told) (of : E → LoadFault) (said : Result T E) (result : Result T LoadFault) → ((fault : E) → IsNoRead (of fault)) → AnswersOr NoMemory result (with_fault of said) → Answers told (λ _. unless_refused of said) result
+  pub Answers-told : (told : FilesTold) (of : E → LoadFault) (said : Result T E) (result : Result T LoadFault) → ((fault : E) → IsNoRead (of fault)) → AnswersOr NoMemory result (with_fault of said) → Answers told (λ _. unless_refused of said) result
   Answers-told told of (Ok value) (Ok other) no_read answered =
       let same : value ≡ other = cc in
       Follows-same told (λ _. Reads value) (λ _. Reads other) (λ _. ap Reads same)
@@ -89,7 +89,7 @@ given-fault number name zone servers fault is = by_test (has_zone name zone.orig
   by_test false is = absurd cc
 
 -- what a zone's server answers
-pub Answers-given : (told : List ℕ → Told) (number : ℕ) (name : Labels) (zone : Zone) (servers : List Server) (result : Result (List Server) LoadFault) → AnswersOr NoMemory result (given number name zone servers) → Answers told (λ _. unless_refused (λ fault. fault) (given number name zone servers)) result
+pub Answers-given : (told : FilesTold) (number : ℕ) (name : Labels) (zone : Zone) (servers : List Server) (result : Result (List Server) LoadFault) → AnswersOr NoMemory result (given number name zone servers) → Answers told (λ _. unless_refused (λ fault. fault) (given number name zone servers)) result
 Answers-given told number name zone servers (Ok value) answered =
     Follows-same told (λ _. unless_refused (λ fault. fault) (given number name zone servers)) (λ _. Reads value) (λ other. ap (unless_refused (λ fault. fault)) answered)
 Answers-given told number name zone servers (Err fault) (inl free) =
@@ -106,6 +106,6 @@ pub rest-more : (all : List MetaRow) (i : ℕ) (row : MetaRow) → i < length al
 rest-more all i row below is = drop-cons all i row below ∙ (λ j. sym is j ∷ drop (sym (add-one i) j) all)
 
 -- where there is none
-pub with_rows-end : (meta : List ℕ) (all : List MetaRow) (i : ℕ) (rows : Rows) (told : List ℕ → Told) → length all ≤ i → with_rows meta (i + 1) (drop i all) rows told ≡ Reads rows
+pub with_rows-end : (meta : List ℕ) (all : List MetaRow) (i : ℕ) (rows : Rows) (told : FilesTold) → length all ≤ i → with_rows meta (i + 1) (drop i all) rows told ≡ Reads rows
 unfolding with_rows
 with_rows-end meta all i rows told past = ap (λ (rest : List MetaRow). with_rows meta (i + 1) rest rows told) (drop_of_length-le all past)

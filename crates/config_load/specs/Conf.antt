@@ -2,7 +2,7 @@
 -- refusal. A file is read to its end before what stands in it counts.
 use Rattle.std.specs.Prelude.{ℕ, zero, suc, ◌+◌, ◌-◌, List, [], ◌∷◌, ◌++◌, unwrap_or, Result, Ok, Err}
 use Rattle.dns_data.specs.Name.{Labels}
-use Rattle.io_edges.specs.Files.{Told}
+use Rattle.io_edges.specs.Files.{FilesTold}
 use Rattle.master_read.specs.ZoneText.{Unread, Faulty, Asks, zone_text}
 use Rattle.master_read.specs.declared.zone_text.ZoneText.{ZoneText}
 use Rattle.meta_read.specs.Metadata.{metadata_of}
@@ -37,7 +37,7 @@ settled names next (Err (Asks file)) = next file
 -- The files of a zone, of which those with these names and texts were opened, in order; so many may be opened still.
 -- In the first equation no file is asked for, since texts ask for no more files than may be included
 -- (`asks_within_the_limit` of master_read).
-unfoldable pub files_behind : List ℕ → Labels → Left → ℕ → List (List ℕ) → List (List ℕ) → (List ℕ → Told) → Reading ZoneFiles
+unfoldable pub files_behind : List ℕ → Labels → Left → ℕ → List (List ℕ) → List (List ℕ) → FilesTold → Reading ZoneFiles
 files_behind meta origin left zero names texts told =
     settled names (λ file. Unknown (joined meta file)) (zone_text origin left.records left.includes texts)
 files_behind meta origin left (suc times) names texts told =
@@ -47,13 +47,13 @@ files_behind meta origin left (suc times) names texts told =
     (zone_text origin left.records left.includes texts)
 
 -- the files of a row's zone: its file, and those that are included
-unfoldable pub zone_files : List ℕ → MetaRow → Left → (List ℕ → Told) → Reading ZoneFiles
+unfoldable pub zone_files : List ℕ → MetaRow → Left → FilesTold → Reading ZoneFiles
 zone_files meta row left told = do
   text ← file_octets (joined meta row.file) told
   files_behind meta (unwrap_or row.origin []) left left.includes (joined meta row.file ∷ []) (text ∷ []) told
 
 -- the zone of a row's files, and what it leaves
-unfoldable pub zone_read : List ℕ → MetaRow → Left → (List ℕ → Told) → Reading ReadZone
+unfoldable pub zone_read : List ℕ → MetaRow → Left → FilesTold → Reading ReadZone
 zone_read meta row left told = do
   files ← zone_files meta row left told
   zone ← unless_refused (of_rule files.names) (zone_of row.origin files.text.rrs)
@@ -64,23 +64,23 @@ abbrev pub no_rows : Rows
 no_rows = record { left = everything_left; servers = [] }
 
 -- one row more, which has this number: its zone is given to its server
-unfoldable pub with_row : List ℕ → ℕ → MetaRow → Rows → (List ℕ → Told) → Reading Rows
+unfoldable pub with_row : List ℕ → ℕ → MetaRow → Rows → FilesTold → Reading Rows
 with_row meta number row rows told = do
   read ← zone_read meta row rows.left told
   servers ← unless_refused (λ fault. fault) (given number row.server read.zone rows.servers)
   Reads (record { left = read.left; servers = servers })
 
 -- more rows, which are counted from this number on
-unfoldable pub with_rows : List ℕ → ℕ → List MetaRow → Rows → (List ℕ → Told) → Reading Rows
+unfoldable pub with_rows : List ℕ → ℕ → List MetaRow → Rows → FilesTold → Reading Rows
 with_rows meta number [] rows told = Reads rows
 with_rows meta number (row ∷ more) rows told = with_row meta number row rows told >>= λ rows. with_rows meta (number + 1) more rows told
 
 -- The metadata.
-unfoldable pub metadata : List ℕ → (List ℕ → Told) → Reading Metadata
+unfoldable pub metadata : List ℕ → FilesTold → Reading Metadata
 metadata meta told = file_octets meta told >>= λ octets. unless_refused of_metadata (metadata_of octets)
 
 -- what the files give for a metadata file's name
-unfoldable pub conf : List ℕ → (List ℕ → Told) → Reading Config
+unfoldable pub conf : List ℕ → FilesTold → Reading Config
 conf meta told = do
   found ← metadata meta told
   rows ← with_rows meta 1 found.rows no_rows told

@@ -1,7 +1,7 @@
 -- What a reader of zone files was fed: for the contracts of inner calls alone.
 use Rattle.std.specs.Prelude.{◌≡◌, ℕ, List, [], ◌∷◌, ◌++◌, Result, Err}
 use Rattle.dns_data.specs.Name.{Labels}
-use Rattle.io_edges.specs.Files.{Told}
+use Rattle.io_edges.specs.Files.{FilesTold}
 use Rattle.master_read.specs.Reader.{Held, IsReaderOf, GoesOn, asked_by}
 use Rattle.master_read.specs.ZoneText.{zone_text}
 use Rattle.master_read.specs.declared.asked.Asked.{Asked}
@@ -22,11 +22,11 @@ HasEndedFile old octets asked new =
     → (asked ≡ asked_by (zone_text origin room includes (ended ++ octets ∷ []))) × GoesOn asked new origin room includes (ended ++ octets ∷ [])
 
 -- the octets of this file were fed to a reader, as those of its open file, which ended with them
-pub record HasFed (told : List ℕ → Told) (name : List ℕ) (old : Held) (asked : Asked) (new : Held) : Type 0 where
+pub record HasFed (told : FilesTold) (name : List ℕ) (old : Held) (asked : Asked) (new : Held) : Type 0 where
   pub octets : List ℕ
   pub whole : Follows told (file_octets name) (λ _. Reads octets)
   pub ended : HasEndedFile old octets asked new
 
 -- the file isn't read, with this fault
-abbrev pub FailsToRead : (List ℕ → Told) → List ℕ → LoadFault → Type 0
+abbrev pub FailsToRead : FilesTold → List ℕ → LoadFault → Type 0
 FailsToRead told name fault = let answer : Result (List ℕ) LoadFault = Err fault in Answers told (file_octets name) answer

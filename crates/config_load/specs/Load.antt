@@ -2,7 +2,7 @@
 use Rattle.std.specs.Prelude.{◌≡◌, ℕ, ◌⊎◌, nat_eq, List, map, Contains, Result, Ok, Err, if◌then◌else◌}
 use lib.Pointwise.{pointwise}
 use Rattle.io_edges.specs.Counts.{Rose}
-use Rattle.io_edges.specs.Files.{Told, Untold}
+use Rattle.io_edges.specs.Files.{FilesTold, Told, Untold}
 use Rattle.meta_read.specs.declared.meta.Meta.{Meta as Metadata}
 use Rattle.config_load.specs.Conf.{conf, metadata}
 use Rattle.config_load.specs.Joined.{joined}
@@ -11,26 +11,26 @@ use Rattle.config_load.specs.declared.fault.LoadFault.{LoadFault}
 use Rattle.config_load.specs.declared.fault.LoadFault.TheVariants.{Read, NoMemory}
 
 -- what is told, but of this file nothing
-abbrev pub without : List ℕ → (List ℕ → Told) → List ℕ → Told
+abbrev pub without : List ℕ → FilesTold → List ℕ → Told
 without file told name = if pointwise nat_eq name file then Untold else told name
 
 -- The reading comes to this file: if nothing were told of it, nothing more would be known. Each step before gives no
 -- refusal and comes to no file that isn't held.
-abbrev pub ReadingComesTo : List ℕ → (List ℕ → Told) → List ℕ → Type 0
+abbrev pub ReadingComesTo : List ℕ → FilesTold → List ℕ → Type 0
 ReadingComesTo meta told file = conf meta (without file told) ≡ Unknown file
 
 -- the metadata read, and some row of them names this file
-abbrev pub IsRowsFile : List ℕ → (List ℕ → Told) → List ℕ → Type 0
+abbrev pub IsRowsFile : List ℕ → FilesTold → List ℕ → Type 0
 IsRowsFile meta told file =
     (found : Metadata) × (metadata meta told ≡ Reads found) × Contains (map (λ row. joined meta row.file) found.rows) file
 
 -- the names of the files that are opened: the metadata file, those of its rows, and those that are included where the
 -- reading comes to
-abbrev pub IsOpened : List ℕ → (List ℕ → Told) → List ℕ → Type 0
+abbrev pub IsOpened : List ℕ → FilesTold → List ℕ → Type 0
 IsOpened meta told file = (file ≡ meta) ⊎ (IsRowsFile meta told file ⊎ ReadingComesTo meta told file)
 
 -- no count of an opened file rose
-abbrev pub NoReadFailed : List ℕ → (List ℕ → Told) → (List ℕ → ℕ) → (List ℕ → ℕ) → Type 0
+abbrev pub NoReadFailed : List ℕ → FilesTold → (List ℕ → ℕ) → (List ℕ → ℕ) → Type 0
 NoReadFailed meta told before after = (file : List ℕ) → IsOpened meta told file → Rose (before file) (after file) → ⊥
 
 -- an answer is what the reading gives: what was read, or the refusal; a failed read and want of memory are free
@@ -41,7 +41,7 @@ Gives reading (Err NoMemory) = Unit {0}
 Gives reading (Err fault) = reading ≡ Refuses fault
 
 -- a failed read is of a file to which the reading comes
-abbrev pub FailedWhereItCame : {T : Type 0} → List ℕ → (List ℕ → Told) → Result T LoadFault → Type 0
+abbrev pub FailedWhereItCame : {T : Type 0} → List ℕ → FilesTold → Result T LoadFault → Type 0
 FailedWhereItCame meta told (Err (Read file)) = ReadingComesTo meta told file
 FailedWhereItCame meta told result = Unit {0}
 

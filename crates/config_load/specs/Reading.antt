@@ -1,6 +1,6 @@
 -- What is read of files, by what is told of them.
 use Rattle.std.specs.Prelude.{ℕ, nat_le, List, length, Result, Ok, Err, if◌then◌else◌}
-use Rattle.io_edges.specs.Files.{Told, Untold, NotHeld, Holds}
+use Rattle.io_edges.specs.Files.{FilesTold, Told, Untold, NotHeld, Holds}
 use Rattle.config_load.specs.declared.fault.LoadFault.{LoadFault}
 use Rattle.config_load.specs.declared.fault.LoadFault.TheVariants.{TooLong}
 
@@ -36,5 +36,5 @@ told_octets name NotHeld = Misses name
 told_octets name (Holds octets) = if nat_le (length octets) most_octets then Reads octets else Refuses (TooLong name)
 
 -- the octets of the file of this name
-abbrev pub file_octets : List ℕ → (List ℕ → Told) → Reading (List ℕ)
+abbrev pub file_octets : List ℕ → FilesTold → Reading (List ℕ)
 file_octets name told = told_octets name (told name)

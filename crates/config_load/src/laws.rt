@@ -1,7 +1,7 @@
 //! What the definitions say of what files give.
 
 ghost use Rattle.std.specs.Prelude.{◌≢◌, ℕ, List};
-ghost use Rattle.io_edges.specs.Files.{Told};
+ghost use Rattle.io_edges.specs.Files.{FilesTold};
 ghost use Rattle.config_load.specs.Conf.{conf};
 ghost use Rattle.config_load.specs.Reading.{Refuses};
 
@@ -9,6 +9,6 @@ use crate::fault::LoadFault;
 
 /// Files are refused for what they say, never for a failed read or for want of memory: those answers are a call's alone.
 pub fn files_want_nothing()
-    ensures read { (meta : List ℕ) (told : List ℕ → Told) (file : List ℕ) → conf meta told ≢ Refuses (LoadFault.Read file) }
-    ensures memory { (meta : List ℕ) (told : List ℕ → Told) → conf meta told ≢ Refuses LoadFault.NoMemory }
+    ensures read { (meta : List ℕ) (told : FilesTold) (file : List ℕ) → conf meta told ≢ Refuses (LoadFault.Read file) }
+    ensures memory { (meta : List ℕ) (told : FilesTold) → conf meta told ≢ Refuses LoadFault.NoMemory }
 {}

@@ -10,18 +10,18 @@ use Rattle.groot_line.specs.declared.fault.LineFault.{LineFault}
 use Rattle.groot_line.specs.declared.job.Job.{Job}
 use Rattle.groot_line.specs.declared.job.Job.TheVariants as jobs
 use Rattle.io_edges.specs.Counts.{Rose}
-use Rattle.io_edges.specs.Files.{Told}
+use Rattle.io_edges.specs.Files.{FilesTold}
 use Rattle.net_model.specs.declared.config.Config.{Config}
 use Rattle.groot_run.specs.declared.ending.Ending.{Ending}
 use Rattle.groot_run.specs.Outcome.{Checks, Asks, OfReading, IsEnding, read_failed, no_memory}
 
 -- how a run over the files of this metadata file ends
-abbrev pub EndsOver : (List ℕ → Told) → (List ℕ → ℕ) → (List ℕ → ℕ) → (Config → Ending → Type 0) → List ℕ → Ending → Type 0
+abbrev pub EndsOver : FilesTold → (List ℕ → ℕ) → (List ℕ → ℕ) → (Config → Ending → Type 0) → List ℕ → Ending → Type 0
 EndsOver told before after of_config meta ending =
     OfReading meta of_config (conf meta told) ending
     ⊎ (((file : List ℕ) × (ending ≡ read_failed file) × ReadingComesTo meta told file × Rose (before file) (after file)) ⊎ (ending ≡ no_memory))
 
-module _ (told : List ℕ → Told) (before after : List ℕ → ℕ) (said : Result Job LineFault) (own : List ℕ) (ending : Ending) where
+module _ (told : FilesTold) (before after : List ℕ → ℕ) (said : Result Job LineFault) (own : List ℕ) (ending : Ending) where
   -- of files that read, where no read failed, a check ends as the configuration says
   pub check_ends : (meta : List ℕ) (workers classes rewrites : ℕ) → said ≡ Ok (jobs.Check meta workers classes rewrites) → own ≡ meta
       → EndsOver told before after (Checks classes rewrites) own ending

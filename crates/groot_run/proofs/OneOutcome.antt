@@ -2,7 +2,7 @@
 use Rattle.zone_maker.specs.Source.{drill_told}
 use Rattle.std.specs.Prelude.{codes}
 use Rattle.std.proofs.Common.{◌≡◌, ℕ, List, Result, Ok, Err, [], length, subst, sym, ap, ◌∙◌, inl, inr}
-use Rattle.io_edges.specs.Files.{Told}
+use Rattle.io_edges.specs.Files.{FilesTold}
 use Rattle.dns_data.specs.Name.{Labels}
 use Rattle.dns_data.specs.declared.rr_type.RrType.{RrType}
 use Rattle.net_model.specs.declared.config.Config.{Config}
@@ -87,7 +87,7 @@ one_by_reading meta of_config one (Refuses fault) a b p q = p ∙ sym q
 one_by_reading meta of_config one (Misses file) a b p q = absurd p
 one_by_reading meta of_config one (Unknown file) a b p q = absurd p
 
-pub one_outcome : (told : List ℕ → Told) (job : Result Job LineFault) (a b : Ending) → Outcome told job a → Outcome told job b → a ≡ b
+pub one_outcome : (told : FilesTold) (job : Result Job LineFault) (a b : Ending) → Outcome told job a → Outcome told job b → a ≡ b
 one_outcome told (Ok (jobs.Check meta workers classes rewrites)) a b =
     one_by_reading meta (Checks classes rewrites) (one_check classes rewrites) (conf meta told) a b
 one_outcome told (Ok (jobs.Classes meta classes)) a b =

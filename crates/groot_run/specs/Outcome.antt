@@ -1,7 +1,7 @@
 -- How a run ends: its status, the text for out and the line for err, by its job and by what is told of the files.
 use Rattle.std.specs.Prelude.{◌≡◌, ℕ, ◌⊎◌, Bool, true, false, List, [], ◌∷◌, ◌++◌, length, min, codes, decimal, Result, Ok}
 use Rattle.io_edges.specs.Counts.{last_count}
-use Rattle.io_edges.specs.Files.{Told}
+use Rattle.io_edges.specs.Files.{FilesTold}
 use Rattle.dns_data.specs.Name.{Labels}
 use Rattle.dns_data.specs.Spelling.{name_text}
 use Rattle.dns_data.specs.declared.rr_type.RrType.{RrType}
@@ -224,7 +224,7 @@ OfReading meta of_config (Misses file) ending = ⊥
 OfReading meta of_config (Unknown file) ending = ⊥
 
 -- what the words' job gives, by what is told of the files; a drill reads its own
-abbrev pub Outcome : (List ℕ → Told) → Result Job LineFault → Ending → Type 0
+abbrev pub Outcome : FilesTold → Result Job LineFault → Ending → Type 0
 Outcome told (Ok (jobs.Check meta workers classes rewrites)) ending = OfReading meta (Checks classes rewrites) (conf meta told) ending
 Outcome told (Ok (jobs.Classes meta classes)) ending = OfReading meta (ListsClasses classes) (conf meta told) ending
 Outcome told (Ok (jobs.Ask meta name rtype)) ending = OfReading meta (Asks name rtype) (conf meta told) ending
@@ -232,7 +232,7 @@ Outcome told (Ok (jobs.Drill zones workers)) ending = OfReading (codes "meta.jso
 Outcome told job ending = ending ≡ usage
 
 -- a run ends in the outcome of its job, in a failed read or for want of memory
-abbrev pub IsEnding : (List ℕ → Told) → Result Job LineFault → Ending → Type 0
+abbrev pub IsEnding : FilesTold → Result Job LineFault → Ending → Type 0
 IsEnding told job ending =
     Outcome told job ending ⊎ ((file : List ℕ) × (ending ≡ read_failed file)) ⊎ (ending ≡ no_memory)
 
@@ -240,14 +240,14 @@ IsEnding told job ending =
 
 -- The job comes to the file: every step of its reading before gives no refusal, and comes to no opened name that isn't
 -- held.
-abbrev pub JobComesTo : (List ℕ → Told) → Result Job LineFault → List ℕ → Type 0
+abbrev pub JobComesTo : FilesTold → Result Job LineFault → List ℕ → Type 0
 JobComesTo told (Ok (jobs.Check meta workers classes rewrites)) file = ReadingComesTo meta told file
 JobComesTo told (Ok (jobs.Classes meta classes)) file = ReadingComesTo meta told file
 JobComesTo told (Ok (jobs.Ask meta name rtype)) file = ReadingComesTo meta told file
 JobComesTo told job file = ⊥
 
 -- no count of a file that the job opens rose
-abbrev pub NoJobReadFailed : (List ℕ → Told) → Result Job LineFault → (List ℕ → ℕ) → (List ℕ → ℕ) → Type 0
+abbrev pub NoJobReadFailed : FilesTold → Result Job LineFault → (List ℕ → ℕ) → (List ℕ → ℕ) → Type 0
 NoJobReadFailed told (Ok (jobs.Check meta workers classes rewrites)) before after = NoReadFailed meta told before after
 NoJobReadFailed told (Ok (jobs.Classes meta classes)) before after = NoReadFailed meta told before after
 NoJobReadFailed told (Ok (jobs.Ask meta name rtype)) before after = NoReadFailed meta told before after

@@ -1,7 +1,7 @@
 //! What the definitions say of query names, of reports and of outcomes.
 
-ghost use Rattle.std.specs.Prelude.{◌≡◌, ℕ, List, Result};
-ghost use Rattle.io_edges.specs.Files.{Told};
+ghost use Rattle.std.specs.Prelude.{◌≡◌, ℕ, Result};
+ghost use Rattle.io_edges.specs.Files.{FilesTold};
 ghost use Rattle.net_model.specs.declared.config.Config.{Config};
 ghost use Rattle.groot_line.specs.declared.fault.LineFault.{LineFault};
 ghost use Rattle.groot_line.specs.declared.job.Job.{Job};
@@ -27,5 +27,5 @@ pub fn query_classes()
 
 /// By what is told of the files, a job has at most one outcome.
 pub fn one_outcome()
-    ensures one { (told : List ℕ → Told) (job : Result Job LineFault) (a b : Ending) → Outcome told job a → Outcome told job b → a ≡ b }
+    ensures one { (told : FilesTold) (job : Result Job LineFault) (a b : Ending) → Outcome told job a → Outcome told job b → a ≡ b }
 {}

@@ -3,10 +3,10 @@ use Rattle.std.proofs.Common.{◌≡◌, ℕ, ◌+◌, ◌<◌, ◌≤◌, ◌++
 use Rattle.std.proofs.Math.ListN.{length-take, length-append}
 use Rattle.std.proofs.Math.Seq.{take-add}
 use Rattle.std.proofs.lemmas.List.{take_all}
-use Rattle.io_edges.specs.Files.{Told, Untold, NotHeld, Holds, IsToldAnd, StaysTold, TellsAll, SameElsewhere, IsPieceFrom, first_told}
+use Rattle.io_edges.specs.Files.{FilesTold, Told, Untold, NotHeld, Holds, IsToldAnd, StaysTold, TellsAll, SameElsewhere, IsPieceFrom, first_told}
 
 -- what is told over two steps stays told
-pub StaysTold-then : (first between last : List ℕ → Told) → StaysTold first between → StaysTold between last → StaysTold first last
+pub StaysTold-then : (first between last : FilesTold) → StaysTold first between → StaysTold between last → StaysTold first last
 StaysTold-then first between last a b name = at_name (a name) (b name) where
   at_name : (first name ≡ Untold) ⊎ (between name ≡ first name) → (between name ≡ Untold) ⊎ (last name ≡ between name) → (first name ≡ Untold) ⊎ (last name ≡ first name)
   at_name (inl untold) next = inl untold
@@ -14,14 +14,14 @@ StaysTold-then first between last a b name = at_name (a name) (b name) where
   at_name (inr same) (inr kept) = inr (kept ∙ same)
 
 -- what told all tells the same from then on
-pub TellsAll-same : (before after : List ℕ → Told) → TellsAll before → StaysTold before after → after ≡ before
+pub TellsAll-same : (before after : FilesTold) → TellsAll before → StaysTold before after → after ≡ before
 TellsAll-same before after all stays = λ i name. at_name name (stays name) i where
   at_name : (name : List ℕ) → (before name ≡ Untold) ⊎ (after name ≡ before name) → after name ≡ before name
   at_name name (inl untold) = absurd (all name untold)
   at_name name (inr same) = same
 
 -- what is told of the other names is the same over two steps
-pub SameElsewhere-then : (name : List ℕ) (first between last : List ℕ → Told) → SameElsewhere name first between → SameElsewhere name between last → SameElsewhere name first last
+pub SameElsewhere-then : (name : List ℕ) (first between last : FilesTold) → SameElsewhere name first between → SameElsewhere name between last → SameElsewhere name first last
 SameElsewhere-then name first between last a b other apart = b other apart ∙ a other apart
 
 -- octets that are told are told still

@@ -7,6 +7,10 @@ pub data Told : Type 0 where
   NotHeld : Told
   Holds : (octets : List ℕ) → Told
 
+-- what is told of files, by their names
+abbrev pub FilesTold : Type 0
+FilesTold = List ℕ → Told
+
 -- octets of the name are told, and have P
 abbrev pub IsToldAnd : Told → (List ℕ → Type 0) → Type 0
 IsToldAnd Untold P = ⊥
@@ -14,15 +18,15 @@ IsToldAnd NotHeld P = ⊥
 IsToldAnd (Holds octets) P = P octets
 
 -- what was told of a name is told still
-abbrev pub StaysTold : (List ℕ → Told) → (List ℕ → Told) → Type 0
+abbrev pub StaysTold : FilesTold → FilesTold → Type 0
 StaysTold before after = (name : List ℕ) → (before name ≡ Untold) ⊎ (after name ≡ before name)
 
 -- something is told of every name
-abbrev pub TellsAll : (List ℕ → Told) → Type 0
+abbrev pub TellsAll : FilesTold → Type 0
 TellsAll told = (name : List ℕ) → told name ≢ Untold
 
 -- of every other name the same is told
-abbrev pub SameElsewhere : List ℕ → (List ℕ → Told) → (List ℕ → Told) → Type 0
+abbrev pub SameElsewhere : List ℕ → FilesTold → FilesTold → Type 0
 SameElsewhere name before after = (other : List ℕ) → other ≢ name → after other ≡ before other
 
 -- the first `count` octets of the piece are those that stand in the octets from `at`
