@@ -35,7 +35,7 @@ pub fn check_zone(alloc: Global, origin: Option<&Name>, rrs: List<Rr>) -> Result
     checked(alloc, apex.name, rrs)
 }
 
-/// The records at or below an origin.
+/// The records at or below an origin, with no more room than they take.
 fn within(origin: &Name, rrs: List<Rr>) -> List<Rr>
     ensures { result ≡ within origin.now rrs }
 {
@@ -45,6 +45,7 @@ fn within(origin: &Name, rrs: List<Rr>) -> List<Rr>
             ensures { result ≡ is_prefix origin.entry.now rr.now.owner }
         { origin.is_prefix_of(&rr.owner) },
     );
+    rrs.shrink_to_fit();
     List::from_vec(rrs)
 }
 
