@@ -113,6 +113,11 @@ module _ {A : Type 0} (key : A → ℕ × Bool) (items : List A) (i : ℕ) (item
       sym (map-append key (take i items) (item ∷ []))
       ∙ ap (map key) (sym (take_more items i item below ∙ (λ j. take i items ++ sym is j ∷ [])))
 
+  -- the number of the next one
+  pub read-next : (keys : List (ℕ × Bool)) (read : ℕ × Bool) → keys ≡ map key items → read ≡ get_or keys i read → read.0 ≡ (key item).0
+  read-next keys read says is_read =
+      ap (λ k. k.0) (is_read ∙ (ap (λ all. get_or all i read) says ∙ (get_or-map key items i item read below ∙ ap key (sym is))))
+
   -- what was said of the next one
   pub said-next : (test : A → Bool) (said : List Bool) (b : Bool) → said ≡ map test items → b ≡ get_or said i b → b ≡ test item
   said-next test said b says read =

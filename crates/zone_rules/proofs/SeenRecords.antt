@@ -1,6 +1,7 @@
 -- Records as they are compared, and a set of those that were seen.
-use Rattle.std.proofs.Common.{◌≡◌, Bool, true, false, ◌&&◌, ◌||◌, List, [], ◌∷◌, All, refl, ap, sym, ◌∙◌}
+use Rattle.std.proofs.Common.{◌≡◌, Bool, true, false, ◌&&◌, ◌||◌, List, [], ◌∷◌, All, refl, ap, sym, ◌∙◌, ◌==◌}
 use Rattle.std.proofs.Math.Bool.{and_comm, and-false}
+use Rattle.std.proofs.lemmas.Bool.{eq-eqb}
 use Rattle.std.proofs.lemmas.List.Elements.{All-head, All-tail}
 use Rattle.std.specs.BTreeSet as tree
 use Rattle.std.specs.Hash.FoldHasher.{initial, finish}
@@ -22,14 +23,15 @@ use Rattle.zone_rules.specs.declared.identical.Identity.{Identity}
 
 -- what is seen has the identity of the record
 abbrev pub sees : Identity → Rr → Bool
-sees query rr = name_eq query.owner.now rr.owner && data_eq query.rdata.now rr.rdata
+sees query rr = query.number == record_number rr && (name_eq query.owner.now rr.owner && data_eq query.rdata.now rr.rdata)
 
--- what is compared are owner and data
-pub same_identity : (query item : Identity) (rr : Rr) → item.owner.now ≡ rr.owner → item.rdata.now ≡ rr.rdata → (identity_impl.ghosts).eq query item ≡ sees query rr
-same_identity query item rr owner rdata =
-    and_comm ((data_impl.ghosts).eq query.rdata.now item.rdata.now) (name_eq query.owner.now item.owner.now)
-    ∙ ap (λ b. name_eq query.owner.now item.owner.now && b) (same_data query.rdata.now item.rdata.now)
-    ∙ (λ j. name_eq query.owner.now (owner j) && data_eq query.rdata.now (rdata j))
+-- what is compared are the number, owner and data
+pub same_identity : (query item : Identity) (rr : Rr) → item.number ≡ record_number rr → item.owner.now ≡ rr.owner → item.rdata.now ≡ rr.rdata → (identity_impl.ghosts).eq query item ≡ sees query rr
+same_identity query item rr number owner rdata =
+    ap (λ b. query.number == item.number && b)
+    (and_comm ((data_impl.ghosts).eq query.rdata.now item.rdata.now) (name_eq query.owner.now item.owner.now)
+    ∙ ap (λ b. name_eq query.owner.now item.owner.now && b) (same_data query.rdata.now item.rdata.now))
+    ∙ (λ j. query.number == number j && (name_eq query.owner.now (owner j) && data_eq query.rdata.now (rdata j)))
 
 -- the records that may have a rival were seen
 abbrev pub HasSeen : List Bucket → tree.BTreeSet Identity → List Rr → Type 0
@@ -47,13 +49,21 @@ module _ (buckets : List Bucket) (rr : Rr) where
       let same = (identical_by_parts rr other).0 e in
       sym (λ j. finish (fed_data (fed_name initial (same.0 j)) (same.1 j)))
 
-  -- one that is identical to a record that may have a rival may have one
-  both-may : (other : Rr) (b : Bool) → may rr ≡ true → is_identical rr other ≡ b → (may other && b) ≡ b
-  both-may other true is_so e = ap (λ may. may && true) (ap (has_rival buckets) (one_number other e) ∙ is_so)
-  both-may other false is_so e = and-false (may other)
+  -- one that has the identity of the record
+  abbrev has_identity : Rr → Bool → Bool
+  has_identity other is_identical = record_number rr == record_number other && is_identical
 
-  -- of those that may have a rival one is identical where any is
-  among-rivals : (before : List Rr) → may rr ≡ true → list_any (λ other. may other && is_identical rr other) before ≡ list_any (is_identical rr) before
+  -- one that is identical to a record that may have a rival may have one, and has its number
+  both-may : (other : Rr) (b : Bool) → may rr ≡ true → is_identical rr other ≡ b → (may other && has_identity other b) ≡ b
+  both-may other true is_so e =
+      let same : record_number other ≡ record_number rr = one_number other e in
+      (λ j. (ap (has_rival buckets) same ∙ is_so) j && (eq-eqb (record_number rr) (record_number other) (sym same) j && true))
+  both-may other false is_so e =
+      ap (λ b. may other && b) (and-false (record_number rr == record_number other))
+      ∙ and-false (may other)
+
+  -- of those that may have a rival one has the identity of the record where any is identical
+  among-rivals : (before : List Rr) → may rr ≡ true → list_any (λ other. may other && has_identity other (is_identical rr other)) before ≡ list_any (is_identical rr) before
   among-rivals [] is_so = refl
   among-rivals (other ∷ before) is_so = (λ j. both-may other (is_identical rr other) is_so refl j || among-rivals before is_so j)
 
@@ -71,6 +81,6 @@ module _ (buckets : List Bucket) (rr : Rr) where
 
   -- so a record that may have a rival is looked for among those that may, and any other is the first
   pub first-known : (before : List Rr) → All (λ other. record_number other ≡ record_number rr → may rr ≡ true) before → (b : Bool) → may rr ≡ b
-      → (b && list_any (λ other. may other && is_identical rr other) before) ≡ list_any (is_identical rr) before
+      → (b && list_any (λ other. may other && has_identity other (is_identical rr other)) before) ≡ list_any (is_identical rr) before
   first-known before rivals true is_so = among-rivals before is_so
   first-known before rivals false isnt = sym (without-rival before isnt rivals)

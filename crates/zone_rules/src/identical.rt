@@ -14,9 +14,11 @@ use dns_data::{List, Name, NoMemory, Rdata, Rr};
 use std::alloc::Global;
 use std::collections::{BTreeSet, VecDeque};
 
-/// What tells a record from others: its data, which are compared first, and its owner.
+/// What tells a record from others: its number, which is compared first and mostly tells them apart, its data and its
+/// owner.
 #[derive(PartialEq, Eq, PartialOrd, Ord, Drop)]
 struct Identity<'a> {
+    number: u64,
     rdata: &'a Rdata,
     owner: &'a Name,
 }
@@ -44,6 +46,7 @@ fn are_first(alloc: Global, rrs: &[Rr]) -> Result<Vec<bool>, NoMemory>
     let mut firsts = Vec::with_capacity(alloc, rrs.len())?;
     for (i, rr) in rrs.iter().enumerate() {
         let identity = Identity {
+            number: keys[i].0,
             rdata: &rr.rdata,
             owner: &rr.owner,
         };
