@@ -2,12 +2,11 @@
 use Rattle.std.proofs.Common.{◌≡◌, ℕ, zero, suc, ◌<◌, Bool, true, false, List, [], ◌∷◌, length, get_or, replicate, refl, sym, ap, ◌∙◌, subst, inl, inr, arith}
 use Rattle.std.proofs.Math.ListN.{set}
 use Rattle.std.proofs.lemmas.Bool.{cases_eq}
-use Rattle.std.proofs.lemmas.List.Sums.{sum_by-set}
 use Rattle.dns_data.specs.Name.{Labels}
 use Rattle.dns_data.specs.declared.rr_type.RrType.{RrType}
 use Rattle.net_model.specs.declared.config.Config.{Config}
 use Rattle.graph_form.specs.Graph.{PlainGraph}
-use Rattle.address_deps.specs.Giving.{is_marked, unset, unmarked, gives_from, AreGiving}
+use Rattle.address_deps.specs.Giving.{is_marked, gives_from, AreGiving}
 
 -- a mark by its place
 pub marked_at : (marks : List Bool) (at : ℕ) (d : Bool) → at < length marks → is_marked marks at ≡ get_or marks at d
@@ -22,12 +21,6 @@ set_other (mark ∷ marks) zero zero apart = absurd (apart refl)
 set_other (mark ∷ marks) zero (suc other) apart = refl
 set_other (mark ∷ marks) (suc at) zero apart = refl
 set_other (mark ∷ marks) (suc at) (suc other) apart = set_other marks at other (λ e. apart (ap suc e))
-
--- one mark more that is set is one fewer that isn't
-pub one_fewer : (marks : List Bool) (at : ℕ) (d : Bool) → at < length marks → get_or marks at d ≡ false → unmarked (set marks at true) < unmarked marks
-one_fewer marks at d within clear =
-    let was : unset (get_or marks at d) ≡ 1 = ap unset clear in
-    omega (arith, sum_by-set unset marks at true d within, was)
 
 -- a marked node from which a path gives an address
 pub giving_more : (config : Config) (followed : List Labels) (graph : PlainGraph) (rtype : RrType) (marks : List Bool) (at : ℕ)

@@ -1,20 +1,17 @@
 -- What the calls that judge a class give, put together: its faults with the two sets, or none where a server's name passes.
-use Rattle.std.proofs.Common.{◌≡◌, ℕ, true, List, [], ◌++◌, Some, None, refl, subst, append-nil}
+use Rattle.std.proofs.Common.{◌≡◌, ℕ, true, List, [], ◌++◌, None, refl, subst}
 use Rattle.dns_data.specs.Name.{Labels}
 use Rattle.delegation_checks.specs.Delegations.{is_of_delegations}
 use Rattle.graph_form.specs.Graph.{PlainGraph}
-use Rattle.graph_form.specs.GraphOf.{IsExact, IsExactIn, IsGraphOf}
+use Rattle.graph_form.specs.GraphOf.{IsExactIn, IsGraphOf}
 use Rattle.graph_form.specs.Verdict.{AreFirstTypes, AreShownOf}
 use Rattle.graph_form.specs.declared.deps.Deps.{Deps}
 use Rattle.graph_form.specs.declared.report.Seen.{Seen}
-use Rattle.interp_graph.specs.Asked.{IsBuilt}
 use Rattle.net_model.specs.declared.class.Class.{Class}
-use Rattle.net_model.specs.declared.class.Class.TheVariants.{Exact, Below}
+use Rattle.net_model.specs.declared.class.Class.TheVariants.{Below}
 use Rattle.net_model.specs.declared.config.Config.{Config}
-use Rattle.net_model.specs.Class.{IsRepresentative}
 use Rattle.net_model.specs.Learnt.{IsGreatest, IsLeast}
-use Rattle.net_model.specs.Nearest.{server_names}
-use Rattle.net_model.specs.Reading.{Ground, IsNamed, ground_of}
+use Rattle.net_model.specs.Reading.{Ground, ground_of}
 use Rattle.net_model.specs.Shown.{with_lists, with_sets}
 use Rattle.net_model.specs.Step.{following}
 use Rattle.net_model.proofs.GivenSets.{lists_show}
@@ -27,8 +24,7 @@ use Rattle.query_classes.proofs.SameGrounds.{in_tree_same, same_back}
 use Rattle.query_classes.proofs.TreeRows.{not_empty_below}
 use Rattle.rewrite_checks.specs.Rewrites.{IsGraphFor, is_of_rewrites}
 use Rattle.class_judge.specs.Setup.{AreSets, SomeNamePasses, StandsFor}
-use Rattle.class_judge.specs.Verdict.{AreFaultsOf, IsBelowVerdict, IsClassVerdict}
-use Rattle.class_judge.specs.declared.verdict.ClassVerdict.{ClassVerdict}
+use Rattle.class_judge.specs.Verdict.{AreFaultsOf, IsBelowVerdict}
 use Rattle.class_judge.proofs.AllKinds.{all_kinds}
 use Rattle.class_judge.proofs.LiveSetsExist.{ground_closed}
 
@@ -71,18 +67,7 @@ module _ (config : Config) (rewrites states : ℕ) where
 
 -- ---- the graph of a name without a tail
 
-pub built_alone : (config : Config) (rewrites : ℕ) (query : Labels) (graph : PlainGraph)
-    → IsGraphOf (following config rewrites (server_names config)) (query ++ []) graph → IsExact config rewrites (query ++ []) graph → IsBuilt config rewrites query graph
-built_alone config rewrites query graph is exact =
-    record {
-      is_graph = subst (λ (n : Labels). IsGraphOf (following config rewrites (server_names config)) n graph) (append-nil query) is;
-      exact = subst (λ (n : Labels). IsExact config rewrites n graph) (append-nil query) exact;
-    }
-
 -- ---- names of the class tree
-
-pub stands_alone : (config : Config) (name : Labels) → IsNamed (ground_of config) name → StandsFor config (Exact name) name
-stands_alone config name named = record { of_class = (refl, named); represents = refl }
 
 -- what stands for the class below a name under one ground does so under each with the same names and redirections
 pub stands_below : (config : Config) (above query : Labels) → RepresentsClass (ground_of config) (Below above) query → StandsFor config (Below above) query
@@ -93,11 +78,6 @@ pub none_below : (config : Config) (rewrites states : ℕ) (above : Labels) → 
     → IsEmptyClass (ground_of config) (Below above) → IsBelowVerdict config rewrites states above None
 none_below config rewrites states above in_tree empty query represents =
     not_empty_below (ground_of config) (ground_closed config) above in_tree query represents empty
-
-pub some_below : (config : Config) (rewrites states : ℕ) (above query : Labels) (verdict : ClassVerdict)
-    → IsRepresentative (ground_of config) (Below above) query → IsClassVerdict config rewrites states query verdict
-    → IsBelowVerdict config rewrites states above (Some verdict)
-some_below config rewrites states above query verdict represents is = (query, represents, is)
 
 -- the children that a graph of the configuration gives are those of the class tree
 pub children_same : (config : Config) (graph : Ground) → AreSame graph (ground_of config) → (name : Labels) (names children : List Labels)

@@ -65,9 +65,6 @@ pub record IsListing (config : Config) (rewrites : ℕ) (all left : List Found) 
   pub are : AreEntriesOf config rewrites done entries
 
 module _ (config : Config) (rewrites : ℕ) (all : List Found) where
-  pub listing_begins : IsListing config rewrites all all []
-  listing_begins = record { done = []; is = refl; are = tt }
-
   pub listing_step : (left : List Found) (found : Found) (entries : List ReportEntry) (entry : ReportEntry) → IsListing config rewrites all (found ∷ left) entries
       → IsEntryOf config rewrites found entry → IsListing config rewrites all left (entries ++ entry ∷ [])
   listing_step left found entries entry listing is =

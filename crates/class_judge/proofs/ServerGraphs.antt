@@ -44,11 +44,6 @@ module _ (config : Config) (rewrites states : ℕ) where
         ];
       })
 
-  -- all of them
-  pub all_graphs : (n : ℕ) (graphs : List PlainGraph) → length config.servers ≤ n → AreSoFar (take n config.servers) graphs → AreServerGraphs config rewrites graphs
-  all_graphs n graphs long so_far =
-      subst (λ (l : List Server). AllZip IsServerGraph l graphs) (take_all n config.servers long) so_far.beside
-
   pub none_passes : (n : ℕ) (graphs : List PlainGraph) → length config.servers ≤ n → AreSoFar (take n config.servers) graphs
       → SomeServerPasses config rewrites states → ⊥
   none_passes n graphs long so_far (name, has, passes) =

@@ -121,10 +121,6 @@ Follows-too_long told name long = by_told (told name) refl long where
   by_told NotHeld here long = absurd long
   by_told (Holds octets) here long = follows_holds told name octets (Refuses (TooLong name)) here (grind (arith, nat_tests))
 
--- a file whose reading fails
-pub Reaches-here : (told : FilesTold) (name : List ℕ) → Reaches told (file_octets name) name
-Reaches-here told name other no_other gone = inl (ap (told_octets name) gone)
-
 -- the fault of a file that is too long
 pub Answers-too_long : (told : FilesTold) (name : List ℕ) (fault : LoadFault) → IsTooLongOf name fault → IsToldAnd (told name) (λ octets. most_octets < length octets) → (let answer : Result (List ℕ) LoadFault = Err fault in Answers told (file_octets name) answer)
 Answers-too_long told name NoMemory is long = tt

@@ -140,10 +140,6 @@ first_decide xs ys l m u v h k e is other =
     let none : common (encoded (l ∷ u)) (encoded (m ∷ v)) ≡ 0 = (λ i. common (encoded (sym is i)) (encoded (sym other i))) ∙ (λ i. common (h.same i) (k.same i)) ∙ e in
     (unlike l m u v (apart_from l m u v none)).0 ∙ (λ i. name_cmp (sym is i) (sym other i))
 
--- at the start none is passed over
-pub past_none : (xs ys : List ℕ) (c : ℕ) → EncodesName xs → EncodesName ys → c ≡ common xs ys → IsPast (labels_of xs) (labels_of ys) 0 xs ys c
-past_none xs ys c h k e = record { left = h; right = k; order = refl; passed = omega arith; begin = e }
-
 -- of the labels of a name no more are passed over than it has
 pub few_passed : (a b : Labels) (count c : ℕ) (xs ys : List ℕ) → IsPast a b count xs ys c → count ≤ length a
 few_passed a b count c xs ys h = omega (arith, h.passed, common_prefix_len-le label_eq a b)

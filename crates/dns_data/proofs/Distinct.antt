@@ -64,26 +64,9 @@ pub chosen-end : {A : Type 0} (items kept : List A) (tests : List Bool) (i : ℕ
 chosen-end items kept tests i past =
     ap (λ rest. kept ++ rest) (ap (chosen items) (drop_of_length-le tests past) ∙ nothing items) ∙ append-nil kept
 
--- with no item left nothing is chosen
-pub chosen-none : {A : Type 0} (left next kept : List A) (tests : List Bool) (i : ℕ) → left ≡ [] → next ≡ [] → kept ++ chosen left (drop i tests) ≡ kept ++ chosen next (drop (i + 1) tests)
-chosen-none left next kept tests i none still =
-    ap (λ items. kept ++ chosen items (drop i tests)) none ∙ ap (λ items. kept ++ chosen items (drop (i + 1) tests)) (sym still)
-
 module _ {A : Type 0} (left rest : List A) (tests : List Bool) (i : ℕ) (kept next : List A) (item : A) (test : Bool) where
   -- the next item and its answer
   here : left ≡ item ∷ rest → i < length tests → test ≡ get_or tests i test → chosen left (drop i tests) ≡ chosen (item ∷ rest) (test ∷ drop (i + 1) tests)
   here first below is =
       ap (λ items. chosen items (drop i tests)) first
       ∙ ap (chosen (item ∷ rest)) (drop-cons tests i test below ∙ (λ j. sym is j ∷ drop (sym (add-one i) j) tests))
-
-  -- an item that is chosen
-  pub chosen-more : left ≡ item ∷ rest → i < length tests → test ≡ get_or tests i test → test ≡ true → next ≡ kept ++ item ∷ [] → kept ++ chosen left (drop i tests) ≡ next ++ chosen rest (drop (i + 1) tests)
-  chosen-more first below is holds pushed =
-      ap (λ behind. kept ++ behind) (here first below is ∙ ap (λ b. cond b (item ∷ chosen rest (drop (i + 1) tests)) (chosen rest (drop (i + 1) tests))) holds)
-      ∙ (sym (append_assoc kept (item ∷ []) (chosen rest (drop (i + 1) tests)))
-      ∙ ap (λ front. front ++ chosen rest (drop (i + 1) tests)) (sym pushed))
-
-  -- an item that isn't
-  pub chosen-same : left ≡ item ∷ rest → i < length tests → test ≡ get_or tests i test → test ≡ false → kept ++ chosen left (drop i tests) ≡ kept ++ chosen rest (drop (i + 1) tests)
-  chosen-same first below is fails =
-      ap (λ behind. kept ++ behind) (here first below is ∙ ap (λ b. cond b (item ∷ chosen rest (drop (i + 1) tests)) (chosen rest (drop (i + 1) tests))) fails)

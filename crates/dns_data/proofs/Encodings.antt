@@ -35,10 +35,6 @@ decodes_in (suc n) (x ∷ a) h =
 pub decodes : (a : Labels) → labels_of (encoded a) ≡ a
 decodes a = decodes_in (length (encoded a)) a (omega arith)
 
--- encodings are one only for one name
-pub encoded_injective : (a b : Labels) → encoded a ≡ encoded b → a ≡ b
-encoded_injective a b e = sym (decodes a) ∙ ap labels_of e ∙ decodes b
-
 -- the encoding of a list is as long as its labels with one for each
 pub encoded_length : (a : Labels) → length (encoded a) ≡ sum_by (λ label. length label + 1) a
 unfolding encoded
@@ -91,10 +87,6 @@ flat_root = (record { same = refl; name = record { labels = tt; short = omega ar
 -- the encoding of a name is flat
 pub flat_of : (a : Labels) → IsName a → EncodesName (encoded a)
 flat_of a h = record { same = ap encoded (decodes a); name = subst IsName (sym (decodes a)) h }
-
--- flat octets are the encoding of the labels that they have
-pub flat_encoded : (octets : List ℕ) (a : Labels) → EncodesName octets → labels_of octets ≡ a → (octets ≡ encoded a) × IsName a
-flat_encoded octets a h e = (sym h.same ∙ ap encoded e, subst IsName e h.name)
 
 -- what is below the top of a name is a name
 pub name_below : (x : List ℕ) (a : Labels) → IsName (x ∷ a) → IsLabel x × IsName a
@@ -156,13 +148,6 @@ join_size a b l m h k e f =
     let left : wire_octets l ≡ length a + 1 = ap wire_octets (sym e) ∙ sym (flat_length a h).0 in
     let right : wire_octets m ≡ length b + 1 = ap wire_octets (sym f) ∙ sym (flat_length b k).0 in
     omega (arith, left, right, sum_by-append (λ (xs : List ℕ). length xs + 1) l m)
-
--- what was put at the front and behind it is what both make
-pub front_of_both : (a b x y z rest : List ℕ) → x ≡ a → y ≡ b → take (length a + length b) (take (length a) (x ++ z) ++ (y ++ rest)) ≡ a ++ b
-front_of_both a b x y z rest e f =
-    let front : take (length a) (x ++ z) ≡ a = ap (λ (r : List ℕ). take (length a) (r ++ z)) e ∙ take_at a z (length a) refl in
-    let whole : take (length a) (x ++ z) ++ (y ++ rest) ≡ (a ++ b) ++ rest = ap (λ (r : List ℕ). r ++ (y ++ rest)) front ∙ ap (λ (r : List ℕ). a ++ (r ++ rest)) f ∙ sym (append_assoc a b rest) in
-    ap (take (length a + length b)) whole ∙ take_at (a ++ b) rest (length a + length b) (length-append a b)
 
 -- a label behind the octets of a name
 pub record IsPush (octets : List ℕ) (name : Labels) (x : List ℕ) : Type 0 where

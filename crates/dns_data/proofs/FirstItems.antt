@@ -1,8 +1,7 @@
 -- Items that no earlier one equals, by those that came before.
-use Rattle.std.proofs.Common.{◌≡◌, ℕ, ◌+◌, ◌<◌, ◌≤◌, Bool, not, ◌||◌, List, [], ◌∷◌, ◌++◌, length, take, drop, get_or, ap, sym, ◌∙◌, add-one, append_assoc}
+use Rattle.std.proofs.Common.{◌≡◌, ℕ, ◌+◌, ◌<◌, Bool, not, ◌||◌, List, [], ◌∷◌, ◌++◌, length, take, drop, get_or, ap, sym, ◌∙◌, add-one, append_assoc}
 use Rattle.std.proofs.Math.Seq.{drop-cons}
-use Rattle.std.proofs.Math.ListN.{drop_of_length-le}
-use Rattle.std.proofs.lemmas.List.{append-nil, take_more}
+use Rattle.std.proofs.lemmas.List.{take_more}
 use Rattle.std.proofs.lemmas.List.Folds.{list_any_more}
 use Rattle.std.specs.List.{list_any}
 use Rattle.dns_data.specs.First.{are_first_behind}
@@ -21,11 +20,6 @@ module _ {A : Type 0} (eq : A → A → Bool) (items : List A) (i : ℕ) (item :
       ∙ (λ j. firsts ++ sym says j ∷ are_first_behind eq (take (i + 1) items) (drop (i + 1) items))
       ∙ sym (append_assoc firsts (said ∷ []) (are_first_behind eq (take (i + 1) items) (drop (i + 1) items)))
       ∙ ap (λ front. front ++ are_first_behind eq (take (i + 1) items) (drop (i + 1) items)) (sym pushed)
-
--- no item is left
-pub first-end : {A : Type 0} (eq : A → A → Bool) (items : List A) (i : ℕ) (firsts : List Bool) → length items ≤ i → firsts ++ are_first_behind eq (take i items) (drop i items) ≡ firsts
-first-end eq items i firsts past =
-    ap (λ rest. firsts ++ are_first_behind eq (take i items) rest) (drop_of_length-le items past) ∙ append-nil firsts
 
 -- a test of the items so far, and of the next
 pub any-next : {A : Type 0} (test : A → Bool) (items : List A) (i : ℕ) (item : A) (old : Bool) → i < length items → item ≡ get_or items i item → old ≡ list_any test (take i items) → (old || test item) ≡ list_any test (take (i + 1) items)

@@ -46,10 +46,6 @@ put_none out = record { within = omega arith; same = drop_all (length out) out (
 pub put_full : (out : List ℕ) (end : ℕ) (labels : Labels) (x : List ℕ) → IsPutAt out end labels → end ≤ length x → length out + 1 < wire_octets (labels ++ x ∷ [])
 put_full out end labels x h full = omega (arith, put_size out end labels h, more_size labels x)
 
--- nor has one after those that have none
-pub put_still_full : (room : ℕ) (labels : Labels) (x : List ℕ) → room < wire_octets labels → room < wire_octets (labels ++ x ∷ [])
-put_still_full room labels x full = omega (arith, more_size labels x)
-
 one_above : (labels : Labels) (x : List ℕ) → encoded (reverse (labels ++ x ∷ [])) ≡ length x ∷ (x ++ encoded (reverse labels))
 unfolding encoded
 one_above labels x = ap encoded (reverse-append labels (x ∷ []))

@@ -8,7 +8,7 @@ use Rattle.std.proofs.lemmas.List.Sums.{sum_by-set}
 use Rattle.std.proofs.lemmas.Option.{slice_get_past, slice_get_within, unwrap_or-slice_get}
 use Rattle.dns_data.specs.Name.{Labels}
 use Rattle.dns_data.specs.declared.rr_type.RrType.{RrType}
-use Rattle.dns_data.proofs.Membership.{none_in_nil, has_first, has_later, first_or_later}
+use Rattle.dns_data.proofs.Membership.{has_first, has_later, first_or_later}
 use Rattle.net_model.specs.Step.{Setting}
 use Rattle.net_model.specs.declared.walk.State.{State}
 use Rattle.graph_form.specs.FirstPath.{AreBarren, AreClosed, IsBarren, IsBefore, IsFirstFrom, IsOpenAt, is_open, mark_of, node_behind, node_takes, takes_from}
@@ -105,10 +105,6 @@ module _ (shows : State → Branch → Bool) (graph : PlainGraph) (rtype : RrTyp
     pub has : Contains path turn
     pub node_is : turn.node ≡ at
     pub taken_is : turn.taken ≡ taken
-
-  stands_later : (turn : Turn) (path : List Turn) (taken : Bool) (at : ℕ) → Stands path taken at → Stands (turn ∷ path) taken at
-  stands_later turn path taken at stands =
-      record { turn = stands.turn; has = has_later turn path stands.turn stands.has; node_is = stands.node_is; taken_is = stands.taken_is }
 
   -- a search from a start, with its path, the last node first, and its marks
   pub record IsSearch (begin : ℕ) (path : List Turn) (met : List Bool) : Type 0 where
@@ -311,14 +307,3 @@ module _ (shows : State → Branch → Bool) (graph : PlainGraph) (rtype : RrTyp
         marked = λ at taken e. inr (barren at taken e);
         begun = inl (record { turn = record { node = begin; taken = false; number = 0 }; has = has_first (record { node = begin; taken = false; number = 0 }) []; node_is = refl; taken_is = refl });
       }
-
-  -- and what it comes to where nothing was found
-  none_stands : (begin : ℕ) (taken : Bool) (at : ℕ) → Stands [] taken at ⊎ IsBarren shows graph rtype taken at → IsBarren shows graph rtype taken at
-  none_stands begin taken at (inl stands) = absurd (none_in_nil stands.turn stands.has)
-  none_stands begin taken at (inr barren) = barren
-
-  pub last_state : (begin : ℕ) (met : List Bool) → IsSearch begin [] met → IsBarren shows graph rtype false begin × AreBarren shows graph rtype met
-  last_state begin met search = (
-    none_stands begin false begin search.begun,
-    λ at taken e. none_stands begin taken at (search.marked at taken e),
-  )

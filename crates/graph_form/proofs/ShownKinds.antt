@@ -90,9 +90,6 @@ behind_is : (cut : Cut) (hop : Option Hop) → is_behind cut hop ≡ true → ho
 behind_is cut None e = cc
 behind_is cut (Some hop) e = ap (λ h. Some h) (referral_is cut hop e)
 
-is_behind_it : (cut : Cut) (hop : Option Hop) → hop ≡ Some (Refer cut) → is_behind cut hop ≡ true
-is_behind_it cut hop e = ap (is_behind cut) e ∙ cut_itself cut
-
 -- ---- the last of a list
 
 pub none_is_more : {A : Type 0} (xs : List A) (x : A) → [] ≡ xs ++ x ∷ [] → ⊥

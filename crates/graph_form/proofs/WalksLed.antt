@@ -74,7 +74,3 @@ module _ (graph : PlainGraph) (rtype : RrType) (whole : Option Walk) (states : L
         ∙ (ap (λ ns. option_map (behind states hops) (path_from graph rtype (number ∷ ns) at)) rest
         ∙ (ap (option_map (behind states hops)) (path_by graph rtype (next ∷ drop ((i + 1) + 1) numbers) at number node (End hop leaf) has)
         ∙ ap (λ (last : Bool). option_map (behind states hops) (if last then Some (ended node.state hop leaf) else None)) (not_last next (drop ((i + 1) + 1) numbers))))
-
-  -- no number is left
-  pub led_out : length numbers ≤ i → whole ≡ None
-  led_out past = is ∙ ap (λ ns. option_map (behind states hops) (path_from graph rtype ns at)) (none_from numbers i past)

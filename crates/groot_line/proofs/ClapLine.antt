@@ -3,7 +3,7 @@ use Rattle.std.proofs.Common.{◌≡◌, ◌∙◌, ◌||◌, Bool, cond, codes,
 use Rattle.std.specs.Prelude.{IfSome, fold, option_map}
 use Rattle.std.specs.Str.{bytes_eq}
 use Rattle.clap.specs.Faults.{check_fault, default_fault, defaults_fault, given_default_fault, is_simple_and_free}
-use Rattle.clap.specs.Simple.{Shape, built, filled, is_simple, new_shape, with_index}
+use Rattle.clap.specs.Simple.{Shape, filled, is_simple, new_shape, with_index}
 use Rattle.clap.specs.Walk.{Row, Rule, Text, arg_by_id, arg_by_index, arg_by_long, has_row, with_default}
 use Rattle.clap.proofs.FaultLemmas.{past}
 use Rattle.groot_line.specs.Arguments.{option_named}
@@ -31,12 +31,6 @@ rules Drill = option_built options.Workers ∷ operands_built ∷ []
 -- what else `clap` has built
 abbrev pub line_shape : List Rule → Shape
 line_shape c = record (new_shape (codes "groot")) { rules = c; no_binary_name = true; disable_help_flag = true; disable_help_subcommand = true; is_built = true }
-
-pub built_is : (command : Command) → built (line_of command) ≡ record { top = line_shape (rules command); subs = [] }
-built_is Check = refl
-built_is Ask = refl
-built_is Classes = refl
-built_is Drill = refl
 
 pub is_free : (command : Command) → is_simple_and_free (line_of command) ≡ true
 is_free Check = refl

@@ -1,19 +1,17 @@
 -- The states in which a query begins, one after another.
-use Rattle.std.proofs.Common.{◌≡◌, ℕ, true, List, [], ◌∷◌, ◌++◌, Bool, refl, sym, ap, ◌∙◌, subst, append_assoc}
+use Rattle.std.proofs.Common.{◌≡◌, ℕ, List, [], ◌∷◌, ◌++◌, Bool, refl, ◌∙◌, subst, append_assoc}
 use Rattle.std.specs.Prelude.{Contains}
 use Rattle.std.specs.List.{AllZip}
-use Rattle.std.proofs.lemmas.List.{append-nil}
 use Rattle.std.proofs.lemmas.List.Elements.{Contains-append_right}
-use Rattle.dns_data.specs.TypeSet.{has_bit}
 use Rattle.dns_data.specs.declared.rr_type.RrType.{RrType}
 use Rattle.dns_data.proofs.Membership.{has_first}
 use Rattle.net_model.specs.Step.{Setting}
 use Rattle.net_model.specs.declared.walk.State.{State}
 use Rattle.graph_form.proofs.Places.{place_of_item}
 use Rattle.interp_graph.specs.Drafts.{Awaits, Comes, AreDrafts}
-use Rattle.interp_graph.specs.Work.{IsSound, Advances, ComesTo, HasMoreComing, AwaitAll}
+use Rattle.interp_graph.specs.Work.{IsSound, Advances, ComesTo, HasMoreComing}
 use Rattle.interp_graph.specs.declared.work.Work.{Work}
-use Rattle.interp_graph.proofs.Arming.{advances_not, advances_twice}
+use Rattle.interp_graph.proofs.Arming.{advances_twice}
 use Rattle.interp_graph.proofs.Drafts.{awaits_grow}
 use Rattle.interp_graph.proofs.ItemsByNumber.{beside_pushed, side_by_side}
 
@@ -31,10 +29,6 @@ pub record BegunSoFar (before now : Work) (set_of : List Bool) (all left : List 
   pub parts : done ++ left ≡ all
   pub await : AllZip (Awaits now.drafts.items set_of) starts done
   pub drafts : (setting : Setting) → AreDrafts setting all before.drafts.items → AreDrafts setting all now.drafts.items
-
-pub begun_first : (before : Work) (set_of : List Bool) (all : List State) → IsSound before → BegunSoFar before before set_of all all []
-begun_first before set_of all sound =
-    record { sound = sound; advances = advances_not before; done = []; parts = refl; await = tt; drafts = λ setting are. are }
 
 module _ (before now : Work) (set_of : List Bool) (all left : List State) (starts : List ℕ) (state : State)
     (so : BegunSoFar before now set_of all (state ∷ left) starts) where
@@ -64,13 +58,3 @@ module _ (before now : Work) (set_of : List Bool) (all left : List State) (start
             (λ k s old. awaits_grow now.drafts.items after.drafts.items advances.grows set_of k s old) so.await) awaits;
         drafts = λ setting are. drafts setting all (so.drafts setting are) (comes setting);
       }
-
-pub begun_all : (before now : Work) (set_of : List Bool) (all left : List State) (starts : List ℕ) → BegunSoFar before now set_of all left starts → left ≡ []
-    → ((rtype : RrType) → has_bit set_of rtype ≡ true) → AwaitAll now.drafts.items starts all
-begun_all before now set_of all left starts so none every =
-    record {
-      all = set_of;
-      every = every;
-      await = subst (AllZip (Awaits now.drafts.items set_of) starts)
-          (sym (append-nil so.done) ∙ (ap (λ (l : List State). so.done ++ l) (sym none) ∙ so.parts)) so.await;
-    }

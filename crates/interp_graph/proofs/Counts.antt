@@ -1,18 +1,18 @@
 -- The pairs that come to drafts: how many they are, and that they differ.
-use Rattle.std.proofs.Common.{◌≡◌, ◌≢◌, ℕ, ◌+◌, ◌<◌, Bool, true, false, cond, ◌||◌, List, [], ◌∷◌, map, length, get_or, subst, refl, sym, ap, ◌∙◌, Some, arith, true≢false, length-append, filter}
-use Rattle.std.specs.Prelude.{Contains, AllPairs, slice_get}
+use Rattle.std.proofs.Common.{◌≡◌, ◌≢◌, ℕ, ◌+◌, ◌<◌, Bool, true, false, cond, ◌||◌, List, [], ◌∷◌, map, length, get_or, subst, refl, sym, ap, ◌∙◌, arith, true≢false, length-append, filter}
+use Rattle.std.specs.Prelude.{Contains, AllPairs}
 use Rattle.std.specs.List.{flat_map, sum_by}
 use Rattle.std.proofs.lemmas.List.{length-map}
 use Rattle.std.proofs.lemmas.List.Sums.{sum_by-cons}
 use Rattle.dns_data.specs.TypeSet.{has_bit}
 use Rattle.dns_data.specs.RrType.{types}
 use Rattle.dns_data.specs.declared.rr_type.RrType.{RrType}
-use Rattle.dns_data.proofs.Membership.{map_has, from_map, filter_has, from_filter, flat_map_has, from_flat_map, along}
+use Rattle.dns_data.proofs.Membership.{from_map, from_filter, from_flat_map, along}
 use Rattle.net_model.specs.Step.{Setting}
 use Rattle.net_model.specs.Tree.{HasMoreThan}
 use Rattle.net_model.specs.declared.walk.State.{State}
-use Rattle.graph_form.proofs.Places.{pairs_in_row, place_of_item, item_there}
-use Rattle.graph_form.proofs.Reached.{every_type, arm_differs}
+use Rattle.graph_form.proofs.Places.{pairs_in_row, place_of_item}
+use Rattle.graph_form.proofs.Reached.{arm_differs}
 use Rattle.graph_form.specs.declared.node.Arm.{Arm}
 use Rattle.interp_graph.specs.Drafts.{Comes, AreDrafts, size_of, pair_count}
 use Rattle.interp_graph.specs.declared.draft.Draft.{Draft}
@@ -85,14 +85,6 @@ pairs_differ drafts once =
     once i j d lt within
     (state_told (get_or drafts i d) y here
     ∙ (ap (λ (p : State × RrType). p.0) same ∙ sym (state_told (get_or drafts j d) z there))))
-
--- a type that comes to a draft makes a pair
-pub pair_of_draft : (drafts : List Draft) (at : ℕ) (draft : Draft) (rtype : RrType) → slice_get drafts at ≡ Some draft → has_bit draft.wanted rtype ≡ true
-    → Contains (wanted_pairs drafts) (draft.state, rtype)
-pair_of_draft drafts at draft rtype is wanted =
-    let pair : RrType → State × RrType = λ t. (draft.state, t) in
-    flat_map_has draft_pairs drafts draft (draft.state, rtype) (item_there drafts at draft is)
-    (map_has pair (filter (has_bit draft.wanted) types) rtype (filter_has (has_bit draft.wanted) types rtype (every_type rtype) wanted))
 
 -- each pair comes from where the query begins
 pub each_comes : (setting : Setting) (begin : List State) (drafts : List Draft) → AreDrafts setting begin drafts

@@ -2,7 +2,7 @@
 use Rattle.std.proofs.Common.{◌≡◌, ℕ, ◌<◌, Bool, true, false, List, [], ◌∷◌, ◌++◌, map, length, refl, sym, ap, ◌∙◌, subst, inl, inr, true≢false, append_assoc}
 use Rattle.std.specs.Prelude.{◌⊎◌, Contains, AllPairs}
 use Rattle.std.specs.List.{AllZip}
-use Rattle.std.proofs.lemmas.List.{append-nil, map-append}
+use Rattle.std.proofs.lemmas.List.{map-append}
 use Rattle.std.proofs.lemmas.List.Elements.{Contains-append_right}
 use Rattle.std.proofs.lemmas.Option.{slice_get_within}
 use Rattle.dns_data.specs.TypeSet.{has_bit}
@@ -36,18 +36,6 @@ pub record BranchesSoFar (before now : Work) (set_of : List Bool) (all left : Li
   pub told : AllZip (Tells now.drafts.items set_of) branches (map branch_of done)
   pub drafts : (setting : Setting) (begin : List State) → AreDrafts setting begin before.drafts.items → ComeOn setting begin set_of (map branch_of all)
       → AreDrafts setting begin now.drafts.items
-
-pub branches_begin : (before : Work) (set_of : List Bool) (all : List Step) → IsSound before → BranchesSoFar before before set_of all all []
-branches_begin before set_of all sound =
-    record {
-      sound = sound;
-      advances = advances_not before;
-      still = λ at rtype waits. waits;
-      done = [];
-      parts = refl;
-      told = tt;
-      drafts = λ setting begin are come. are;
-    }
 
 module _ (before now : Work) (set_of : List Bool) (all left : List Step) (branches : List Branch) where
   -- what comes on by all steps does so by one that is left
@@ -90,12 +78,6 @@ module _ (before now : Work) (set_of : List Bool) (all left : List Step) (branch
             (zip_grows now.drafts.items after.drafts.items advances.grows set_of branches (map branch_of so.done) so.told) tells);
         drafts = λ setting begin are come. drafts setting begin (so.drafts setting begin are come) (one_comes one so setting begin come);
       }
-
-pub branches_end : (before now : Work) (set_of : List Bool) (all left : List Step) (branches : List Branch) → BranchesSoFar before now set_of all left branches
-    → left ≡ [] → AllZip (Tells now.drafts.items set_of) branches (map branch_of all)
-branches_end before now set_of all left branches so none =
-    subst (λ (steps : List Step). AllZip (Tells now.drafts.items set_of) branches (map branch_of steps))
-    (sym (append-nil so.done) ∙ (ap (λ (l : List Step). so.done ++ l) (sym none) ∙ so.parts)) so.told
 
 -- ---- the forks of a state
 

@@ -14,9 +14,7 @@ use Rattle.graph_form.specs.Graph.{arm_pairs, node_pairs, pairs_of, types_of}
 use Rattle.graph_form.proofs.Reached.{every_type, node_differs}
 use Rattle.graph_form.proofs.Places.{place_of_item}
 use Rattle.interp_graph.specs.Drafts.{IsDraft, AreDrafts, node_of, size_of, pair_count}
-use Rattle.interp_graph.specs.Work.{IsSound}
 use Rattle.interp_graph.specs.declared.draft.Draft.{Draft}
-use Rattle.interp_graph.specs.declared.work.Work.{Work}
 use Rattle.interp_graph.proofs.Counts.{draft_pairs}
 
 -- those of one node
@@ -60,11 +58,3 @@ pub few_pairs : (setting : Setting) (begin : List State) (drafts : List Draft) (
     → length (pairs_of (record { nodes = map node_of drafts; starts = starts })) ≤ pair_count drafts
 few_pairs setting begin drafts starts are =
     all_node_pairs drafts (λ draft has. let at = place_of_item drafts draft has in are.each at.0 draft at.1)
-
--- and there are no more nodes
-pub few_nodes : (work : Work) → IsSound work → length (map node_of work.drafts.items) ≤ work.pairs
-few_nodes work sound =
-    by (length (map node_of work.drafts.items)) (length work.drafts.items) work.pairs (length-map work.drafts.items node_of) sound.some_each
-  where
-    by : (a b c : ℕ) → a ≡ b → b ≤ c → a ≤ c
-    by a b c same few = omega (arith, same, few)

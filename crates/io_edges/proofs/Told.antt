@@ -1,9 +1,7 @@
 -- What is told stays told, and what is read piece by piece is a front of it.
-use Rattle.std.proofs.Common.{◌≡◌, ℕ, ◌+◌, ◌<◌, ◌≤◌, ◌++◌, ◌⊎◌, List, [], length, take, drop, subst, sym, ap, ◌∙◌, inl, inr, arith, refl}
-use Rattle.std.proofs.Math.ListN.{length-take, length-append}
-use Rattle.std.proofs.Math.Seq.{take-add}
-use Rattle.std.proofs.lemmas.List.{take_all}
-use Rattle.io_edges.specs.Files.{FilesTold, Told, Untold, NotHeld, Holds, IsToldAnd, StaysTold, TellsAll, SameElsewhere, IsPieceFrom, first_told}
+use Rattle.std.proofs.Common.{◌≡◌, ℕ, ◌<◌, ◌⊎◌, List, [], length, sym, ap, ◌∙◌, inl, inr, arith, refl}
+use Rattle.std.proofs.Math.ListN.{length-take}
+use Rattle.io_edges.specs.Files.{FilesTold, Told, Untold, NotHeld, Holds, IsToldAnd, StaysTold, TellsAll, first_told}
 
 -- what is told over two steps stays told
 pub StaysTold-then : (first between last : FilesTold) → StaysTold first between → StaysTold between last → StaysTold first last
@@ -20,15 +18,6 @@ TellsAll-same before after all stays = λ i name. at_name name (stays name) i wh
   at_name name (inl untold) = absurd (all name untold)
   at_name name (inr same) = same
 
--- what is told of the other names is the same over two steps
-pub SameElsewhere-then : (name : List ℕ) (first between last : FilesTold) → SameElsewhere name first between → SameElsewhere name between last → SameElsewhere name first last
-SameElsewhere-then name first between last a b other apart = b other apart ∙ a other apart
-
--- octets that are told are told still
-pub Holds-stays : (before after : Told) (octets : List ℕ) → (before ≡ Untold) ⊎ (after ≡ before) → before ≡ Holds octets → after ≡ Holds octets
-Holds-stays before after octets (inl untold) here = let no : Holds octets ≡ Untold = sym here ∙ untold in absurd cc
-Holds-stays before after octets (inr same) here = same ∙ here
-
 none_told : (told : Told) → first_told told 0 ≡ []
 none_told Untold = refl
 none_told NotHeld = refl
@@ -40,29 +29,6 @@ first_told-stays before after at (inl untold) long =
     let none : at ≡ 0 = sym long ∙ ap (λ told. length (first_told told at)) untold in
     ap (first_told after) none ∙ none_told after ∙ sym (none_told before) ∙ ap (first_told before) (sym none)
 first_told-stays before after at (inr same) long = ap (λ told. first_told told at) same
-
--- with a piece that was read behind them
-pub first_told-more : (before after : Told) (piece : List ℕ) (at count : ℕ) → (before ≡ Untold) ⊎ (after ≡ before) → length (first_told before at) ≡ at → IsToldAnd after (λ octets. IsPieceFrom octets at count piece) → first_told after (at + count) ≡ first_told before at ++ take count piece
-first_told-more before after piece at count stays long read =
-    by_told after read ∙ ap (λ got. got ++ take count piece) (first_told-stays before after at stays long)
-  where
-    by_told : (after : Told) → IsToldAnd after (λ octets. IsPieceFrom octets at count piece) → first_told after (at + count) ≡ first_told after at ++ take count piece
-    by_told Untold read = absurd read
-    by_told NotHeld read = absurd read
-    by_told (Holds octets) read = take-add at count octets ∙ ap (λ rest. take at octets ++ rest) (sym read)
-
--- and these are so many
-pub first_told-longer : (before after : Told) (piece : List ℕ) (at count : ℕ) → (before ≡ Untold) ⊎ (after ≡ before) → length (first_told before at) ≡ at → count ≤ length piece → IsToldAnd after (λ octets. IsPieceFrom octets at count piece) → length (first_told after (at + count)) ≡ at + count
-first_told-longer before after piece at count stays long fits read =
-    let got = first_told before at in
-    let more : length (first_told after (at + count)) ≡ length (got ++ take count piece) = ap length (first_told-more before after piece at count stays long read) in
-    omega (arith, length-append got (take count piece), length-take count piece)
-
--- what was read up to the end is the whole
-pub first_told-whole : (told : Told) (at : ℕ) → IsToldAnd told (λ octets. length octets ≤ at) → told ≡ Holds (first_told told at)
-first_told-whole Untold at end = absurd end
-first_told-whole NotHeld at end = absurd end
-first_told-whole (Holds octets) at end = ap Holds (sym (take_all at octets end))
 
 -- what is told is no shorter than what was read of it
 pub first_told-long : (told : Told) (at n : ℕ) → length (first_told told at) ≡ at → n < at → IsToldAnd told (λ octets. n < length octets)

@@ -1,5 +1,5 @@
 -- Links that were put at the end of others, and their rows.
-use Rattle.std.proofs.Common.{◌≡◌, ◌≢◌, ℕ, zero, suc, ◌<◌, ◌⊎◌, List, [], ◌∷◌, ◌++◌, length, get_or, replicate, Contains, AllPairs, inl, inr, sym, refl, ap, subst, ◌∙◌, append_assoc, append-nil, arith, Bool, true, nat_eq, eqb-true}
+use Rattle.std.proofs.Common.{◌≡◌, ◌≢◌, ℕ, zero, suc, ◌<◌, ◌⊎◌, List, [], ◌∷◌, ◌++◌, length, get_or, Contains, AllPairs, inl, inr, sym, refl, ap, subst, ◌∙◌, append_assoc, append-nil, arith, Bool, true, nat_eq, eqb-true}
 use Rattle.std.specs.Prelude.{◌↔◌, IsTrue, slice_set}
 use Rattle.std.specs.List.{list_any}
 use Rattle.dns_data.proofs.Searches.{from_any, any_has}
@@ -10,7 +10,7 @@ use Rattle.dns_data.proofs.Membership.{none_in_nil, has_first, has_later, first_
 use Rattle.label_graph.specs.declared.links.Link.{Link}
 use Rattle.label_graph.specs.LinkRows.{link, AreKept, AreAdded}
 use Rattle.label_graph.specs.Rows.{RowHas}
-use Rattle.label_graph.proofs.RowItems.{empty_rows, put_there, put_keeps, from_put}
+use Rattle.label_graph.proofs.RowItems.{put_there, put_keeps, from_put}
 
 -- items that differ, with one more that isn't among them
 pub differ_more : {X : Type 0} (xs : List X) (x : X) → AllPairs (λ a b. a ≢ b) xs → (Contains xs x → ⊥) → AllPairs (λ a b. a ≢ b) (xs ++ x ∷ [])
@@ -27,16 +27,6 @@ differ_more (y ∷ xs) x differ new zero (suc j) d before within =
 differ_more (y ∷ xs) x differ new (suc i) zero d before within = absurd (omega arith)
 differ_more (y ∷ xs) x differ new (suc i) (suc j) d before within =
     differ_more xs x (pairs_rest (λ a b. a ≢ b) y xs differ) (λ has. new (has_later y xs x has)) i j d (omega arith) (omega arith)
-
--- no links are kept in empty rows
-pub kept_none : (fronts bases : ℕ) → AreKept [] (replicate fronts []) (replicate bases [])
-kept_none fronts bases =
-    record {
-      once = λ i j d before within. absurd (omega arith);
-      within = λ k d below. absurd (omega arith);
-      by_front = λ front base. (λ has. absurd (empty_rows fronts front base has), λ has. absurd (none_in_nil (link front base) has));
-      by_base = λ base front. (λ has. absurd (empty_rows bases base front has), λ has. absurd (none_in_nil (link front base) has));
-    }
 
 module _ (links : List Link) (bases fronts : List (List ℕ)) (one : Link) (kept : AreKept links bases fronts)
     (front : one.front < length bases) (base : one.base < length fronts) (new : RowHas bases one.front one.base → ⊥)
@@ -122,11 +112,6 @@ added_known links one known =
       ];
       only = λ other has. inl has;
     }
-
--- no links
-pub added_none : (links : List Link) → AreAdded links [] links
-added_none links =
-    record { new = []; is = sym (append-nil links); has = λ other has. absurd (none_in_nil other has); only = λ other has. inl has }
 
 -- links, and then more
 pub added_then : (before xs middle ys after : List Link) → AreAdded before xs middle → AreAdded middle ys after → AreAdded before (xs ++ ys) after

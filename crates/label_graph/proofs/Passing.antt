@@ -80,10 +80,6 @@ pub all_iff : {X : Type 0} (P : X → Type 0) (xs : List X) (k : ℕ) → length
     → (there ↔ SomeItem P (take k xs)) → there ↔ SomeItem P xs
 all_iff P xs k over there was = (λ has. some_all P xs k over (was.0 has), λ some. was.1 (all_some P xs k over some))
 
--- an empty list has nothing
-pub none_iff : {X Y : Type 0} (P : Y → Type 0) (x : X) → Contains [] x ↔ SomeItem P []
-none_iff P x = (λ has. absurd (none_in_nil x has), λ some. absurd (some_none P some))
-
 pub start_iff : {Y : Type 0} (P : Y → Type 0) (there : Type 0) → there ↔ (there ⊎ SomeItem P [])
 start_iff P there = (λ has. inl has, λ either. elim either [ inl has ↦ has | inr some ↦ absurd (some_none P some) ])
 
@@ -106,10 +102,6 @@ push_iff xs x P p only y = (
     | inr new ↦ Contains-append_right xs (x ∷ []) y (subst (Contains (x ∷ [])) (only y new) (has_first x []))
   ],
 )
-
--- no item put where none is so
-pub keep_iff : {X : Type 0} (xs : List X) (P : X → Type 0) → ((y : X) → P y → ⊥) → (y : X) → Contains xs y ↔ (Contains xs y ⊎ P y)
-keep_iff xs P none y = (λ has. inl has, λ either. elim either [ inl has ↦ has | inr new ↦ absurd (none y new) ])
 
 -- lists of items in a row, with one item more
 pub flat_more : {X Y : Type 0} (f : X → List Y) (xs : List X) (k : ℕ) (x : X) → k < length xs → x ≡ get_or xs k x

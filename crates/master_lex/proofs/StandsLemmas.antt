@@ -1,7 +1,7 @@
 -- For which text a lexer stands, and what it answers.
 use Rattle.std.proofs.Common.{◌≡◌, ℕ, ◌+◌, Bool, true, false, List, [], ◌∷◌, ◌++◌, length, drop, refl, sym, ap, ◌∙◌, append_assoc, arith, Option, None}
 use Rattle.std.proofs.lemmas.List.{length-append, append-nil}
-use Rattle.std.specs.Prelude.{if◌then◌else◌, Result, Ok, Err, IfOk, OnErr, MatchBool}
+use Rattle.std.specs.Prelude.{if◌then◌else◌, Result, Ok, Err, IfOk, OnErr}
 use Rattle.std.proofs.lemmas.Result.{IfOk-weaker, on_err_weaker}
 use Rattle.dns_data.specs.Answers.{AnswersOr}
 use Rattle.master_lex.specs.declared.entry.Entry.{Entry}
@@ -15,7 +15,7 @@ use Rattle.master_lex.specs.declared.taken.Taken.TheVariants as answers
 use Rattle.master_lex.specs.Contents.{Contents, behind, contents, text_entries, text_fault}
 use Rattle.master_lex.specs.States.{State, empty, run, Fits, IsTidy, ahead_by, ahead, last_fault, whole_by, made, without_fault, last_entry}
 use Rattle.master_lex.specs.Taking.{IsFault, left_answer, IsAnswer, given_with}
-use Rattle.master_lex.specs.Lexer.{Lexing, Remains, IsLexerOf, left, LastTaken}
+use Rattle.master_lex.specs.Lexer.{Lexing, IsLexerOf, left, LastTaken}
 use Rattle.master_lex.proofs.Running.{run_ahead, end_ahead}
 use Rattle.master_lex.proofs.Settled.{held_fault, not_settled}
 
@@ -23,10 +23,6 @@ use Rattle.master_lex.proofs.Settled.{held_fault, not_settled}
 pub drop_front : {A : Type 0} (xs ys : List A) → drop (length xs) (xs ++ ys) ≡ ys
 drop_front [] ys = refl
 drop_front (x ∷ xs) ys = drop_front xs ys
-
--- entries in front of others
-behind_behind : (xs ys : List Entry) (rest : Contents) → behind xs (behind ys rest) ≡ behind (xs ++ ys) rest
-behind_behind xs ys rest = ap (λ (w : List Entry). record rest { whole = w }) (sym (append_assoc xs ys rest.whole))
 
 -- what is fed goes on with the text
 pub fed_stands : (s s' : State) (n n' : ℕ) (text piece : List ℕ) (given : List Entry) (finished : Bool) → finished ≡ false → IsTidy s → s' ≡ run s piece → n' ≡ n + length piece
@@ -58,14 +54,6 @@ new_stands = record { fed = refl; agrees = λ more. refl }
 
 -- ---- the whole entries
 
--- they don't count for what is ahead
-same_ahead : (m : Mode) (s : State) (ready : List Entry) (text : List ℕ) → ahead_by m (record s { ready = ready }) text ≡ ahead_by m s text
-same_ahead Start s ready text = refl
-same_ahead Between s ready text = refl
-same_ahead Comment s ready text = refl
-same_ahead (InToken quoted escape) s ready text = refl
-same_ahead (Faulty fault) s ready text = refl
-
 same_made : (m : Mode) (s : State) (ready : List Entry) → made (whole_by m (record s { ready = ready })) ≡ made (whole_by m s)
 same_made Start s ready = refl
 same_made Between s ready = refl
@@ -75,25 +63,6 @@ same_made (Faulty fault) s ready = refl
 
 pub same_last : (s : State) (ready : List Entry) → last_entry (record s { ready = ready }) ≡ last_entry s
 same_last s ready = ap (without_fault (last_fault s.position)) (same_made s.position.mode s ready)
-
--- the first of them was taken
-pub first_stands : (s s' : State) (n : ℕ) (finished : Bool) (entry : Entry) → s ≡ record s' { ready = entry ∷ s'.ready } → (text : List ℕ) (given : List Entry)
-    → IsLexerOf (record { state = s; fed = n; finished = finished }) text given → IsLexerOf (record { state = s'; fed = n; finished = finished }) text (given ++ entry ∷ [])
-first_stands s s' n finished entry e text given h = record { fed = h.fed; agrees = by finished h.agrees } where
-  by : (finished : Bool) → MatchBool finished (Remains s text given) ((more : List ℕ) → contents (text ++ more) ≡ behind given (ahead s more))
-      → MatchBool finished (Remains s' text (given ++ entry ∷ [])) ((more : List ℕ) → contents (text ++ more) ≡ behind (given ++ entry ∷ []) (ahead s' more))
-  by true r = record {
-    entries = r.entries ∙ ap (λ (x : State). given ++ x.ready ++ last_entry x) e
-        ∙ ap (λ (w : List Entry). given ++ (entry ∷ s'.ready) ++ w) (same_last s' (entry ∷ s'.ready))
-        ∙ ap (λ (w : List Entry). w ++ last_entry s') (sym (append_assoc given (entry ∷ []) s'.ready));
-    fault = r.fault ∙ ap (λ (x : State). last_fault x.position) e;
-  }
-  by false r = λ more.
-      r more ∙ ap (λ (x : State). behind given (ahead x more)) e
-      ∙ ap (λ (x : Contents). behind given (behind (entry ∷ s'.ready) x)) (same_ahead s'.position.mode s' (entry ∷ s'.ready) more)
-      ∙ behind_behind given (entry ∷ s'.ready) (ahead_by s'.position.mode s' more)
-      ∙ ap (λ (w : List Entry). behind w (ahead_by s'.position.mode s' more)) (sym (append_assoc given (entry ∷ []) s'.ready))
-      ∙ sym (behind_behind (given ++ entry ∷ []) s'.ready (ahead_by s'.position.mode s' more))
 
 -- the entries of a text that were not given are those that are left
 left_over : (given rest total : List Entry) → total ≡ given ++ rest → drop (length given) total ≡ rest

@@ -4,7 +4,7 @@ use Rattle.std.specs.Prelude.{◌||◌, ◌==◌, nat_eq, nat_lt, nat_le, if◌t
 use Rattle.std.proofs.lemmas.List.{length-append, append-nil}
 use Rattle.std.proofs.lemmas.Bool.{le-ltb, ltb-false}
 use Rattle.std.proofs.lemmas.Bool.Decides.{nat_tests}
-use Rattle.dns_data.specs.Octet.{is_digit, three_digit_value}
+use Rattle.dns_data.specs.Octet.{is_digit}
 use Rattle.master_lex.specs.declared.entry.Entry.{Entry}
 use Rattle.master_lex.specs.declared.fault.LexKind.TheVariants.{OpenQuote, StrayClose, BadEscape, TokenTooLong}
 use Rattle.master_lex.specs.declared.octet.OctetKind.{OctetKind}
@@ -257,10 +257,6 @@ module _ (s : State) (octet : ℕ) (text : List ℕ) where
         ∙ sym (ap (λ (x : State). ahead x text) (plain (kind octet) (λ is. grind (arith, nat_tests, is, e, g, i)) (λ is. grind (arith, nat_tests, is, e, g, i)) (λ is. grind (arith, nat_tests, is, e, g, i))))
 
 -- ---- escapes
-
--- digits with which no value up to 255 begins
-code_is : (a b c d e : ℕ) → is_code a b c ≡ true → is_digit d ≡ true → is_digit e ≡ true → three_digit_value a d e ≤ three_digit_value a b c → is_code a d e ≡ true
-code_is a b c d e h dd de l = grind (arith, nat_tests)
 
 third_bad : (quoted : Bool) (a b : ℕ) (text : List ℕ) → is_code a b 48 ≡ false → after_two_digits quoted a b text ≡ bad_escape quoted
 third_bad quoted a b [] h = refl

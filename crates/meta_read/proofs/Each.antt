@@ -11,11 +11,6 @@ use Rattle.meta_read.specs.declared.fault.MetaFault.{MetaFault}
 abbrev pub continued : {B : Type 0} → List B → Result (List B) MetaFault → Result (List B) MetaFault
 continued done rest = rest >>= (λ more. Ok (done ++ more))
 
--- nothing is done
-pub continued-none : {B : Type 0} (rest : Result (List B) MetaFault) → rest ≡ continued [] rest
-continued-none (Ok more) = refl
-continued-none (Err fault) = refl
-
 -- an item and what the rest gives are behind what is done
 pub continued-more : {B : Type 0} (done : List B) (first : B) (rest : Result (List B) MetaFault) → continued done (rest >>= (λ more. Ok (first ∷ more))) ≡ continued (done ++ first ∷ []) rest
 continued-more done first (Ok more) = ap Ok (sym (append_assoc done (first ∷ []) more))

@@ -1,7 +1,7 @@
 -- What decides at a known name with an open tail, and that it is one for all tails.
 use Rattle.std.proofs.Common.{◌≡◌, ℕ, Bool, true, false, cond, ◌&&◌, List, [], ◌∷◌, ◌++◌, length, Contains, Option, Some, None, sym, refl, ap, ◌∙◌, subst, true≢false, arith, append_assoc, length-append, lt-ltb}
 use Rattle.std.specs.Prelude.{nat_lt, nat_le}
-use Rattle.std.proofs.lemmas.Bool.{and_parts, and_right, not-true, false_from_ne_true}
+use Rattle.std.proofs.lemmas.Bool.{and_parts, and_right, false_from_ne_true}
 use Rattle.dns_data.specs.Name.{Labels, name_eq, is_prefix}
 use Rattle.dns_data.specs.Rdata.{has_type}
 use Rattle.dns_data.specs.declared.rr_type.RrType.{RrType}
@@ -12,7 +12,7 @@ use Rattle.dns_data.proofs.Names.{name_eq_decides}
 use Rattle.dns_data.proofs.Searches.{from_any, find_same}
 use Rattle.net_model.specs.declared.config.Zone.{Zone}
 use Rattle.net_model.specs.Lookup.{Deciding, zone_cut, dname_owner, closest_encloser, synthesized, shorter_decides, decided, deciding, ByRecords}
-use Rattle.net_model.specs.OpenTail.{IsOpenTail, is_open_tail, redirecting, open_decided, open_deciding}
+use Rattle.net_model.specs.OpenTail.{IsOpenTail, redirecting, open_decided, open_deciding}
 use Rattle.net_model.specs.Prefix.{prefixes, shortest}
 use Rattle.net_model.specs.Zone.{exists_in, owns, is_of}
 use Rattle.net_model.proofs.Descent.{owner_below_exists, prefix_exists, prefix_of_prefix, shorter_passes}
@@ -118,10 +118,3 @@ module _ (zone : Zone) (above : Labels) (label : List ℕ) (rest : Labels) (insi
 pub open_tail : (zone : Zone) (known tail : Labels) → IsOpenTail zone known tail → deciding zone (known ++ tail) ≡ open_deciding zone known
 open_tail zone known tail opens =
     ap (λ (x : Labels). deciding zone (known ++ x)) opens.is ∙ deciding_open zone known opens.first opens.rest opens.inside opens.free
-
--- the test tells open tails
-pub open_tail_told : (zone : Zone) (known tail : Labels) → is_open_tail zone known tail ≡ true → IsOpenTail zone known tail
-open_tail_told zone known [] told = absurd (true≢false (sym told))
-open_tail_told zone known (first ∷ rest) told =
-    let parts = and_parts (is_prefix zone.origin known) _ told in
-    record { first = first; rest = rest; is = refl; inside = parts.0; free = not-true (exists_in zone (known ++ first ∷ [])) parts.1 }

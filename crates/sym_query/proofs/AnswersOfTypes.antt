@@ -73,13 +73,6 @@ module _ (zone : Zone) (name : SymName) (decides : Deciding) where
 
 -- ---- the types that have no answer yet
 
--- types that a set has and that aren't left, as the set of those answered
-pub shared_answered : (asked shared left : Bool) → (shared ≡ true → asked ≡ true) → left ≡ (asked && not shared) → (asked && not left) ≡ shared
-shared_answered true true left within is = ap not is
-shared_answered true false left within is = ap not is
-shared_answered false true left within is = absurd (true≢false (sym (within refl)))
-shared_answered false false left within is = refl
-
 -- one type more is answered
 pub one_more : (asked left this after : Bool) → (this ≡ true → asked ≡ true) → after ≡ (left && not this)
     → (asked && not after) ≡ ((asked && not left) || this)

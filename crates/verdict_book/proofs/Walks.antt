@@ -1,6 +1,6 @@
 -- A book whose tickets are claimed and filed in number order.
 use Rattle.std.proofs.Common.{◌≡◌, ℕ, ◌+◌, ◌<◌, ◌≤◌, false, List, [], ◌∷◌, ◌++◌, None, refl, sym, ◌∙◌, subst, arith, append_assoc}
-use Rattle.std.proofs.lemmas.Bool.{ne_eqb, lt-ltb}
+use Rattle.std.proofs.lemmas.Bool.{ne_eqb}
 use Rattle.std.proofs.Math.Bool.{or-false}
 use Rattle.pool_core.specs.declared.entry.Entry.{Entry}
 use Rattle.pool_core.specs.declared.entry.Entry.TheVariants.{Claim, File}
@@ -8,7 +8,6 @@ use Rattle.pool_core.specs.History.{issued_in, is_claimed_in, is_filed_in, first
 use Rattle.pool_core.proofs.Lists.{count_by_push}
 use Rattle.pool_core.proofs.Histories.{issued_push, claimed_push, filed_push, first_stop_push}
 use Rattle.verdict_book.specs.Books.{filings_in, unfiled_in, is_filing}
-use Rattle.verdict_book.specs.Refusals.{claim_refusal}
 
 -- the tickets below this one are filed, and no other one was claimed
 pub record Walked (limit : ℕ) (h : List Entry) (t : ℕ) : Type 0 where
@@ -19,18 +18,8 @@ pub record Walked (limit : ℕ) (h : List Entry) (t : ℕ) : Type 0 where
   pub issued : t ≤ issued_in h
   pub few : issued_in h ≤ limit
 
-pub walked_new : (limit : ℕ) (h : List Entry) → h ≡ [] → 1 ≤ limit → Walked limit h 0
-walked_new limit h new some =
-    subst (λ l. Walked limit l 0) (sym new)
-    (record { stop = refl; filed = refl; unclaimed = λ k le. refl; unfiled = λ k le. refl; issued = omega arith; few = omega (arith, some) })
-
 pub walked_low : (limit : ℕ) (h : List Entry) (t : ℕ) → Walked limit h t → (unfiled_in h ≡ 0 → ⊥) → t < issued_in h
 walked_low limit h t w some = omega (arith, some, w.filed, w.issued)
-
--- the next ticket can be claimed
-pub walked_open : (limit : ℕ) (h : List Entry) (t : ℕ) → Walked limit h t → (unfiled_in h ≡ 0 → ⊥) → claim_refusal h t ≡ None
-walked_open limit h t w some =
-    rw (w.stop, lt-ltb t (issued_in h) (walked_low limit h t w some), w.unfiled t (omega arith), w.unclaimed t (omega arith)) refl
 
 -- once it was claimed and filed, the one after it is next
 pub walked_step : (limit : ℕ) (h h' : List Entry) (t n : ℕ) → Walked limit h t → (unfiled_in h ≡ 0 → ⊥) → h' ≡ h ++ Claim t ∷ File t n ∷ [] → issued_in h' ≤ limit → Walked limit h' (t + 1)
@@ -51,7 +40,3 @@ walked_step limit h h' t n w some is few =
   where
     other : (k : ℕ) → t + 1 ≤ k → t ≡ k → ⊥
     other k le e = omega (arith, le, e)
-
--- when no ticket is left, nothing is unfiled
-pub walked_end : (limit : ℕ) (h : List Entry) (t : ℕ) → Walked limit h t → limit ≤ t → unfiled_in h ≡ 0
-walked_end limit h t w end = omega (arith, end, w.filed, w.issued, w.few)
