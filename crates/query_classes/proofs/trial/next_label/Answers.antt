@@ -29,8 +29,8 @@ with_octets-requires c =
     ] in
     subst IsLabel (sym c.as_slice.ensures.value) (next_is_label label c.in_ok-next.next.items place c.items-octets.ensures.label room last.within next)
 
-pub returns-in_ok-with_octets : goal.returns-in_ok-with_octets
-returns-in_ok-with_octets c =
+pub returns : goal.returns
+returns c =
     let same = c.items-octets.ensures.same in
     let label : List ℕ = c.args.label.now in
     let place : ℕ = c.before_last-place.result in
