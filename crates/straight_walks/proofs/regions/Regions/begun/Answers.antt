@@ -13,7 +13,7 @@ returns-in-Some c =
     let are = subst (λ (regions : List Region). AreRegions inside.config.now inside.deps regions) (sym c.as_slice.ensures.value) c.self.invariant in
     IfOk-weaker c.copy.result _ _
     (λ begun so. subst (λ (made : MadeOf). HasBegun made.config made.deps c.args.query.now begun) c.self.view_is
-    (so inside.config.now inside.deps c.args.query.now (begun_for inside.config.now inside.deps c.as_slice.result.now are c.args.query.now c.in-Some.region.now c.in-Some.ensures)))
+    (so inside.config.now inside.deps c.args.query.now (begun_for inside.config.now inside.deps c.as_slice.result.now are c.args.query.now c.in-Some.region.now c.in-Some.ensures.some)))
     c.copy.ensures
 
 pub returns-in-None : goal.returns-in-None
