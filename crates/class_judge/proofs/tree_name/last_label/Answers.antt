@@ -26,7 +26,7 @@ pub with_octets-requires : goal.with_octets-requires
 with_octets-requires c =
     let last = rw c.in-Some-last.is at c.loop-label.invariant in last.0
 
-pub returns-in_ok-with_octets : goal.returns-in_ok-with_octets
-returns-in_ok-with_octets c =
+pub returns-in_ok-with_octets-in-Some-last : goal.returns-in_ok-with_octets-in-Some-last
+returns-in_ok-with_octets-in-Some-last c =
     let last = rw c.in-Some-last.is at c.loop-label.invariant in
-    ended c.args.name.now c.loop-label.rest c.in_ok-with_octets.field-0 c.in-Some-last.octets.now last.1 c.in_default.ensures.first c.in_ok-with_octets.ensures
+    ended c.args.name.now c.loop-label.rest c.in_ok-with_octets-in-Some-last.field-0 c.in-Some-last.octets.now last.1 c.in_default.ensures.first c.in_ok-with_octets-in-Some-last.ensures
