@@ -14,7 +14,7 @@ use Rattle.std.proofs.lemmas.List.{length-take-le, length-drop, take_all}
 use Rattle.std.proofs.lemmas.List.Sums.{common_prefix_len-le, common_prefix_len-drop_yes, common_prefix_len-drop_no}
 use Rattle.std.proofs.lemmas.Nat.{xor_lt, xor_block, and_le_l, and_le_r, leading_top, leading_length, pow-add, pow_pos, mul-add-lt}
 use Rattle.std.proofs.Math.Nat.{pow-le-pow_right, le-mul_of_pos_right, mul_comm}
-use Rattle.dns_data.specs.BigEndian.{number_of}
+use Rattle.dns_data.specs.BigEndian.{written_number}
 use Rattle.dns_data.proofs.Searches.{same_truth}
 
 -- how many octets both begin with
@@ -115,13 +115,13 @@ Small [] = Unit {0}
 Small (x ∷ xs) = (x < 256) × Small xs
 
 -- a number has no more bits than its octets
-number_below : (xs : List ℕ) → Small xs → number_of xs < 2 ^ (8 * length xs)
+number_below : (xs : List ℕ) → Small xs → written_number xs < 2 ^ (8 * length xs)
 number_below [] h = omega arith
 number_below (x ∷ xs) h =
-    let whole : x * 2 ^ (8 * length xs) + number_of xs < 2 ^ (8 * length xs) * 256 = mul-add-lt x (2 ^ (8 * length xs)) (number_of xs) 256 h.0 (number_below xs h.1) in
+    let whole : x * 2 ^ (8 * length xs) + written_number xs < 2 ^ (8 * length xs) * 256 = mul-add-lt x (2 ^ (8 * length xs)) (written_number xs) 256 h.0 (number_below xs h.1) in
     let split : 2 ^ (8 + 8 * length xs) ≡ 2 ^ 8 * 2 ^ (8 * length xs) = pow-add 2 8 (8 * length xs) in
     let size : 8 * suc (length xs) ≡ 8 + 8 * length xs = omega arith in
-    subst (λ (k : ℕ). number_of (x ∷ xs) < 2 ^ k) (sym size) (omega (arith, whole, split))
+    subst (λ (k : ℕ). written_number (x ∷ xs) < 2 ^ k) (sym size) (omega (arith, whole, split))
 
 -- an exponent is less where its power is
 exponent_below : (i j : ℕ) → 2 ^ i < 2 ^ j → i < j
@@ -156,19 +156,19 @@ no_bit x y e = omega (arith, e, xor_add_and x y, and_le_l x y, and_le_r x y)
 
 -- the unlike bits of two numbers, of which the first octet comes before the others
 unlike_bits : (x y : ℕ) (xs ys : List ℕ) → length xs ≡ length ys → Small xs → Small ys
-    → bit_xor (number_of (x ∷ xs)) (number_of (y ∷ ys)) ≡ bit_xor x y * 2 ^ (8 * length xs) + bit_xor (number_of xs) (number_of ys)
+    → bit_xor (written_number (x ∷ xs)) (written_number (y ∷ ys)) ≡ bit_xor x y * 2 ^ (8 * length xs) + bit_xor (written_number xs) (written_number ys)
 unlike_bits x y xs ys e h k =
-    ap (λ (n : ℕ). bit_xor (number_of (x ∷ xs)) (y * 2 ^ (8 * n) + number_of ys)) (sym e)
-    ∙ xor_block (8 * length xs) x y (number_of xs) (number_of ys) (number_below xs h) (subst (λ (n : ℕ). number_of ys < 2 ^ (8 * n)) (sym e) (number_below ys k))
+    ap (λ (n : ℕ). bit_xor (written_number (x ∷ xs)) (y * 2 ^ (8 * n) + written_number ys)) (sym e)
+    ∙ xor_block (8 * length xs) x y (written_number xs) (written_number ys) (number_below xs h) (subst (λ (n : ℕ). written_number ys < 2 ^ (8 * n)) (sym e) (number_below ys k))
 
 -- the leading zeros of the unlike bits tell how many octets both begin with
-pub leading_tell : (xs ys : List ℕ) → length xs ≡ length ys → Small xs → Small ys → count_leading_zeros (8 * length xs) (bit_xor (number_of xs) (number_of ys)) / 8 ≡ common xs ys
+pub leading_tell : (xs ys : List ℕ) → length xs ≡ length ys → Small xs → Small ys → count_leading_zeros (8 * length xs) (bit_xor (written_number xs) (written_number ys)) / 8 ≡ common xs ys
 unfolding count_leading_zeros
 leading_tell [] [] e h k = refl
 leading_tell [] (y ∷ ys) e h k = absurd (omega (arith, e))
 leading_tell (x ∷ xs) [] e h k = absurd (omega (arith, e))
 leading_tell (x ∷ xs) (y ∷ ys) e h k =
-    ap (λ (n : ℕ). count_leading_zeros n (bit_xor (number_of (x ∷ xs)) (number_of (y ∷ ys))) / 8) size
+    ap (λ (n : ℕ). count_leading_zeros n (bit_xor (written_number (x ∷ xs)) (written_number (y ∷ ys))) / 8) size
     ∙ ap (λ (v : ℕ). count_leading_zeros (8 + bits) v / 8) (unlike_bits x y xs ys lengths h.1 k.1)
     ∙ by (nat_eq x y) refl (leading_tell xs ys (omega (arith, e)) h.1 k.1)
   where
@@ -182,16 +182,16 @@ leading_tell (x ∷ xs) (y ∷ ys) e h k =
     size = omega arith
 
     rest : ℕ
-    rest = bit_xor (number_of xs) (number_of ys)
+    rest = bit_xor (written_number xs) (written_number ys)
 
     rest_below : rest < 2 ^ bits
-    rest_below = xor_lt (8 * length xs) (number_of xs) (number_of ys) (number_below xs h.1) (subst (λ (n : ℕ). number_of ys < 2 ^ (8 * n)) (sym lengths) (number_below ys k.1))
+    rest_below = xor_lt (8 * length xs) (written_number xs) (written_number ys) (number_below xs h.1) (subst (λ (n : ℕ). written_number ys < 2 ^ (8 * n)) (sym lengths) (number_below ys k.1))
 
     all_below : bit_xor x y * 2 ^ bits + rest < 2 ^ (8 + bits)
     all_below =
         subst (λ (v : ℕ). v < 2 ^ (8 + bits)) (unlike_bits x y xs ys lengths h.1 k.1)
-        (subst (λ (n : ℕ). bit_xor (number_of (x ∷ xs)) (number_of (y ∷ ys)) < 2 ^ n) size
-        (xor_lt (8 * suc (length xs)) (number_of (x ∷ xs)) (number_of (y ∷ ys)) (number_below (x ∷ xs) h) (subst (λ (n : ℕ). number_of (y ∷ ys) < 2 ^ (8 * n)) (sym e) (number_below (y ∷ ys) k))))
+        (subst (λ (n : ℕ). bit_xor (written_number (x ∷ xs)) (written_number (y ∷ ys)) < 2 ^ n) size
+        (xor_lt (8 * suc (length xs)) (written_number (x ∷ xs)) (written_number (y ∷ ys)) (number_below (x ∷ xs) h) (subst (λ (n : ℕ). written_number (y ∷ ys) < 2 ^ (8 * n)) (sym e) (number_below (y ∷ ys) k))))
 
     by : (b : Bool) → nat_eq x y ≡ b → count_leading_zeros bits rest / 8 ≡ common xs ys → count_leading_zeros (8 + bits) (bit_xor x y * 2 ^ bits + rest) / 8 ≡ cond b (1 + common xs ys) 0
     by true same told =
@@ -226,11 +226,11 @@ small_part n xs at h = small_take n (drop at xs) (small_drop at xs (small_all xs
 
 -- the leading zeros of the unlike bits of eight octets of each
 pub eight_common : (xs ys : List ℕ) (at p q : ℕ) → at + 8 ≤ length xs → at + 8 ≤ length ys → ((i : ℕ) → get_or xs i 0 < 256) → ((i : ℕ) → get_or ys i 0 < 256)
-    → p ≡ number_of (take 8 (drop at xs)) → q ≡ number_of (take 8 (drop at ys)) → count_leading_zeros 64 (bit_xor p q) / 8 ≡ common (take 8 (drop at xs)) (take 8 (drop at ys))
+    → p ≡ written_number (take 8 (drop at xs)) → q ≡ written_number (take 8 (drop at ys)) → count_leading_zeros 64 (bit_xor p q) / 8 ≡ common (take 8 (drop at xs)) (take 8 (drop at ys))
 eight_common xs ys at p q h k small few e f =
     let size = λ (l : List ℕ) (room : at + 8 ≤ length l). length_of_part l room in
     (λ i. count_leading_zeros 64 (bit_xor (e i) (f i)) / 8)
-    ∙ ap (λ (n : ℕ). count_leading_zeros (8 * n) (bit_xor (number_of (take 8 (drop at xs))) (number_of (take 8 (drop at ys)))) / 8) (sym (size xs h))
+    ∙ ap (λ (n : ℕ). count_leading_zeros (8 * n) (bit_xor (written_number (take 8 (drop at xs))) (written_number (take 8 (drop at ys)))) / 8) (sym (size xs h))
     ∙ leading_tell (take 8 (drop at xs)) (take 8 (drop at ys)) (size xs h ∙ sym (size ys k)) (small_part 8 xs at small) (small_part 8 ys at few)
   where
     length_of_part : (l : List ℕ) → at + 8 ≤ length l → length (take 8 (drop at l)) ≡ 8

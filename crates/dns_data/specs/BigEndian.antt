@@ -2,6 +2,6 @@
 use Rattle.std.specs.Prelude.{ℕ, ◌+◌, ◌*◌, ◌^◌, List, [], ◌∷◌, length}
 
 -- the number that octets write, the most significant first
-abbrev pub number_of : List ℕ → ℕ
-number_of [] = 0
-number_of (octet ∷ octets) = octet * 2 ^ (8 * length octets) + number_of octets
+abbrev pub written_number : List ℕ → ℕ
+written_number [] = 0
+written_number (octet ∷ octets) = octet * 2 ^ (8 * length octets) + written_number octets

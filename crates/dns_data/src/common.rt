@@ -5,7 +5,7 @@ ghost use Rattle.std.specs.List.{common_prefix_len};
 ghost use Rattle.std.specs.Ordering.{nat_cmp};
 ghost use Rattle.std.specs.Cmp.Lexicographic.{slice_cmp};
 ghost use lib.Pointwise.{pointwise};
-ghost use Rattle.dns_data.specs.BigEndian.{number_of};
+ghost use Rattle.dns_data.specs.BigEndian.{written_number};
 
 use std::cmp::Ordering;
 
@@ -53,7 +53,7 @@ fn common_of_eight(left: &[u8], right: &[u8], at: usize) -> usize
 /// The number that eight octets from a place on write, the most significant first.
 fn number_at(octets: &[u8], at: usize) -> u64
     requires { at + 8 ≤ length octets.now }
-    ensures { result ≡ number_of (take 8 (drop at octets.now)) }
+    ensures { result ≡ written_number (take 8 (drop at octets.now)) }
 {
     u64::from_be_bytes([
         octets[at],

@@ -19,6 +19,7 @@ pub enum OctetKind {
 }
 
 /// What the octet means outside quotes and escapes.
+#[inline(always)]
 #[tactic(auto, unfolding(crate::specs::Octets::kind))]
 pub fn kind_of(octet: u8) -> OctetKind
     ensures { result ≡ kind octet }

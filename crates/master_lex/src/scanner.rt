@@ -252,6 +252,7 @@ impl Scanner {
     }
 
     /// Passes over an octet outside comments and tokens. After an error nothing has changed.
+    #[inline]
     fn between_tokens(&mut self, alloc: Global, octet: u8) -> Result<(), NoMemory>
         requires line { self.old.position.line < 2 ^ 32 - 1 }
         requires depth { self.old.position.depth < 2 ^ 32 - 1 }

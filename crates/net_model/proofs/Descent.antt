@@ -1,17 +1,13 @@
--- A lookup that goes down a name label by label: which prefixes exist, and what the zone cut, the DNAME owner and the
--- closest encloser of a name are by those of the name above it.
+-- Prefixes of a name: which of them exist, and prefixes of prefixes.
 use Rattle.std.proofs.Common.{◌≡◌, Bool, true, false, ◌&&◌, [], ◌∷◌, ◌++◌, length, Contains, sym, refl, ap, ◌∙◌, inl, inr, arith, append-nil, append_assoc, length-append}
 use Rattle.std.proofs.lemmas.Bool.{and_parts, and_from, or_cases, or_left, or_right}
 use Rattle.dns_data.specs.Name.{Labels, name_eq, is_prefix}
 use Rattle.dns_data.specs.declared.rdata.Rr.{Rr}
-use Rattle.dns_data.specs.declared.rr_type.RrType.TheVariants as types
 use Rattle.dns_data.proofs.NameFronts.{Begins, is_prefix_tells, is_prefix_told}
 use Rattle.dns_data.proofs.Names.{name_eq_decides}
 use Rattle.dns_data.proofs.Searches.{from_any, any_has}
 use Rattle.net_model.specs.declared.config.Zone.{Zone}
 use Rattle.net_model.specs.Zone.{exists_in}
-
--- ---- which prefixes exist
 
 -- a prefix of a prefix
 pub prefix_of_prefix : (above name whole : Labels) → Begins above name → Begins name whole → Begins above whole

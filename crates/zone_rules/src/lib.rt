@@ -5,7 +5,7 @@
 //! record, records outside are dropped, and the first of the others that breaks a rule is the fault. A zone that
 //! isn't refused keeps the rules of `KeepsRules` (`zones_keep_rules`).
 //!
-//! Costs: records are gone through six times, and their keys, of 16 octets each, four times. The keys fall into buckets,
+//! Costs: records are gone through six times, and their keys, of 16 octets each, five times. The keys fall into buckets,
 //! sixteen for a record, by numbers that identical records share, and again by numbers of their owners; only a record that
 //! shares its bucket is put into an ordered set and looked for there. So a usual zone is passed over in a time that grows
 //! with its octets, and any zone, also one made so that all records share a bucket, takes as many searches in a set as it
