@@ -1,9 +1,9 @@
 //! The base names of a configuration.
 
-ghost use Rattle.std.specs.Prelude.{◌≡◌, ◌↔◌, ◌⊎◌, [], ◌++◌, map, Contains, IfOk, OnOk};
+ghost use Rattle.std.specs.Prelude.{◌≡◌, ◌↔◌, ◌⊎◌, [], ◌++◌, map, Contains, IsPermutation, IfOk, OnOk};
 ghost use Rattle.std.specs.List.{flat_map};
 ghost use Rattle.dns_data.specs.Name.{Labels};
-ghost use Rattle.net_model.specs.Reading.{redirection_of, ground_of};
+ghost use Rattle.net_model.specs.Reading.{Redirection, redirection_of, ground_of};
 ghost use Rattle.label_graph.specs.Base.{IsInServer, IsInZone, server_redirections, zone_redirections};
 ghost use Rattle.label_graph.specs.LiveSet.{AreInOrder, HavePrefixes, IsClosed};
 ghost use Rattle.label_graph.specs.Pairs.{redirection, ground_with, AreSame};
@@ -11,7 +11,7 @@ ghost use Rattle.label_graph.specs.Targets.{IsPrefixFrom};
 
 use crate::pair::Pair;
 use crate::parts::put_new_fronts;
-use crate::sorting::in_order;
+use crate::sorting::{in_order, sort_from};
 use dns_data::{List, Name, NoMemory, Rdata, Rr};
 use net_model::{Config, Server, Zone};
 use std::alloc::Global;
@@ -53,15 +53,37 @@ fn put_server(
     requires { HavePrefixes names.old.items }
     ensures prefixes { OnOk result (HavePrefixes names.new.items) }
     ensures names { OnOk result ((name : Labels) → Contains names.new.items name ↔ (Contains names.old.items name ⊎ IsInServer name server.now)) }
-    ensures pairs { OnOk result (map redirection dnames.new.items ≡ map redirection dnames.old.items ++ server_redirections server.now) }
+    ensures pairs { OnOk result ((pair : Redirection) → Contains (map redirection dnames.new.items) pair
+        ↔ (Contains (map redirection dnames.old.items) pair ⊎ Contains (server_redirections server.now) pair)) }
 {
-    for zone in server.zones.items() {
-        put_zone(alloc, zone, names, dnames)?;
+    let zones = zones_in_order(alloc, server)?;
+    for zone in zones.as_slice() {
+        put_zone(alloc, *zone, names, dnames)?;
     }
     Ok(())
 }
 
-/// Puts the fronts of the origin and the owners of a zone, and the pairs of its DNAME records, at the end.
+/// The zones of a server in the order of their origins.
+fn zones_in_order<'a>(alloc: Global, server: &'a Server) -> Result<Vec<&'a Zone>, NoMemory>
+    ensures { IfOk result (λ zones. IsPermutation server.now.zones (map (λ zone. zone.now) zones.items)) }
+{
+    let mut zones = zones_of(alloc, server)?;
+    zones.sort_by(|a, b| a.origin.compare(&b.origin))?;
+    Ok(zones)
+}
+
+/// The zones of a server.
+fn zones_of<'a>(alloc: Global, server: &'a Server) -> Result<Vec<&'a Zone>, NoMemory>
+    ensures { IfOk result (λ zones. map (λ zone. zone.now) zones.items ≡ server.now.zones) }
+{
+    let mut zones = Vec::with_capacity(alloc, server.zones.items().len())?;
+    for zone in server.zones.items() {
+        zones.push(zone)?;
+    }
+    Ok(zones)
+}
+
+/// Puts the fronts of the origin and the owners of a zone, in order, and the pairs of its DNAME records, at the end.
 fn put_zone(
     alloc: Global,
     zone: &Zone,
@@ -73,10 +95,12 @@ fn put_zone(
     ensures names { OnOk result ((name : Labels) → Contains names.new.items name ↔ (Contains names.old.items name ⊎ IsInZone name zone.now)) }
     ensures pairs { OnOk result (map redirection dnames.new.items ≡ map redirection dnames.old.items ++ zone_redirections zone.now) }
 {
+    let from = names.len();
     put_new_fronts(alloc, names, &zone.origin)?;
     for rr in zone.rrs.items() {
         put_record(alloc, rr, names, dnames)?;
     }
+    sort_from(alloc, names, from)?;
     Ok(())
 }
 

@@ -4,12 +4,13 @@
 //! The layer above may rest on this: `start` and `advance` give the live set of a name in a graph, and
 //! `next_labels` and `has_next` the labels that make a named name below a name with that live set.
 //!
-//! Costs: the base names of a configuration are made once for the records with one owner in a row. Building sorts the
-//! names and the fronts of targets, finds the name above each along the one before it, and looks once at each pair of a
-//! front and a base name to which it reads on. A live set has one place where no DNAME record plays a part, and then
-//! takes no memory; a label more costs a binary search among the last labels below each place, and no more where none
-//! of the names found is redirected. The labels below one place are listed in order without a search or a sort; those
-//! below several are sorted.
+//! Costs: the base names of a configuration are made once for the records with one owner in a row. Those of each zone
+//! are put in order before the next, zone after zone in the order of their origins: so the sort of all names finds them
+//! nearly in order. Building sorts the names and the fronts of targets, finds the name above each along the one before
+//! it, and looks once at each pair of a front and a base name to which it reads on. A live set has one place where no
+//! DNAME record plays a part, and then takes no memory; a label more costs a binary search among the last labels below
+//! each place, and no more where none of the names found is redirected. The labels below one place are listed in order
+//! without a search or a sort; those below several are sorted.
 #![tactic(auto)]
 
 mod base;

@@ -1,19 +1,21 @@
 use Rattle.std.proofs.Common.{◌≡◌, ◌∙◌, List, [], ◌∷◌, ◌++◌, map, Contains, inl, inr, sym, ap, subst}
+use Rattle.std.specs.Prelude.{◌↔◌}
 use Rattle.std.specs.List.{flat_map}
 use Rattle.std.specs.Cmp.Lexicographic.{nat_list_eq_equiv, lists_equiv, lists_ties, texts_ties}
-use Rattle.std.proofs.lemmas.List.{take_all}
 use Rattle.dns_data.specs.Label.{label_cmp}
 use Rattle.dns_data.specs.Name.{Labels, name_cmp, name_eq}
 use Rattle.dns_data.proofs.Membership.{none_in_nil, has_first, first_or_later}
 use Rattle.dns_data.proofs.NameOrder.{names_total}
 use Rattle.dns_data.proofs.Names.{name_eq_decides}
+use Rattle.net_model.specs.declared.config.Server.{Server}
 use Rattle.net_model.specs.Reading.{Redirection, ground_of}
 use Rattle.label_graph.specs.Base.{IsInServer, server_redirections}
+use Rattle.label_graph.specs.Graphs.{SomeItem}
 use Rattle.label_graph.specs.LiveSet.{HavePrefixes}
 use Rattle.label_graph.specs.Pairs.{redirection}
 use Rattle.label_graph.proofs.BaseGround.{base_closed, base_names, base_redirections, nothing_above}
 use Rattle.label_graph.proofs.InOrder.{once_in_order, in_order_has, from_in_order}
-use Rattle.label_graph.proofs.Passing.{more_iff, some_all, all_some, flat_more, start_iff}
+use Rattle.label_graph.proofs.Passing.{more_iff, more_some, some_none, some_all, all_some, all_iff, some_flat, start_iff}
 use Rattle.label_graph.proofs.base.base_of.Goals as goal
 
 -- the root alone has its prefixes
@@ -34,7 +36,10 @@ loop-server-init c =
     record {
       prefixes = subst HavePrefixes (sym first) root_alone;
       names = λ name. rw first (start_iff (IsInServer name) (Contains ([] ∷ []) name));
-      pairs = ap (map redirection) c.new-dnames.ensures.items;
+      pairs = λ pair. rw c.new-dnames.ensures.items (
+        λ has. absurd (none_in_nil pair has),
+        λ some. absurd (some_none (λ (server : Server). Contains (server_redirections server) pair) some),
+      );
     }
 
 pub loop-server-preserved : goal.loop-server-preserved
@@ -43,10 +48,9 @@ loop-server-preserved c =
       prefixes = c.in_ok-put_server.ensures.prefixes;
       names = λ name. more_iff (IsInServer name) c.items-server-items.result.now c.loop-server.server-index c.server-item.result c.loop-server-test.true c.server-item.is
           _ _ _ (c.loop-server.invariant.names name) (c.in_ok-put_server.ensures.names name);
-      pairs =
-          c.in_ok-put_server.ensures.pairs
-          ∙ ap (λ (l : List Redirection). l ++ server_redirections c.server-item.result) c.loop-server.invariant.pairs
-          ∙ sym (flat_more server_redirections c.items-server-items.result.now c.loop-server.server-index c.server-item.result c.loop-server-test.true c.server-item.is);
+      pairs = λ pair. more_some (λ (server : Server). Contains (server_redirections server) pair)
+          c.items-server-items.result.now c.loop-server.server-index c.server-item.result c.loop-server-test.true c.server-item.is
+          _ _ (c.loop-server.invariant.pairs pair) (c.in_ok-put_server.ensures.pairs pair);
     }
 
 pub returns-clause-order : goal.returns-clause-order
@@ -58,16 +62,22 @@ pub returns-clause-same : goal.returns-clause-same
 returns-clause-same c =
     record {
       names = λ name. rw c.from_vec.ensures (there name, back name);
-      redirections = λ r. rw (c.from_vec-2.ensures, pairs) (base_redirections c.args.config.now r);
+      redirections = λ pair. rw c.from_vec-2.ensures (
+        λ has. (base_redirections c.args.config.now pair).0 ((all pair).0 has),
+        λ has. (all pair).1 ((base_redirections c.args.config.now pair).1 has),
+      );
     }
   where
     servers : c.items-server-items.result.now ≡ c.args.config.now.servers
     servers = c.items-server-items.ensures
 
-    pairs : map redirection c.loop-server.dnames.items ≡ flat_map server_redirections c.args.config.now.servers
-    pairs =
-        c.loop-server.invariant.pairs
-        ∙ ap (flat_map server_redirections) (take_all c.loop-server.server-index c.items-server-items.result.now c.loop-server-test.false ∙ servers)
+    all : (pair : Redirection) → Contains (map redirection c.loop-server.dnames.items) pair ↔ Contains (flat_map server_redirections c.args.config.now.servers) pair
+    all pair =
+        let put : Contains (map redirection c.loop-server.dnames.items) pair ↔ SomeItem (λ (server : Server). Contains (server_redirections server) pair) c.items-server-items.result.now =
+        all_iff (λ (server : Server). Contains (server_redirections server) pair) c.items-server-items.result.now c.loop-server.server-index c.loop-server-test.false
+        _ (c.loop-server.invariant.pairs pair) in
+        let flat = some_flat server_redirections c.items-server-items.result.now pair in
+        rw (← servers) (λ has. flat.0 (put.0 has), λ has. put.1 (flat.1 has))
 
     there : (name : Labels) → Contains c.in_ok-names.names.items name → Contains (ground_of c.args.config.now).names name
     there name has =

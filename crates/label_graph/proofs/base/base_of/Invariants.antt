@@ -1,7 +1,7 @@
-use Rattle.std.proofs.Common.{◌≡◌, ◌⊎◌, [], ◌∷◌, map, take, Contains}
+use Rattle.std.proofs.Common.{◌⊎◌, [], ◌∷◌, map, take, Contains}
 use Rattle.std.specs.Prelude.{◌↔◌}
-use Rattle.std.specs.List.{flat_map}
 use Rattle.dns_data.specs.Name.{Labels}
+use Rattle.net_model.specs.Reading.{Redirection}
 use Rattle.label_graph.specs.Base.{IsInServer, server_redirections}
 use Rattle.label_graph.specs.Graphs.{SomeItem}
 use Rattle.label_graph.specs.LiveSet.{HavePrefixes}
@@ -13,5 +13,6 @@ abbrev pub invariant-loop-server : goal.invariant-loop-server
 invariant-loop-server l = record {
   prefixes : HavePrefixes l.names.items;
   names : (name : Labels) → Contains l.names.items name ↔ (Contains ([] ∷ []) name ⊎ SomeItem (IsInServer name) (take l.server-index l.server-items));
-  pairs : map redirection l.dnames.items ≡ flat_map server_redirections (take l.server-index l.server-items);
+  pairs : (pair : Redirection) → Contains (map redirection l.dnames.items) pair
+      ↔ SomeItem (λ server. Contains (server_redirections server) pair) (take l.server-index l.server-items);
 }

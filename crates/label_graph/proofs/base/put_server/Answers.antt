@@ -1,33 +1,48 @@
-use Rattle.std.proofs.Common.{◌∙◌, List, ◌++◌, map, take, append_assoc, inl, inr, sym, ap}
-use Rattle.std.specs.List.{flat_map}
+use Rattle.std.proofs.Common.{List, ◌⊎◌, Bor, map, Contains, IsPermutation, inl, inr, sym, subst}
+use Rattle.std.specs.Prelude.{◌↔◌}
+use Rattle.net_model.specs.declared.config.Zone.{Zone}
 use Rattle.net_model.specs.Reading.{Redirection}
 use Rattle.label_graph.specs.Base.{IsInZone, zone_redirections}
+use Rattle.label_graph.specs.Graphs.{SomeItem}
 use Rattle.label_graph.specs.Pairs.{redirection}
-use Rattle.label_graph.proofs.Passing.{more_iff, some_all, all_some, flat_more}
+use Rattle.label_graph.proofs.Passing.{more_iff, append_iff, moved_iff, some_flat}
 use Rattle.label_graph.proofs.base.put_server.Goals as goal
 
 pub loop-zone-preserved : goal.loop-zone-preserved
 loop-zone-preserved c =
     record {
       prefixes = c.in_ok-put_zone.ensures.prefixes;
-      names = λ name. more_iff (IsInZone name) c.items-zone-items.result.now c.loop-zone.zone-index c.zone-item.result c.loop-zone-test.true c.zone-item.is
+      names = λ name. more_iff (λ (zone : Bor Zone). IsInZone name zone.now)
+          c.as_slice-zone-items.result.now c.loop-zone.zone-index c.zone-item.result c.loop-zone-test.true c.zone-item.is
           _ _ _ (c.loop-zone.invariant.names name) (c.in_ok-put_zone.ensures.names name);
-      pairs =
-          c.in_ok-put_zone.ensures.pairs
-          ∙ ap (λ (l : List Redirection). l ++ zone_redirections c.zone-item.result) c.loop-zone.invariant.pairs
-          ∙ append_assoc (map redirection c.args.dnames.now.items) (flat_map zone_redirections (take c.loop-zone.zone-index c.items-zone-items.result.now)) _
-          ∙ ap (λ (l : List Redirection). map redirection c.args.dnames.now.items ++ l)
-          (sym (flat_more zone_redirections c.items-zone-items.result.now c.loop-zone.zone-index c.zone-item.result c.loop-zone-test.true c.zone-item.is));
+      pairs = λ pair. more_iff (λ (zone : Bor Zone). Contains (zone_redirections zone.now) pair)
+          c.as_slice-zone-items.result.now c.loop-zone.zone-index c.zone-item.result c.loop-zone-test.true c.zone-item.is
+          _ _ _ (c.loop-zone.invariant.pairs pair)
+          (subst (λ (pairs : List Redirection). Contains pairs pair ↔ (Contains (map redirection c.loop-zone.dnames.items) pair ⊎ Contains (zone_redirections c.zone-item.result.now) pair))
+          (sym c.in_ok-put_zone.ensures.pairs)
+          (append_iff (map redirection c.loop-zone.dnames.items) (zone_redirections c.zone-item.result.now) pair));
     }
 
 pub returns-clause-names : goal.returns-clause-names
-returns-clause-names c name = rw (← c.items-zone-items.ensures) (
-  λ has. elim ((c.loop-zone.invariant.names name).0 has) [
-    | inl old ↦ inl old
-    | inr some ↦ inr (some_all (IsInZone name) c.items-zone-items.result.now c.loop-zone.zone-index c.loop-zone-test.false some)
-  ],
-  λ either. elim either [
-    | inl old ↦ (c.loop-zone.invariant.names name).1 (inl old)
-    | inr some ↦ (c.loop-zone.invariant.names name).1 (inr (all_some (IsInZone name) c.items-zone-items.result.now c.loop-zone.zone-index c.loop-zone-test.false some))
-  ],
+returns-clause-names c name =
+    moved_iff (λ (zone : Bor Zone). zone.now) (IsInZone name) c.args.server.now.zones c.as_slice-zone-items.result.now c.loop-zone.zone-index moved c.loop-zone-test.false
+    _ _ (c.loop-zone.invariant.names name)
+  where
+    moved : IsPermutation c.args.server.now.zones (map (λ (zone : Bor Zone). zone.now) c.as_slice-zone-items.result.now)
+    moved = rw c.as_slice-zone-items.ensures.value c.in_ok-zones.ensures
+
+pub returns-clause-pairs : goal.returns-clause-pairs
+returns-clause-pairs c pair = (
+  λ has. elim (all.0 has) [ inl old ↦ inl old | inr some ↦ inr ((some_flat zone_redirections c.args.server.now.zones pair).0 some) ],
+  λ either. all.1 (elim either [ inl old ↦ inl old | inr some ↦ inr ((some_flat zone_redirections c.args.server.now.zones pair).1 some) ]),
 )
+  where
+    moved : IsPermutation c.args.server.now.zones (map (λ (zone : Bor Zone). zone.now) c.as_slice-zone-items.result.now)
+    moved = rw c.as_slice-zone-items.ensures.value c.in_ok-zones.ensures
+
+    all : Contains (map redirection c.loop-zone.dnames.items) pair
+        ↔ (Contains (map redirection c.args.dnames.now.items) pair ⊎ SomeItem (λ (zone : Zone). Contains (zone_redirections zone) pair) c.args.server.now.zones)
+    all =
+        moved_iff (λ (zone : Bor Zone). zone.now) (λ (zone : Zone). Contains (zone_redirections zone) pair) c.args.server.now.zones c.as_slice-zone-items.result.now c.loop-zone.zone-index
+        moved c.loop-zone-test.false
+        _ _ (c.loop-zone.invariant.pairs pair)
