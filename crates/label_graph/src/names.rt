@@ -1,6 +1,6 @@
 //! Names in a tree.
 
-ghost use Rattle.std.specs.Prelude.{◌≡◌, ◌+◌, ◌<◌, ◌↔◌, ℕ, List, [], ◌∷◌, ◌++◌, length, AllPairs, Contains, MatchOption, IfOk, OnOk};
+ghost use Rattle.std.specs.Prelude.{◌≡◌, ◌+◌, ◌<◌, ◌↔◌, ℕ, List, [], ◌∷◌, ◌++◌, length, AllPairs, Contains, MatchOption, IfOk};
 ghost use Rattle.std.specs.declared.cmp.Ordering.TheVariants.{Less};
 ghost use Rattle.dns_data.specs.Encoding.{encoded};
 ghost use Rattle.dns_data.specs.Label.{IsLabel, label_cmp};
@@ -10,7 +10,7 @@ ghost use Rattle.label_graph.specs.NameTree.{IsNextBelow, AreParents, AreRowsBel
 
 use crate::rows::Rows;
 use crate::sorting::in_order;
-use dns_data::{Name, NoMemory};
+use dns_data::{Name, NoMemory, octets_order};
 use std::alloc::Global;
 use std::cmp::Ordering;
 use std::marker::Model;
@@ -142,7 +142,7 @@ fn place_with(names: &[Name], row: &[usize], from: usize, octets: &[u8]) -> Opti
     let found = row.binary_search_by(
         |place: &usize| -> Ordering
             ensures { result ≡ label_cmp (octets_from names.entry.now from place.now) octets.entry.now }
-        { octets_at(names, *place, from).cmp(octets) },
+        { octets_order(octets_at(names, *place, from), octets) },
     );
     match found {
         Ok(at) => Some(row[at]),
@@ -167,8 +167,8 @@ fn rows_below(alloc: Global, names: &[Name]) -> Result<Rows, NoMemory>
     Ok(rows)
 }
 
-/// The place of the name one label above the one at this place, which is found along the names above the name before
-/// it, by the places of the names one label above those before.
+/// The place of the name one label above the one at this place. The places of the names one label above those before
+/// are given.
 fn parent_of(names: &[Name], parents: &[usize], place: usize) -> usize
     requires order { AreInOrder names.now }
     requires closed { HavePrefixes names.now }
