@@ -68,12 +68,11 @@ impl LabelGraph {
     }
 
     /// Whether the label makes a named name below a name with this live set.
-    pub fn has_next(&self, alloc: Global, live: &LiveSet, label: &Label) -> Result<bool, NoMemory>
+    pub fn has_next(&self, live: &LiveSet, label: &Label) -> bool
         requires { (name : Labels) × IsLiveSet self.now name live.now }
-        ensures { IfOk result (λ has. (name : Labels) → IsLiveSet self.now name live.now → IsTrue has ↔ IsNamed self.now (name ++ label.now ∷ [])) }
+        ensures { (name : Labels) → IsLiveSet self.now name live.now → IsTrue result ↔ IsNamed self.now (name ++ label.now ∷ []) }
     {
-        let _ = alloc;
-        Ok(has_step(&self.table.base, live.places(), label.items()))
+        has_step(&self.table.base, live.places(), label.items())
     }
 
     /// The labels that make a named name below a name with this live set, in order, each once.

@@ -23,7 +23,7 @@ pub(crate) fn free_label(
 {
     graph_is_closed(graph);
     let mut label = first_label(alloc)?;
-    while graph.has_next(alloc, live, &label)? {
+    while graph.has_next(live, &label) {
         let Some(next) = next_label(alloc, &label)? else {
             return Ok(None);
         };

@@ -8,27 +8,27 @@ use Rattle.query_classes.proofs.FreeLabels.{fewer_left}
 use Rattle.query_classes.proofs.TrialSteps.{none_before_a, a_is_label}
 use Rattle.query_classes.proofs.free.free_label.Goals as goal
 
-pub loop-label-init : goal.loop-label-init
-loop-label-init c =
+pub loop-alloc-init : goal.loop-alloc-init
+loop-alloc-init c =
     record {
       is = subst IsLabel (sym c.in_ok-label.ensures) a_is_label;
       before = λ name of other is less. absurd (none_before_a other is (subst (λ (l : List ℕ). trial_cmp other l ≡ Less) c.in_ok-label.ensures less));
     }
 
-pub loop-label-smaller : goal.loop-label-smaller
-loop-label-smaller c =
-    let behind : IsLabelBehind c.loop-label.label c.in-Some.next = rw c.in-Some.is at c.in_ok-next.ensures in
-    let named : IsNamed c.args.graph.now (c.requires.0 ++ c.loop-label.label ∷ []) = (c.in_ok-has_next.ensures c.requires.0 c.requires.1).0 c.if-branch.true in
-    let (above, live, has) = named_next c.args.graph.now c.graph_is_closed.ensures c.requires.0 c.loop-label.label named in
-    fewer_left c.args.graph.now.names above c.loop-label.label c.in-Some.next has behind
+pub loop-alloc-smaller : goal.loop-alloc-smaller
+loop-alloc-smaller c =
+    let behind : IsLabelBehind c.loop-alloc.label c.in-Some.next = rw c.in-Some.is at c.in_ok-next.ensures in
+    let named : IsNamed c.args.graph.now (c.requires.0 ++ c.loop-alloc.label ∷ []) = (c.has_next.ensures c.requires.0 c.requires.1).0 c.loop-alloc-test.true in
+    let (above, live, has) = named_next c.args.graph.now c.graph_is_closed.ensures c.requires.0 c.loop-alloc.label named in
+    fewer_left c.args.graph.now.names above c.loop-alloc.label c.in-Some.next has behind
 
-pub loop-label-preserved : goal.loop-label-preserved
-loop-label-preserved c =
-    let behind : IsLabelBehind c.loop-label.label c.in-Some.next = rw c.in-Some.is at c.in_ok-next.ensures in
+pub loop-alloc-preserved : goal.loop-alloc-preserved
+loop-alloc-preserved c =
+    let behind : IsLabelBehind c.loop-alloc.label c.in-Some.next = rw c.in-Some.is at c.in_ok-next.ensures in
     record {
       is = behind.is_label;
       before = λ name of other is less. elim (behind.first other is less) [
-        | inl same ↦ subst (λ (l : List ℕ). IsNamed c.args.graph.now (name ++ l ∷ [])) (sym same) ((c.in_ok-has_next.ensures name of).0 c.if-branch.true)
-        | inr earlier ↦ c.loop-label.invariant.before name of other is earlier
+        | inl same ↦ subst (λ (l : List ℕ). IsNamed c.args.graph.now (name ++ l ∷ [])) (sym same) ((c.has_next.ensures name of).0 c.loop-alloc-test.true)
+        | inr earlier ↦ c.loop-alloc.invariant.before name of other is earlier
       ];
     }

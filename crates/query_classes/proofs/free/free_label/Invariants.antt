@@ -8,12 +8,12 @@ use Rattle.query_classes.proofs.FreeLabels.{left}
 use Rattle.query_classes.proofs.free.free_label.Given as goal
 
 -- all labels that are tried before make named names
-abbrev pub invariant-loop-label : goal.invariant-loop-label
-invariant-loop-label l = record {
+abbrev pub invariant-loop-alloc : goal.invariant-loop-alloc
+invariant-loop-alloc l = record {
   is : IsLabel l.label;
   before : (name : Labels) → IsLiveSet l.graph name l.live → (other : List ℕ) → IsLabel other → trial_cmp other l.label ≡ Less
       → IsNamed l.graph (name ++ other ∷ []);
 }
 
-abbrev pub decreases-loop-label : goal.decreases-loop-label
-decreases-loop-label l = left l.graph.names l.label
+abbrev pub decreases-loop-alloc : goal.decreases-loop-alloc
+decreases-loop-alloc l = left l.graph.names l.label
