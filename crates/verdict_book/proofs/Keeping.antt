@@ -1,5 +1,5 @@
 -- What a book keeps, and what its changes keep.
-use Rattle.std.proofs.Common.{◌≡◌, ℕ, zero, suc, ◌+◌, ◌<◌, ◌≤◌, Bool, true, false, ◌||◌, List, [], ◌∷◌, ◌++◌, length, map, get_or, set, Option, Some, None, slice_get, refl, sym, ◌∙◌, ap, subst, arith, ⊎_elim, cond, length-append}
+use Rattle.std.proofs.Common.{◌≡◌, ℕ, zero, suc, ◌+◌, ◌<◌, ◌≤◌, Bool, true, false, List, [], ◌∷◌, ◌++◌, length, map, get_or, set, Option, Some, None, slice_get, refl, sym, ◌∙◌, ap, subst, arith, ⊎_elim, cond, length-append}
 use Rattle.std.specs.Prelude.{slice_index_or, nat_le, count_by, All}
 use Rattle.std.specs.Option.{option_or, IfSome}
 use Rattle.std.specs.Cmp.{Equal-is}
@@ -381,6 +381,11 @@ module _ {I V : Type 0} (first : I) (children : I → List I) (verdict_of : I �
         let here = there_is t (omega (arith, low, rows_are)) in
         sym (filed_is_so verdict_of here.0.item here.0.state _ _ (kept.states t here.0 here.1)) ∙ all_rows_filed none t here.0 here.1)
 
+    -- so it is of pages that are these
+    pub reached_in : (p : Pages) → pages_of limit h ≡ p → unfiled_in p.history ≡ 0 → AreReachedItems first children (items_of first children p.history)
+    reached_in p are none =
+        subst (λ (q : Pages). AreReachedItems first children (items_of first children q.history)) are (items_reached (ap (λ (q : Pages). unfiled_in q.history) are ∙ none))
+
     -- where nothing is unfiled, exactly as many items are reached as tickets were issued
     pub exactly_issued : (n : ℕ) → n ≡ length rows → unfiled_in h ≡ 0 → ReachesExactly first children n
     exactly_issued n is none = record { items = items_of first children h; len = known.len ∙ sym rows_are ∙ sym is; reached = items_reached none }
@@ -445,6 +450,11 @@ module _ {I V : Type 0} (first : I) (children : I → List I) (verdict_of : I �
         (claims_counted [] h parts.0 (λ u. refl) t ∙ rw both.0 refl, filings_counted [] h parts.0 (λ u. refl) t ∙ rw both.1 refl))
         (λ past. absurd (omega (arith, low, past.0, rows_are)))
         at.1
+
+    -- so it is of pages that are these
+    pub once_in : (p : Pages) → pages_of limit h ≡ p → unfiled_in p.history ≡ 0 → EachOnce p.history
+    once_in p are none =
+        subst (λ (q : Pages). EachOnce q.history) are (each_once (ap (λ (q : Pages). unfiled_in q.history) are ∙ none))
 
     -- how many claims and filings there are, by the rows
     pub counts_tickets : CountsTickets h

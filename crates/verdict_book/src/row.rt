@@ -1,11 +1,11 @@
 //! What a book keeps of each ticket.
 
-ghost use Rattle.std.specs.Prelude.{◌≡◌, ◌+◌, ◌<◌, ◌≤◌, length, IfSome, slice_get, vec_len, vec_capacity};
+ghost use Rattle.std.specs.Prelude.{◌≡◌, ◌+◌, ◌<◌, ◌≤◌, length, IfSome, OnOk, OnErr, slice_get, vec_len, vec_capacity};
 ghost use Rattle.std.specs.List.Sorted.{IsPermutation, IsSortedByKey};
 ghost use Rattle.verdict_book.specs.Keeping.{kept_row, rows_filed};
 
 use crate::claim::Kept;
-use dns_data::List;
+use dns_data::{List, NoMemory};
 use std::collections::VecDeque;
 
 /// How far a ticket has come.
@@ -60,10 +60,12 @@ pub fn file_row<I: Drop, V: Drop>(
     }
 }
 
-/// Orders the rows by their items.
-pub fn sort_rows<I: Ord, V>(rows: &mut Vec<Row<I, V>>)
+/// Orders the rows by their items. After an error the rows are as they were.
+pub fn sort_rows<I: Ord, V>(rows: &mut Vec<Row<I, V>>) -> Result<(), NoMemory>
     ensures same { IsPermutation rows.old.items rows.new.items }
-    ensures sorted { IsSortedByKey (λ row. row.item) I.cmp rows.new.items }
+    ensures sorted { OnOk result (IsSortedByKey (λ row. row.item) I.cmp rows.new.items) }
+    ensures err { OnErr result (rows.new.items ≡ rows.old.items) }
 {
-    rows.sort_unstable();
+    rows.sort()?;
+    Ok(())
 }
