@@ -5,7 +5,7 @@ ghost use Rattle.steal_pool.specs.Ends.{IsRightCause, EndSays, EndsRight};
 ghost use Rattle.steal_pool.specs.Slots.{taken_in};
 ghost use Rattle.steal_pool.specs.declared.slot.Ended.TheVariants.{Whole};
 
-use crate::locked::{Capped, LockedBook};
+use crate::locked::{Capped, LockedBook, locked};
 use crate::slot::{Ended, Slot};
 use crate::taking::next_ticket;
 use crate::turn::one_ticket;
@@ -81,6 +81,6 @@ fn end_of<W: Work, A: Capped, B: Ledger, C: Ledger, R: Wait>(
 {
     match stopped {
         Some(cause) => Some(Ended::Stopped(cause)),
-        None => book.lock(rt).end(),
+        None => locked(rt, book).end(),
     }
 }

@@ -12,8 +12,9 @@ use crate::slot::Ended;
 use dns_data::List;
 use pool_core::StopCause;
 use std::marker::Brand;
-use std::sync::ledger;
 use std::sync::ledger::{Ledger, Share};
+use std::sync::{Mutex, MutexGuard, Wait, ledger};
+use std::thread;
 use verdict_book::{Book, Claim, ClaimFault, FileFault, Issued, Work};
 
 /// The ledger of the claim calls. Its meaning is the limit of the book.
@@ -157,4 +158,22 @@ impl<W: Work, A: Capped, B: Ledger, C: Ledger> LockedBook<W, A, B, C> {
         filings.audit(&mut filed);
         book
     }
+}
+
+/// How often a worker tries a lock that another one has before it waits for it.
+const TRIES: u32 = 100;
+
+/// The book, once no other worker has it. What is done with it takes less time than to fall asleep and to be woken, so it is
+/// tried some times before the worker waits.
+pub(crate) fn locked<'b, W: Work, A: Capped, B: Ledger, C: Ledger, R: Wait>(
+    rt: &R,
+    book: &'b Mutex<LockedBook<W, A, B, C>>,
+) -> MutexGuard<'b, LockedBook<W, A, B, C>> {
+    for _ in 0..TRIES {
+        if let Some(guard) = book.try_lock() {
+            return guard;
+        }
+        thread::yield_now();
+    }
+    book.lock(rt)
 }

@@ -8,7 +8,7 @@ ghost use Rattle.steal_pool.specs.Ends.{IsRightCause, ClaimsMet};
 ghost use Rattle.steal_pool.specs.Rows.{own_view};
 ghost use Rattle.steal_pool.specs.Slots.{taken_in};
 
-use crate::locked::{Capped, LockedBook};
+use crate::locked::{Capped, LockedBook, locked};
 use crate::row::OwnRow;
 use crate::slot::Slot;
 use io_edges::Gate;
@@ -39,9 +39,7 @@ pub fn one_ticket<W: Work, A: Capped, B: Ledger, C: Ledger, G: Gate, R: Wait>(
     ensures full { IsRightCause W.first_item W.children_of A.limit result }
     ensures ended { slot.new.ended ≡ slot.old.ended }
 {
-    let asked = book
-        .lock(rt)
-        .claim(work, ticket, &mut slot.asked, &mut slot.given);
+    let asked = locked(rt, book).claim(work, ticket, &mut slot.asked, &mut slot.given);
     let claim = match asked {
         Ok(claim) => claim,
         Err(fault) => return refused(rt, book, fault),
@@ -66,7 +64,7 @@ pub fn one_ticket<W: Work, A: Capped, B: Ledger, C: Ledger, G: Gate, R: Wait>(
             None
         }
         Err(cause) => {
-            book.lock(rt).stop(cause);
+            locked(rt, book).stop(cause);
             Some(cause)
         }
     }
@@ -86,7 +84,7 @@ fn refused<W: Work, A: Capped, B: Ledger, C: Ledger, R: Wait>(
         ClaimFault::Gone(_) => None,
         ClaimFault::Stopped(cause) => Some(cause),
         ClaimFault::NoMemory => {
-            book.lock(rt).stop(StopCause::NoMemory);
+            locked(rt, book).stop(StopCause::NoMemory);
             Some(StopCause::NoMemory)
         }
     }
@@ -121,7 +119,7 @@ fn judge_and_file<W: Work, A: Capped, B: Ledger, C: Ledger, R: Wait>(
     if kept.reserve(children.items().len()).is_err() {
         return Err(StopCause::NoMemory);
     }
-    match book.lock(rt).file(claim, verdict, children, filed) {
+    match locked(rt, book).file(claim, verdict, children, filed) {
         Ok(issued) => Ok(Some(issued)),
         Err(FileFault::Foreign { .. }) => Ok(None),
         Err(FileFault::Full { .. }) => Err(StopCause::Full),
