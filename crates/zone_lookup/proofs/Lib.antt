@@ -2,3 +2,4 @@ mod FirstsByName
 pub mod Glue
 pub mod NearestZones
 mod OriginsBefore
+mod PlacesNear

@@ -24,12 +24,9 @@ module _ {X : Type 0} (key : X → Labels) (xs : List X) (sorted : IsStrictlySor
   abbrev found : Labels → Option X
   found origin = find (λ (x : X). name_eq (key x) origin) xs
 
-  module _ (place : ℕ) (in_range : place ≤ length xs) (front : Labels) (is_front : front ≡ take count name)
-      (holds : IsBinarySearchResult (λ (x : X). name_cmp (key x) front) xs (Err place)) where
+  module _ (place : ℕ) (in_range : place ≤ length xs) (holds : IsBinarySearchResult (λ (x : X). name_cmp (key x) (take count name)) xs (Err place)) where
     parts : IsPartitionPoint (λ (x : X). name_cmp (key x) (take count name) ≡ Less) (λ (x : X). name_cmp (key x) (take count name) ≡ Greater) xs place
-    parts =
-        subst (λ (n : Labels). IsPartitionPoint (λ (x : X). name_cmp (key x) n ≡ Less) (λ (x : X). name_cmp (key x) n ≡ Greater) xs place) is_front
-        (holds (searchable_from_sorted names_total key xs front (rises key front xs sorted)))
+    parts = holds (searchable_from_sorted names_total key xs (take count name) (rises key (take count name) xs sorted))
 
     -- an item under a front with at most so many labels stands before the place
     not_after : (k i : ℕ) (x : X) → k ≤ count → place ≤ i → i < length xs → key (get_or xs i x) ≡ take k name → ⊥

@@ -6,7 +6,7 @@ ghost use Rattle.dns_data.specs.Name.{is_prefix};
 ghost use Rattle.net_model.specs.Nearest.{server_named, zone_with_origin, held_zone, nearest, nearest_of};
 ghost use Rattle.zone_lookup.specs.Hosts.{AreTreesOf, FindsTrees, AreHostsOf, FindsHosts};
 
-use crate::named::{Named, item_named, nearest_item};
+use crate::named::{Named, item_named, item_near, near_of, nearest_item};
 use dns_data::{Labels, Name, NoMemory};
 use net_model::{Config, Server, Zone};
 use std::alloc::Global;
@@ -52,7 +52,7 @@ impl<'a> Hosts<'a> {
     pub fn host(&self, name: &Name) -> Option<&Host<'a>>
         ensures { option_map (λ host. host.now) result ≡ server_named self.now name.now }
     {
-        item_named(self.hosts.as_slice(), &name.labels())
+        self.host_near(self.hosts.len(), name)
     }
 
     /// The tree of the zone in which the server of this name looks a name up, or `None` where the server isn't
@@ -67,6 +67,35 @@ impl<'a> Hosts<'a> {
         }
     }
 
+    /// A place near which the tree is found of the zone in which the server of this name looks a name up.
+    pub fn near_of(&self, server: &Name, name: &Name) -> Near {
+        let host = near_of(self.hosts.as_slice(), server);
+        let tree = match self.hosts.get(host) {
+            Some(host) => host.near_of(name),
+            None => 0,
+        };
+        Near { host, tree }
+    }
+
+    /// The tree of the zone in which the server of this name looks a name up, or `None` where the server isn't
+    /// configured or has no zone for the name (RFC 1034 section 4.3.2, step 2). It is looked for near a place first.
+    pub fn nearest_near(&self, near: Near, server: &Name, name: &Name) -> Option<&Tree<'a>>
+        ensures zone { option_map (λ tree. tree.now.zone) result ≡ nearest_of self.now server.now name.now }
+        ensures inside { IfSome result (λ tree. is_prefix tree.now.zone.origin name.now ≡ true) }
+    {
+        match self.host_near(near.host, server) {
+            Some(host) => host.nearest_near(near.tree, name),
+            None => None,
+        }
+    }
+
+    /// The configured server of this name, the first of several. The one at a place is looked at first.
+    fn host_near(&self, near: usize, name: &Name) -> Option<&Host<'a>>
+        ensures { option_map (λ host. host.now) result ≡ server_named self.now name.now }
+    {
+        item_near(self.hosts.as_slice(), near, name)
+    }
+
     /// The tree of the zone with this origin that the server of this name holds.
     pub fn held_zone(&self, server: &Name, origin: &Name) -> Option<&Tree<'a>>
         ensures { option_map (λ tree. tree.now.zone) result ≡ held_zone self.now server.now origin.now }
@@ -76,6 +105,13 @@ impl<'a> Hosts<'a> {
             None => None,
         }
     }
+}
+
+/// A place near which a server and its nearest zone are looked for. What it says is tried, never trusted.
+#[derive(Clone, Copy, Debug)]
+pub struct Near {
+    host: usize,
+    tree: usize,
 }
 
 /// A server with the trees of its zones. Contracts see the server.
@@ -118,7 +154,21 @@ impl<'a> Host<'a> {
         ensures zone { option_map (λ tree. tree.now.zone) result ≡ nearest self.now name.now }
         ensures inside { IfSome result (λ tree. is_prefix tree.now.zone.origin name.now ≡ true) }
     {
-        nearest_item(self.trees.as_slice(), name)
+        self.nearest_near(self.trees.len(), name)
+    }
+
+    /// The tree of the server's zone with the longest origin at or above the name. It is looked for near a place first.
+    fn nearest_near(&self, near: usize, name: &Name) -> Option<&Tree<'a>>
+        ensures zone { option_map (λ tree. tree.now.zone) result ≡ nearest self.now name.now }
+        ensures inside { IfSome result (λ tree. is_prefix tree.now.zone.origin name.now ≡ true) }
+    {
+        let mut near = near;
+        nearest_item(self.trees.as_slice(), &mut near, name)
+    }
+
+    /// A place near which the tree is found of the server's zone with the longest origin at or above the name.
+    fn near_of(&self, name: &Name) -> usize {
+        near_of(self.trees.as_slice(), name)
     }
 
     /// The tree of the server's zone with this origin, the first of several.

@@ -3,12 +3,13 @@
 //! The layer above may rest on this: `find` answers what the definition `found` says of the zone; `Hosts` finds a server, a
 //! zone by its origin and the nearest zone of a name as the definitions do, and tells which name servers may be followed.
 //!
-//! Costs: of the name's prefixes each is looked for once among the zone's names, from the origin down to the first that
-//! decides or doesn't exist. No data are looked at but those that are answered. A server and a zone are found in as many
-//! comparisons of names as the logarithm of their number. For the nearest zone of a name there is one such search, and one
-//! more each time that the origin before the place of the name, or of its prefix, is not at or above the name: the next
-//! search is for the prefix that both have in common. Glue that stands right behind its zone cut in the order of names is found
-//! in a few comparisons.
+//! Costs: what decides at a name is found in one search among the zone's names, or in two where a wildcard may answer. No data
+//! are looked at but those that are answered. A server and a zone are found in as many comparisons of names as the logarithm of
+//! their number. For the nearest zone of a name there is one such search, `nearest_item`, and one more each time that the origin
+//! before the place of the name, or of its prefix, is not at or above the name: the next search is for the prefix that both have
+//! in common. The first search takes two comparisons where the place near which the name is looked for is the place of the last
+//! origin that isn't behind it; a server takes one where it stands at its place near, as `nearest_near` looks for both. Glue that
+//! stands right behind its zone cut in the order of names is found in a few comparisons.
 #![tactic(auto)]
 
 mod answers;
@@ -19,6 +20,6 @@ mod named;
 
 pub use answers::{at_name, referral};
 pub use follow::has_glue_below;
-pub use hosts::{Host, Hosts};
+pub use hosts::{Host, Hosts, Near};
 pub use lookup::find;
 pub use named::{Named, nearest_item};

@@ -7,7 +7,7 @@ use Rattle.zone_tree.specs.Tree.{ZoneTree}
 use Rattle.zone_lookup.specs.Hosts.{tree_at}
 use Rattle.zone_lookup.specs.Named.{NoneFrom, IsAtLongest}
 use Rattle.zone_lookup.proofs.NearestZones.{nearest_of_tree, tree_has, nearest_of_none}
-use Rattle.zone_lookup.proofs.hosts.Host.nearest.Goals as goal
+use Rattle.zone_lookup.proofs.hosts.Host.nearest_near.Goals as goal
 
 module _ (server : Server) (name : Labels) (trees : List ZoneTree)
     (firsts : (origin : Labels) → option_map (λ (tree : ZoneTree). tree.zone) (tree_at trees origin) ≡ zone_with_origin server origin) where
