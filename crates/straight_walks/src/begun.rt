@@ -3,13 +3,13 @@
 ghost use Rattle.std.specs.Prelude.{IfOk};
 ghost use Rattle.dns_data.specs.Name.{Labels};
 ghost use Rattle.graph_form.specs.declared.deps.Deps.{Deps};
-ghost use Rattle.net_model.specs.declared.config.Config.{Config as ConfigValue};
+ghost use Rattle.net_model.specs.declared.config.Config.{Config};
 ghost use Rattle.straight_walks.specs.Leads.{HasBegun};
 
 use crate::asked::{Asked, top_servers};
-use dns_data::NoMemory;
-use net_model::Config;
+use dns_data::{Name, NoMemory};
 use std::alloc::Global;
+use zone_lookup::Hosts;
 
 /// The servers that are asked for a name, and how many of the first ones are passed over: nothing is told there, or walks go
 /// on to others.
@@ -20,17 +20,18 @@ pub(crate) struct Begun<'a> {
 }
 
 impl<'a> Begun<'a> {
-    /// The search that begins at the top servers, for any name.
-    pub fn at_top(alloc: Global, config: &'a Config) -> Result<Begun<'a>, NoMemory>
-        ensures { IfOk result (λ begun. (deps : Deps) (query : Labels) → HasBegun config.now deps query begun) }
+    /// The search that begins at the top servers, for any name. Their zones are looked for near those in which they look this
+    /// name up.
+    pub fn at_top(alloc: Global, hosts: &Hosts<'a>, name: &Name) -> Result<Begun<'a>, NoMemory>
+        ensures { IfOk result (λ begun. (deps : Deps) (query : Labels) → HasBegun hosts.now deps query begun) }
     {
-        let asked = top_servers(alloc, config)?;
+        let asked = top_servers(alloc, hosts, name)?;
         Ok(Begun { asked, passed: 0 })
     }
 
     /// An equal one.
     pub fn copy(&self, alloc: Global) -> Result<Begun<'a>, NoMemory>
-        ensures { IfOk result (λ begun. (config : ConfigValue) (deps : Deps) (query : Labels) → HasBegun config deps query self.now → HasBegun config deps query begun) }
+        ensures { IfOk result (λ begun. (config : Config) (deps : Deps) (query : Labels) → HasBegun config deps query self.now → HasBegun config deps query begun) }
     {
         let asked = Vec::from_slice(alloc, self.asked.as_slice())?;
         Ok(Begun {

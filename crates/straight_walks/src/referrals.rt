@@ -37,7 +37,7 @@ pub(crate) fn refer_on<'a>(
     for ns in tree.name_servers(cut) {
         match referral_to(alloc, hosts, sets, query, server, tree, cut, ns)? {
             Behind::Ends => {}
-            Behind::GoesOn => ask(asked, ns, tree.name(cut).len())?,
+            Behind::GoesOn => ask(hosts, query, asked, ns, tree.name(cut).len())?,
             Behind::Unclear => return Ok(false),
         }
     }

@@ -40,7 +40,7 @@ pub(crate) fn begun_below<'a>(
 {
     match sorted_out(alloc, hosts, sets, origin)? {
         Some(begun) => Ok(begun),
-        None => Begun::at_top(alloc, hosts.config()),
+        None => Begun::at_top(alloc, hosts, origin),
     }
 }
 
@@ -54,7 +54,7 @@ fn sorted_out<'a>(
 ) -> Result<Option<Begun<'a>>, NoMemory>
     ensures { IfOk result (λ begun. IfSome begun (HasBegunBelow hosts.now sets.now origin.now)) }
 {
-    let mut asked = top_servers(alloc, hosts.config())?;
+    let mut asked = top_servers(alloc, hosts, origin)?;
     let mut passed = Vec::new(alloc);
     let mut again = Vec::new(alloc);
     let mut at = 0;
@@ -109,7 +109,7 @@ fn sort_out<'a>(
     ensures { IfOk result (λ straight. straight ≡ true
         → SortsOut hosts.now sets.now origin.now one.entry asked.old.items passed.old.items again.old.items asked.new.items passed.new.items again.new.items) }
 {
-    match from_server(hosts, origin, one.server) {
+    match from_server(hosts, one.near, origin, one.server) {
         Leads::Silent => {
             passed.push(one)?;
             Ok(true)

@@ -58,13 +58,22 @@ impl<'a> Regions<'a> {
         })
     }
 
-    /// The search for a name, which has begun with all servers up to those whose zones tell something of the nearest origin.
-    pub(crate) fn begun(&self, alloc: Global, query: &Name) -> Result<Begun<'a>, NoMemory>
+    /// The search for a name, which has begun with all servers up to those whose zones tell something of the nearest origin. Its
+    /// region is looked for near a place first, whatever that is, and the place is left near which that of the next name may be
+    /// looked for.
+    pub(crate) fn begun(
+        &self,
+        alloc: Global,
+        hosts: &Hosts<'a>,
+        near: &mut usize,
+        query: &Name,
+    ) -> Result<Begun<'a>, NoMemory>
+        requires { self.now.config ≡ hosts.now }
         ensures { IfOk result (HasBegun self.now.config self.now.deps query.now) }
     {
-        match nearest_item(self.regions.as_slice(), query) {
+        match nearest_item(self.regions.as_slice(), near, query) {
             Some(region) => region.begun.copy(alloc),
-            None => Begun::at_top(alloc, self.config),
+            None => Begun::at_top(alloc, hosts, query),
         }
     }
 }

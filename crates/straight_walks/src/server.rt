@@ -3,7 +3,7 @@
 ghost use Rattle.straight_walks.specs.Leads.{LeadsBy};
 
 use dns_data::Name;
-use zone_lookup::Hosts;
+use zone_lookup::{Hosts, Near};
 use zone_tree::{Decider, NodeId, Tree, deciding};
 
 /// Where walks lead from a server that is asked for a name: they end where nothing is told of it; this zone tells what it
@@ -16,15 +16,17 @@ pub(crate) enum Leads<'h, 'a> {
     Unclear,
 }
 
-/// Where walks lead from the server that is asked for the name. An alias leads elsewhere.
+/// Where walks lead from the server that is asked for the name. An alias leads elsewhere. The server and its zone are looked for
+/// near a place first.
 pub(crate) fn from_server<'h, 'a>(
     hosts: &'h Hosts<'a>,
+    near: Near,
     query: &Name,
     server: &Name,
 ) -> Leads<'h, 'a>
     ensures { LeadsBy hosts.now query.now server.now result }
 {
-    let Some(tree) = hosts.nearest_of(server, query) else {
+    let Some(tree) = hosts.nearest_near(near, server, query) else {
         return Leads::Silent;
     };
     match deciding(tree, query) {

@@ -19,7 +19,7 @@ use crate::told::all_tell_the_same;
 use delegation_checks::LearntSets;
 use dns_data::{Name, NoMemory};
 use std::alloc::Global;
-use zone_lookup::Hosts;
+use zone_lookup::{Hosts, Near};
 use zone_tree::Tree;
 
 /// No more states than these are looked at.
@@ -27,12 +27,14 @@ pub(crate) const MOST: u32 = 32;
 
 /// Whether the walks of a query are seen to go straight, over few enough pairs of state and type: then it shows no fault. The
 /// sets are the least and the greatest set of learnt addresses; the servers of the least set are followed. The regions are those
-/// of the same servers and sets.
+/// of the same servers and sets. The query's region is looked for near a place first, whatever that is, and the place
+/// is left near which that of the next query may be looked for.
 pub fn goes_straight<'a>(
     alloc: Global,
     hosts: &Hosts<'a>,
     sets: &LearntSets,
     regions: &Regions<'a>,
+    near: &mut usize,
     query: &Name,
     states: u32,
 ) -> Result<bool, NoMemory>
@@ -42,7 +44,7 @@ pub fn goes_straight<'a>(
         → Shows (with_lists (following hosts.now rewrites sets.now.least) sets.now.least sets.now.greatest) query.now rtype fault → ⊥) }
 {
     let most = (states / 12).min(MOST);
-    let begun = regions.begun(alloc, query)?;
+    let begun = regions.begun(alloc, hosts, near, query)?;
     all_straight(alloc, hosts, sets, query, begun, most as usize)
 }
 
@@ -64,13 +66,14 @@ fn all_straight<'a>(
         if begun.asked.len() > most {
             return Ok(false);
         }
-        let server = begun.asked[begun.passed].server;
+        let one = begun.asked[begun.passed];
         if !is_straight(
             alloc,
             hosts,
             sets,
             query,
-            server,
+            one.near,
+            one.server,
             &mut begun.asked,
             &mut told,
         )? {
@@ -91,13 +94,14 @@ fn is_straight<'h, 'a>(
     hosts: &'h Hosts<'a>,
     sets: &LearntSets,
     query: &Name,
+    near: Near,
     server: &Name,
     asked: &mut Vec<Asked<'a>>,
     told: &mut Vec<&'h Tree<'a>>,
 ) -> Result<bool, NoMemory>
     ensures { IfOk result (λ straight. straight ≡ true → Passes hosts.now sets.now query.now server.now asked.old.items told.old.items asked.new.items told.new.items) }
 {
-    match from_server(hosts, query, server) {
+    match from_server(hosts, near, query, server) {
         Leads::Silent => Ok(true),
         Leads::Tells(tree) => {
             told.push(tree)?;

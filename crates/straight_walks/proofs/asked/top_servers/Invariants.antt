@@ -8,4 +8,4 @@ use Rattle.std.proofs.Common.{true, None}
 -- the states at those so far
 abbrev pub invariant-loop-top : goal.invariant-loop-top
 invariant-loop-top l =
-    (query : Labels) → map (state_of l.config query) l.asked.items ≡ map (arrived l.config query true 0 None) (take l.top-index l.top-items)
+    (query : Labels) → map (state_of l.hosts query) l.asked.items ≡ map (arrived l.hosts query true 0 None) (take l.top-index l.top-items)

@@ -8,7 +8,7 @@ pub loop-begun-preserved : goal.loop-begun-preserved
 loop-begun-preserved c =
     let begun = c.loop-begun.begun in
     one_passed c.args.hosts.now c.args.sets.now c.args.query.now begun.asked.items c.is_straight.new.asked.items begun.passed c.loop-begun.told.items c.is_straight.new.told.items
-    c.index.result.now (omega (arith, c.loop-begun-test.true, c.len.ensures)) c.index.ensures c.loop-begun.invariant (c.in_ok-is_straight.ensures c.if-not-branch.false)
+    c.index-one.result.now (omega (arith, c.loop-begun-test.true, c.len.ensures)) c.index-one.ensures c.loop-begun.invariant (c.in_ok-is_straight.ensures c.if-not-branch.false)
 
 pub returns : goal.returns
 returns c = λ yes.

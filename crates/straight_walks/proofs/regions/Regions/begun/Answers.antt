@@ -1,5 +1,6 @@
 use Rattle.std.proofs.Common.{List, sym, subst}
 use Rattle.std.proofs.lemmas.Result.{IfOk-weaker}
+use Rattle.net_model.specs.declared.config.Config.{Config}
 use Rattle.straight_walks.specs.Leads.{HasBegun}
 use Rattle.straight_walks.specs.MadeOf.{MadeOf}
 use Rattle.straight_walks.specs.Regions.{AreRegions}
@@ -18,7 +19,6 @@ returns-in-Some c =
 
 pub returns-in-None : goal.returns-in-None
 returns-in-None c =
-    let inside = c.self.inside in
     IfOk-weaker c.at_top.result _ _
-    (λ begun so. subst (λ (made : MadeOf). HasBegun made.config made.deps c.args.query.now begun) c.self.view_is (so inside.deps c.args.query.now))
+    (λ begun so. subst (λ (config : Config). HasBegun config c.args.self.now.deps c.args.query.now begun) (sym c.requires) (so c.args.self.now.deps c.args.query.now))
     c.at_top.ensures
