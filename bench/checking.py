@@ -12,14 +12,17 @@ GROOT is the built program, crates/groot/out/groot if none is given. It makes
 For each it prints the processor seconds and the peak memory of `check` with one worker, the processor seconds of `ask` of
 one name on the same files (reading and trees) and of kzonecheck on the same zone where it is one zone and kzonecheck is
 installed, and the ratios to them. Then it prints how `check` grows from an input to the one that is larger, for the registry
-and the 10,000 rows the seconds by the clock of judging alone (`check` without `ask`) and the memory with 1, 2 and 4 workers,
-and what `drill` takes. The best of N runs counts, 5 if none are given; of no run longer than half an hour anything is told.
+and the 10,000 rows the seconds by the clock of judging alone (seen from outside by strace, where it is installed) and the
+memory with 1, 2 and 4 workers, and what `drill` takes. The best of N runs counts, 5 if none are given; of no run longer than
+half an hour anything is told.
 With --tenth all inputs are a tenth as large; with --only those alone whose title has the word. What is wanted of the whole
 inputs stands behind the number; of judging with several workers it is wanted on a machine with as many idle processors.
 """
 import argparse
 import os
+import re
 import shutil
+import subprocess
 import tempfile
 from typing import Callable, NamedTuple, Optional
 
@@ -92,21 +95,43 @@ def told(number, most=None, least=None):
     return f"{number:.2f}{wanted}"
 
 
-def by_workers(given, words, ask, runs):
-    """Prints what judging takes with more workers."""
-    one = before = None
-    for workers in (1, 2, 4):
-        got = measured([*words, str(workers)], (0, 1), runs)
-        if got is None:
-            print(f"{given.title:>18} {workers} workers: the program ended in another way")
-            return
-        judging = max(got.clock - ask.clock, 1e-3)
-        line = f"{given.title:>18} {workers} workers: judging {judging:.3f} s by the clock, {got.memory:.0f} MiB"
-        if one:
-            line += f"; {told(one / judging, least=LEAST_SPEED.get(workers))} times as fast as one, with {told(got.memory / before, MOST_MORE_MEMORY)} times the memory of half as many"
-        print(line, flush=True)
-        one = one or judging
-        before = got.memory
+def threads_alone(words, runs):
+    """The seconds by the clock from the first thread that a run makes to the end of the last one, the least of some runs. It is
+    None where strace isn't installed, or a run makes no thread."""
+    if not shutil.which("strace"):
+        return None
+    best = None
+    for _ in range(runs):
+        with tempfile.NamedTemporaryFile("r") as log:
+            traced = ["strace", "-f", "--seccomp-bpf", "-ttt", "-e", "trace=clone3,exit", "-o", log.name, *words]
+            subprocess.run(traced, stdin=subprocess.DEVNULL, stdout=subprocess.DEVNULL, stderr=subprocess.DEVNULL)
+            calls = [re.match(r"\d+ +(\d+\.\d+) (clone3|exit)\(", line) for line in log]
+            made = [float(call[1]) for call in calls if call and call[2] == "clone3"]
+            ended = [float(call[1]) for call in calls if call and call[2] == "exit"]
+        if made and ended:
+            alone = max(ended) - min(made)
+            best = alone if best is None else min(best, alone)
+    return best
+
+
+def by_workers(given, words, runs):
+    """Prints what judging takes with more workers. Of a run with several it is what their threads take; of a run with one, which
+    makes no thread, all but what isn't judging in the run with two."""
+    got = {workers: measured([*words, str(workers)], (0, 1), runs) for workers in (1, 2, 4)}
+    alone = {workers: threads_alone([*words, str(workers)], runs) for workers in (2, 4)}
+    if None in got.values() or None in alone.values():
+        print(f"{given.title:>18} workers: strace isn't installed, or the program ended in another way")
+        return
+    one = got[1].clock - (got[2].clock - alone[2])
+    print(f"{given.title:>18} 1 worker: judging {one:.3f} s by the clock, {got[1].memory:.0f} MiB")
+    for workers in (2, 4):
+        faster = told(one / alone[workers], least=LEAST_SPEED.get(workers))
+        more = told(got[workers].memory / got[workers // 2].memory, MOST_MORE_MEMORY)
+        print(
+            f"{given.title:>18} {workers} workers: judging {alone[workers]:.3f} s, {got[workers].memory:.0f} MiB;"
+            f" {faster} times as fast as one, with {more} times the memory of half as many",
+            flush=True,
+        )
 
 
 def check_one(groot, given, taken, runs):
@@ -132,7 +157,7 @@ def check_one(groot, given, taken, runs):
             line += f"; growth {told(ratio(check.processor, taken[given.smaller]), given.growth)}"
         print(line, flush=True)
         if given.title in ("registry", "10,000 rows"):
-            by_workers(given, words, ask, runs)
+            by_workers(given, words, runs)
 
 
 def drills(groot, part, runs):
