@@ -18,7 +18,8 @@ use net_model::Class;
 use query_classes::LiveName;
 use straight_walks::goes_straight;
 
-/// The verdict of a name of the class tree: of the class of the name alone, and of the class below it.
+/// The verdict of a name of the class tree: of the class of the name alone, and of the class below it. The second query's region
+/// is looked for near the first one's; for that one no place is known, as if it were past the last.
 pub(crate) fn judge_name(setup: &Setup<'_>, name: &LiveName) -> Result<NameVerdict, NoMemory>
     requires setup { IsSetup setup.now }
     requires live { IsLiveSet setup.now.graph name.now.name name.now.live }
@@ -26,14 +27,19 @@ pub(crate) fn judge_name(setup: &Setup<'_>, name: &LiveName) -> Result<NameVerdi
     ensures { IfOk result (IsNameVerdict setup.now.trees setup.now.rewrites setup.now.states name.now.name) }
 {
     let class = Class::Exact(name.name.copy(setup.alloc)?);
+    let mut near = usize::MAX;
     Ok(NameVerdict {
-        exact: judge_class(setup, &class, &name.name)?,
-        below: judge_below(setup, name)?,
+        exact: judge_class(setup, &mut near, &class, &name.name)?,
+        below: judge_below(setup, &mut near, name)?,
     })
 }
 
 /// The verdict of the class below a name of the class tree, or `None` where it is empty.
-fn judge_below(setup: &Setup<'_>, above: &LiveName) -> Result<Option<ClassVerdict>, NoMemory>
+fn judge_below(
+    setup: &Setup<'_>,
+    near: &mut usize,
+    above: &LiveName,
+) -> Result<Option<ClassVerdict>, NoMemory>
     requires setup { IsSetup setup.now }
     requires live { IsLiveSet setup.now.graph above.now.name above.now.live }
     requires in_tree { IsInTree (ground_of setup.now.trees) above.now.name }
@@ -42,7 +48,7 @@ fn judge_below(setup: &Setup<'_>, above: &LiveName) -> Result<Option<ClassVerdic
     match below_live(setup, above)? {
         Some(query) => {
             let class = Class::Below(above.name.copy(setup.alloc)?);
-            Ok(Some(judge_class(setup, &class, &query)?))
+            Ok(Some(judge_class(setup, near, &class, &query)?))
         }
         None => Ok(None),
     }
@@ -71,13 +77,19 @@ fn below_live(setup: &Setup<'_>, above: &LiveName) -> Result<Option<Name>, NoMem
     above.below(setup.alloc, &setup.graph)
 }
 
-/// The verdict of the class that the query represents.
-fn judge_class(setup: &Setup<'_>, class: &Class, query: &Name) -> Result<ClassVerdict, NoMemory>
+/// The verdict of the class that the query represents. The query's region is looked for near a place first, whatever that is,
+/// and the place is left near which that of the next query may be looked for.
+fn judge_class(
+    setup: &Setup<'_>,
+    near: &mut usize,
+    class: &Class,
+    query: &Name,
+) -> Result<ClassVerdict, NoMemory>
     requires setup { IsSetup setup.now }
     requires stands { StandsFor setup.now.trees class.now query.now }
     ensures { IfOk result (IsClassVerdict setup.now.trees setup.now.rewrites setup.now.states query.now) }
 {
-    if shows_nothing(setup, query)? {
+    if shows_nothing(setup, near, query)? {
         return Ok(ClassVerdict::Faults(List::new(setup.alloc)));
     }
     match graph_of(
@@ -97,7 +109,7 @@ fn judge_class(setup: &Setup<'_>, class: &Class, query: &Name) -> Result<ClassVe
 }
 
 /// Whether the query is seen to show no fault without a graph of its walks: they go straight.
-fn shows_nothing(setup: &Setup<'_>, query: &Name) -> Result<bool, NoMemory>
+fn shows_nothing(setup: &Setup<'_>, near: &mut usize, query: &Name) -> Result<bool, NoMemory>
     requires setup { IsSetup setup.now }
     ensures { IfOk result (λ nothing. nothing ≡ true → IsClassVerdict setup.now.trees setup.now.rewrites setup.now.states query.now (Faults [])) }
 {
@@ -107,6 +119,7 @@ fn shows_nothing(setup: &Setup<'_>, query: &Name) -> Result<bool, NoMemory>
             setup.trees.hosts(),
             sets,
             regions,
+            near,
             query,
             setup.states,
         ),

@@ -1,6 +1,6 @@
 //! The first class whose representative reaches more pairs of state and type than are looked at.
 
-ghost use Rattle.std.specs.Prelude.{◌≡◌, IfOk, MatchOption};
+ghost use Rattle.std.specs.Prelude.{IfOk, MatchOption};
 ghost use Rattle.class_judge.specs.Passed.{SomeClassPasses, IsFirstPassed};
 ghost use Rattle.class_judge.specs.Rows.{AreRows, IsPassedAt};
 ghost use Rattle.class_judge.specs.Setup.{IsSetup};

@@ -7,5 +7,5 @@ pub record MadeOf : Type 0 where
   pub config : Config
   pub deps : Deps
 
-abbrev pub made_of : Config → Deps → MadeOf
-made_of config deps = record { config = config; deps = deps }
+abbrev pub regions_for : Config → Deps → MadeOf
+regions_for config deps = record { config = config; deps = deps }

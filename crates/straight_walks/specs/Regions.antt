@@ -27,7 +27,7 @@ pub record IsNearestOrigin (config : Config) (origin name : Labels) : Type 0 whe
 abbrev pub HasOrigins : List Zone → List Labels → Type 0
 HasOrigins zones origins = (zone : Zone) → Contains zones zone → Contains origins zone.origin
 
--- of all servers' zones
+-- these are the origins of all servers' zones, or more
 abbrev pub HasEachOrigin : Config → List Labels → Type 0
 HasEachOrigin config origins = (server : Server) → Contains config.servers server → HasOrigins server.zones origins
 
@@ -35,7 +35,7 @@ HasEachOrigin config origins = (server : Server) → Contains config.servers ser
 abbrev pub HasBegunBelow : Config → Deps → Labels → Begun → Type 0
 HasBegunBelow config deps origin begun = (query : Labels) → IsNearestOrigin config origin query → HasBegun config deps query begun
 
--- for each of them walks go straight from the server, and nothing is told there
+-- for each name whose nearest origin this is walks go straight from the server, and nothing is told there
 abbrev pub LeadsPast : Config → Deps → Labels → Labels → List Asked → Type 0
 LeadsPast config deps origin server asked =
     (query : Labels) → IsNearestOrigin config origin query → (setting : Setting) (told : RrType → Leaf) (above : ℕ) → IsSettingOf config deps setting

@@ -3,7 +3,7 @@
 ghost use Rattle.std.specs.Prelude.{◌≡◌, map, IfOk};
 ghost use Rattle.std.specs.List.{AllByRecursion};
 ghost use Rattle.straight_walks.specs.Leads.{HasBegun};
-ghost use Rattle.straight_walks.specs.MadeOf.{made_of};
+ghost use Rattle.straight_walks.specs.MadeOf.{regions_for};
 ghost use Rattle.straight_walks.specs.Regions.{IsRegion, region_origins};
 
 use crate::begun::Begun;
@@ -27,11 +27,11 @@ pub struct Regions<'a> {
 }
 
 impl<'a> Model for Regions<'a> {
-    ghost use Rattle.straight_walks.specs.MadeOf.{MadeOf, made_of};
+    ghost use Rattle.straight_walks.specs.MadeOf.{MadeOf, regions_for};
 
     ghost Value = { MadeOf };
 
-    ghost view = { λ regions. made_of regions.config.now regions.deps };
+    ghost view = { λ regions. regions_for regions.config.now regions.deps };
 
     ghost use Rattle.straight_walks.specs.Regions.{AreRegions};
 
@@ -45,7 +45,7 @@ impl<'a> Regions<'a> {
         hosts: &Hosts<'a>,
         sets: &LearntSets,
     ) -> Result<Regions<'a>, NoMemory>
-        ensures { IfOk result (λ regions. regions ≡ made_of hosts.now sets.now) }
+        ensures { IfOk result (λ regions. regions ≡ regions_for hosts.now sets.now) }
     {
         let config = hosts.config();
         let deps = copied(alloc, sets.deps())?;

@@ -7,7 +7,7 @@ ghost use Rattle.net_model.specs.Shown.{Shows, with_lists};
 ghost use Rattle.net_model.specs.Step.{Setting, following};
 ghost use Rattle.net_model.specs.Tree.{HasMoreThan, IsReached};
 ghost use Rattle.straight_walks.specs.Leads.{HasBegun, IsSettingOf, Passes};
-ghost use Rattle.straight_walks.specs.MadeOf.{made_of};
+ghost use Rattle.straight_walks.specs.MadeOf.{regions_for};
 ghost use Rattle.straight_walks.specs.Straight.{GoesStraight};
 
 use crate::asked::Asked;
@@ -38,7 +38,7 @@ pub fn goes_straight<'a>(
     query: &Name,
     states: u32,
 ) -> Result<bool, NoMemory>
-    requires { regions.now ≡ made_of hosts.now sets.now }
+    requires { regions.now ≡ regions_for hosts.now sets.now }
     ensures few { IfOk result (λ straight. straight ≡ true → (rewrites : ℕ) → HasMoreThan (IsReached hosts.now rewrites query.now) states → ⊥) }
     ensures shows_nothing { IfOk result (λ straight. straight ≡ true → (rewrites : ℕ) (rtype : RrTypeValue) (fault : FaultValue)
         → Shows (with_lists (following hosts.now rewrites sets.now.least) sets.now.least sets.now.greatest) query.now rtype fault → ⊥) }
