@@ -18,7 +18,8 @@ use std::marker::Model;
 use zone_lookup::{Hosts, nearest_item};
 
 /// The origins of a configuration's zones, each with the servers that walks ask for the names below it, as far as this is the
-/// same for all names that have no other origin between. Contracts see the configuration and the two sets of learnt addresses.
+/// same for all names that have no other origin between. Contracts see the configuration and the two sets of learnt addresses,
+/// which are kept for them alone.
 #[derive(Drop)]
 pub struct Regions<'a> {
     config: &'a Config,
