@@ -1,5 +1,5 @@
 -- The search for all names whose nearest origin is the same: it leads past a server where it does for the origin.
-use Rattle.std.proofs.Common.{◌≡◌, ℕ, ◌+◌, ◌<◌, ◌≤◌, List, [], ◌∷◌, ◌++◌, length, map, take, take_all, get_or, Bor, sym, ap, ◌∙◌, subst, inl, inr, arith}
+use Rattle.std.proofs.Common.{◌≡◌, ℕ, ◌+◌, ◌<◌, ◌≤◌, List, [], ◌∷◌, ◌++◌, length, map, take, take_all, get_or, None, Bor, sym, ap, ◌∙◌, subst, inl, inr, arith}
 use Rattle.std.specs.Prelude.{◌⊎◌, Contains}
 use Rattle.std.specs.List.{AllByRecursion}
 use Rattle.std.proofs.lemmas.List.{length-append, take_more, take-append-le}
@@ -33,20 +33,20 @@ module _ (config : Config) (deps : Deps) (origin : Labels) where
 
   module _ (server : Labels) (asked after : List Asked) where
     -- where walks for each of the names do, and none is told
-    past : ((query : Labels) → IsNearestOrigin config origin query → Passes config deps query server asked [] after []) → LeadsPast config deps origin server after
-    past each query nearest setting told above of = (each query nearest).steps setting told above of (λ tree has. absurd (none_in_nil tree has))
+    past : ((query : Labels) → IsNearestOrigin config origin query → Passes config deps query server asked None after None) → LeadsPast config deps origin server after
+    past each query nearest setting told above of = (each query nearest).steps setting told above of tt
 
   -- that has no zone for the origin
   pub silent_past : (server : Labels) (asked : List Asked) → LeadsBy config origin server leads.Silent → LeadsPast config deps origin server asked
   silent_past server asked so =
-      past server asked asked (λ query nearest. silent_passes config deps query server asked [] (same_nearest config origin query nearest server ∙ so))
+      past server asked asked (λ query nearest. silent_passes config deps query server asked None (same_nearest config origin query nearest server ∙ so))
 
   -- whose zone refers it
   pub referral_past : (server : Labels) (asked after : List Asked) (tree : Bor ZoneTree) (cut : ℕ) → LeadsBy config origin server (leads.Refers tree cut) → Extends asked after
       → RefersOn config deps origin server tree.now.zone (name_of tree.now cut) (ns_names tree.now.zone (name_of tree.now cut)) after
       → LeadsPast config deps origin server after
   referral_past server asked after tree cut so more on =
-      past server asked after (λ query nearest. referral_passes config deps query server asked [] tree cut after (below query nearest) more
+      past server asked after (λ query nearest. referral_passes config deps query server asked None tree cut after (below query nearest) more
       (refers_for config deps origin query (same_nearest config origin query nearest) server tree.now.zone (name_of tree.now cut) (ns_names tree.now.zone (name_of tree.now cut)) after on))
     where
       below : (query : Labels) → IsNearestOrigin config origin query → LeadsBy config query server (leads.Refers tree cut)
@@ -164,7 +164,7 @@ module _ (config : Config) (deps : Deps) (origin : Labels) where
       record {
         within = omega (arith, ap (λ (l : List Asked). length l) asked_is, length-append passed again, passed_is);
         begins = λ state has. among query state (so.begins query state has);
-        inside = λ tree has. absurd (none_in_nil tree has);
+        inside = tt;
         passes = λ setting told of each.
             subst (λ (first : List Asked). AllByRecursion (StepsStraight setting deps told (map (state_of config query) begun.asked.items)) (map (state_of config query) first)) (sym first_are)
             (states_past query nearest setting told of begun.asked.items passed

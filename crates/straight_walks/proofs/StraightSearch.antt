@@ -1,13 +1,12 @@
 -- The search for the states from which walks go straight.
-use Rattle.std.proofs.Common.{◌≡◌, ℕ, ◌+◌, ◌<◌, ◌≤◌, true, List, [], ◌∷◌, ◌++◌, length, map, take, take_all, get_or, None, Bor, refl, sym, ap, ◌∙◌, subst, inl, inr, arith}
+use Rattle.std.proofs.Common.{◌≡◌, ℕ, ◌+◌, ◌<◌, ◌≤◌, true, List, [], ◌∷◌, ◌++◌, length, map, take, take_all, get_or, Option, Some, None, Bor, refl, sym, ap, ◌∙◌, subst, inl, inr, arith}
 use Rattle.std.specs.Prelude.{◌⊎◌, Contains}
 use Rattle.std.specs.List.{AllByRecursion}
 use Rattle.std.proofs.lemmas.List.{append-nil, length-append, length-map, map-append, take_more, take-append-le}
-use Rattle.std.proofs.lemmas.List.Elements.{Contains-append_cases, Contains-append_left, Contains-append_right}
-use Rattle.dns_data.specs.Name.{Labels, is_prefix}
+use Rattle.dns_data.specs.Name.{Labels}
 use Rattle.dns_data.specs.declared.rdata.Rdata.{Rdata}
 use Rattle.dns_data.specs.declared.rr_type.RrType.{RrType}
-use Rattle.dns_data.proofs.Membership.{each_along, first_or_later, from_map, has_first, none_in_nil}
+use Rattle.dns_data.proofs.Membership.{each_along, from_map}
 use Rattle.dns_data.proofs.Names.{all_push, all_so}
 use Rattle.graph_form.specs.declared.deps.Deps.{Deps}
 use Rattle.net_model.specs.Lookup.{Deciding, ByCut, ByNothing, ByRecords, ByRedirection, deciding}
@@ -17,9 +16,10 @@ use Rattle.net_model.specs.Zone.{ns_names}
 use Rattle.net_model.specs.declared.config.Config.{Config}
 use Rattle.net_model.specs.declared.config.Zone.{Zone}
 use Rattle.net_model.specs.declared.walk.Leaf.{Leaf}
+use Rattle.net_model.specs.declared.walk.Leaf.TheVariants.{NoData}
 use Rattle.net_model.specs.declared.walk.State.{State}
 use Rattle.zone_tree.specs.Tree.{ZoneTree, name_of}
-use Rattle.straight_walks.specs.Leads.{AllInside, AllTell, Extends, IsSettingOf, LeadsBy, Passes, RefersOn, Searched, data_told, first_told, leaf_by, leaf_with, state_at, state_of, to_servers}
+use Rattle.straight_walks.specs.Leads.{Extends, IsSettingOf, IsTold, LeadsBy, Passes, RefersOn, Searched, TellsTheSame, data_told, leaf_by, leaf_told, leaf_with, state_at, state_of, to_servers}
 use Rattle.straight_walks.specs.Straight.{EndsSilent, GoesStraight, GoesTo, StepsStraight, Tells}
 use Rattle.straight_walks.specs.declared.asked.Asked.{Asked}
 use Rattle.straight_walks.specs.declared.server.Leads.TheVariants as leads
@@ -36,6 +36,16 @@ tells_by zone rtype (ByRecords owner) = data_tell (data_told zone owner rtype)
 tells_by zone rtype (ByCut cut) = refl
 tells_by zone rtype (ByRedirection owner target) = refl
 tells_by zone rtype ByNothing = refl
+
+-- what the first zone tells; where there is none, any leaf does
+abbrev first_told : Labels → Option (Bor ZoneTree) → RrType → Leaf
+first_told query None rtype = NoData
+first_told query (Some tree) rtype = leaf_told query tree.now.zone rtype
+
+-- it tells that
+first_is_told : (query : Labels) (first : Option (Bor ZoneTree)) → IsTold query (first_told query first) first
+first_is_told query None = tt
+first_is_told query (Some tree) = λ rtype. refl
 
 module _ (config : Config) (deps : Deps) (query : Labels) where
   -- how a branch goes straight
@@ -62,51 +72,47 @@ module _ (config : Config) (deps : Deps) (query : Labels) where
 
   -- ---- one server
 
-  module _ (server : Labels) (asked : List Asked) (told : List (Bor ZoneTree)) where
+  module _ (server : Labels) (asked : List Asked) (first : Option (Bor ZoneTree)) where
     -- that has no zone for the name
-    pub silent_passes : LeadsBy config query server leads.Silent → Passes config deps query server asked told asked told
+    pub silent_passes : LeadsBy config query server leads.Silent → Passes config deps query server asked first asked first
     silent_passes so =
         record {
           asks = ([], sym (append-nil asked));
-          inside = λ each. each;
-          tells = λ leaf each. each;
-          steps = λ setting leaf above of each rtype.
+          inside = λ is. is;
+          still = λ leaf is. is;
+          steps = λ setting leaf above of is rtype.
               subst (AllByRecursion (Straight setting (leaf rtype) asked)) (sym (silent_ends config query server so setting rtype above of.config_is)) (inl (inl refl), tt);
         }
 
-    -- whose zone tells something of it
-    pub told_passes : (tree : Bor ZoneTree) → LeadsBy config query server (leads.Tells tree) → Passes config deps query server asked told asked (told ++ tree ∷ [])
-    told_passes tree so =
+    -- whose zone tells what the first one does, or is the first
+    pub told_passes : (tree : Bor ZoneTree) (after : Option (Bor ZoneTree)) → LeadsBy config query server (leads.Tells tree) → TellsTheSame query first tree.now.zone after
+        → Passes config deps query server asked first asked after
+    told_passes tree after so same =
         record {
           asks = ([], sym (append-nil asked));
-          inside = λ each one has. inside_too each one (Contains-append_cases told (tree ∷ []) one has);
-          tells = λ leaf each one has. each one (Contains-append_left told (tree ∷ []) one has);
-          steps = λ setting leaf above of each rtype.
-              let same = each tree (Contains-append_right told (tree ∷ []) tree (has_first tree [])) rtype in
+          inside = λ is. same.inside;
+          still = same.still;
+          steps = λ setting leaf above of is rtype.
+              let tells = same.tells leaf is rtype in
               subst (AllByRecursion (Straight setting (leaf rtype) asked)) (sym (so.1 setting rtype above of.config_is)) (
-                subst (λ (end : Leaf). Straight setting (leaf rtype) asked (End None end)) same
-                    (inr (inl (subst (λ (end : Leaf). is_authoritative end ≡ true) (sym same) (tells_by tree.now.zone rtype (deciding tree.now.zone query)), refl))),
+                inr (inl (
+                  subst (λ (end : Leaf). is_authoritative end ≡ true) (sym tells) (tells_by tree.now.zone rtype (deciding tree.now.zone query)),
+                  ap (λ (end : Leaf). End None end) (sym tells),
+                )),
                 tt,
               );
         }
-      where
-        inside_too : AllInside query told → (one : Bor ZoneTree) → Contains told one ⊎ Contains (tree ∷ []) one → is_prefix one.now.zone.origin query ≡ true
-        inside_too each one (inl has) = each one has
-        inside_too each one (inr has) = by (first_or_later tree [] one has) where
-          by : (tree ≡ one) ⊎ Contains [] one → is_prefix one.now.zone.origin query ≡ true
-          by (inl is) = subst (λ (t : Bor ZoneTree). is_prefix t.now.zone.origin query ≡ true) is so.0
-          by (inr has) = absurd (none_in_nil one has)
 
     -- whose zone refers it
     pub referral_passes : (tree : Bor ZoneTree) (cut : ℕ) (after : List Asked) → LeadsBy config query server (leads.Refers tree cut) → Extends asked after
         → RefersOn config deps query server tree.now.zone (name_of tree.now cut) (ns_names tree.now.zone (name_of tree.now cut)) after
-        → Passes config deps query server asked told after told
+        → Passes config deps query server asked first after first
     referral_passes tree cut after so more on =
         record {
           asks = more;
-          inside = λ each. each;
-          tells = λ leaf each. each;
-          steps = λ setting leaf above of each rtype.
+          inside = λ is. is;
+          still = λ leaf is. is;
+          steps = λ setting leaf above of is rtype.
               subst (AllByRecursion (Straight setting (leaf rtype) after)) (sym (refers_to config query server tree cut so setting rtype above of.config_is))
               (all_so (λ branch. EndsSilent setting.config deps branch ⊎ GoesTo setting.config deps (map (state_of config query) after) branch)
               (Straight setting (leaf rtype) after)
@@ -121,28 +127,28 @@ module _ (config : Config) (deps : Deps) (query : Labels) where
 
   -- ---- those that are passed over
 
-  pub none_passed : (asked : List Asked) → map (state_of config query) asked ≡ start config query → Searched config deps query asked 0 []
+  pub none_passed : (asked : List Asked) → map (state_of config query) asked ≡ start config query → Searched config deps query asked 0 None
   none_passed asked is =
       record {
         within = omega arith;
         begins = λ state has. subst (λ (all : List State). Contains all state) (sym is) has;
-        inside = λ tree has. absurd (none_in_nil tree has);
-        passes = λ setting leaf of each. tt;
+        inside = tt;
+        passes = λ setting leaf of told. tt;
       }
 
-  pub one_passed : (asked after : List Asked) (at : ℕ) (told told_after : List (Bor ZoneTree)) (item : Asked) → at < length asked → item ≡ get_or asked at item
-      → Searched config deps query asked at told → Passes config deps query item.server.now asked told after told_after → Searched config deps query after (at + 1) told_after
-  one_passed asked after at told told_after item within is so one =
+  pub one_passed : (asked after : List Asked) (at : ℕ) (first first_after : Option (Bor ZoneTree)) (item : Asked) → at < length asked → item ≡ get_or asked at item
+      → Searched config deps query asked at first → Passes config deps query item.server.now asked first after first_after → Searched config deps query after (at + 1) first_after
+  one_passed asked after at first first_after item within is so one =
       record {
         within = subst (λ (all : List Asked). at + 1 ≤ length all) (sym one.asks.1) (omega (arith, within, length-append asked one.asks.0));
         begins = λ state has. still_asked (state_of config query) asked after one.asks state (so.begins state has);
         inside = one.inside so.inside;
-        passes = λ setting leaf of each.
+        passes = λ setting leaf of told.
             subst (AllByRecursion (StepsStraight setting deps leaf (map (state_of config query) after))) (sym passed_over)
             (all_push (StepsStraight setting deps leaf (map (state_of config query) after)) (map (state_of config query) (take at asked)) (state_of config query item)
             (all_so (StepsStraight setting deps leaf (map (state_of config query) asked)) (StepsStraight setting deps leaf (map (state_of config query) after))
-            (map (state_of config query) (take at asked)) (steps_still setting leaf asked after (still_asked (state_of config query) asked after one.asks)) (so.passes setting leaf of (one.tells leaf each)))
-            (one.steps setting leaf item.cut of each));
+            (map (state_of config query) (take at asked)) (steps_still setting leaf asked after (still_asked (state_of config query) asked after one.asks)) (so.passes setting leaf of (one.still leaf told)))
+            (one.steps setting leaf item.cut of told));
       }
     where
       passed_over : map (state_of config query) (take (at + 1) after) ≡ map (state_of config query) (take at asked) ++ state_of config query item ∷ []
@@ -152,20 +158,20 @@ module _ (config : Config) (deps : Deps) (query : Labels) where
           ∙ map-append (state_of config query) (take at asked) (item ∷ [])
 
   -- where all are
-  pub all_passed : (asked : List Asked) (at most : ℕ) (told : List (Bor ZoneTree)) → Searched config deps query asked at told → length asked ≤ at → length asked ≤ most
-      → AllTell query told (first_told query told) → (setting : Setting) → IsSettingOf config deps setting → GoesStraight setting deps most query
-  all_passed asked at most told so all few tell setting of =
+  pub all_passed : (asked : List Asked) (at most : ℕ) (first : Option (Bor ZoneTree)) → Searched config deps query asked at first → length asked ≤ at → length asked ≤ most
+      → (setting : Setting) → IsSettingOf config deps setting → GoesStraight setting deps most query
+  all_passed asked at most first so all few setting of =
       record {
         states = map (state_of config query) asked;
         few = subst (λ (n : ℕ). n ≤ most) (sym (length-map asked (state_of config query))) few;
-        told = first_told query told;
+        told = first_told query first;
         begins = λ state has. so.begins state (subst (λ (c : Config). Contains (start c query) state) of.config_is has);
         not_rewritten = λ state has.
             let from = from_map (state_of config query) asked state has in
             subst (λ (s : State). s.last ≡ None) from.2 refl;
         steps = λ state has.
-            each_along (StepsStraight setting deps (first_told query told) (map (state_of config query) asked)) (map (state_of config query) asked)
-            (subst (λ (passed : List Asked). AllByRecursion (StepsStraight setting deps (first_told query told) (map (state_of config query) asked)) (map (state_of config query) passed))
-            (take_all at asked all) (so.passes setting (first_told query told) of tell))
+            each_along (StepsStraight setting deps (first_told query first) (map (state_of config query) asked)) (map (state_of config query) asked)
+            (subst (λ (passed : List Asked). AllByRecursion (StepsStraight setting deps (first_told query first) (map (state_of config query) asked)) (map (state_of config query) passed))
+            (take_all at asked all) (so.passes setting (first_told query first) of (first_is_told query first)))
             state has;
       }

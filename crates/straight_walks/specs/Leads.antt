@@ -1,5 +1,5 @@
 -- Where walks lead from a server, as it is looked for: for the contracts of inner calls alone.
-use Rattle.std.specs.Prelude.{◌≡◌, ◌≤◌, ℕ, true, List, [], ◌∷◌, ◌++◌, map, take, length, Contains, Some, None, option_map, ◌⊎◌}
+use Rattle.std.specs.Prelude.{◌≡◌, ◌≤◌, ℕ, true, List, [], ◌∷◌, ◌++◌, map, take, length, Contains, Option, Some, None, option_map, IfSome, ◌⊎◌}
 use Rattle.std.specs.Borrow.{Bor}
 use Rattle.std.specs.List.{AllByRecursion}
 use Rattle.dns_data.specs.Name.{Labels, is_prefix}
@@ -73,18 +73,19 @@ leaf_by zone rtype decides = NxDomain
 abbrev pub leaf_told : Labels → Zone → RrType → Leaf
 leaf_told query zone rtype = leaf_by zone rtype (deciding zone query)
 
--- the zones are at or above the name
-abbrev pub AllInside : Labels → List (Bor ZoneTree) → Type 0
-AllInside query told = (tree : Bor ZoneTree) → Contains told tree → is_prefix tree.now.zone.origin query ≡ true
+-- the zone is at or above the name
+abbrev pub IsInside : Labels → Bor ZoneTree → Type 0
+IsInside query tree = is_prefix tree.now.zone.origin query ≡ true
 
--- each zone tells this
-abbrev pub AllTell : Labels → List (Bor ZoneTree) → (RrType → Leaf) → Type 0
-AllTell query told leaf = (tree : Bor ZoneTree) → Contains told tree → (rtype : RrType) → leaf rtype ≡ leaf_told query tree.now.zone rtype
+-- the zone that told something first, if there is one, tells this
+abbrev pub IsTold : Labels → (RrType → Leaf) → Option (Bor ZoneTree) → Type 0
+IsTold query leaf first = IfSome first (λ tree. (rtype : RrType) → leaf rtype ≡ leaf_told query tree.now.zone rtype)
 
--- what the first zone tells; where there is none, any leaf does
-abbrev pub first_told : Labels → List (Bor ZoneTree) → RrType → Leaf
-first_told query [] rtype = NoData
-first_told query (tree ∷ more) rtype = leaf_told query tree.now.zone rtype
+-- a zone tells what the first one does, or is the first
+pub record TellsTheSame (query : Labels) (before : Option (Bor ZoneTree)) (zone : Zone) (after : Option (Bor ZoneTree)) : Type 0 where
+  pub inside : IfSome after (IsInside query)
+  pub still : (leaf : RrType → Leaf) → IsTold query leaf after → IsTold query leaf before
+  pub tells : (leaf : RrType → Leaf) → IsTold query leaf after → (rtype : RrType) → leaf rtype ≡ leaf_told query zone rtype
 
 -- ---- referrals
 
@@ -129,26 +130,26 @@ LeadsBy config query server (leads.Refers tree cut) =
     × (deciding tree.now.zone query ≡ ByCut (name_of tree.now cut))
 LeadsBy config query server leads.Unclear = Unit {0}
 
--- from a server walks go straight: to an end, or on to servers that are asked then; a zone that tells something is put behind
--- those that do
-pub record Passes (config : Config) (deps : Deps) (query server : Labels) (before : List Asked) (told_before : List (Bor ZoneTree)) (after : List Asked) (told_after : List (Bor ZoneTree)) : Type 0 where
+-- from a server walks go straight: to an end, or on to servers that are asked then; its zone tells what the first one
+-- does, or is the first
+pub record Passes (config : Config) (deps : Deps) (query server : Labels) (before : List Asked) (first_before : Option (Bor ZoneTree)) (after : List Asked) (first_after : Option (Bor ZoneTree)) : Type 0 where
   pub asks : Extends before after
-  pub inside : AllInside query told_before → AllInside query told_after
-  pub tells : (leaf : RrType → Leaf) → AllTell query told_after leaf → AllTell query told_before leaf
-  pub steps : (setting : Setting) (leaf : RrType → Leaf) (above : ℕ) → IsSettingOf config deps setting → AllTell query told_after leaf
+  pub inside : IfSome first_before (IsInside query) → IfSome first_after (IsInside query)
+  pub still : (leaf : RrType → Leaf) → IsTold query leaf first_after → IsTold query leaf first_before
+  pub steps : (setting : Setting) (leaf : RrType → Leaf) (above : ℕ) → IsSettingOf config deps setting → IsTold query leaf first_after
       → StepsStraight setting deps leaf (map (state_of config query) after) (state_at config query server above)
 
 -- ---- searches
 
 -- the search for the name begins at the top servers, walks go straight from the first so many servers that are asked, and
--- these zones tell something of the name
-pub record Searched (config : Config) (deps : Deps) (query : Labels) (asked : List Asked) (passed : ℕ) (told : List (Bor ZoneTree)) : Type 0 where
+-- where something is told there it is what the first zone tells
+pub record Searched (config : Config) (deps : Deps) (query : Labels) (asked : List Asked) (passed : ℕ) (first : Option (Bor ZoneTree)) : Type 0 where
   pub within : passed ≤ length asked
   pub begins : (state : State) → Contains (start config query) state → Contains (map (state_of config query) asked) state
-  pub inside : AllInside query told
-  pub passes : (setting : Setting) (leaf : RrType → Leaf) → IsSettingOf config deps setting → AllTell query told leaf
+  pub inside : IfSome first (IsInside query)
+  pub passes : (setting : Setting) (leaf : RrType → Leaf) → IsSettingOf config deps setting → IsTold query leaf first
       → AllByRecursion (StepsStraight setting deps leaf (map (state_of config query) asked)) (map (state_of config query) (take passed asked))
 
 -- the search for the name has begun so
 abbrev pub HasBegun : Config → Deps → Labels → Begun → Type 0
-HasBegun config deps query begun = Searched config deps query begun.asked.items begun.passed []
+HasBegun config deps query begun = Searched config deps query begun.asked.items begun.passed None

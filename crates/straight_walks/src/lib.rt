@@ -6,11 +6,13 @@
 //! Costs: for each origin of a zone, once, what decides at it is looked for at each of at most 32 states, and each name server of
 //! a zone cut is looked into: of one that isn't configured its glue alone is looked for, beside the zone cut, and nothing is
 //! copied; for one that is, four names are copied. An origin keeps 32 octets of each state. For a query there is a search among
-//! the origins, of two comparisons where the query before it stands between the same two origins, and a search among each
-//! server's zones for the nearest zone, of three, one of them for the server, where no origin of the server's stands between the
-//! query and its nearest origin; its nearest origin's states are copied, and the same is looked for as for an origin, but only at
-//! the servers whose zones tell something of the origin, or to which they refer the query. Where several zones tell something of
-//! the name, what decides is looked for once more, and their data are compared, type by type. No graph is made.
+//! the origins, of two comparisons where the query before it stands between the same two origins. At each server whose zone tells
+//! something of the query's nearest origin there is a search among the server's zones for the nearest zone, of three, one of them
+//! for the server, where no origin of the server's stands between the query and its nearest origin, and what decides at the query
+//! is looked for. Where several zones tell something of the query, what decides is looked for once more in the first one and in
+//! each further one, and their data are compared, type by type. All this takes no memory. Only where one of these servers refers
+//! the query its nearest origin's states are copied, and the same is looked for anew, as for an origin, at these servers and at
+//! those to which they refer it. Where no origin is at or above the query, a list is made of the top servers. No graph is made.
 #![tactic(auto)]
 
 mod asked;

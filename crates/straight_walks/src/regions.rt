@@ -1,6 +1,6 @@
 //! Regions of names for which walks lead the same way as long as no zone tells anything.
 
-ghost use Rattle.std.specs.Prelude.{◌≡◌, map, IfOk};
+ghost use Rattle.std.specs.Prelude.{◌≡◌, map, IfOk, IfSome};
 ghost use Rattle.std.specs.List.{AllByRecursion};
 ghost use Rattle.straight_walks.specs.Leads.{HasBegun};
 ghost use Rattle.straight_walks.specs.MadeOf.{regions_for};
@@ -59,22 +59,15 @@ impl<'a> Regions<'a> {
         })
     }
 
-    /// The search for a name, which has begun with all servers up to those whose zones tell something of the nearest origin. Its
-    /// region is looked for near a place first, whatever that is, and the place is left near which that of the next name may be
-    /// looked for.
-    pub(crate) fn begun(
-        &self,
-        alloc: Global,
-        hosts: &Hosts<'a>,
-        near: &mut usize,
-        query: &Name,
-    ) -> Result<Begun<'a>, NoMemory>
-        requires { self.now.config ≡ hosts.now }
-        ensures { IfOk result (HasBegun self.now.config self.now.deps query.now) }
+    /// The search for a name, which has begun with all servers up to those whose zones tell something of the nearest origin, or
+    /// `None` where no origin is at or above the name. The region is looked for near a place first, whatever that is, and the
+    /// place is left near which that of the next name may be looked for.
+    pub(crate) fn begun(&self, near: &mut usize, query: &Name) -> Option<&Begun<'a>>
+        ensures { IfSome result (λ begun. HasBegun self.now.config self.now.deps query.now begun.now) }
     {
         match nearest_item(self.regions.as_slice(), near, query) {
-            Some(region) => region.begun.copy(alloc),
-            None => Begun::at_top(alloc, hosts, query),
+            Some(region) => Some(&region.begun),
+            None => None,
         }
     }
 }

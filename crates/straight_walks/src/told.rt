@@ -1,29 +1,33 @@
 //! What zones tell of a name.
 
-ghost use Rattle.std.specs.Prelude.{◌≡◌, true};
+ghost use Rattle.std.specs.Prelude.{◌≡◌, true, IfSome};
 ghost use Rattle.dns_data.specs.Name.{is_prefix};
 ghost use Rattle.dns_data.specs.declared.rr_type.RrType.{RrType as RrTypeValue};
 ghost use Rattle.zone_tree.specs.Tree.{IsNode, name_of};
-ghost use Rattle.straight_walks.specs.Leads.{AllInside, AllTell, data_told, first_told, leaf_by, leaf_told};
+ghost use Rattle.straight_walks.specs.Leads.{IsInside, TellsTheSame, data_told, leaf_by, leaf_told};
 ghost use Rattle.net_model.specs.Lookup.{ByNothing, ByRecords, deciding};
 
 use dns_data::{Name, Rdata, RrType};
 use zone_tree::{Decider, NodeId, Tree, deciding};
 
-/// Whether these zones, none of which refers the name or rewrites it, all tell the same of it, with each type.
-pub(crate) fn all_tell_the_same(told: &[&Tree<'_>], query: &Name) -> bool
-    requires { AllInside query.now told.now }
-    ensures { result ≡ true → AllTell query.now told.now (first_told query.now told.now) }
+/// Whether a zone that neither refers the name nor rewrites it tells what the first one does, with each type. Where there is none
+/// before, it is the first from then on.
+pub(crate) fn tells_the_same<'h, 'a>(
+    first: &mut Option<&'h Tree<'a>>,
+    tree: &'h Tree<'a>,
+    query: &Name,
+) -> bool
+    requires first { IfSome first.old (IsInside query.now) }
+    requires tree { is_prefix tree.now.zone.origin query.now ≡ true }
+    ensures { result ≡ true → TellsTheSame query.now first.old tree.now.zone first.new }
 {
-    let Some((first, others)) = told.split_first() else {
-        return true;
-    };
-    for other in others {
-        if !tell_the_same(first, other, query) {
-            return false;
+    match *first {
+        Some(told) => tell_the_same(told, tree, query),
+        None => {
+            *first = Some(tree);
+            true
         }
     }
-    true
 }
 
 /// Whether two zones tell that nothing is there, or the same data of each type.

@@ -1,6 +1,4 @@
 use Rattle.std.proofs.Common.{List, sym, subst}
-use Rattle.std.proofs.lemmas.Result.{IfOk-weaker}
-use Rattle.net_model.specs.declared.config.Config.{Config}
 use Rattle.straight_walks.specs.Leads.{HasBegun}
 use Rattle.straight_walks.specs.MadeOf.{MadeOf}
 use Rattle.straight_walks.specs.Regions.{AreRegions}
@@ -12,13 +10,5 @@ pub returns-in-Some : goal.returns-in-Some
 returns-in-Some c =
     let inside = c.self.inside in
     let are = subst (λ (regions : List Region). AreRegions inside.config.now inside.deps regions) (sym c.as_slice.ensures.value) c.self.invariant in
-    IfOk-weaker c.copy.result _ _
-    (λ begun so. subst (λ (made : MadeOf). HasBegun made.config made.deps c.args.query.now begun) c.self.view_is
-    (so inside.config.now inside.deps c.args.query.now (begun_for inside.config.now inside.deps c.as_slice.result.now are c.args.query.now c.in-Some.region.now c.in-Some.ensures.some)))
-    c.copy.ensures
-
-pub returns-in-None : goal.returns-in-None
-returns-in-None c =
-    IfOk-weaker c.at_top.result _ _
-    (λ begun so. subst (λ (config : Config). HasBegun config c.args.self.now.deps c.args.query.now begun) (sym c.requires) (so c.args.self.now.deps c.args.query.now))
-    c.at_top.ensures
+    subst (λ (made : MadeOf). HasBegun made.config made.deps c.args.query.now c.in-Some.region.now.begun) c.self.view_is
+    (begun_for inside.config.now inside.deps c.as_slice.result.now are c.args.query.now c.in-Some.region.now c.in-Some.ensures.some)
