@@ -1,5 +1,6 @@
 pub mod BaseGround
 pub mod Children
+pub mod FilledRows
 pub mod GraphSets
 pub mod InOrder
 pub mod KeptLinks
@@ -7,6 +8,7 @@ pub mod NamePlaces
 pub mod LiveNames
 pub mod LiveSets
 pub mod NewFronts
+pub mod NextNames
 pub mod Parents
 pub mod Passing
 pub mod Readings

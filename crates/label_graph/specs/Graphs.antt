@@ -34,3 +34,9 @@ IsFrom targets reads other place =
 pub record AreLabelsBelow (names : List Labels) (place : ℕ) (labels : List (List ℕ)) : Type 0 where
   pub all : (label : List ℕ) → Contains labels label ↔ HasChild names label place
   pub order : AllPairs (λ a b. label_cmp a b ≡ Less) labels
+
+-- the places are those that are live where the label is put below the others: the steps, closed
+pub record IsLiveBelow (targets : Targets) (reads : List (List ℕ)) (live : List ℕ) (label : List ℕ) (places : List ℕ) : Type 0 where
+  pub steps : List ℕ
+  pub are_steps : (other : ℕ) → Contains steps other ↔ SomeItem (IsStep targets.names label other) live
+  pub closed : (other : ℕ) → Contains places other ↔ SomeItem (IsFrom targets reads other) steps

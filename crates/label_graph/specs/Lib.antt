@@ -4,7 +4,6 @@ pub use Rattle.net_model.specs.Reading
 pub mod Base
 pub mod Graphs
 pub mod LinkRows
-pub mod LastLabel
 pub mod LiveSet
 pub mod NameTree
 pub mod Pairs

@@ -1,6 +1,6 @@
 //! The graph.
 
-ghost use Rattle.std.specs.Prelude.{◌≡◌, ◌↔◌, ℕ, List, [], ◌∷◌, ◌++◌, IfOk, IsTrue, Contains, AllPairs};
+ghost use Rattle.std.specs.Prelude.{◌≡◌, ◌↔◌, ℕ, List, [], ◌∷◌, ◌++◌, map, IfOk, IsTrue, All, Contains, AllPairs};
 ghost use Rattle.std.specs.declared.cmp.Ordering.TheVariants.{Less};
 ghost use Rattle.dns_data.specs.Label.{label_cmp};
 ghost use Rattle.dns_data.specs.Name.{Labels};
@@ -8,7 +8,8 @@ ghost use Rattle.net_model.specs.Reading.{IsNamed};
 ghost use Rattle.label_graph.specs.LiveSet.{AreInOrder, IsClosed, IsLiveSet};
 ghost use Rattle.label_graph.specs.Pairs.{ground_with, AreSame};
 
-use crate::live::{LiveSet, close, has_step, labels_below, step};
+use crate::live::{LiveSet, close, has_step, step};
+use crate::next::{NextName, next_names};
 use crate::pair::Pair;
 use crate::rows::Rows;
 use crate::saturation::reads_of;
@@ -53,7 +54,7 @@ impl LabelGraph {
         ensures { IfOk result (IsLiveSet self.now []) }
     {
         let root = self.table.base.root();
-        let live = close(alloc, &self.table, &self.reads, LiveSet::one(alloc, root))?;
+        let live = close(alloc, &self.table, &self.reads, LiveSet::one(root))?;
         Ok(live)
     }
 
@@ -75,15 +76,18 @@ impl LabelGraph {
         has_step(&self.table.base, live.places(), label.items())
     }
 
-    /// The labels that make a named name below a name with this live set, in order, each once.
-    pub fn next_labels(&self, alloc: Global, live: &LiveSet) -> Result<List<Label>, NoMemory>
+    /// The labels that make a named name below a name with this live set, in order, each once and with the live set of
+    /// the name that it makes. Where the live set has one base name, no label is looked for.
+    pub fn next_names(&self, alloc: Global, live: &LiveSet) -> Result<List<NextName>, NoMemory>
         requires { (name : Labels) × IsLiveSet self.now name live.now }
-        ensures labels { IfOk result (λ labels. (name : Labels) → IsLiveSet self.now name live.now
-            → (label : List ℕ) → Contains labels label ↔ IsNamed self.now (name ++ label ∷ [])) }
-        ensures order { IfOk result (λ labels. AllPairs (λ a b. label_cmp a b ≡ Less) labels) }
+        ensures labels { IfOk result (λ names. (name : Labels) → IsLiveSet self.now name live.now
+            → (label : List ℕ) → Contains (map (λ next. next.label) names) label ↔ IsNamed self.now (name ++ label ∷ [])) }
+        ensures order { IfOk result (λ names. AllPairs (λ a b. label_cmp a b ≡ Less) (map (λ next. next.label) names)) }
+        ensures live { IfOk result (λ names. (name : Labels) → IsLiveSet self.now name live.now
+            → All (λ next. IsLiveSet self.now (name ++ next.label ∷ []) next.live) names) }
     {
-        let labels = labels_below(alloc, &self.table.base, live.places())?;
-        Ok(List::from_vec(labels))
+        let names = next_names(alloc, &self.table, &self.reads, live.places())?;
+        Ok(List::from_vec(names))
     }
 
     /// The graph's names have the root, the prefixes of each and the owners of all redirections.

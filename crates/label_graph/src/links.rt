@@ -35,18 +35,16 @@ impl Model for Links {
 
 impl Links {
     /// No links, of so many fronts and so many base names.
-    pub fn new(alloc: Global, fronts: usize, bases: usize) -> Result<Links, NoMemory>
-        ensures none { IfOk result (λ links. links.list ≡ []) }
-        ensures fronts { IfOk result (λ links. length links.bases ≡ fronts) }
-        ensures bases { IfOk result (λ links. length links.fronts ≡ bases) }
+    pub fn new(alloc: Global, fronts: usize, bases: usize) -> Links
+        ensures none { result.list ≡ [] }
+        ensures fronts { length result.bases ≡ fronts }
+        ensures bases { length result.fronts ≡ bases }
     {
-        let by_front = Rows::new(alloc, fronts)?;
-        let by_base = Rows::new(alloc, bases)?;
-        Ok(Links {
+        Links {
             list: Vec::new(alloc),
-            bases: by_front,
-            fronts: by_base,
-        })
+            bases: Rows::new(alloc, fronts),
+            fronts: Rows::new(alloc, bases),
+        }
     }
 
     /// The link found as the so manyth, counted from 0, or `None` where fewer are known.
@@ -58,7 +56,7 @@ impl Links {
     }
 
     /// The links with these at the end, each unless it is known.
-    pub fn with_all(self, more: &[Link]) -> Result<Links, NoMemory>
+    pub fn with_all(self, alloc: Global, more: &[Link]) -> Result<Links, NoMemory>
         requires { All (λ one. (one.front < length self.bases) × (one.base < length self.fronts)) more.now }
         ensures added { IfOk result (λ links. AreAdded self.list more.now links.list) }
         ensures fronts { IfOk result (λ links. length links.bases ≡ length self.bases) }
@@ -66,13 +64,13 @@ impl Links {
     {
         let mut links = self;
         for one in more {
-            links = links.with(*one)?;
+            links = links.with(alloc, *one)?;
         }
         Ok(links)
     }
 
     /// The links with this one at the end, unless it is known.
-    pub fn with(self, one: Link) -> Result<Links, NoMemory>
+    pub fn with(self, alloc: Global, one: Link) -> Result<Links, NoMemory>
         requires front { one.front < length self.bases }
         requires base { one.base < length self.fronts }
         ensures added { IfOk result (λ links. AreAdded self.list (one ∷ []) links.list) }
@@ -88,8 +86,8 @@ impl Links {
             mut fronts,
         } = self;
         list.push(one)?;
-        bases.put(one.front, one.base)?;
-        fronts.put(one.base, one.front)?;
+        bases.put(alloc, one.front, one.base)?;
+        fronts.put(alloc, one.base, one.front)?;
         Ok(Links {
             list,
             bases,

@@ -9,17 +9,17 @@ use crate::names::NameTree;
 use crate::rows::Rows;
 use crate::sorting::in_order;
 use crate::targets::TargetTable;
-use dns_data::{Label, NoMemory};
+use dns_data::{Label, List, NoMemory};
 use std::alloc::Global;
 use std::marker::Model;
 use std::slice::from_ref;
 
 /// Some base names of a graph, each once. Contracts see their places in the graph. One takes no memory of its own: it
-/// stands in the value, and the list is empty then.
+/// stands in the value, where nothing is listed.
 #[derive(Debug, Drop)]
 pub struct LiveSet {
-    one: Option<usize>,
-    listed: Vec<usize>,
+    one: usize,
+    listed: Option<Box<List<usize>>>,
 }
 
 impl Model for LiveSet {
@@ -28,7 +28,7 @@ impl Model for LiveSet {
 
     ghost Value = { List ℕ };
 
-    ghost view = { λ live. places_in live.one live.listed.items };
+    ghost view = { λ live. places_in live.one live.listed (λ listed. listed.value) };
 }
 
 impl LiveSet {
@@ -39,34 +39,45 @@ impl LiveSet {
         self.places().is_empty()
     }
 
+    /// An equal set. One base name takes no memory.
+    pub fn copy(&self, alloc: Global) -> Result<LiveSet, NoMemory>
+        ensures { IfOk result (λ copy. copy ≡ self.now) }
+    {
+        match &self.listed {
+            Some(listed) => LiveSet::listed(alloc, listed.items().to_vec(alloc)?),
+            None => Ok(LiveSet::one(self.one)),
+        }
+    }
+
     /// The places.
     pub(crate) fn places(&self) -> &[usize]
         ensures { result.now ≡ self.now }
     {
-        match &self.one {
-            Some(place) => from_ref(place),
-            None => self.listed.as_slice(),
+        match &self.listed {
+            Some(listed) => listed.items(),
+            None => from_ref(&self.one),
         }
     }
 
     /// One place. It takes no memory.
-    pub(crate) fn one(alloc: Global, place: usize) -> LiveSet
+    pub(crate) fn one(place: usize) -> LiveSet
         ensures { result ≡ place ∷ [] }
     {
         LiveSet {
-            one: Some(place),
-            listed: Vec::new(alloc),
+            one: place,
+            listed: None,
         }
     }
 
     /// The places of a vector.
-    fn listed(places: Vec<usize>) -> LiveSet
-        ensures { result ≡ places.items }
+    fn listed(alloc: Global, places: Vec<usize>) -> Result<LiveSet, NoMemory>
+        ensures { IfOk result (λ live. live ≡ places.items) }
     {
-        LiveSet {
-            one: None,
-            listed: places,
-        }
+        let listed = Box::new(alloc, List::from_vec(places))?;
+        Ok(LiveSet {
+            one: 0,
+            listed: Some(listed),
+        })
     }
 }
 
@@ -116,7 +127,7 @@ fn closed(
         put_closed(table, reads, &mut all, *place)?;
     }
     let places = in_order(all)?;
-    Ok(LiveSet::listed(places))
+    LiveSet::listed(alloc, places)
 }
 
 /// Puts a place, and those that the targets of its name read on to, at the end.
@@ -148,20 +159,25 @@ pub(crate) fn step(
     ensures { IfOk result (λ next. (other : ℕ) → Contains next other ↔ SomeItem (IsStep base.now label.now other) places.now) }
 {
     match places {
-        [place] => Ok(step_of_one(alloc, base, *place, label)),
+        [place] => step_of_one(alloc, base, *place, label),
         _ => steps(alloc, base, places, label),
     }
 }
 
-/// The place one label below this one, if there is one. It takes no memory.
-fn step_of_one(alloc: Global, base: &NameTree, place: usize, label: &[u8]) -> LiveSet
+/// The place one label below this one, if there is one.
+fn step_of_one(
+    alloc: Global,
+    base: &NameTree,
+    place: usize,
+    label: &[u8],
+) -> Result<LiveSet, NoMemory>
     requires { place < length base.now }
-    ensures { (other : ℕ) → Contains result other ↔ IsStep base.now label.now other place }
+    ensures { IfOk result (λ next. (other : ℕ) → Contains next other ↔ IsStep base.now label.now other place) }
 {
     let _ = base.items();
     match base.child(place, label) {
-        Some(below) => LiveSet::one(alloc, below),
-        None => LiveSet::listed(Vec::new(alloc)),
+        Some(below) => Ok(LiveSet::one(below)),
+        None => LiveSet::listed(alloc, Vec::new(alloc)),
     }
 }
 
@@ -179,7 +195,7 @@ fn steps(
     for place in places {
         put_step(base, *place, label, &mut next)?;
     }
-    Ok(LiveSet::listed(next))
+    LiveSet::listed(alloc, next)
 }
 
 /// Puts the place one label below this one at the end, if there is one.
@@ -224,35 +240,12 @@ fn has_child(base: &NameTree, place: usize, label: &[u8]) -> bool
     }
 }
 
-/// The labels below these places, in order, each once.
+/// The labels below these places, put in order, each once.
 pub(crate) fn labels_below(
     alloc: Global,
     base: &NameTree,
     places: &[usize],
 ) -> Result<Vec<Label>, NoMemory>
-    requires { All (λ place. place < length base.now) places.now }
-    ensures labels { IfOk result (λ labels. (label : List ℕ) → Contains labels.items label ↔ SomeItem (HasChild base.now label) places.now) }
-    ensures order { IfOk result (λ labels. AllPairs (λ a b. label_cmp a b ≡ Less) labels.items) }
-{
-    match places {
-        [place] => labels_of_one(alloc, base, *place),
-        _ => labels_of_all(alloc, base, places),
-    }
-}
-
-/// The labels below a place, which stand in order there.
-fn labels_of_one(alloc: Global, base: &NameTree, place: usize) -> Result<Vec<Label>, NoMemory>
-    requires { place < length base.now }
-    ensures labels { IfOk result (λ labels. (label : List ℕ) → Contains labels.items label ↔ HasChild base.now label place) }
-    ensures order { IfOk result (λ labels. AllPairs (λ a b. label_cmp a b ≡ Less) labels.items) }
-{
-    let mut labels = Vec::with_capacity(alloc, base.below(place).len())?;
-    put_labels(alloc, base, place, &mut labels)?;
-    Ok(labels)
-}
-
-/// The labels below all these places, put in order.
-fn labels_of_all(alloc: Global, base: &NameTree, places: &[usize]) -> Result<Vec<Label>, NoMemory>
     requires { All (λ place. place < length base.now) places.now }
     ensures labels { IfOk result (λ labels. (label : List ℕ) → Contains labels.items label ↔ SomeItem (HasChild base.now label) places.now) }
     ensures order { IfOk result (λ labels. AllPairs (λ a b. label_cmp a b ≡ Less) labels.items) }

@@ -156,12 +156,12 @@ fn rows_below(alloc: Global, names: &[Name]) -> Result<Rows, NoMemory>
     requires closed { HavePrefixes names.now }
     ensures { IfOk result (AreRowsBelow names.now) }
 {
-    let mut rows = Rows::new(alloc, names.len())?;
+    let mut rows = Rows::new(alloc, names.len());
     let mut parents = Vec::with_capacity(alloc, names.len())?;
     parents.push(0)?;
     for place in 1..names.len() {
         let parent = parent_of(names, parents.as_slice(), place);
-        rows.put(parent, place)?;
+        rows.put(alloc, parent, place)?;
         parents.push(parent)?;
     }
     Ok(rows)

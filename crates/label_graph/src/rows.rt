@@ -1,35 +1,39 @@
 //! For each place a list of places.
 
-ghost use Rattle.std.specs.Prelude.{◌≡◌, ◌<◌, [], ◌∷◌, ◌++◌, length, replicate, slice_index_or, slice_set, IfOk, OnOk};
+ghost use Rattle.std.specs.Prelude.{◌≡◌, ◌<◌, [], ◌∷◌, ◌++◌, length, replicate, slice_index_or, slice_set, OnOk};
+ghost use Rattle.label_graph.specs.Rows.{IsFilledOn};
 
 use dns_data::{List, NoMemory};
 use std::alloc::Global;
 use std::marker::Model;
 
-/// A list of places for each place.
+/// A list of places for each of so many places. Those behind the last that has something take no memory.
 #[derive(Drop)]
 pub(crate) struct Rows {
-    rows: Vec<List<usize>>,
+    count: usize,
+    filled: Vec<List<usize>>,
 }
 
 impl Model for Rows {
-    ghost use Rattle.std.specs.Prelude.{List, ℕ};
+    ghost use Rattle.std.specs.Prelude.{◌≤◌, List, ℕ, length};
+    ghost use Rattle.label_graph.specs.Rows.{all_rows};
 
     ghost Value = { List (List ℕ) };
 
-    ghost view = { λ rows. rows.rows.items };
+    ghost view = { λ rows. all_rows rows.filled.items rows.count };
+
+    ghost invariant = { λ rows. length rows.filled.items ≤ rows.count };
 }
 
 impl Rows {
-    /// So many rows, with nothing in them.
-    pub fn new(alloc: Global, count: usize) -> Result<Rows, NoMemory>
-        ensures { IfOk result (λ rows. rows ≡ replicate count []) }
+    /// So many rows, with nothing in them. They take no memory.
+    pub fn new(alloc: Global, count: usize) -> Rows
+        ensures { result ≡ replicate count [] }
     {
-        let mut rows = Vec::with_capacity(alloc, count)?;
-        for _ in 0..count {
-            rows.push(List::new(alloc))?;
+        Rows {
+            count,
+            filled: Vec::new(alloc),
         }
-        Ok(Rows { rows })
     }
 
     /// The row of a place.
@@ -37,15 +41,37 @@ impl Rows {
         requires { place < length self.now }
         ensures { result.now ≡ slice_index_or self.now place [] }
     {
-        self.rows[place].items()
+        row_in(self.filled.as_slice(), place)
     }
 
     /// Puts a place into the row of another.
-    pub fn put(&mut self, place: usize, other: usize) -> Result<(), NoMemory>
+    pub fn put(&mut self, alloc: Global, place: usize, other: usize) -> Result<(), NoMemory>
         requires { place < length self.old }
         ensures ok { OnOk result (self.new ≡ slice_set self.old place (slice_index_or self.old place [] ++ other ∷ [])) }
         ensures len { length self.new ≡ length self.old }
     {
-        self.rows[place].push(other)
+        fill_on(alloc, &mut self.filled, place)?;
+        self.filled[place].push(other)
     }
+}
+
+/// The row of a place, which is empty behind the last.
+fn row_in(rows: &[List<usize>], place: usize) -> &[usize]
+    ensures { result.now ≡ slice_index_or rows.now place [] }
+{
+    match rows.get(place) {
+        Some(row) => row.items(),
+        None => &[],
+    }
+}
+
+/// Puts empty rows at the end until the place has one.
+fn fill_on(alloc: Global, rows: &mut Vec<List<usize>>, place: usize) -> Result<(), NoMemory>
+    ensures filled { IsFilledOn rows.old.items place rows.new.items }
+    ensures place { OnOk result (place < length rows.new.items) }
+{
+    while rows.len() <= place {
+        rows.push(List::new(alloc))?;
+    }
+    Ok(())
 }

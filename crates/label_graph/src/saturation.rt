@@ -22,7 +22,7 @@ pub(crate) fn reads_of(alloc: Global, table: &TargetTable) -> Result<Rows, NoMem
     let root = root_link(table);
     let fronts = table.fronts.items().len();
     let names = table.base.items().len();
-    let mut known = Links::new(alloc, fronts, names)?.with(root)?;
+    let mut known = Links::new(alloc, fronts, names).with(alloc, root)?;
     let mut looked_at = 0;
     while let Some(one) = known.get(looked_at) {
         known = with_next(alloc, table, known, one)?;
@@ -55,9 +55,9 @@ fn with_next(alloc: Global, table: &TargetTable, known: Links, one: Link) -> Res
     let next = next_links(alloc, table, one)?;
     let reads = known.read_from(alloc, one.front, table.links.fronts_of(one.base))?;
     let is_read = known.read_by(alloc, one.base, table.links.bases_of(one.front))?;
-    let known = known.with_all(next.as_slice())?;
-    let known = known.with_all(reads.as_slice())?;
-    let known = known.with_all(is_read.as_slice())?;
+    let known = known.with_all(alloc, next.as_slice())?;
+    let known = known.with_all(alloc, reads.as_slice())?;
+    let known = known.with_all(alloc, is_read.as_slice())?;
     Ok(known)
 }
 

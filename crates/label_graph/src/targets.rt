@@ -91,15 +91,16 @@ fn links_of(
     ensures fronts { IfOk result (λ links. length links.bases ≡ length fronts.now) }
     ensures names { IfOk result (λ links. length links.fronts ≡ length base.now) }
 {
-    let mut links = Links::new(alloc, fronts.items().len(), base.items().len())?;
+    let mut links = Links::new(alloc, fronts.items().len(), base.items().len());
     for pair in dnames {
-        links = with_pair(base, fronts, links, pair)?;
+        links = with_pair(alloc, base, fronts, links, pair)?;
     }
     Ok(links)
 }
 
 /// The links with that of a pair.
 fn with_pair(
+    alloc: Global,
     base: &NameTree,
     fronts: &NameTree,
     links: Links,
@@ -118,9 +119,10 @@ fn with_pair(
     };
     let _ = base.items();
     let _ = fronts.items();
-    let links = links.with(Link {
+    let link = Link {
         front: target,
         base: owner,
-    })?;
+    };
+    let links = links.with(alloc, link)?;
     Ok(links)
 }

@@ -51,12 +51,12 @@ none_rising row none i j d before within = absurd (none (get_or row i d) (Contai
 pub loop-place-init : goal.loop-place-init
 loop-place-init c =
     let items : c.push.new.self.items ≡ 0 ∷ [] = c.in_ok-push.ensures.items ∙ ap (λ (l : List ℕ). l ++ 0 ∷ []) c.in_ok-parents.ensures.items in
-    let none = λ (above other : ℕ) (has : RowHas c.in_ok-rows.rows above other). empty_rows _ above other (subst (λ (rows : List (List ℕ)). RowHas rows above other) c.in_ok-rows.ensures has) in
+    let none = λ (above other : ℕ) (has : RowHas c.new-rows.result above other). empty_rows _ above other (subst (λ (rows : List (List ℕ)). RowHas rows above other) c.new-rows.ensures has) in
     record {
       some = omega arith;
       count = ap (λ (l : List ℕ). length l) items;
       parents = λ place low high. absurd (omega (arith, low, high, ap (λ (l : List ℕ). length l) items));
-      len = ap (λ (rows : List (List ℕ)). length rows) c.in_ok-rows.ensures ∙ length-replicate (length c.args.names.now) [];
+      len = ap (λ (rows : List (List ℕ)). length rows) c.new-rows.ensures ∙ length-replicate (length c.args.names.now) [];
       rows = λ above other. (
         λ has. absurd (none above other has),
         λ (below, next).
@@ -64,7 +64,7 @@ loop-place-init c =
             absurd (root_below_none (name_at c.args.names.now above) next.label
             (sym next.is ∙ ap (name_at c.args.names.now) e ∙ root_first c.args.names.now c.requires.order c.requires.closed)),
       );
-      rising = λ above. none_rising (get_or c.in_ok-rows.rows above []) (none above);
+      rising = λ above. none_rising (get_or c.new-rows.result above []) (none above);
     }
 
 pub loop-place-preserved : goal.loop-place-preserved

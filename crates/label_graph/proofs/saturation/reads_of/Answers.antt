@@ -22,14 +22,14 @@ pub loop-one-init : goal.loop-one-init
 loop-one-init c =
     let are : AreTargets c.args.table.now = subst AreTargets c.table.view_is c.table.invariant in
     record {
-      fronts = c.in_ok-known.ensures.fronts ∙ c.in_ok-new.ensures.fronts ∙ ap (λ (l : List (List (List ℕ))). length l) c.items-fronts.ensures.same
+      fronts = c.in_ok-known.ensures.fronts ∙ c.new.ensures.fronts ∙ ap (λ (l : List (List (List ℕ))). length l) c.items-fronts.ensures.same
           ∙ ap (λ (t : Targets). length t.fronts) c.table.view_is;
-      names = c.in_ok-known.ensures.bases ∙ c.in_ok-new.ensures.bases ∙ ap (λ (l : List (List (List ℕ))). length l) c.items-names.ensures.same
+      names = c.in_ok-known.ensures.bases ∙ c.new.ensures.bases ∙ ap (λ (l : List (List (List ℕ))). length l) c.items-names.ensures.same
           ∙ ap (λ (t : Targets). length t.names) c.table.view_is;
       within = omega arith;
       found =
           found_none c.args.table.now are c.root_link-root.result c.in_ok-known.known.list
-          (subst (λ (l : List Link). AreAdded l (c.root_link-root.result ∷ []) c.in_ok-known.known.list) c.in_ok-new.ensures.none c.in_ok-known.ensures.added)
+          (subst (λ (l : List Link). AreAdded l (c.root_link-root.result ∷ []) c.in_ok-known.known.list) c.new.ensures.none c.in_ok-known.ensures.added)
           c.root_link-root.ensures.front.0 c.root_link-root.ensures.base.0 c.root_link-root.ensures.front.1 c.root_link-root.ensures.base.1;
     }
 

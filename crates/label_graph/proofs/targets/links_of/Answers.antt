@@ -20,18 +20,18 @@ loop-pair-preserved c =
     record {
       links = λ one. (
         λ has. some_more (λ (pair : Pair). IsLinkOf c.args.base.now c.args.fronts.now pair one) c.args.dnames.now c.loop-pair.pair-index c.pair-item.result
-            c.loop-pair-test.true c.pair-item.is (elim ((c.in_ok-links-2.ensures.links one).0 has) [
+            c.loop-pair-test.true c.pair-item.is (elim ((c.in_ok-links.ensures.links one).0 has) [
               | inl old ↦ inl ((c.loop-pair.invariant.links one).0 old)
               | inr new ↦ inr new
             ]),
         λ some. elim (from_more (λ (pair : Pair). IsLinkOf c.args.base.now c.args.fronts.now pair one) c.args.dnames.now c.loop-pair.pair-index c.pair-item.result
             c.loop-pair-test.true c.pair-item.is some) [
-              | inl old ↦ (c.in_ok-links-2.ensures.links one).1 (inl ((c.loop-pair.invariant.links one).1 old))
-              | inr new ↦ (c.in_ok-links-2.ensures.links one).1 (inr new)
+              | inl old ↦ (c.in_ok-links.ensures.links one).1 (inl ((c.loop-pair.invariant.links one).1 old))
+              | inr new ↦ (c.in_ok-links.ensures.links one).1 (inr new)
             ],
       );
-      fronts = c.in_ok-links-2.ensures.fronts;
-      names = c.in_ok-links-2.ensures.names;
+      fronts = c.in_ok-links.ensures.fronts;
+      names = c.in_ok-links.ensures.names;
     }
 
 pub returns-clause-links : goal.returns-clause-links

@@ -1,19 +1,13 @@
 use Rattle.std.proofs.Common.{ℕ, ◌<◌, [], ◌∷◌, ◌++◌, List, All, length, Contains, sym, ap, subst}
 use Rattle.std.specs.Prelude.{◌↔◌}
 use Rattle.dns_data.specs.Name.{Labels}
-use Rattle.dns_data.proofs.Membership.{all_from_contains}
 use Rattle.net_model.specs.Reading.{Ground}
 use Rattle.label_graph.specs.Graphs.{SomeItem, IsStep, IsFrom}
 use Rattle.label_graph.specs.LiveSet.{IsLiveSet}
 use Rattle.label_graph.specs.declared.graph.LabelGraph.TheInside.{Inside}
 use Rattle.label_graph.proofs.GraphSets.{step_set}
+use Rattle.label_graph.proofs.NextNames.{steps_within}
 use Rattle.label_graph.proofs.graph.LabelGraph.advance.Goals as goal
-
--- places that are steps have places
-steps_within : (names : List Labels) (label : List ℕ) (live places : List ℕ) → ((other : ℕ) → Contains places other ↔ SomeItem (IsStep names label other) live)
-    → All (λ place. place < length names) places
-steps_within names label live places steps =
-    all_from_contains (λ (place : ℕ). place < length names) places (λ place has. let (above, among, is) = (steps place).0 has in is.0)
 
 pub close-requires-clause-within : goal.close-requires-clause-within
 close-requires-clause-within c =

@@ -1,0 +1,82 @@
+-- The labels below a live set, each with what is live there.
+use Rattle.std.proofs.Common.{◌≡◌, ◌∙◌, ℕ, ◌+◌, ◌<◌, List, [], ◌∷◌, ◌++◌, length, map, get_or, All, Contains, refl, sym, ap, subst, inl, inr, arith}
+use Rattle.std.specs.Prelude.{◌↔◌}
+use Rattle.std.proofs.Math.Seq.{get_or-append_seam}
+use Rattle.std.proofs.lemmas.Bool.{cases_lt}
+use Rattle.std.proofs.lemmas.List.{map-append, length-map, get_or_append_left}
+use Rattle.dns_data.specs.Name.{Labels}
+use Rattle.dns_data.proofs.Membership.{all_from_contains}
+use Rattle.label_graph.specs.declared.next.NextName.{NextName}
+use Rattle.label_graph.specs.Graphs.{SomeItem, IsStep, IsFrom, IsGraph, IsLiveBelow}
+use Rattle.label_graph.specs.LiveSet.{AreInOrder, IsLiveSet, name_at}
+use Rattle.label_graph.specs.NameTree.{IsNextBelow}
+use Rattle.label_graph.specs.Targets.{Targets, ground_in}
+use Rattle.label_graph.proofs.GraphSets.{step_set}
+use Rattle.label_graph.proofs.NamePlaces.{one_place}
+use Rattle.label_graph.proofs.Passing.{one_iff, single_iff}
+
+-- a list of one item has its first
+pub single : (xs : List ℕ) → length xs ≡ 1 → get_or xs 0 0 ∷ [] ≡ xs
+single [] e = absurd (omega (arith, e))
+single (x ∷ []) e = refl
+single (x ∷ y ∷ rest) e = absurd (omega (arith, e))
+
+-- the label of each
+abbrev pub labels_of : List NextName → List (List ℕ)
+labels_of nexts = map (λ next. next.label) nexts
+
+-- a label more
+pub labels_more : (nexts : List NextName) (next : NextName) → labels_of (nexts ++ next ∷ []) ≡ labels_of nexts ++ next.label ∷ []
+labels_more nexts next = map-append (λ (n : NextName). n.label) nexts (next ∷ [])
+
+module _ (names : List Labels) (place : ℕ) (row : List ℕ) where
+  -- the first so many of the row have the labels one after another
+  abbrev pub AreLasts : List NextName → ℕ → Type 0
+  AreLasts nexts count =
+      (k : ℕ) → k < count → name_at names (get_or row k 0) ≡ name_at names place ++ get_or (labels_of nexts) k [] ∷ []
+
+  -- one more has the next
+  pub lasts_more : (nexts : List NextName) (next : NextName) (count : ℕ) → length nexts ≡ count → AreLasts nexts count
+      → name_at names (get_or row count 0) ≡ name_at names place ++ next.label ∷ [] → AreLasts (nexts ++ next ∷ []) (count + 1)
+  lasts_more nexts next count len are at k low =
+      elim (cases_lt k count) [
+        | inl before ↦
+            are k before
+            ∙ ap (λ (l : List ℕ). name_at names place ++ l ∷ [])
+            (sym (ap (λ (ls : List (List ℕ)). get_or ls k []) (labels_more nexts next)
+            ∙ get_or_append_left (labels_of nexts) (next.label ∷ []) [] k (omega (arith, before, len, length-map nexts (λ (n : NextName). n.label)))))
+        | inr last ↦ (
+            let here : length (labels_of nexts) ≡ k = omega (arith, last, low, len, length-map nexts (λ (n : NextName). n.label)) in
+            let same : count ≡ k = omega (arith, last, low) in
+            let label : get_or (labels_of (nexts ++ next ∷ [])) k [] ≡ next.label =
+            ap (λ (ls : List (List ℕ)). get_or ls k []) (labels_more nexts next)
+            ∙ subst (λ (i : ℕ). get_or (labels_of nexts ++ next.label ∷ []) i [] ≡ next.label) here (get_or-append_seam (labels_of nexts) next.label [] []) in
+            subst (λ (i : ℕ). name_at names (get_or row i 0) ≡ name_at names place ++ next.label ∷ []) same at
+            ∙ ap (λ (l : List ℕ). name_at names place ++ l ∷ []) (sym label)
+            )
+      ]
+
+-- places that are steps have places
+pub steps_within : (names : List Labels) (label : List ℕ) (live places : List ℕ) → ((other : ℕ) → Contains places other ↔ SomeItem (IsStep names label other) live)
+    → All (λ place. place < length names) places
+steps_within names label live places steps =
+    all_from_contains (λ (place : ℕ). place < length names) places (λ place has. let (above, among, is) = (steps place).0 has in is.0)
+
+module _ (targets : Targets) (reads : List (List ℕ)) where
+  -- below one place the one step to a label is the place of the name with it
+  pub live_below_one : (place other : ℕ) (label places : List ℕ) → AreInOrder targets.names → IsNextBelow targets.names place other
+      → name_at targets.names other ≡ name_at targets.names place ++ label ∷ []
+      → ((o : ℕ) → Contains places o ↔ SomeItem (IsFrom targets reads o) (other ∷ [])) → IsLiveBelow targets reads (place ∷ []) label places
+  live_below_one place other label places order next is closed =
+      record {
+        steps = other ∷ [];
+        are_steps = λ o. one_iff (IsStep targets.names label o) (place ∷ []) refl (Contains (other ∷ []) o)
+            (single_iff other (λ (x : ℕ). IsStep targets.names label x place) (next.inside, is)
+            (λ x step. one_place targets.names order other x next.inside step.0 (is ∙ sym step.1)) o);
+        closed = closed;
+      }
+
+  -- what is live below the live set of a name is the live set of the name with the label
+  pub next_live : IsGraph targets reads → (name : Labels) (live : List ℕ) → IsLiveSet (ground_in targets) name live → (label places : List ℕ)
+      → IsLiveBelow targets reads live label places → IsLiveSet (ground_in targets) (name ++ label ∷ []) places
+  next_live graph name live of label places below = step_set targets reads graph name label live below.steps places of below.are_steps below.closed

@@ -1,0 +1,119 @@
+//! Labels below live sets, each with what is live there.
+
+ghost use Rattle.std.specs.Prelude.{◌≡◌, ◌↔◌, ◌<◌, ℕ, List, [], ◌∷◌, ◌++◌, length, map, Contains, All, AllPairs, IfOk};
+ghost use Rattle.std.specs.declared.cmp.Ordering.TheVariants.{Less};
+ghost use Rattle.dns_data.specs.Label.{label_cmp};
+ghost use Rattle.label_graph.specs.Graphs.{AreLabelsBelow, HasChild, IsLiveBelow, SomeItem};
+ghost use Rattle.label_graph.specs.LiveSet.{name_at};
+ghost use Rattle.label_graph.specs.NameTree.{IsNextBelow};
+
+use crate::live::{LiveSet, close, labels_below, step};
+use crate::rows::Rows;
+use crate::targets::TargetTable;
+use dns_data::{Label, NoMemory};
+use std::alloc::Global;
+
+/// A label that makes a named name below another, and the live set of the name that it makes.
+#[derive(Debug, Drop)]
+pub struct NextName {
+    pub label: Label,
+    pub live: LiveSet,
+}
+
+/// The labels below these places, in order, each once, with what is live there. Below one place no label is looked for.
+pub(crate) fn next_names(
+    alloc: Global,
+    table: &TargetTable,
+    reads: &Rows,
+    places: &[usize],
+) -> Result<Vec<NextName>, NoMemory>
+    requires within { All (λ place. place < length table.now.names) places.now }
+    requires len { length reads.now ≡ length table.now.fronts }
+    ensures labels { IfOk result (λ names. (label : List ℕ) → Contains (map (λ next. next.label) names.items) label ↔ SomeItem (HasChild table.now.names label) places.now) }
+    ensures order { IfOk result (λ names. AllPairs (λ a b. label_cmp a b ≡ Less) (map (λ next. next.label) names.items)) }
+    ensures live { IfOk result (λ names. All (λ next. IsLiveBelow table.now reads.now places.now next.label next.live) names.items) }
+{
+    match places {
+        [place] => next_of_one(alloc, table, reads, *place),
+        _ => next_of_all(alloc, table, reads, places),
+    }
+}
+
+/// The labels below a place, which stand in order there, with what is live there.
+fn next_of_one(
+    alloc: Global,
+    table: &TargetTable,
+    reads: &Rows,
+    place: usize,
+) -> Result<Vec<NextName>, NoMemory>
+    requires within { place < length table.now.names }
+    requires len { length reads.now ≡ length table.now.fronts }
+    ensures labels { IfOk result (λ names. AreLabelsBelow table.now.names place (map (λ next. next.label) names.items)) }
+    ensures live { IfOk result (λ names. All (λ next. IsLiveBelow table.now reads.now (place ∷ []) next.label next.live) names.items) }
+{
+    let _ = table.base.items();
+    let mut names = Vec::with_capacity(alloc, table.base.below(place).len())?;
+    for other in table.base.below(place) {
+        names.push(next_at(alloc, table, reads, place, *other)?)?;
+    }
+    Ok(names)
+}
+
+/// The last label of the name at the second place, which is one label below the one at the first, with what is live there.
+fn next_at(
+    alloc: Global,
+    table: &TargetTable,
+    reads: &Rows,
+    place: usize,
+    other: usize,
+) -> Result<NextName, NoMemory>
+    requires below { IsNextBelow table.now.names place other }
+    requires len { length reads.now ≡ length table.now.fronts }
+    ensures label { IfOk result (λ next. name_at table.now.names other ≡ name_at table.now.names place ++ next.label ∷ []) }
+    ensures live { IfOk result (λ next. IsLiveBelow table.now reads.now (place ∷ []) next.label next.live) }
+{
+    let _ = table.base.items();
+    let label = Label::with_octets(alloc, table.base.last_label(place, other))?;
+    let live = close(alloc, table, reads, LiveSet::one(other))?;
+    Ok(NextName { label, live })
+}
+
+/// The labels below all these places, put in order, with what is live there.
+fn next_of_all(
+    alloc: Global,
+    table: &TargetTable,
+    reads: &Rows,
+    places: &[usize],
+) -> Result<Vec<NextName>, NoMemory>
+    requires within { All (λ place. place < length table.now.names) places.now }
+    requires len { length reads.now ≡ length table.now.fronts }
+    ensures labels { IfOk result (λ names. (label : List ℕ) → Contains (map (λ next. next.label) names.items) label ↔ SomeItem (HasChild table.now.names label) places.now) }
+    ensures order { IfOk result (λ names. AllPairs (λ a b. label_cmp a b ≡ Less) (map (λ next. next.label) names.items)) }
+    ensures live { IfOk result (λ names. All (λ next. IsLiveBelow table.now reads.now places.now next.label next.live) names.items) }
+{
+    let labels = labels_below(alloc, &table.base, places)?;
+    let mut names = Vec::with_capacity(alloc, labels.len())?;
+    for label in labels.as_slice() {
+        names.push(next_with(alloc, table, reads, places, label)?)?;
+    }
+    Ok(names)
+}
+
+/// A label with what is live where it is put below these places.
+fn next_with(
+    alloc: Global,
+    table: &TargetTable,
+    reads: &Rows,
+    places: &[usize],
+    label: &Label,
+) -> Result<NextName, NoMemory>
+    requires within { All (λ place. place < length table.now.names) places.now }
+    requires len { length reads.now ≡ length table.now.fronts }
+    ensures label { IfOk result (λ next. next.label ≡ label.now) }
+    ensures live { IfOk result (λ next. IsLiveBelow table.now reads.now places.now next.label next.live) }
+{
+    let steps = step(alloc, &table.base, places, label.items())?;
+    let live = close(alloc, table, reads, steps)?;
+    let label = label.copy(alloc)?;
+    Ok(NextName { label, live })
+}
