@@ -5,6 +5,8 @@ use Rattle.dns_data.specs.Name.{Labels, IsName, wire_octets}
 use Rattle.net_model.specs.declared.class.Class.TheVariants.{Below}
 use Rattle.net_model.specs.Reading.{Ground, IsNamed}
 use Rattle.label_graph.specs.LiveSet.{AreInOrder}
+use Rattle.label_graph.specs.declared.next.NextName.{NextName}
+use Rattle.query_classes.specs.declared.live_name.LiveName.{LiveName}
 use Rattle.query_classes.specs.Members.{IsEmptyClass, RepresentsClass}
 
 -- the name is one label below the other
@@ -23,6 +25,10 @@ pub record AreChildren (ground : Ground) (above : Labels) (names : List Labels) 
 -- the name with each of the labels below, where that has at most 255 octets
 abbrev pub of_name_length : Labels → List (List ℕ) → List Labels
 of_name_length above labels = filter (λ name. nat_le (wire_octets name) 255) (map (λ label. above ++ label ∷ []) labels)
+
+-- the same, each name with the live set that comes with its label
+abbrev pub live_below : Labels → List NextName → List LiveName
+live_below above nexts = filter (λ one. nat_le (wire_octets one.name) 255) (map (λ next. record { name = above ++ next.label ∷ []; live = next.live }) nexts)
 
 -- what stands for the class below the name: its representative, or nothing where the class is empty
 abbrev pub IsBelow : Ground → Labels → Option Labels → Type 0

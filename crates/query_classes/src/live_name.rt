@@ -4,13 +4,14 @@ ghost use Rattle.std.specs.Prelude.{◌≡◌, [], ◌∷◌, ◌++◌, map, All
 ghost use Rattle.dns_data.specs.Name.{IsName};
 ghost use Rattle.label_graph.specs.LiveSet.{IsLiveSet};
 ghost use Rattle.net_model.specs.Reading.{IsNamed};
-ghost use Rattle.query_classes.specs.Children.{AreChildren, IsBelow, of_name_length};
+ghost use Rattle.query_classes.specs.Children.{AreChildren, IsBelow, live_below};
 
 use crate::free::free_label;
 use dns_data::{JoinFault, Label, List, Name, NoMemory};
 use label_graph::laws::graph_is_closed;
-use label_graph::{LabelGraph, LiveSet};
+use label_graph::{LabelGraph, LiveSet, NextName};
 use std::alloc::Global;
+use std::collections::VecDeque;
 
 /// A name with its live set in a graph, so that a walk down the class tree goes on from where it stands.
 #[derive(Debug, Drop)]
@@ -48,8 +49,8 @@ impl LiveName {
         ensures names { IfOk result (λ names. AreChildren graph.now self.now.name (map (λ below. below.name) names)) }
         ensures live { IfOk result (λ names. All (λ below. IsLiveSet graph.now below.name below.live) names) }
     {
-        let labels = graph.next_labels(alloc, &self.live)?;
-        let names = self.with_labels(alloc, graph, labels.items())?;
+        let nexts = graph.next_names(alloc, &self.live)?;
+        let names = self.with_nexts(alloc, nexts)?;
         Ok(List::from_vec(names))
     }
 
@@ -75,46 +76,38 @@ impl LiveName {
         }
     }
 
-    /// The names of at most 255 octets with one of the labels below this one, each with its live set.
-    fn with_labels(
-        &self,
-        alloc: Global,
-        graph: &LabelGraph,
-        labels: &[Label],
-    ) -> Result<Vec<LiveName>, NoMemory>
-        requires { IsLiveSet graph.now self.now.name self.now.live }
-        ensures of_name_length { IfOk result (λ names. map (λ below. below.name) names.items ≡ of_name_length self.now.name labels.now) }
+    /// The names of at most 255 octets with one of the labels below this one, each with the live set that comes with it.
+    fn with_nexts(&self, alloc: Global, nexts: List<NextName>) -> Result<Vec<LiveName>, NoMemory>
+        ensures below { IfOk result (λ names. names.items ≡ live_below self.now.name nexts) }
         ensures names { IfOk result (λ names. All (λ below. IsName below.name) names.items) }
-        ensures live { IfOk result (λ names. All (λ below. IsLiveSet graph.now below.name below.live) names.items) }
     {
-        let mut names = Vec::new(alloc);
-        for label in labels {
-            self.put_below(alloc, graph, label, &mut names)?;
+        let mut left = VecDeque::from_vec(nexts.into_vec());
+        let mut names = Vec::with_capacity(alloc, left.len())?;
+        while let Some(next) = left.pop_front() {
+            self.put_below(alloc, next, &mut names)?;
         }
         Ok(names)
     }
 
-    /// Puts the name with the label below at the end, with its live set, where it has at most 255 octets.
+    /// Puts the name with the label below at the end, with the live set, where it has at most 255 octets.
     fn put_below(
         &self,
         alloc: Global,
-        graph: &LabelGraph,
-        label: &Label,
+        next: NextName,
         names: &mut Vec<LiveName>,
     ) -> Result<(), NoMemory>
-        requires live { IsLiveSet graph.now self.now.name self.now.live }
-        requires names { All (λ below. IsName below.name) names.old.items }
-        requires all_live { All (λ below. IsLiveSet graph.now below.name below.live) names.old.items }
-        ensures of_name_length { OnOk result (map (λ below. below.name) names.new.items ≡ map (λ below. below.name) names.old.items ++ of_name_length self.now.name (label.now ∷ [])) }
+        requires { All (λ below. IsName below.name) names.old.items }
+        ensures below { OnOk result (names.new.items ≡ names.old.items ++ live_below self.now.name (next ∷ [])) }
         ensures names { OnOk result (All (λ below. IsName below.name) names.new.items) }
-        ensures live { OnOk result (All (λ below. IsLiveSet graph.now below.name below.live) names.new.items) }
     {
         let mut name = self.name.copy(alloc)?;
-        match name.push(alloc, label) {
+        match name.push(alloc, &next.label) {
             Ok(()) => {
                 let _ = name.labels();
-                let live = graph.advance(alloc, &self.live, label)?;
-                names.push(LiveName { name, live })?;
+                names.push(LiveName {
+                    name,
+                    live: next.live,
+                })?;
                 Ok(())
             }
             Err(JoinFault::TooLong) => Ok(()),

@@ -40,12 +40,20 @@ pub fn class_tree(alloc: Global, graph: &LabelGraph, most: u32) -> Result<List<C
         }
         let below = next.below(alloc, graph)?;
         put_last_first(next.children(alloc, graph)?, &mut waiting)?;
-        rows.push(ClassRow {
-            name: next.name,
-            below,
-        })?;
+        rows.push(row_of(next, below))?;
     }
     Ok(List::from_vec(rows))
+}
+
+/// The row of a name, whose live set is let go, and of the class below it.
+fn row_of(found: LiveName, below: Option<Name>) -> ClassRow
+    ensures name { result.name ≡ found.name }
+    ensures below { result.below ≡ below }
+{
+    ClassRow {
+        name: found.name,
+        below,
+    }
 }
 
 /// Puts the names at the end, the last one first.

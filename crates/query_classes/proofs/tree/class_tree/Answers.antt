@@ -1,4 +1,4 @@
-use Rattle.std.proofs.Common.{◌≡◌, ◌∙◌, ◌-◌, ◌≤◌, ℕ, List, [], ◌∷◌, ◌++◌, length, reverse, take, All, Some, inl, inr, sym, refl, ap, subst, arith}
+use Rattle.std.proofs.Common.{◌≡◌, ◌∙◌, ◌-◌, ◌≤◌, ℕ, List, [], ◌∷◌, ◌++◌, length, reverse, take, All, Some, inl, inr, sym, ap, subst, arith}
 use Rattle.std.proofs.lemmas.Bool.{cases_lt}
 use Rattle.std.proofs.lemmas.List.{length-append, length-map}
 use Rattle.std.proofs.lemmas.List.Elements.{All-nil, All-pop, All-push, All-append}
@@ -59,20 +59,21 @@ loop-next-preserved c =
     let P = λ (found : LiveName). IsLiveSet c.args.graph.now found.name found.live in
     let Q = λ (row : ClassRow). IsBelow c.args.graph.now row.name row.below in
     let below : List LiveName = c.in_ok-children.field-0 in
-    let row : ClassRow = record { name = c.in-Some.next.name; below = c.in_ok-below.below } in
+    let row : ClassRow = c.row_of.result in
     let walked =
     last_waits ground (tree_names c.loop-next.rows.items) c.loop-next.waiting.items c.pop.new.self.items c.in-Some.next c.in-Some.ensures.items c.loop-next.invariant.walked in
     record {
       walked =
           subst (λ (l : List ClassRow). AreWalked ground (tree_names l) (names_of c.put_last_first.new.waiting.items)) (sym c.in_ok-push-2.ensures.items)
           (subst (λ (l : List LiveName). AreWalked ground (tree_names (c.loop-next.rows.items ++ row ∷ [])) (names_of l)) (sym c.in_ok-put_last_first.ensures)
-          (walk_further ground c.graph_is_closed.ensures c.loop-next.rows.items c.pop.new.self.items below c.in-Some.next row refl walked c.in_ok-children.ensures.names));
+          (walk_further ground c.graph_is_closed.ensures c.loop-next.rows.items c.pop.new.self.items below c.in-Some.next row c.row_of.ensures.name walked c.in_ok-children.ensures.names));
       live =
           subst (All P) (sym c.in_ok-put_last_first.ensures)
           (All-append P c.pop.new.self.items (reverse below)
           (All-pop P c.loop-next.waiting.items c.pop.new.self.items (Some c.in-Some.next) c.in-Some.ensures.items c.loop-next.invariant.live).0
           (all_reversed P below c.in_ok-children.ensures.live));
-      below = subst (All Q) (sym c.in_ok-push-2.ensures.items) (All-push Q c.loop-next.rows.items row c.loop-next.invariant.below c.in_ok-below.ensures);
+      below = subst (All Q) (sym c.in_ok-push-2.ensures.items) (All-push Q c.loop-next.rows.items row c.loop-next.invariant.below
+          (rw (c.row_of.ensures.name, c.row_of.ensures.below) c.in_ok-below.ensures));
       few =
           elim (cases_lt (length c.loop-next.rows.items) c.args.most) [
             | inl less ↦ omega (arith, less, ap (λ (l : List ClassRow). length l) c.in_ok-push-2.ensures.items, length-append c.loop-next.rows.items (row ∷ []))
