@@ -13,7 +13,7 @@ pub mod FollowedAlike
 pub mod FoundNothing
 pub mod FoundRight
 pub mod JudgedItems
-pub mod LiveAbove
+pub mod LiveInEach
 pub mod LiveSetsExist
 pub mod NameVerdicts
 pub mod OneVerdict

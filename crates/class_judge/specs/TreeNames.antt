@@ -1,5 +1,5 @@
 -- The live sets that the names of a class tree keep: for the contracts of inner calls alone.
-use Rattle.std.specs.Prelude.{◌≡◌, ℕ, List, [], ◌∷◌, ◌++◌}
+use Rattle.std.specs.Prelude.{ℕ, List}
 use Rattle.dns_data.specs.Name.{Labels}
 use Rattle.label_graph.specs.LiveSet.{AreInOrder, IsLiveSet}
 use Rattle.label_graph.specs.Pairs.{AreSame}
@@ -14,7 +14,3 @@ pub record IsGraphOf (config : Config) (graph : Ground) : Type 0 where
 -- the places are the live set of the name in each such ground
 abbrev pub IsLiveIn : Config → Labels → List ℕ → Type 0
 IsLiveIn config name places = (graph : Ground) → IsGraphOf config graph → IsLiveSet graph name places
-
--- they are that of the name one label above, if there is one
-abbrev pub IsLiveAbove : Config → Labels → List ℕ → Type 0
-IsLiveAbove config name places = (above : Labels) (label : List ℕ) → name ≡ above ++ label ∷ [] → IsLiveIn config above places

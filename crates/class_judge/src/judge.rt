@@ -54,8 +54,7 @@ impl<'a, N: Naming + Send> Work for Judge<'a, N> {
 
     fn judge(&self, item: &TreeName<N>, share: &mut JudgeShare) -> Result<FiledVerdict, NoMemory> {
         share.raise();
-        let name = item.live_name(self.setup.alloc, &self.setup.graph)?;
-        let verdict = judge_name(&self.setup, &name)?;
+        let verdict = judge_name(&self.setup, item.live_name())?;
         FiledVerdict::of(self.setup.alloc, verdict)
     }
 

@@ -1,77 +1,64 @@
 //! Names of the class tree, as the items of a judge.
 
-ghost use Rattle.std.specs.Prelude.{◌≡◌, [], ◌∷◌, ◌++◌, All, IfOk, OnOk};
-ghost use Rattle.std.specs.Arc.{arc_value};
+ghost use Rattle.std.specs.Prelude.{◌≡◌, [], map, All, IfOk};
 ghost use Rattle.class_judge.specs.TreeNames.{IsGraphOf, IsLiveIn};
-ghost use Rattle.dns_data.specs.Name.{IsName};
-ghost use Rattle.label_graph.specs.LastLabel.{IsLastLabel};
-ghost use Rattle.label_graph.specs.LiveSet.{IsLiveSet};
-ghost use Rattle.query_classes.specs.Children.{AreChildren, of_name_length};
+ghost use Rattle.query_classes.specs.Children.{AreChildren};
 
 use crate::naming::Naming;
-use dns_data::{JoinFault, Label, List, Name, NoMemory};
-use label_graph::{LabelGraph, LiveSet};
+use dns_data::{List, Name, NoMemory};
+use label_graph::LabelGraph;
 use query_classes::LiveName;
 use std::alloc::Global;
 use std::cmp::Ordering;
+use std::collections::VecDeque;
 use std::marker::{Model, PhantomData};
-use std::sync::Arc;
 
-/// A name of the class tree with the live set of the name one label above, which all names below that one share: its own live
-/// set is one label away, and a copy costs little. Contracts see the name, and names are ordered as `Name` orders them.
+/// A name of the class tree with its live set, so that none is walked to again. Contracts see the name, and names are
+/// ordered as `Name` orders them.
 #[derive(Drop)]
 pub struct TreeName<N: Naming> {
-    name: Name,
-    above: Arc<LiveSet, Global>,
+    found: LiveName,
     of: PhantomData<N>,
 }
 
 impl<N: Naming> Model for TreeName<N> {
-    ghost use Rattle.std.specs.Arc.{arc_value};
-    ghost use Rattle.class_judge.specs.TreeNames.{IsLiveAbove};
+    ghost use Rattle.class_judge.specs.TreeNames.{IsLiveIn};
     ghost use Rattle.dns_data.specs.Name.{Labels};
 
     ghost Value = { Labels };
 
-    ghost view = { λ item. item.name };
+    ghost view = { λ item. item.found.name };
 
-    ghost invariant = { λ item. IsLiveAbove N.config item.name (arc_value item.above) };
+    ghost invariant = { λ item. IsLiveIn N.config item.found.name item.found.live };
 }
 
 impl<N: Naming> TreeName<N> {
     /// The root.
     pub(crate) fn root(alloc: Global, graph: &LabelGraph) -> Result<TreeName<N>, NoMemory>
+        requires { IsGraphOf N.config graph.now }
         ensures { IfOk result (λ item. item ≡ []) }
     {
-        let live = graph.start(alloc)?;
-        let above = Arc::new(alloc, live)?;
-        Ok(TreeName {
-            name: Name::root(),
-            above,
+        let found = LiveName::root(alloc, graph)?;
+        Ok(TreeName::of(found))
+    }
+
+    /// The name, with its live set.
+    fn of(found: LiveName) -> TreeName<N>
+        requires { IsLiveIn N.config found.name found.live }
+        ensures { result ≡ found.name }
+    {
+        TreeName {
+            found,
             of: PhantomData,
-        })
+        }
     }
 
     /// The name with its live set.
-    pub(crate) fn live_name(&self, alloc: Global, graph: &LabelGraph) -> Result<LiveName, NoMemory>
-        requires { IsGraphOf N.config graph.now }
-        ensures name { IfOk result (λ live. live.name ≡ self.now) }
-        ensures live { IfOk result (λ live. IsLiveSet graph.now live.name live.live) }
+    pub(crate) fn live_name(&self) -> &LiveName
+        ensures name { result.now.name ≡ self.now }
+        ensures live { IsLiveIn N.config result.now.name result.now.live }
     {
-        let live = self.live(alloc, graph)?;
-        let name = self.name.copy(alloc)?;
-        Ok(LiveName { name, live })
-    }
-
-    /// The live set of the name.
-    fn live(&self, alloc: Global, graph: &LabelGraph) -> Result<LiveSet, NoMemory>
-        requires { IsGraphOf N.config graph.now }
-        ensures { IfOk result (IsLiveSet graph.now self.now) }
-    {
-        match last_label(alloc, &self.name)? {
-            Some(label) => graph.advance(alloc, &self.above, &label),
-            None => graph.start(alloc),
-        }
+        &self.found
     }
 
     /// The names of the class tree one label below, in order.
@@ -83,10 +70,8 @@ impl<N: Naming> TreeName<N> {
         requires { IsGraphOf N.config graph.now }
         ensures { IfOk result (AreChildren graph.now self.now) }
     {
-        let live = self.live(alloc, graph)?;
-        let labels = graph.next_labels(alloc, &live)?;
-        let live = Arc::new(alloc, live)?;
-        let names = names_below(alloc, &self.name, &live, labels.items())?;
+        let found = self.found.children(alloc, graph)?;
+        let names = items_of(alloc, found)?;
         Ok(List::from_vec(names))
     }
 
@@ -94,85 +79,32 @@ impl<N: Naming> TreeName<N> {
     pub(crate) fn copy(&self, alloc: Global) -> Result<TreeName<N>, NoMemory>
         ensures { IfOk result (λ copy. copy ≡ self.now) }
     {
-        let name = self.name.copy(alloc)?;
-        let above = Arc::try_clone(&self.above)?;
-        Ok(TreeName {
-            name,
-            above,
-            of: PhantomData,
-        })
+        let name = self.found.name.copy(alloc)?;
+        let live = self.found.live.copy(alloc)?;
+        Ok(TreeName::of(LiveName { name, live }))
     }
 
     /// The name alone.
     pub(crate) fn into_name(self) -> Name
         ensures { result ≡ self }
     {
-        let TreeName { name, .. } = self;
+        let TreeName { found, .. } = self;
+        let LiveName { name, .. } = found;
         name
     }
 }
 
-/// The names of at most 255 octets with one of the labels below the name, whose live set this is.
-fn names_below<N: Naming>(
-    alloc: Global,
-    name: &Name,
-    live: &Arc<LiveSet, Global>,
-    labels: &[Label],
-) -> Result<Vec<TreeName<N>>, NoMemory>
-    requires { IsLiveIn N.config name.now (arc_value live.now) }
-    ensures of_name_length { IfOk result (λ names. names.items ≡ of_name_length name.now labels.now) }
-    ensures names { IfOk result (λ names. All IsName names.items) }
+/// Names with their live sets, as items.
+fn items_of<N: Naming>(alloc: Global, found: List<LiveName>) -> Result<Vec<TreeName<N>>, NoMemory>
+    requires { All (λ one. IsLiveIn N.config one.name one.live) found }
+    ensures { IfOk result (λ names. names.items ≡ map (λ one. one.name) found) }
 {
-    let mut names = Vec::new(alloc);
-    for label in labels {
-        put_below(alloc, name, live, label, &mut names)?;
+    let mut left = VecDeque::from_vec(found.into_vec());
+    let mut names = Vec::with_capacity(alloc, left.len())?;
+    while let Some(one) = left.pop_front() {
+        names.push(TreeName::of(one))?;
     }
     Ok(names)
-}
-
-/// Puts the name with the label below at the end, where it has at most 255 octets.
-fn put_below<N: Naming>(
-    alloc: Global,
-    name: &Name,
-    live: &Arc<LiveSet, Global>,
-    label: &Label,
-    names: &mut Vec<TreeName<N>>,
-) -> Result<(), NoMemory>
-    requires live { IsLiveIn N.config name.now (arc_value live.now) }
-    requires names { All IsName names.old.items }
-    ensures of_name_length { OnOk result (names.new.items ≡ names.old.items ++ of_name_length name.now (label.now ∷ [])) }
-    ensures names { OnOk result (All IsName names.new.items) }
-{
-    let mut name = name.copy(alloc)?;
-    match name.push(alloc, label) {
-        Ok(()) => {
-            let _ = name.labels();
-            let above = Arc::try_clone(live)?;
-            names.push(TreeName {
-                name,
-                above,
-                of: PhantomData,
-            })?;
-            Ok(())
-        }
-        Err(JoinFault::TooLong) => Ok(()),
-        Err(JoinFault::NoMemory) => Err(NoMemory),
-    }
-}
-
-/// The last label of a name, or `None` for the root.
-fn last_label(alloc: Global, name: &Name) -> Result<Option<Label>, NoMemory>
-    ensures { IfOk result (IsLastLabel name.now) }
-{
-    let mut rest = name.labels();
-    let mut last = None;
-    while let Some(label) = rest.next() {
-        last = Some(label);
-    }
-    match last {
-        Some(octets) => Ok(Some(Label::with_octets(alloc, octets)?)),
-        None => Ok(None),
-    }
 }
 
 impl<N: Naming> PartialEq for TreeName<N> {
@@ -185,7 +117,7 @@ impl<N: Naming> PartialEq for TreeName<N> {
     ghost laws = { partial_equiv_from_equiv (lists_equiv nat_list_eq_equiv) };
 
     fn eq(&self, other: &TreeName<N>) -> bool {
-        self.name == other.name
+        self.found.name == other.found.name
     }
 }
 
@@ -224,6 +156,6 @@ impl<N: Naming> Ord for TreeName<N> {
     ghost matches_eq = { lists_ties label_cmp texts_ties };
 
     fn cmp(&self, other: &TreeName<N>) -> Ordering {
-        self.name.compare(&other.name)
+        self.found.name.compare(&other.found.name)
     }
 }

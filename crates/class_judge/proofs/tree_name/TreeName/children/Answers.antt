@@ -1,29 +1,19 @@
-use Rattle.std.proofs.Common.{◌≡◌, ◌∙◌, All, sym, ap, subst}
-use Rattle.dns_data.specs.Name.{Labels, IsName}
-use Rattle.label_graph.specs.LiveSet.{IsLiveSet}
-use Rattle.query_classes.specs.Children.{AreChildren, of_name_length}
-use Rattle.query_classes.proofs.NamesBelow.{children_are}
-use Rattle.class_judge.specs.TreeNames.{IsLiveIn}
-use Rattle.class_judge.proofs.LiveAbove.{live_in_each}
+use Rattle.std.proofs.Common.{◌≡◌, ◌∙◌, List, map, All, sym, subst}
+use Rattle.std.proofs.lemmas.List.Elements.{All-weaker}
+use Rattle.dns_data.specs.Name.{Labels}
+use Rattle.query_classes.specs.Children.{AreChildren}
+use Rattle.class_judge.proofs.LiveInEach.{live_in_each}
 use Rattle.class_judge.proofs.tree_name.TreeName.children.Goals as goal
 
-pub names_below-requires : goal.names_below-requires
-names_below-requires g c =
-    let config = g.N.Naming.config in
-    let graph = c.args.graph.now in
-    subst (IsLiveIn config c.self.inside.name) (sym c.in_ok-live-2.ensures.ok)
-    (live_in_each config graph c.requires c.self.inside.name c.in_ok-live.live
-    (subst (λ (n : Labels). IsLiveSet graph n c.in_ok-live.live) (sym c.self.view_is) c.in_ok-live.ensures))
+pub children-requires : goal.children-requires
+children-requires g c = c.self.invariant c.args.graph.now c.requires
+
+pub items_of-requires : goal.items_of-requires
+items_of-requires g c =
+    All-weaker _ _ (λ one live. live_in_each g.N.Naming.config c.args.graph.now c.requires one.name one.live live) c.in_ok-found.found c.in_ok-found.ensures.live
 
 pub returns : goal.returns
 returns g c =
     let graph = c.args.graph.now in
-    let above : Labels = c.self.inside.name in
-    let same : c.in_ok-names.names.items ≡ of_name_length above c.in_ok-labels.labels =
-    c.in_ok-names.ensures.of_name_length ∙ ap (of_name_length above) c.items.ensures in
-    subst (λ (n : Labels). AreChildren graph n c.from_vec.result) c.self.view_is
-    (subst (AreChildren graph above) (sym c.from_vec.ensures)
-    (subst (AreChildren graph above) (sym same)
-    (children_are graph above c.in_ok-labels.labels c.in_ok-labels.ensures.order
-    (c.in_ok-labels.ensures.labels above (subst (λ (n : Labels). IsLiveSet graph n c.in_ok-live.live) (sym c.self.view_is) c.in_ok-live.ensures))
-    (subst (All IsName) same c.in_ok-names.ensures.names))))
+    subst (λ (name : Labels). AreChildren graph name c.from_vec.result) c.self.view_is
+    (subst (AreChildren graph c.self.inside.found.name) (sym (c.from_vec.ensures ∙ c.in_ok-names.ensures)) c.in_ok-found.ensures.names)

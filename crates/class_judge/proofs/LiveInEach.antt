@@ -1,5 +1,5 @@
 -- A live set in one graph of a configuration is that in each: their names stand at the same places.
-use Rattle.std.proofs.Common.{◌≡◌, ℕ, ◌<◌, List, [], ◌∷◌, ◌++◌, All, Contains, length, sym, subst}
+use Rattle.std.proofs.Common.{◌≡◌, ℕ, ◌<◌, List, All, Contains, length, subst}
 use Rattle.std.specs.Prelude.{◌↔◌}
 use Rattle.dns_data.specs.Name.{Labels, name_cmp}
 use Rattle.dns_data.proofs.NameOrder.{names_total}
@@ -8,7 +8,7 @@ use Rattle.label_graph.specs.LiveSet.{IsLiveSet, name_at}
 use Rattle.net_model.specs.declared.config.Config.{Config}
 use Rattle.net_model.specs.Reading.{Redirection, Ground, ReadsOnTo}
 use Rattle.query_classes.proofs.SameGrounds.{along_same}
-use Rattle.class_judge.specs.TreeNames.{IsGraphOf, IsLiveIn, IsLiveAbove}
+use Rattle.class_judge.specs.TreeNames.{IsGraphOf, IsLiveIn}
 
 module _ (config : Config) where
   module _ (one other : Ground) (is : IsGraphOf config one) (also : IsGraphOf config other) where
@@ -43,11 +43,3 @@ module _ (config : Config) where
   -- a live set in one graph is one in each
   pub live_in_each : (graph : Ground) → IsGraphOf config graph → (name : Labels) (places : List ℕ) → IsLiveSet graph name places → IsLiveIn config name places
   live_in_each graph is name places live other also = live_carried graph other is also name places live
-
-  -- with that of the name above, the live set of a name is one label away
-  pub live_further : (graph : Ground) → IsGraphOf config graph → (name : Labels) (kept places : List ℕ) → IsLiveAbove config name kept → places ≡ kept
-      → (label : List ℕ) → (above : Labels) × (name ≡ above ++ label ∷ []) → (next : List ℕ)
-      → ((front : Labels) → IsLiveSet graph front places → IsLiveSet graph (front ++ label ∷ []) next) → IsLiveSet graph name next
-  live_further graph is name kept places live same label (above, e) next further =
-      subst (λ (n : Labels). IsLiveSet graph n next) (sym e)
-      (further above (subst (IsLiveSet graph above) (sym same) (live above label e graph is)))
