@@ -1,11 +1,13 @@
 -- Buckets with one item more, and what they tell of two items.
-use Rattle.std.proofs.Common.{◌≡◌, ℕ, ◌+◌, ◌<◌, ◌*◌, ◌/◌, ◌^◌, Bool, true, false, cond, ◌||◌, List, [], ◌∷◌, ◌++◌, length, map, take, get_or, set, All, refl, sym, ap, ◌∙◌, subst, arith, ◌==◌}
+use Rattle.std.proofs.Common.{◌≡◌, ℕ, ◌+◌, ◌<◌, ◌*◌, ◌/◌, ◌^◌, Bool, true, false, cond, ◌&&◌, ◌||◌, List, [], ◌∷◌, ◌++◌, length, map, take, filter, get_or, set, All, AllPairs, refl, sym, ap, ◌∙◌, subst, arith, ◌==◌}
 use Rattle.std.proofs.lemmas.Bool.{eqb-true, eqb-false}
 use Rattle.std.proofs.lemmas.List.{take_more, map-append, get_or-set_other, get_or-take, get_or_default, get_or-map, length-set, length-take, length-map}
 use Rattle.std.proofs.lemmas.Grind.{get_or-set_at}
-use Rattle.std.proofs.lemmas.List.Elements.{All-push, All-weaker}
+use Rattle.std.proofs.lemmas.List.Elements.{All-push, All-weaker, filter-append}
 use Rattle.std.proofs.lemmas.List.Quantifiers.{all_pairs_push}
-use Rattle.zone_rules.specs.Buckets.{bucket_with, is_used, is_taken, is_contested, place_of, bucket_of, has_rival, Marked}
+use Rattle.std.proofs.lemmas.List.Kept.{AllPairs-cons}
+use Rattle.dns_data.proofs.Membership.{all_from_contains, filter_has, map_has, pairs_first, pairs_rest}
+use Rattle.zone_rules.specs.Buckets.{bucket_with, is_used, is_taken, is_contested, place_of, bucket_of, has_rival, lower_half, lower_key, lower_keys, Marked, TellsRivals}
 use Rattle.zone_rules.specs.declared.buckets.Bucket.{Bucket}
 use Rattle.zone_rules.specs.declared.buckets.Bucket.TheVariants.{Empty, Shared, Taken, Contested}
 
@@ -106,6 +108,57 @@ bucket-read buckets number i bucket below at is =
     ∙ (get_or_default buckets i bucket Empty below
     ∙ ap (λ n. get_or buckets n Empty) at)
 
+-- ---- buckets for the upper halves of numbers, and for the lower halves of those that may have a rival there
+module _ (upper lower : List Bucket) where
+  -- what the upper buckets tell of two keys, the lower ones of two of theirs, and both of two keys
+  abbrev told_above : ℕ × Bool → ℕ × Bool → Type 0
+  told_above a b = a.0 ≡ b.0 → (a.1 || b.1) ≡ true → has_rival upper b.0 ≡ true
+
+  abbrev told_below : ℕ × Bool → ℕ × Bool → Type 0
+  told_below a b = a.0 ≡ b.0 → (a.1 || b.1) ≡ true → has_rival lower b.0 ≡ true
+
+  abbrev told : ℕ × Bool → ℕ × Bool → Type 0
+  told a b = a.0 ≡ b.0 → (a.1 || b.1) ≡ true → (has_rival upper b.0 && has_rival lower (lower_half b.0)) ≡ true
+
+  abbrev left : List (ℕ × Bool) → List (ℕ × Bool)
+  left keys = filter (λ key. has_rival upper key.0) keys
+
+  -- the lower keys behind the first
+  behind-first : (key : ℕ × Bool) (keys : List (ℕ × Bool)) (b : Bool) → AllPairs told_below (map lower_key (cond b (key ∷ left keys) (left keys))) → AllPairs told_below (map lower_key (left keys))
+  behind-first key keys true below = pairs_rest told_below (lower_key key) (map lower_key (left keys)) below
+  behind-first key keys false below = below
+
+  pub told-by-both : (keys : List (ℕ × Bool)) → AllPairs told_above keys → AllPairs told_below (lower_keys (has_rival upper) keys) → AllPairs told keys
+  told-by-both [] above below = λ i j d early within. let none : ⊥ = omega (arith, within) in absurd none
+  told-by-both (key ∷ keys) above below =
+      AllPairs-cons told key keys
+      (all_from_contains (told key) keys
+      (λ later has same one.
+      let up : has_rival upper later.0 ≡ true = pairs_first told_above key keys above later has same one in
+      let here : has_rival upper key.0 ≡ true = ap (has_rival upper) same ∙ up in
+      let first_is = subst (λ b. AllPairs told_below (map lower_key (cond b (key ∷ left keys) (left keys)))) here below in
+      let low = pairs_first told_below (lower_key key) (map lower_key (left keys)) first_is (lower_key later)
+      (map_has lower_key (left keys) later (filter_has (λ other. has_rival upper other.0) keys later has up)) (ap lower_half same) one in
+      (λ j. up j && low j)))
+      (told-by-both keys (pairs_rest told_above key keys above) (behind-first key keys (has_rival upper key.0) below))
+
+-- ---- keys in order, and one more
+module _ (keys : List (ℕ × Bool)) (i : ℕ) (below : i < length keys) where
+  pub told-more : (test : ℕ × Bool → Bool) → map test (take i keys) ++ test (get_or keys i (0, false)) ∷ [] ≡ map test (take (i + 1) keys)
+  told-more test =
+      sym (map-append test (take i keys) (get_or keys i (0, false) ∷ []))
+      ∙ ap (map test) (sym (take_more keys i (0, false) below))
+
+-- the lower keys with those of one more
+pub lower-more : (may : ℕ → Bool) (keys : List (ℕ × Bool)) (i : ℕ) (b : Bool) (lower : List (ℕ × Bool)) → i < length keys → lower ≡ lower_keys may (take i keys) → b ≡ may (get_or keys i (0, false)).0
+    → lower ++ map lower_key (filter (λ _. b) (get_or keys i (0, false) ∷ [])) ≡ lower_keys may (take (i + 1) keys)
+lower-more may keys i b lower below so_far is =
+    let key : ℕ × Bool = get_or keys i (0, false) in
+    let test : ℕ × Bool → Bool = λ other. may other.0 in
+    (λ j. so_far j ++ map lower_key (filter (λ _. is j) (key ∷ [])))
+    ∙ (sym (map-append lower_key (filter test (take i keys)) (filter test (key ∷ [])))
+    ∙ ap (map lower_key) (sym (filter-append test (take i keys) (key ∷ [])) ∙ ap (filter test) (sym (take_more keys i (0, false) below))))
+
 -- ---- the keys of items in order
 module _ {A : Type 0} (key : A → ℕ × Bool) (items : List A) (i : ℕ) (item : A) (below : i < length items) (is : item ≡ get_or items i item) where
   pub keys-more : map key (take i items) ++ key item ∷ [] ≡ map key (take (i + 1) items)
@@ -124,13 +177,13 @@ module _ {A : Type 0} (key : A → ℕ × Bool) (items : List A) (i : ℕ) (item
       read ∙ (ap (λ all. get_or all i b) says ∙ (get_or-map test items i item b below ∙ ap test (sym is)))
 
   -- an item before the next one, with the same number, of which one has to stand alone
-  pub rivals-before : (buckets : List Bucket) → Marked buckets (map key items)
-      → All (λ before. (key before).0 ≡ (key item).0 → ((key before).1 || (key item).1) ≡ true → has_rival buckets (key item).0 ≡ true) (take i items)
-  rivals-before buckets marked = λ k d within.
+  pub rivals-before : (may : ℕ → Bool) → TellsRivals may (map key items)
+      → All (λ before. (key before).0 ≡ (key item).0 → ((key before).1 || (key item).1) ≡ true → may (key item).0 ≡ true) (take i items)
+  rivals-before may tells = λ k d within.
       let early : k < i = omega (arith, within, length-take i items, below) in
       let earlier : get_or (take i items) k d ≡ get_or items k d = get_or-take i items k d early in
-      let said = marked.contested k i (key item) early (subst (λ n. i < n) (sym (length-map items key)) below) in
+      let said = tells k i (key item) early (subst (λ n. i < n) (sym (length-map items key)) below) in
       let first : get_or (map key items) k (key item) ≡ key (get_or (take i items) k d) = get_or-map key items k d (key item) (omega (arith, early, below)) ∙ ap key (sym earlier) in
       let second : get_or (map key items) i (key item) ≡ key item = get_or-map key items i item (key item) below ∙ ap key (sym is) in
-      subst (λ b. b.0 ≡ (key item).0 → (b.1 || (key item).1) ≡ true → has_rival buckets (key item).0 ≡ true) first
-      (subst (λ b. (get_or (map key items) k (key item)).0 ≡ b.0 → ((get_or (map key items) k (key item)).1 || b.1) ≡ true → has_rival buckets b.0 ≡ true) second said)
+      subst (λ b. b.0 ≡ (key item).0 → (b.1 || (key item).1) ≡ true → may (key item).0 ≡ true) first
+      (subst (λ b. (get_or (map key items) k (key item)).0 ≡ b.0 → ((get_or (map key items) k (key item)).1 || b.1) ≡ true → may b.0 ≡ true) second said)

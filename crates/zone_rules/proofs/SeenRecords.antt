@@ -1,5 +1,5 @@
 -- Records as they are compared, and a set of those that were seen.
-use Rattle.std.proofs.Common.{◌≡◌, Bool, true, false, ◌&&◌, ◌||◌, List, [], ◌∷◌, All, refl, ap, sym, ◌∙◌, ◌==◌}
+use Rattle.std.proofs.Common.{◌≡◌, ℕ, Bool, true, false, ◌&&◌, ◌||◌, List, [], ◌∷◌, All, refl, ap, sym, ◌∙◌, ◌==◌}
 use Rattle.std.proofs.Math.Bool.{and_comm, and-false}
 use Rattle.std.proofs.lemmas.Bool.{eq-eqb}
 use Rattle.std.proofs.lemmas.List.Elements.{All-head, All-tail}
@@ -13,12 +13,10 @@ use Rattle.dns_data.specs.declared.rdata.Rr.{Rr}
 use Rattle.dns_data.specs.contracts.rdata.RdataPartialEq.TheImpl as data_impl
 use Rattle.dns_data.proofs.Tellers.{same_data}
 use Rattle.dns_data.proofs.IdenticalRecords.{identical_by_parts}
-use Rattle.zone_rules.specs.Buckets.{has_rival}
 use Rattle.zone_rules.specs.Fingerprint.{fed_name, fed_data, record_number}
 use Rattle.zone_rules.specs.Seen.{has}
 use Rattle.zone_rules.specs.contracts.identical.IdentityOrd.TheImpl as identity_order
 use Rattle.zone_rules.specs.contracts.identical.IdentityPartialEq.TheImpl as identity_impl
-use Rattle.zone_rules.specs.declared.buckets.Bucket.{Bucket}
 use Rattle.zone_rules.specs.declared.identical.Identity.{Identity}
 
 -- what is seen has the identity of the record
@@ -34,14 +32,14 @@ same_identity query item rr number owner rdata =
     ∙ (λ j. query.number == number j && (name_eq query.owner.now (owner j) && data_eq query.rdata.now (rdata j)))
 
 -- the records that may have a rival were seen
-abbrev pub HasSeen : List Bucket → tree.BTreeSet Identity → List Rr → Type 0
-HasSeen buckets seen before = (query : Identity) → has (identity_order.ghosts).cmp seen query ≡ list_any (λ rr. has_rival buckets (record_number rr) && sees query rr) before
+abbrev pub HasSeen : (ℕ → Bool) → tree.BTreeSet Identity → List Rr → Type 0
+HasSeen may seen before = (query : Identity) → has (identity_order.ghosts).cmp seen query ≡ list_any (λ rr. may (record_number rr) && sees query rr) before
 
 -- ---- a record and those before it
-module _ (buckets : List Bucket) (rr : Rr) where
+module _ (may_rival : ℕ → Bool) (rr : Rr) where
   -- whether a record may have a rival
   abbrev may : Rr → Bool
-  may other = has_rival buckets (record_number other)
+  may other = may_rival (record_number other)
 
   -- identical records have one number
   one_number : (other : Rr) → is_identical rr other ≡ true → record_number other ≡ record_number rr
@@ -57,7 +55,7 @@ module _ (buckets : List Bucket) (rr : Rr) where
   both-may : (other : Rr) (b : Bool) → may rr ≡ true → is_identical rr other ≡ b → (may other && has_identity other b) ≡ b
   both-may other true is_so e =
       let same : record_number other ≡ record_number rr = one_number other e in
-      (λ j. (ap (has_rival buckets) same ∙ is_so) j && (eq-eqb (record_number rr) (record_number other) (sym same) j && true))
+      (λ j. (ap may_rival same ∙ is_so) j && (eq-eqb (record_number rr) (record_number other) (sym same) j && true))
   both-may other false is_so e =
       ap (λ b. may other && b) (and-false (record_number rr == record_number other))
       ∙ and-false (may other)

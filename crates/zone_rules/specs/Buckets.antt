@@ -1,6 +1,6 @@
 -- Buckets, into which items fall by their numbers: for the contracts of the code's searches alone.
-use Rattle.std.specs.Prelude.{◌≡◌, Bool, true, false, ◌||◌, ℕ, ◌*◌, ◌/◌, ◌^◌, List, length, slice_index_or}
-use Rattle.std.specs.List.{All, AllPairs}
+use Rattle.std.specs.Prelude.{◌≡◌, Bool, true, false, ◌||◌, ℕ, ◌*◌, ◌/◌, ◌%◌, ◌^◌, List, length, map, slice_index_or}
+use Rattle.std.specs.List.{All, AllPairs, filter}
 use Rattle.zone_rules.specs.declared.buckets.Bucket.{Bucket}
 use Rattle.zone_rules.specs.declared.buckets.Bucket.TheVariants.{Empty, Shared, Taken, Contested}
 
@@ -42,7 +42,7 @@ place_of buckets number = number / 2 ^ 32 * length buckets / 2 ^ 32
 abbrev pub bucket_of : List Bucket → ℕ → Bucket
 bucket_of buckets number = slice_index_or buckets (place_of buckets number) Empty
 
--- an item with this number may have a rival
+-- an item with this number may have a rival in its bucket
 abbrev pub has_rival : List Bucket → ℕ → Bool
 has_rival buckets number = is_contested (bucket_of buckets number)
 
@@ -51,3 +51,23 @@ pub record Marked (buckets : List Bucket) (keys : List (ℕ × Bool)) : Type 0 w
   pub used : All (λ key. is_used (bucket_of buckets key.0) ≡ true) keys
   pub taken : All (λ key. key.1 ≡ true → is_taken (bucket_of buckets key.0) ≡ true) keys
   pub contested : AllPairs (λ a b. a.0 ≡ b.0 → (a.1 || b.1) ≡ true → has_rival buckets b.0 ≡ true) keys
+
+-- the lower half of a number of 64 bits, in the place of the upper one
+abbrev pub lower_half : ℕ → ℕ
+lower_half number = number * 2 ^ 32 % 2 ^ 64
+
+-- a key by the lower half of its number
+abbrev pub lower_key : ℕ × Bool → ℕ × Bool
+lower_key key = (lower_half key.0, key.1)
+
+-- the keys by the lower halves of their numbers, of the items alone that may have a rival
+abbrev pub lower_keys : (ℕ → Bool) → List (ℕ × Bool) → List (ℕ × Bool)
+lower_keys may keys = map lower_key (filter (λ key. may key.0) keys)
+
+-- of two items with one number, of which one has to stand alone, this tells that they may be rivals
+abbrev pub TellsRivals : (ℕ → Bool) → List (ℕ × Bool) → Type 0
+TellsRivals may keys = AllPairs (λ a b. a.0 ≡ b.0 → (a.1 || b.1) ≡ true → may b.0 ≡ true) keys
+
+-- of each key it is said whether an item with it may have a rival, by its number alone
+abbrev pub SaysRivals : List Bool → List (ℕ × Bool) → Type 0
+SaysRivals said keys = (may : ℕ → Bool) × (said ≡ map (λ key. may key.0) keys) × TellsRivals may keys

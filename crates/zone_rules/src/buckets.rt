@@ -1,14 +1,18 @@
 //! Buckets, into which items fall by numbers that equal items share, so that few items have to be compared.
 
-ghost use Rattle.std.specs.Prelude.{◌≡◌, ◌<◌, ◌∷◌, ◌++◌, [], ℕ, Bool, List, length, map, IfOk};
-ghost use Rattle.zone_rules.specs.Buckets.{bucket_with, has_rival, place_of, Marked};
+ghost use Rattle.std.specs.Prelude.{◌≡◌, ◌<◌, ◌∷◌, ◌++◌, [], ◌&&◌, ℕ, Bool, List, length, map, IfOk, OnOk};
+ghost use Rattle.std.specs.List.{filter};
+ghost use Rattle.zone_rules.specs.Buckets.{bucket_with, has_rival, place_of, lower_half, lower_key, lower_keys, Marked, SaysRivals};
 
 use dns_data::NoMemory;
 use std::alloc::Global;
 use std::marker::Model;
 
-/// How many buckets there are for an item.
-const BUCKETS_FOR_ONE: usize = 16;
+/// How many buckets there are for an item by the upper half of its number: few, so that they fit into fast memory.
+const UPPER_FOR_ONE: usize = 4;
+
+/// How many buckets there are for an item by the lower half of its number.
+const LOWER_FOR_ONE: usize = 16;
 
 /// The most buckets that there are.
 const MOST_BUCKETS: usize = 0xFFFF_FFFF;
@@ -56,20 +60,62 @@ impl Bucket {
     }
 }
 
+/// Of each key, which is a number and whether the item has to stand alone, whether an item with it may have a rival: of
+/// the two one has to stand alone.
+pub(crate) fn rivals(alloc: Global, keys: &[(u64, bool)]) -> Result<Vec<bool>, NoMemory>
+    ensures { IfOk result (λ rivals. SaysRivals rivals.items keys.now) }
+{
+    let upper = Buckets::of(alloc, keys, UPPER_FOR_ONE)?.rivals(alloc, keys)?;
+    let lower_keys = lower_keys(alloc, keys, upper.as_slice())?;
+    let lower = Buckets::of(alloc, lower_keys.as_slice(), LOWER_FOR_ONE)?;
+    lower.rivals_too(alloc, keys, upper.as_slice())
+}
+
+/// The keys by the lower halves of their numbers, of the items alone of which it is said that they may have a rival.
+fn lower_keys(
+    alloc: Global,
+    keys: &[(u64, bool)],
+    rivals: &[bool],
+) -> Result<Vec<(u64, bool)>, NoMemory>
+    requires { length rivals.now ≡ length keys.now }
+    ensures { (may : ℕ → Bool) → rivals.now ≡ map (λ key. may key.0) keys.now
+        → IfOk result (λ lower. lower.items ≡ lower_keys may keys.now) }
+{
+    let mut lower = Vec::new(alloc);
+    for (i, key) in keys.iter().enumerate() {
+        push_lower(&mut lower, *key, rivals[i])?;
+    }
+    Ok(lower)
+}
+
+/// Puts a key by the lower half of its number behind the others, where an item with it may have a rival.
+fn push_lower(
+    lower: &mut Vec<(u64, bool)>,
+    key: (u64, bool),
+    is_rival: bool,
+) -> Result<(), NoMemory>
+    ensures { OnOk result (lower.new.items ≡ lower.old.items ++ map lower_key (filter (λ _. is_rival) (key ∷ []))) }
+{
+    if is_rival {
+        lower.push((lower_half(key.0), key.1))?;
+    }
+    Ok(())
+}
+
 impl Buckets {
-    /// The buckets of items with these keys: their numbers, and whether each has to stand alone.
-    pub fn of(alloc: Global, keys: &[(u64, bool)]) -> Result<Buckets, NoMemory>
+    /// The buckets of items with these keys, so many for an item.
+    fn of(alloc: Global, keys: &[(u64, bool)], for_one: usize) -> Result<Buckets, NoMemory>
         ensures { IfOk result (λ buckets. Marked buckets keys.now) }
     {
-        let mut buckets = Buckets::new(alloc, keys.len())?;
+        let mut buckets = Buckets::new(alloc, keys.len().saturating_mul(for_one))?;
         for key in keys {
             buckets.put(key.0, key.1);
         }
         Ok(buckets)
     }
 
-    /// Of each key whether an item with it may have a rival: of the two one has to stand alone.
-    pub fn rivals(&self, alloc: Global, keys: &[(u64, bool)]) -> Result<Vec<bool>, NoMemory>
+    /// Of each key whether an item with it may have a rival in these buckets.
+    fn rivals(&self, alloc: Global, keys: &[(u64, bool)]) -> Result<Vec<bool>, NoMemory>
         ensures { IfOk result (λ rivals. rivals.items ≡ map (λ key. has_rival self.now key.0) keys.now) }
     {
         let mut rivals = Vec::with_capacity(alloc, keys.len())?;
@@ -79,11 +125,38 @@ impl Buckets {
         Ok(rivals)
     }
 
-    /// Empty buckets for so many items.
-    fn new(alloc: Global, items: usize) -> Result<Buckets, NoMemory>
+    /// Of each key whether an item with it may have a rival by what is said of it, and in these buckets by the lower half
+    /// of its number, too.
+    fn rivals_too(
+        &self,
+        alloc: Global,
+        keys: &[(u64, bool)],
+        rivals: &[bool],
+    ) -> Result<Vec<bool>, NoMemory>
+        requires { length rivals.now ≡ length keys.now }
+        ensures { (may : ℕ → Bool) → rivals.now ≡ map (λ key. may key.0) keys.now
+            → IfOk result (λ both. both.items ≡ map (λ key. may key.0 && has_rival self.now (lower_half key.0)) keys.now) }
+    {
+        let mut both = Vec::with_capacity(alloc, keys.len())?;
+        for (i, key) in keys.iter().enumerate() {
+            both.push(self.is_rival_too(rivals[i], key.0))?;
+        }
+        Ok(both)
+    }
+
+    /// Whether an item with this number may have a rival by what is said of it, and in these buckets by the number's lower
+    /// half, too.
+    fn is_rival_too(&self, is_rival: bool, number: u64) -> bool
+        ensures { result ≡ (is_rival && has_rival self.now (lower_half number)) }
+    {
+        is_rival && self.has_rival(lower_half(number))
+    }
+
+    /// So many empty buckets, but at least one and no more than there may be.
+    fn new(alloc: Global, count: usize) -> Result<Buckets, NoMemory>
         ensures { IfOk result (λ buckets. Marked buckets []) }
     {
-        let count = items.saturating_mul(BUCKETS_FOR_ONE).clamp(1, MOST_BUCKETS);
+        let count = count.clamp(1, MOST_BUCKETS);
         Ok(Buckets {
             buckets: vec![in alloc; Bucket::Empty; count]?,
         })
@@ -114,4 +187,11 @@ impl Buckets {
         let scaled = high * self.buckets.len() as u64;
         (scaled >> 32) as usize
     }
+}
+
+/// The lower half of a number, in the place of the upper one.
+fn lower_half(number: u64) -> u64
+    ensures { result ≡ lower_half number }
+{
+    number << 32
 }

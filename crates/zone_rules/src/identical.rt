@@ -8,7 +8,7 @@ ghost use Rattle.dns_data.specs.Identical.{is_identical};
 ghost use Rattle.zone_rules.specs.Fingerprint.{record_key};
 ghost use Rattle.zone_rules.specs.Seen.{has};
 
-use crate::buckets::Buckets;
+use crate::buckets::rivals;
 use crate::fingerprint::record_number;
 use dns_data::{List, Name, NoMemory, Rdata, Rr};
 use std::alloc::Global;
@@ -40,8 +40,7 @@ fn are_first(alloc: Global, rrs: &[Rr]) -> Result<Vec<bool>, NoMemory>
     ensures { IfOk result (λ firsts. firsts.items ≡ are_first is_identical rrs.now) }
 {
     let keys = record_keys(alloc, rrs)?;
-    let buckets = Buckets::of(alloc, keys.as_slice())?;
-    let rivals = buckets.rivals(alloc, keys.as_slice())?;
+    let rivals = rivals(alloc, keys.as_slice())?;
     let mut seen = BTreeSet::new(alloc);
     let mut firsts = Vec::with_capacity(alloc, rrs.len())?;
     for (i, rr) in rrs.iter().enumerate() {

@@ -9,7 +9,7 @@ ghost use Rattle.zone_rules.specs.Rules.{had, first_fault, is_soa_elsewhere, is_
 ghost use Rattle.zone_rules.specs.ZoneOf.{checked};
 
 use crate::apex::is_wildcard;
-use crate::buckets::Buckets;
+use crate::buckets::rivals;
 use crate::fault::{RuleCause, RuleFault};
 use crate::fingerprint::owner_number;
 use crate::types::{is_cname, is_dname, is_ns, is_soa};
@@ -33,8 +33,7 @@ pub(crate) fn check_rules(alloc: Global, origin: &Name, rrs: &[Rr]) -> Result<()
     ensures err { IfErr result (λ fault. (fault ≡ RuleFault.NoMemory) ⊎ (checked origin.now rrs.now ≡ Err fault)) }
 {
     let keys = owner_keys(alloc, rrs)?;
-    let buckets = Buckets::of(alloc, keys.as_slice())?;
-    let rivals = buckets.rivals(alloc, keys.as_slice())?;
+    let rivals = rivals(alloc, keys.as_slice())?;
     let mut before = Before::new(alloc);
     for (i, rr) in rrs.iter().enumerate() {
         let has_rival = rivals[i];
