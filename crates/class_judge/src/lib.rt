@@ -6,10 +6,10 @@
 //!
 //! Costs: `prepare` makes the trees of all zones, the graph of base names and a graph of each server's name, once. A name of
 //! the tree keeps its own live set, found once, one label on from that of the name above it: none is walked to from the root to
-//! be judged, and judging one copies neither. Judging a name makes a graph for each of its classes, which is dropped when its faults are
-//! found: a verdict keeps no walk, and takes no memory of its own where no class of the name shows a fault. None is made where
-//! the representative's walks are seen to go straight to their ends, and it is restricted to the least set of learnt addresses
-//! only where some configured server is neither in that set nor a top server.
+//! be judged, and judging copies neither the name nor its live set. Judging a name makes a graph for each of its classes, which
+//! is dropped when its faults are found: a verdict keeps no walk, and takes no memory of its own where no class of the name
+//! shows a fault. No graph is made where the representative's walks are seen to go straight to their ends, and it is restricted
+//! to the least set of learnt addresses only where some configured server is neither in that set nor a top server.
 #![tactic(auto)]
 
 mod classes;

@@ -13,7 +13,7 @@ use std::cmp::Ordering;
 use std::collections::VecDeque;
 use std::marker::{Model, PhantomData};
 
-/// A name of the class tree with its live set, so that none is walked to again. Contracts see the name, and names are
+/// A name of the class tree with its live set, so that it isn't walked to again. Contracts see the name, and names are
 /// ordered as `Name` orders them.
 #[derive(Drop)]
 pub struct TreeName<N: Naming> {
@@ -42,7 +42,7 @@ impl<N: Naming> TreeName<N> {
         Ok(TreeName::of(found))
     }
 
-    /// The name, with its live set.
+    /// The item of a name with its live set.
     fn of(found: LiveName) -> TreeName<N>
         requires { IsLiveIn N.config found.name found.live }
         ensures { result ≡ found.name }

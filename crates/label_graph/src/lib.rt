@@ -9,10 +9,10 @@
 //! are put in order before the next, zone after zone in the order of their origins: so the sort of all names finds them
 //! nearly in order. Building sorts the names and the fronts of targets, finds the name above each along the one before
 //! it, and looks once at each pair of a front and a base name to which it reads on. Rows of places behind the last that
-//! has something take no memory. A live set has one place where no DNAME record plays a part, and then takes no memory
-//! of its own; a label more costs a binary search among the last labels below each place, and no more where none of the
-//! names found is redirected. The labels below one place are listed in order without a search or a sort, each with its
-//! own live set; those below several are sorted, and looked for.
+//! has something take no memory. A live set has at most one place where no DNAME record plays a part, and one of one
+//! place takes no memory of its own; a label more costs a binary search among the last labels below each place, and no
+//! more where none of the names found is redirected. The labels below one place are listed in order without a search or
+//! a sort, each with its own live set; those below several are sorted, and looked for.
 #![tactic(auto)]
 
 mod base;

@@ -9,10 +9,11 @@
 //! the origins, of two comparisons where the query before it stands between the same two origins. At each server whose zone tells
 //! something of the query's nearest origin there is a search among the server's zones for the nearest zone, of three, one of them
 //! for the server, where no origin of the server's stands between the query and its nearest origin, and what decides at the query
-//! is looked for. Where several zones tell something of the query, what decides is looked for once more in the first one and in
-//! each further one, and their data are compared, type by type. All this takes no memory. Only where one of these servers refers
-//! the query its nearest origin's states are copied, and the same is looked for anew, as for an origin, at these servers and at
-//! those to which they refer it. Where no origin is at or above the query, a list is made of the top servers. No graph is made.
+//! is looked for. Where several zones tell something of the query, what decides is looked for once more for each further one, in
+//! it and in the first one, and their data are compared, type by type. All this takes no memory. Only where one of these servers
+//! refers the query its nearest origin's states are copied, and the same is looked for anew, as for an origin, at these servers
+//! and at those to which they refer it. Where no origin is at or above the query, a list is made of the top servers. No graph is
+//! made.
 #![tactic(auto)]
 
 mod asked;

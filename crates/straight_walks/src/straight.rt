@@ -91,8 +91,8 @@ fn straight_from<'a>(
     }
 }
 
-/// Whether the walks end at all servers of a search that has begun, over at most so many states, and all that tell something of
-/// the query tell the same; or `None` where one refers it. It takes no memory.
+/// Whether the walks end at all servers that a search that has begun has yet to pass, over at most so many states, and all of
+/// them that tell something of the query tell the same; or `None` where one refers it. It takes no memory.
 fn end_straight(hosts: &Hosts<'_>, query: &Name, begun: &Begun<'_>, most: usize) -> Option<bool>
     ensures { IfSome result (λ straight. straight ≡ true → (deps : Deps) → HasBegun hosts.now deps query.now begun.now
         → (setting : Setting) → IsSettingOf hosts.now deps setting → GoesStraight setting deps most query.now) }
