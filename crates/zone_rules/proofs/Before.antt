@@ -1,6 +1,7 @@
 -- What is kept of the records before one, when one more stands before.
 use Rattle.std.proofs.Common.{◌≡◌, Bool, true, false, not, ◌||◌, ◌&&◌, List, [], ◌∷◌, ◌++◌, refl, ap, sym, ◌∙◌}
-use Rattle.std.proofs.Math.Bool.{or-false}
+use Rattle.std.proofs.Math.Bool.{and-false, or-false}
+use Rattle.std.proofs.lemmas.Bool.{or_parts}
 use Rattle.std.proofs.lemmas.List.Folds.{list_any-append}
 use Rattle.std.specs.List.{list_any}
 use Rattle.dns_data.specs.Name.{Labels, name_eq}
@@ -8,7 +9,7 @@ use Rattle.dns_data.specs.declared.rdata.Rr.{Rr}
 use Rattle.dns_data.specs.declared.rr_type.RrType.TheVariants as types
 use Rattle.dns_data.proofs.Names.{name_eq_decides}
 use Rattle.zone_rules.specs.Apex.{is_type}
-use Rattle.zone_rules.specs.Before.{has_name, IsSummaryOf}
+use Rattle.zone_rules.specs.Before.{has_name, is_watched, IsSummaryOf}
 use Rattle.zone_rules.specs.declared.rules.Before.{Before}
 
 -- a test of the records before, and of one more
@@ -45,3 +46,20 @@ module _ (may_have : Labels → Bool) (old new : Before) (before : List Rr) (rr 
         dnames owner
         ∙ any-more (λ other. name_eq owner other.owner && is_type types.Dname other) before rr (has_name old.dnames owner) (stands.dnames owner);
   }
+
+-- a record that has no rival and isn't watched changes nothing of what is kept
+pub passed-stands : (may_have : Labels → Bool) (kept : Before) (before : List Rr) (rr : Rr) → false ≡ may_have rr.owner → is_watched rr ≡ false → IsSummaryOf may_have kept before → IsSummaryOf may_have kept (before ++ rr ∷ [])
+passed-stands may_have kept before rr none plain stands =
+    put-stands may_have kept kept before rr false none stands
+    (sym (or-false kept.has_soa) ∙ ap (λ b. kept.has_soa || b) (sym soa))
+    (λ query. beside (has_name kept.cnames query) (name_eq query rr.owner) false refl)
+    (λ query. beside (has_name kept.others query) (name_eq query rr.owner) false refl)
+    (λ query. beside (has_name kept.dnames query) (name_eq query rr.owner) (is_type types.Dname rr) dname) where
+      soa : is_type types.Soa rr ≡ false
+      soa = (or_parts (is_type types.Soa rr) (is_type types.Ns rr || is_type types.Dname rr) plain).0
+
+      dname : is_type types.Dname rr ≡ false
+      dname = (or_parts (is_type types.Ns rr) (is_type types.Dname rr) (or_parts (is_type types.Soa rr) (is_type types.Ns rr || is_type types.Dname rr) plain).1).1
+
+      beside : (was is_owner test : Bool) → test ≡ false → was ≡ (was || (is_owner && test))
+      beside was is_owner test fails = sym (ap (λ b. was || (is_owner && b)) fails ∙ (ap (λ b. was || b) (and-false is_owner) ∙ or-false was))

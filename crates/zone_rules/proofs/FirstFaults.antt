@@ -1,5 +1,5 @@
 -- The rules by what is kept of the records before, and the first fault as far as a loop has come.
-use Rattle.std.proofs.Common.{◌≡◌, ℕ, ◌+◌, ◌<◌, ◌≤◌, Bool, true, false, not, cond, ◌&&◌, ◌||◌, List, [], ◌∷◌, ◌++◌, length, take, drop, get_or, All, Some, None, refl, ap, sym, ◌∙◌, add-one}
+use Rattle.std.proofs.Common.{◌≡◌, ℕ, ◌+◌, ◌<◌, ◌≤◌, Bool, true, false, not, cond, ◌&&◌, ◌||◌, List, [], ◌∷◌, ◌++◌, length, take, drop, get_or, All, Option, Some, None, refl, ap, sym, ◌∙◌, add-one}
 use Rattle.std.proofs.Math.Seq.{drop-cons}
 use Rattle.std.proofs.Math.ListN.{drop_of_length-le}
 use Rattle.std.proofs.lemmas.List.{take_more}
@@ -12,10 +12,10 @@ use Rattle.dns_data.specs.declared.rdata.Rr.{Rr}
 use Rattle.dns_data.specs.declared.rr_type.RrType.TheVariants as types
 use Rattle.dns_data.proofs.Names.{name_eq_decides}
 use Rattle.zone_rules.specs.Apex.{is_type}
-use Rattle.zone_rules.specs.Before.{IsSummaryOf, rule_in}
+use Rattle.zone_rules.specs.Before.{IsSummaryOf, fault_in, rule_in}
 use Rattle.zone_rules.specs.Rules.{had_at, had_other_at, is_soa_elsewhere, is_star_record, is_second_cname, is_beside_cname, rule_at, first_fault_behind}
-use Rattle.zone_rules.specs.declared.fault.RuleCause.{RuleCause}
 use Rattle.zone_rules.specs.declared.fault.RuleCause.TheVariants.{TwoSoas, SoaElsewhere, CnameAndOther, TwoCnames, TwoDnames, StarRecord}
+use Rattle.zone_rules.specs.declared.fault.RuleFault.{RuleFault}
 use Rattle.zone_rules.specs.declared.fault.RuleFault.TheVariants.{At}
 use Rattle.zone_rules.specs.declared.rules.Before.{Before}
 
@@ -57,7 +57,7 @@ module _ (may_have : Labels → Bool) (rr : Rr) (none : may_have rr.owner ≡ fa
     by true e = alone (λ other. not (is_type types.Cname other)) e
     by false e = no-cname
 
--- ---- the rule that a record breaks, by what is kept of the records before, is the one that it breaks behind them
+-- ---- a record's fault by what is kept of the records before is the one that it has behind them
 module _ (may_have : Labels → Bool) (kept : Before) (before : List Rr) (origin : Labels) (rr : Rr) (stands : IsSummaryOf may_have kept before) where
   by-rival : (b : Bool) → may_have rr.owner ≡ b
       → All (λ other. other.owner ≡ rr.owner → (is_type types.Cname other || is_type types.Cname rr) ≡ true → may_have rr.owner ≡ true) before → rule_in kept b origin rr ≡ rule_at origin before rr
@@ -78,9 +78,10 @@ module _ (may_have : Labels → Bool) (kept : Before) (before : List Rr) (origin
       (cond (is_type types.Dname rr && stands.dnames rr.owner j) (Some TwoDnames)
       None)))))
 
-  pub rule-kept : (has_rival : Bool) → has_rival ≡ may_have rr.owner
-      → All (λ other. other.owner ≡ rr.owner → (is_type types.Cname other || is_type types.Cname rr) ≡ true → may_have rr.owner ≡ true) before → rule_in kept has_rival origin rr ≡ rule_at origin before rr
-  rule-kept has_rival is rivals = by-rival has_rival (sym is) rivals
+  pub fault-kept : (has_rival : Bool) → has_rival ≡ may_have rr.owner
+      → All (λ other. other.owner ≡ rr.owner → (is_type types.Cname other || is_type types.Cname rr) ≡ true → may_have rr.owner ≡ true) before
+      → fault_in kept has_rival origin rr ≡ option_map (λ cause. At rr.file rr.line cause) (rule_at origin before rr)
+  fault-kept has_rival is rivals = ap (option_map (λ cause. At rr.file rr.line cause)) (by-rival has_rival (sym is) rivals)
 
 module _ (origin : Labels) (rrs : List Rr) (i : ℕ) where
   -- the records before the next
@@ -94,17 +95,11 @@ module _ (origin : Labels) (rrs : List Rr) (i : ℕ) where
       ap (first_fault_behind origin (take i rrs)) (drop-cons rrs i rr below ∙ (λ j. sym is j ∷ drop (sym (add-one i) j) rrs))
       ∙ ap (λ front. option_or (option_map (λ cause. At rr.file rr.line cause) (rule_at origin (take i rrs) rr)) (first_fault_behind origin front (drop (i + 1) rrs))) (before-next rr below is)
 
-  -- a record that breaks no rule
-  pub fault-later : (rr : Rr) → i < length rrs → rr ≡ get_or rrs i rr → rule_at origin (take i rrs) rr ≡ None → first_fault_behind origin (take i rrs) (drop i rrs) ≡ first_fault_behind origin (take (i + 1) rrs) (drop (i + 1) rrs)
-  fault-later rr below is none =
+  pub fault-next : (rr : Rr) (fault : Option RuleFault) → i < length rrs → rr ≡ get_or rrs i rr → fault ≡ option_map (λ cause. At rr.file rr.line cause) (rule_at origin (take i rrs) rr)
+      → first_fault_behind origin (take i rrs) (drop i rrs) ≡ option_or fault (first_fault_behind origin (take (i + 1) rrs) (drop (i + 1) rrs))
+  fault-next rr fault below is first =
       here rr below is
-      ∙ ap (λ rule. option_or (option_map (λ cause. At rr.file rr.line cause) rule) (first_fault_behind origin (take (i + 1) rrs) (drop (i + 1) rrs))) none
-
-  -- a record that breaks one
-  pub fault-here : (rr : Rr) (broken : RuleCause) → i < length rrs → rr ≡ get_or rrs i rr → rule_at origin (take i rrs) rr ≡ Some broken → first_fault_behind origin (take i rrs) (drop i rrs) ≡ Some (At rr.file rr.line broken)
-  fault-here rr broken below is some =
-      here rr below is
-      ∙ ap (λ rule. option_or (option_map (λ cause. At rr.file rr.line cause) rule) (first_fault_behind origin (take (i + 1) rrs) (drop (i + 1) rrs))) some
+      ∙ ap (λ found. option_or found (first_fault_behind origin (take (i + 1) rrs) (drop (i + 1) rrs))) (sym first)
 
   -- no record is left
   pub fault-none : length rrs ≤ i → first_fault_behind origin (take i rrs) (drop i rrs) ≡ None

@@ -161,11 +161,6 @@ lower-more may keys i b lower below so_far is =
 
 -- ---- the keys of items in order
 module _ {A : Type 0} (key : A → ℕ × Bool) (items : List A) (i : ℕ) (item : A) (below : i < length items) (is : item ≡ get_or items i item) where
-  pub keys-more : map key (take i items) ++ key item ∷ [] ≡ map key (take (i + 1) items)
-  keys-more =
-      sym (map-append key (take i items) (item ∷ []))
-      ∙ ap (map key) (sym (take_more items i item below ∙ (λ j. take i items ++ sym is j ∷ [])))
-
   -- the number of the next one
   pub read-next : (keys : List (ℕ × Bool)) (read : ℕ × Bool) → keys ≡ map key items → read ≡ get_or keys i read → read.0 ≡ (key item).0
   read-next keys read says is_read =

@@ -1,7 +1,8 @@
 -- What is kept of the records before one, and what it tells of the rules: for the contracts of the loop alone that
 -- goes through the records.
-use Rattle.std.specs.Prelude.{◌≡◌, Bool, true, ◌&&◌, List, if◌then◌else◌, Option, Some, None}
+use Rattle.std.specs.Prelude.{◌≡◌, Bool, true, ◌&&◌, ◌||◌, List, if◌then◌else◌, Option, Some, None}
 use Rattle.std.specs.BTreeSet as tree
+use Rattle.std.specs.Option.{option_map}
 use Rattle.dns_data.specs.Name.{Labels, name_cmp}
 use Rattle.dns_data.specs.declared.rdata.Rr.{Rr}
 use Rattle.dns_data.specs.declared.rr_type.RrType.TheVariants as types
@@ -9,6 +10,8 @@ use Rattle.zone_rules.specs.Apex.{is_type}
 use Rattle.zone_rules.specs.Rules.{had, had_at, had_other_at, is_soa_elsewhere, is_star_record}
 use Rattle.zone_rules.specs.declared.fault.RuleCause.{RuleCause}
 use Rattle.zone_rules.specs.declared.fault.RuleCause.TheVariants.{TwoSoas, SoaElsewhere, CnameAndOther, TwoCnames, TwoDnames, StarRecord}
+use Rattle.zone_rules.specs.declared.fault.RuleFault.{RuleFault}
+use Rattle.zone_rules.specs.declared.fault.RuleFault.TheVariants.{At}
 use Rattle.zone_rules.specs.declared.rules.Before.{Before}
 use denote.Bor.{Bor}
 
@@ -35,3 +38,11 @@ rule_in kept has_rival origin rr =
     then Some CnameAndOther
     else (if is_type types.Dname rr && has_name kept.dnames rr.owner then Some TwoDnames
     else None)))))
+
+-- the record's first fault, by what is kept
+abbrev pub fault_in : Before → Bool → Labels → Rr → Option RuleFault
+fault_in kept has_rival origin rr = option_map (λ cause. At rr.file rr.line cause) (rule_in kept has_rival origin rr)
+
+-- a rule speaks of the record whatever stands at its owner
+abbrev pub is_watched : Rr → Bool
+is_watched rr = is_type types.Soa rr || (is_type types.Ns rr || is_type types.Dname rr)

@@ -1,9 +1,9 @@
 //! The rules of a zone.
 
-ghost use Rattle.std.specs.Prelude.{◌≡◌, ◌⊎◌, ◌++◌, ◌∷◌, [], ◌&&◌, ◌||◌, not, map, true, Bool, None, Err, List, IfOk, OnOk, IfErr, if◌then◌else◌};
+ghost use Rattle.std.specs.Prelude.{◌≡◌, ◌⊎◌, ◌++◌, ◌∷◌, [], ◌&&◌, ◌||◌, not, map, true, Bool, None, Some, Err, List, IfOk, OnOk, IfErr, if◌then◌else◌};
 ghost use Rattle.dns_data.specs.Name.{Labels, name_eq};
 ghost use Rattle.zone_rules.specs.Apex.{is_type};
-ghost use Rattle.zone_rules.specs.Before.{has_name, IsSummaryOf, rule_in};
+ghost use Rattle.zone_rules.specs.Before.{fault_in, has_name, is_watched, IsSummaryOf, rule_in};
 ghost use Rattle.zone_rules.specs.Fingerprint.{owner_key};
 ghost use Rattle.zone_rules.specs.Rules.{had, first_fault, is_soa_elsewhere, is_star_record};
 ghost use Rattle.zone_rules.specs.ZoneOf.{checked};
@@ -27,24 +27,17 @@ pub(crate) struct Before<'a> {
     dnames: BTreeSet<&'a Name>,
 }
 
-/// Looks for the first record that breaks a rule, and for an SOA record.
+/// Looks for the first record that breaks a rule, and for an SOA record. A record without a rival, of which no rule speaks
+/// whatever stands at its owner, breaks none and is passed over.
 pub(crate) fn check_rules(alloc: Global, origin: &Name, rrs: &[Rr]) -> Result<(), RuleFault>
     ensures ok { OnOk result ((first_fault origin.now rrs.now ≡ None) × (had RrType.Soa rrs.now ≡ true)) }
     ensures err { IfErr result (λ fault. (fault ≡ RuleFault.NoMemory) ⊎ (checked origin.now rrs.now ≡ Err fault)) }
 {
-    let keys = owner_keys(alloc, rrs)?;
-    let rivals = rivals(alloc, keys.as_slice())?;
+    let owners = Owners::of(alloc, rrs)?;
+    let rivals = rivals(alloc, owners.keys.as_slice())?;
     let mut before = Before::new(alloc);
     for (i, rr) in rrs.iter().enumerate() {
-        let has_rival = rivals[i];
-        if let Some(cause) = before.rule_at(origin, rr, has_rival) {
-            return Err(RuleFault::At {
-                file: rr.file,
-                line: rr.line,
-                cause,
-            });
-        }
-        before.put(rr, has_rival)?;
+        before.check(origin, rr, rivals[i], owners.watched[i])?;
     }
     if !before.has_soa {
         return Err(RuleFault::At {
@@ -56,15 +49,28 @@ pub(crate) fn check_rules(alloc: Global, origin: &Name, rrs: &[Rr]) -> Result<()
     Ok(())
 }
 
-/// The numbers of the records' owners. A CNAME record has to stand alone (RFC 1034 section 3.6.2).
-fn owner_keys(alloc: Global, rrs: &[Rr]) -> Result<Vec<(u64, bool)>, NoMemory>
-    ensures { IfOk result (λ keys. keys.items ≡ map owner_key rrs.now) }
-{
-    let mut keys = Vec::with_capacity(alloc, rrs.len())?;
-    for rr in rrs {
-        keys.push((owner_number(&rr.owner), is_cname(rr)))?;
+/// Of each record the number of its owner with whether it has to stand alone there, as a CNAME record has (RFC 1034 section
+/// 3.6.2), and whether a rule speaks of it whatever stands at its owner.
+#[derive(Drop)]
+struct Owners {
+    keys: Vec<(u64, bool)>,
+    watched: Vec<bool>,
+}
+
+impl Owners {
+    /// What is told of these records.
+    fn of(alloc: Global, rrs: &[Rr]) -> Result<Owners, NoMemory>
+        ensures keys { IfOk result (λ owners. owners.keys.items ≡ map owner_key rrs.now) }
+        ensures watched { IfOk result (λ owners. owners.watched.items ≡ map is_watched rrs.now) }
+    {
+        let mut keys = Vec::with_capacity(alloc, rrs.len())?;
+        let mut watched = Vec::with_capacity(alloc, rrs.len())?;
+        for rr in rrs {
+            keys.push((owner_number(&rr.owner), is_cname(rr)))?;
+            watched.push(is_soa(rr) || is_ns(rr) || is_dname(rr))?;
+        }
+        Ok(Owners { keys, watched })
     }
-    Ok(keys)
 }
 
 impl<'a> Before<'a> {
@@ -78,6 +84,34 @@ impl<'a> Before<'a> {
             others: BTreeSet::new(alloc),
             dnames: BTreeSet::new(alloc),
         }
+    }
+
+    /// One record more stands before, unless it breaks a rule. It may have a rival at its owner, or hasn't any. Where it hasn't,
+    /// and no rule speaks of it whatever stands at its owner, it isn't looked at.
+    fn check(
+        &mut self,
+        origin: &Name,
+        rr: &'a Rr,
+        has_rival: bool,
+        watched: bool,
+    ) -> Result<(), RuleFault>
+        requires { watched ≡ is_watched rr.now }
+        ensures ok { OnOk result (fault_in self.old has_rival origin.now rr.now ≡ None) }
+        ensures err { IfErr result (λ fault. (fault ≡ RuleFault.NoMemory) ⊎ (fault_in self.old has_rival origin.now rr.now ≡ Some fault)) }
+        ensures before { (may_have : Labels → Bool) (before : List Rr) → has_rival ≡ may_have rr.now.owner → IsSummaryOf may_have self.old before → OnOk result (IsSummaryOf may_have self.new (before ++ rr.now ∷ [])) }
+    {
+        if !has_rival && !watched {
+            return Ok(());
+        }
+        if let Some(cause) = self.rule_at(origin, rr, has_rival) {
+            return Err(RuleFault::At {
+                file: rr.file,
+                line: rr.line,
+                cause,
+            });
+        }
+        self.put(rr, has_rival)?;
+        Ok(())
     }
 
     /// One record more stands before, which may have a rival at its owner or hasn't any.
