@@ -6,7 +6,7 @@ use Rattle.io_edges.specs.Files.{FilesTold, Untold}
 use Rattle.net_model.specs.declared.config.Config.{Config}
 use Rattle.config_load.specs.Conf.{conf}
 use Rattle.config_load.specs.Faults.{FailedAt}
-use Rattle.config_load.specs.Follows.{ByTold, TellsNoOther, StopsEarly, Follows, Answers}
+use Rattle.config_load.specs.Follows.{ByTold, TellsNoOther, StopsEarly, Follows, Reaches, Answers}
 use Rattle.config_load.specs.Load.{without, ReadingComesTo, NoReadFailed, Gives, FailedWhereItCame, IsReadFault, IsWhole}
 use Rattle.config_load.specs.Reading.{Reading, Reads, Refuses, Misses, Unknown}
 use Rattle.config_load.specs.declared.fault.LoadFault.{LoadFault}
@@ -76,12 +76,16 @@ without-only told file name untold some = by_test (pointwise nat_eq name file) r
   by_test true same gone = (label_eq_decides name file).0 same
   by_test false apart gone = absurd (some gone)
 
--- a failed read is of a file to which the reading comes
-pub FailedWhereItCame-answers : (told : FilesTold) (meta : List ℕ) (result : Result Config LoadFault) → Answers told (conf meta) result → FailedWhereItCame meta told result
-FailedWhereItCame-answers told meta (Err (Read file)) a = by_cases (a (without file told) (TellsNoOther-without told file) (without-here told file)) where
+-- the reading comes to a file to which what is told takes it
+pub comes-reaches : (told : FilesTold) (meta file : List ℕ) → Reaches told (conf meta) file → ReadingComesTo meta told file
+comes-reaches told meta file a = by_cases (a (without file told) (TellsNoOther-without told file) (without-here told file)) where
   by_cases : (conf meta (without file told) ≡ Unknown file) ⊎ StopsEarly told (without file told) (conf meta (without file told)) → ReadingComesTo meta told file
   by_cases (inl e) = e
   by_cases (inr (name, is, untold, some)) = is ∙ ap Unknown (without-only told file name untold some)
+
+-- a failed read is of such a file
+pub FailedWhereItCame-answers : (told : FilesTold) (meta : List ℕ) (result : Result Config LoadFault) → Answers told (conf meta) result → FailedWhereItCame meta told result
+FailedWhereItCame-answers told meta (Err (Read file)) a = comes-reaches told meta file a
 FailedWhereItCame-answers told meta (Ok value) a = tt
 FailedWhereItCame-answers told meta (Err NoMemory) a = tt
 FailedWhereItCame-answers told meta (Err (TooLong file)) a = tt

@@ -2,6 +2,7 @@ pub mod Answered
 pub mod Directories
 pub mod Follows
 pub mod OpenedFiles
+pub mod Opens
 pub mod OwnRefusals
 pub mod ReadRows
 pub mod ServerPlaces

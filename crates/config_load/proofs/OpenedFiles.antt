@@ -2,7 +2,7 @@
 use Rattle.std.proofs.Common.{◌≡◌, ℕ, zero, suc, ◌+◌, ◌≤◌, true, false, ◌||◌, List, [], ◌∷◌, ◌++◌, length, length-append, unwrap_or, Result, Ok, Err, IsErrAnd, refl, sym, ap, ◌∙◌, inl, inr, arith}
 use Rattle.dns_data.specs.Answers.{AnswersOr, with_fault}
 use Rattle.dns_data.specs.Name.{Labels}
-use Rattle.io_edges.specs.Files.{FilesTold, StaysTold}
+use Rattle.io_edges.specs.Files.{FilesTold, SameElsewhere, StaysTold}
 use Rattle.master_read.proofs.Counts.{texts_ask}
 use Rattle.master_read.specs.Reader.{Held, IsReaderOf, HasEnded, asked_by, is_over, is_no_memory}
 use Rattle.master_read.specs.ZoneText.{Unread, Faulty, Asks, zone_text}
@@ -15,7 +15,7 @@ use Rattle.meta_read.specs.declared.meta.MetaRow.{MetaRow}
 use Rattle.config_load.specs.Conf.{settled, files_behind, zone_files}
 use Rattle.config_load.specs.Faults.{of_text}
 use Rattle.config_load.specs.Fed.{HasFed, HasEndedFile, FailsToRead}
-use Rattle.config_load.specs.Follows.{ByTold, Follows, Answers}
+use Rattle.config_load.specs.Follows.{ByTold, Follows, Answers, OpensWhereItComes}
 use Rattle.config_load.specs.Joined.{joined}
 use Rattle.config_load.specs.ReadFiles.{read_files}
 use Rattle.config_load.specs.Reading.{Reads, Refuses, Unknown, ◌>>=◌, file_octets}
@@ -23,6 +23,7 @@ use Rattle.config_load.specs.declared.fault.LoadFault.{LoadFault}
 use Rattle.config_load.specs.declared.left.Left.{Left}
 use Rattle.config_load.specs.declared.zone_files.ZoneFiles.{ZoneFiles}
 use Rattle.config_load.proofs.Follows.{Follows-same, Follows-then, Follows-bind, Answers-then, Answers-passed}
+use Rattle.config_load.proofs.Opens.{Opens-file, Opens-then, Opens-bind}
 
 -- the reading that goes on with the file of this name, behind those with these names and texts
 abbrev pub next_file : List ℕ → Labels → Left → ℕ → List (List ℕ) → List (List ℕ) → List ℕ → ByTold ZoneFiles
@@ -157,6 +158,13 @@ module _ (meta : List ℕ) (row : MetaRow) (left : Left) where
         (Follows-read (zone_files meta row left) old new meta (unwrap_or row.origin []) left opened.times names opened.texts name fed.octets stays opened.so_far fed.whole)
         (Answers-ended meta (unwrap_or row.origin []) left opened.times (names ++ name ∷ []) (opened.texts ++ fed.octets ∷ []) new given
         (finished (unwrap_or row.origin []) left.records left.includes (opened.texts ++ fed.octets ∷ []) has_ended))
+
+    -- the open file alone is opened behind those before
+    pub HasOpened-opens : (before : FilesTold) → StaysTold old new → HasOpened meta row left old names name reader → SameElsewhere name old new → OpensWhereItComes before old (zone_files meta row left)
+        → OpensWhereItComes before new (zone_files meta row left)
+    HasOpened-opens before stays opened others so_far =
+        Opens-then before old new (zone_files meta row left) (next_file meta (unwrap_or row.origin []) left opened.times names opened.texts name) stays opened.so_far so_far
+        (Opens-bind old new (file_octets name) (λ told text. files_behind meta (unwrap_or row.origin []) left opened.times (names ++ name ∷ []) (opened.texts ++ text ∷ []) told) (Opens-file old new name others))
 
     -- a file that isn't read
     pub Answers-unread : (fault : LoadFault) (result : Result ZoneFiles LoadFault) → StaysTold old new → HasOpened meta row left old names name reader → FailsToRead new name fault → IsErrAnd result (λ passed. passed ≡ fault) → Answers new (zone_files meta row left) result

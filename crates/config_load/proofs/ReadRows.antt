@@ -1,7 +1,8 @@
 -- Zones, rows and the configuration, step by step.
 use Rattle.std.proofs.Common.{◌≡◌, ℕ, ◌+◌, List, ◌∷◌, Result, Ok, Err, IsErrAnd, refl, sym, ap, inr}
 use Rattle.dns_data.specs.Answers.{AnswersOr, with_fault}
-use Rattle.io_edges.specs.Files.{FilesTold, StaysTold}
+use Rattle.io_edges.specs.Files.{FilesTold, SameElsewhere, StaysTold}
+use Rattle.meta_read.specs.Metadata.{metadata_of}
 use Rattle.meta_read.specs.declared.meta.Meta.{Meta as Metadata}
 use Rattle.meta_read.specs.declared.meta.MetaRow.{MetaRow}
 use Rattle.net_model.specs.declared.config.Config.{Config}
@@ -9,9 +10,9 @@ use Rattle.net_model.specs.declared.config.Server.{Server}
 use Rattle.net_model.specs.declared.config.Zone.{Zone}
 use Rattle.zone_rules.specs.ZoneOf.{zone_of}
 use Rattle.config_load.specs.Conf.{conf, metadata, no_rows, with_row, with_rows, zone_files, zone_read, left_behind}
-use Rattle.config_load.specs.Faults.{of_rule}
-use Rattle.config_load.specs.Follows.{Follows, Answers}
-use Rattle.config_load.specs.Reading.{Reads, ◌>>=◌, unless_refused}
+use Rattle.config_load.specs.Faults.{of_metadata, of_rule}
+use Rattle.config_load.specs.Follows.{Follows, Answers, OpensWhereItComes}
+use Rattle.config_load.specs.Reading.{Reads, ◌>>=◌, unless_refused, file_octets}
 use Rattle.config_load.specs.Servers.{given}
 use Rattle.config_load.specs.declared.fault.LoadFault.{LoadFault}
 use Rattle.config_load.specs.declared.fault.LoadFault.TheVariants.{NoMemory}
@@ -20,6 +21,7 @@ use Rattle.config_load.specs.declared.rows.Rows.{Rows}
 use Rattle.config_load.specs.declared.zone.ReadZone.{ReadZone}
 use Rattle.config_load.specs.declared.zone_files.ZoneFiles.{ZoneFiles}
 use Rattle.config_load.proofs.Follows.{Follows-same, Follows-bind, Answers-passed, Answers-next}
+use Rattle.config_load.proofs.Opens.{Opens-file, Opens-then, Opens-bind}
 use Rattle.config_load.proofs.Steps.{IsNoRead-of_rule, Answers-told, Answers-given}
 
 -- nothing is told meanwhile
@@ -32,6 +34,12 @@ module _ (meta : List ℕ) (row : MetaRow) (left : Left) (told : FilesTold) wher
   unfolding zone_read
   Answers-no_files fault result is a =
       Answers-passed told (zone_files meta row left) (λ _ files. unless_refused (of_rule files.names) (zone_of row.origin files.text.rrs) >>= λ zone. Reads (record { zone = zone; left = left_behind left files.text })) fault result is a
+
+  -- what they open
+  pub Opens-zone : (before : FilesTold) → OpensWhereItComes before told (zone_files meta row left) → OpensWhereItComes before told (zone_read meta row left)
+  unfolding zone_read
+  Opens-zone before opens =
+      Opens-bind before told (zone_files meta row left) (λ _ files. unless_refused (of_rule files.names) (zone_of row.origin files.text.rrs) >>= λ zone. Reads (record { zone = zone; left = left_behind left files.text })) opens
 
   -- records that break a rule
   pub Answers-no_zone : (read : ZoneFiles) (fault : LoadFault) (result : Result ReadZone LoadFault) → IsErrAnd result (λ passed. passed ≡ fault) → Follows told (zone_files meta row left) (λ _. Reads read) → (let answer : Result Zone LoadFault = Err fault in AnswersOr NoMemory answer (with_fault (of_rule read.names) (zone_of row.origin read.text.rrs))) → Answers told (zone_read meta row left) result
@@ -59,6 +67,12 @@ module _ (meta : List ℕ) (number : ℕ) (row : MetaRow) (rows : Rows) (told : 
   Answers-no_row fault result is a =
       Answers-passed told (zone_read meta row rows.left) (λ _ read. unless_refused (λ fault. fault) (given number row.server read.zone rows.servers) >>= λ servers. Reads (record { left = read.left; servers = servers })) fault result is a
 
+  -- what it opens
+  pub Opens-row : (before : FilesTold) → OpensWhereItComes before told (zone_read meta row rows.left) → OpensWhereItComes before told (with_row meta number row rows)
+  unfolding with_row
+  Opens-row before opens =
+      Opens-bind before told (zone_read meta row rows.left) (λ _ read. unless_refused (λ fault. fault) (given number row.server read.zone rows.servers) >>= λ servers. Reads (record { left = read.left; servers = servers })) opens
+
   -- a zone that its server has
   pub Answers-not_given : (read : ReadZone) (fault : LoadFault) (result : Result Rows LoadFault) → IsErrAnd result (λ passed. passed ≡ fault) → Follows told (zone_read meta row rows.left) (λ _. Reads read) → (let answer : Result (List Server) LoadFault = Err fault in AnswersOr NoMemory answer (given number row.server read.zone rows.servers)) → Answers told (with_row meta number row rows) result
   unfolding with_row
@@ -85,6 +99,11 @@ module _ (meta : List ℕ) (number : ℕ) (row : MetaRow) (others : List MetaRow
   Answers-first_row told fault result is a =
       Answers-passed told (with_row meta number row rows) (λ t rows. with_rows meta (number + 1) others rows t) fault result is a
 
+  -- what a row opens
+  pub Opens-first_row : (before told : FilesTold) → OpensWhereItComes before told (with_row meta number row rows) → OpensWhereItComes before told (with_rows meta number (row ∷ others) rows)
+  unfolding with_rows
+  Opens-first_row before told opens = Opens-bind before told (with_row meta number row rows) (λ t rows. with_rows meta (number + 1) others rows t) opens
+
   -- a row, and those behind it
   pub Follows-first_row : (told : FilesTold) (more : Rows) → Follows told (with_row meta number row rows) (λ _. Reads more) → Follows told (with_rows meta number (row ∷ others) rows) (with_rows meta (number + 1) others more)
   unfolding with_rows
@@ -97,6 +116,26 @@ module _ (meta : List ℕ) where
   unfolding conf
   Answers-no_metadata told fault result is a =
       Answers-passed told (metadata meta) (λ t found. with_rows meta 1 found.rows no_rows t >>= λ rows. Reads (record { tops = found.tops; servers = rows.servers })) fault result is a
+
+  -- what is opened for the metadata
+  pub Opens-metadata_file : (before told : FilesTold) → SameElsewhere meta before told → OpensWhereItComes before told (metadata meta)
+  unfolding metadata
+  Opens-metadata_file before told others =
+      Opens-bind before told (file_octets meta) (λ _ octets. unless_refused of_metadata (metadata_of octets)) (Opens-file before told meta others)
+
+  pub Opens-metadata : (before told : FilesTold) → OpensWhereItComes before told (metadata meta) → OpensWhereItComes before told (conf meta)
+  unfolding conf
+  Opens-metadata before told opens =
+      Opens-bind before told (metadata meta) (λ t found. with_rows meta 1 found.rows no_rows t >>= λ rows. Reads (record { tops = found.tops; servers = rows.servers })) opens
+
+  -- what is opened for the rows behind them
+  pub Opens-rows : (before between after : FilesTold) (found : Metadata) → StaysTold between after → Follows between (metadata meta) (λ _. Reads found) → OpensWhereItComes before between (conf meta) → OpensWhereItComes between after (with_rows meta 1 found.rows no_rows) → OpensWhereItComes before after (conf meta)
+  unfolding conf
+  Opens-rows before between after found stays whole opened opens =
+      Opens-then before between after (conf meta) (λ t. with_rows meta 1 found.rows no_rows t >>= λ rows. Reads (record { tops = found.tops; servers = rows.servers })) stays
+      (Follows-bind between (metadata meta) (λ _. Reads found) (λ t found. with_rows meta 1 found.rows no_rows t >>= λ rows. Reads (record { tops = found.tops; servers = rows.servers })) whole)
+      opened
+      (Opens-bind between after (with_rows meta 1 found.rows no_rows) (λ _ rows. Reads (record { tops = found.tops; servers = rows.servers })) opens)
 
   -- rows that don't read
   pub Answers-no_rows : (old new : FilesTold) (found : Metadata) (fault : LoadFault) (result : Result Config LoadFault) → StaysTold old new → IsErrAnd result (λ passed. passed ≡ fault) → Follows old (metadata meta) (λ _. Reads found) → (let answer : Result Rows LoadFault = Err fault in Answers new (with_rows meta 1 found.rows no_rows) answer) → Answers new (conf meta) result

@@ -28,6 +28,10 @@ Reaches told reading file =
     (other : FilesTold) → TellsNoOther told other → other file ≡ Untold
     → (reading other ≡ Unknown file) ⊎ StopsEarly told other (reading other)
 
+-- of each name the same is told as before, unless what is told now takes the reading to it
+abbrev pub OpensWhereItComes : {A : Type 0} → FilesTold → FilesTold → ByTold A → Type 0
+OpensWhereItComes before after reading = (name : List ℕ) → (after name ≡ before name) ⊎ Reaches after reading name
+
 -- an answer is what the reading gives, where it is no failed read; a failed read is of a file to which the reading is
 -- taken
 abbrev pub Answers : {A : Type 0} → FilesTold → ByTold A → Result A LoadFault → Type 0

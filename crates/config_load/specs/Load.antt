@@ -45,6 +45,10 @@ abbrev pub FailedWhereItCame : {T : Type 0} → List ℕ → FilesTold → Resul
 FailedWhereItCame meta told (Err (Read file)) = ReadingComesTo meta told file
 FailedWhereItCame meta told result = Unit {0}
 
+-- no other file is opened than those to which the reading comes: of any other name the same is told as before
+abbrev pub OpensNoOther : List ℕ → FilesTold → FilesTold → Type 0
+OpensNoOther meta before after = (file : List ℕ) → (after file ≡ before file) ⊎ ReadingComesTo meta after file
+
 -- a failed read, or want of memory
 abbrev pub IsReadFault : {T : Type 0} → Result T LoadFault → Type 0
 IsReadFault (Ok value) = ⊥

@@ -2,7 +2,7 @@
 
 ghost use Rattle.std.specs.Prelude.{◌≡◌, ℕ, ◌+◌, ◌<◌, ◌≤◌, ◌++◌, length, take, vec_len, false, IfOk, IfErr, OnOk};
 ghost use Rattle.io_edges.specs.Counts.{NoneFell};
-ghost use Rattle.io_edges.specs.Files.{Holds, StaysTold, first_told};
+ghost use Rattle.io_edges.specs.Files.{Holds, SameElsewhere, StaysTold, first_told};
 ghost use Rattle.config_load.specs.Faults.{FailedAt, IsReadOf};
 ghost use Rattle.config_load.specs.Fed.{HasFed, FailsToRead, IsFed};
 ghost use Rattle.config_load.specs.Follows.{Answers};
@@ -29,6 +29,7 @@ pub(crate) fn read_whole<F: Files>(
     ensures answers { Answers (F.told files.new) (file_octets name.now) result }
     ensures cause { FailedAt (F.faults files.old) (F.faults files.new) result }
     ensures stays { StaysTold (F.told files.old) (F.told files.new) }
+    ensures others { SameElsewhere name.now (F.told files.old) (F.told files.new) }
     ensures never_fall { NoneFell (F.faults files.old) (F.faults files.new) }
 {
     let mut octets = Vec::new(alloc);
@@ -60,6 +61,7 @@ fn read_more<F: Files>(
     ensures fault { IfErr result (IsReadOf name.now) }
     ensures cause { FailedAt (F.faults files.old) (F.faults files.new) result }
     ensures stays { StaysTold (F.told files.old) (F.told files.new) }
+    ensures others { SameElsewhere name.now (F.told files.old) (F.told files.new) }
     ensures never_fall { NoneFell (F.faults files.old) (F.faults files.new) }
 {
     let count = read_at(alloc, files, name, octets.len(), piece)?;
@@ -87,6 +89,7 @@ fn read_at<F: Files>(
     ensures fault { IfErr result (IsReadOf name.now) }
     ensures cause { FailedAt (F.faults files.old) (F.faults files.new) result }
     ensures stays { StaysTold (F.told files.old) (F.told files.new) }
+    ensures others { SameElsewhere name.now (F.told files.old) (F.told files.new) }
     ensures never_fall { NoneFell (F.faults files.old) (F.faults files.new) }
 {
     match files.read(name, at as u64, piece) {
@@ -109,6 +112,7 @@ pub(crate) fn feed_whole<F: Files>(
     ensures fault { IfErr result (FailsToRead (F.told files.new) name.now) }
     ensures cause { FailedAt (F.faults files.old) (F.faults files.new) result }
     ensures stays { StaysTold (F.told files.old) (F.told files.new) }
+    ensures others { SameElsewhere name.now (F.told files.old) (F.told files.new) }
     ensures never_fall { NoneFell (F.faults files.old) (F.faults files.new) }
 {
     let mut at = 0;
@@ -150,6 +154,7 @@ fn feed_more<F: Files>(
     ensures fault { IfErr result (IsReadOf name.now) }
     ensures cause { FailedAt (F.faults files.old) (F.faults files.new) result }
     ensures stays { StaysTold (F.told files.old) (F.told files.new) }
+    ensures others { SameElsewhere name.now (F.told files.old) (F.told files.new) }
     ensures never_fall { NoneFell (F.faults files.old) (F.faults files.new) }
 {
     let count = read_at(alloc, files, name, at, piece)?;

@@ -3,9 +3,9 @@
 //!
 //! The layer above may rest on this: what `load` answers is what the definition `conf` says of what the files tell
 //! after the call. A configuration, and each refusal with its file, line and code, is the one that the files give; a
-//! failed read is of a file whose count of failures rose, and the reading comes to that file before any refusal. What
-//! a source tells from the start is the same before and after, so of such a source the same holds of what it told
-//! before.
+//! failed read is of a file whose count of failures rose, and the reading comes to that file before any refusal. No
+//! other file is opened than those to which the reading comes. What a source tells from the start is the same before
+//! and after, so of such a source the same holds of what it told before.
 //!
 //! Costs: each file is read once for each row or `$INCLUDE` that names it, in pieces of 4,096 octets, and a zone file
 //! without `$INCLUDE` is never held whole. No record is copied. A row's server is found, and a zone that its server

@@ -8,8 +8,8 @@ ghost use Rattle.meta_read.specs.Metadata.{metadata_of};
 ghost use Rattle.meta_read.specs.Rows.{most_rows};
 ghost use Rattle.config_load.specs.Conf.{conf, metadata};
 ghost use Rattle.config_load.specs.Faults.{FailedAt, of_metadata};
-ghost use Rattle.config_load.specs.Follows.{Answers};
-ghost use Rattle.config_load.specs.Load.{Gives, FailedWhereItCame, IsReadFault, IsWhole, NoReadFailed};
+ghost use Rattle.config_load.specs.Follows.{Answers, OpensWhereItComes};
+ghost use Rattle.config_load.specs.Load.{Gives, FailedWhereItCame, IsReadFault, IsWhole, NoReadFailed, OpensNoOther};
 ghost use Rattle.config_load.specs.Reading.{Misses, Unknown};
 
 use crate::fault::LoadFault;
@@ -43,6 +43,7 @@ pub fn load<F: Files>(alloc: Global, files: &mut F, meta: &str) -> Result<Config
     // What the call does to the source. One that told all from the start tells the same after the call.
     ensures stays { StaysTold (F.told files.old) (F.told files.new) }
     ensures from_the_start { TellsAll (F.told files.old) → F.told files.new ≡ F.told files.old }
+    ensures opens { OpensNoOther meta.now (F.told files.old) (F.told files.new) }
     ensures never_fall { NoneFell (F.faults files.old) (F.faults files.new) }
 {
     read_config(alloc, files, meta)
@@ -53,6 +54,7 @@ fn read_config<F: Files>(alloc: Global, files: &mut F, meta: &str) -> Result<Con
     ensures answers { Answers (F.told files.new) (conf meta.now) result }
     ensures cause { FailedAt (F.faults files.old) (F.faults files.new) result }
     ensures stays { StaysTold (F.told files.old) (F.told files.new) }
+    ensures opens { OpensWhereItComes (F.told files.old) (F.told files.new) (conf meta.now) }
     ensures never_fall { NoneFell (F.faults files.old) (F.faults files.new) }
 {
     let found = read_meta(alloc, files, meta)?;
@@ -69,6 +71,7 @@ fn read_meta<F: Files>(alloc: Global, files: &mut F, meta: &str) -> Result<Meta,
     ensures few { IfOk result (λ found. length found.rows ≤ most_rows) }
     ensures cause { FailedAt (F.faults files.old) (F.faults files.new) result }
     ensures stays { StaysTold (F.told files.old) (F.told files.new) }
+    ensures opens { OpensWhereItComes (F.told files.old) (F.told files.new) (metadata meta.now) }
     ensures never_fall { NoneFell (F.faults files.old) (F.faults files.new) }
 {
     let octets = read_whole(alloc, files, meta)?;

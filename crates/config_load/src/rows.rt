@@ -6,7 +6,7 @@ ghost use Rattle.io_edges.specs.Files.{StaysTold};
 ghost use Rattle.meta_read.specs.Rows.{most_rows};
 ghost use Rattle.config_load.specs.Conf.{no_rows, with_row, with_rows};
 ghost use Rattle.config_load.specs.Faults.{FailedAt};
-ghost use Rattle.config_load.specs.Follows.{Answers};
+ghost use Rattle.config_load.specs.Follows.{Answers, OpensWhereItComes};
 
 use crate::fault::LoadFault;
 use crate::left::Left;
@@ -36,6 +36,7 @@ pub(crate) fn read_rows<F: Files>(
     ensures answers { Answers (F.told files.new) (with_rows meta.now 1 all.now no_rows) result }
     ensures cause { FailedAt (F.faults files.old) (F.faults files.new) result }
     ensures stays { StaysTold (F.told files.old) (F.told files.new) }
+    ensures opens { OpensWhereItComes (F.told files.old) (F.told files.new) (with_rows meta.now 1 all.now no_rows) }
     ensures never_fall { NoneFell (F.faults files.old) (F.faults files.new) }
 {
     let mut rows = Rows {
@@ -60,6 +61,7 @@ fn read_row<F: Files>(
     ensures answers { Answers (F.told files.new) (with_row meta.now number row.now rows) result }
     ensures cause { FailedAt (F.faults files.old) (F.faults files.new) result }
     ensures stays { StaysTold (F.told files.old) (F.told files.new) }
+    ensures opens { OpensWhereItComes (F.told files.old) (F.told files.new) (with_row meta.now number row.now rows) }
     ensures never_fall { NoneFell (F.faults files.old) (F.faults files.new) }
 {
     let read = read_zone(alloc, files, meta, row, rows.left)?;

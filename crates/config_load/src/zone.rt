@@ -8,7 +8,7 @@ ghost use Rattle.io_edges.specs.Files.{StaysTold};
 ghost use Rattle.zone_rules.specs.ZoneOf.{zone_of};
 ghost use Rattle.config_load.specs.Conf.{zone_read};
 ghost use Rattle.config_load.specs.Faults.{FailedAt, of_rule};
-ghost use Rattle.config_load.specs.Follows.{Answers};
+ghost use Rattle.config_load.specs.Follows.{Answers, OpensWhereItComes};
 
 use crate::fault::LoadFault;
 use crate::left::Left;
@@ -38,6 +38,7 @@ pub(crate) fn read_zone<F: Files>(
     ensures answers { Answers (F.told files.new) (zone_read meta.now row.now left) result }
     ensures cause { FailedAt (F.faults files.old) (F.faults files.new) result }
     ensures stays { StaysTold (F.told files.old) (F.told files.new) }
+    ensures opens { OpensWhereItComes (F.told files.old) (F.told files.new) (zone_read meta.now row.now left) }
     ensures never_fall { NoneFell (F.faults files.old) (F.faults files.new) }
 {
     let read = read_zone_files(alloc, files, meta, row, left)?;

@@ -5,7 +5,7 @@ ghost use Rattle.io_edges.specs.Counts.{NoneFell};
 ghost use Rattle.io_edges.specs.Files.{StaysTold};
 ghost use Rattle.config_load.specs.Conf.{zone_files};
 ghost use Rattle.config_load.specs.Faults.{FailedAt, name_numbered};
-ghost use Rattle.config_load.specs.Follows.{Answers};
+ghost use Rattle.config_load.specs.Follows.{Answers, OpensWhereItComes};
 ghost use Rattle.config_load.specs.ReadFiles.{read_files};
 
 use crate::fault::LoadFault;
@@ -36,6 +36,7 @@ pub(crate) fn read_zone_files<F: Files>(
     ensures answers { Answers (F.told files.new) (zone_files meta.now row.now left) result }
     ensures cause { FailedAt (F.faults files.old) (F.faults files.new) result }
     ensures stays { StaysTold (F.told files.old) (F.told files.new) }
+    ensures opens { OpensWhereItComes (F.told files.old) (F.told files.new) (zone_files meta.now row.now left) }
     ensures never_fall { NoneFell (F.faults files.old) (F.faults files.new) }
 {
     let origin = origin_of(alloc, row)?;

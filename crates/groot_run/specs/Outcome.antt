@@ -246,6 +246,10 @@ JobComesTo told (Ok (jobs.Classes meta classes)) file = ReadingComesTo meta told
 JobComesTo told (Ok (jobs.Ask meta name rtype)) file = ReadingComesTo meta told file
 JobComesTo told job file = ⊥
 
+-- no other file is opened than those to which the job comes: of any other name the same is told as before
+abbrev pub JobOpensNoOther : FilesTold → FilesTold → Result Job LineFault → Type 0
+JobOpensNoOther before after job = (file : List ℕ) → (after file ≡ before file) ⊎ JobComesTo after job file
+
 -- no count of a file that the job opens rose
 abbrev pub NoJobReadFailed : FilesTold → Result Job LineFault → (List ℕ → ℕ) → (List ℕ → ℕ) → Type 0
 NoJobReadFailed told (Ok (jobs.Check meta workers classes rewrites)) before after = NoReadFailed meta told before after

@@ -4,7 +4,7 @@ ghost use Rattle.std.specs.Prelude.{◌≡◌, ◌⊎◌, ℕ, List};
 ghost use Rattle.io_edges.specs.Counts.{Rose};
 ghost use Rattle.io_edges.specs.Files.{TellsAll};
 ghost use Rattle.config_load.specs.Conf.{conf};
-ghost use Rattle.config_load.specs.Load.{ReadingComesTo};
+ghost use Rattle.config_load.specs.Load.{OpensNoOther, ReadingComesTo};
 ghost use Rattle.groot_run.specs.NotLoaded.{IsNotLoaded};
 ghost use Rattle.groot_run.specs.Outcome.{OfReading, read_failed, no_memory};
 ghost use Rattle.groot_run.specs.Task.{Gives, IsPossible};
@@ -31,6 +31,7 @@ pub(crate) fn of_files<F: Files, G: Gate + Sync, R: Threads + Wait + Sync>(
         ⊎ ((file : List ℕ) × (result ≡ read_failed file) × ReadingComesTo meta.now (F.told files.new) file
         × Rose (F.faults files.old file) (F.faults files.new file)) ⊎ (result ≡ no_memory) }
     ensures from_the_start { TellsAll (F.told files.old) → F.told files.new ≡ F.told files.old }
+    ensures opens { OpensNoOther meta.now (F.told files.old) (F.told files.new) }
 {
     match load(alloc, files, meta) {
         Ok(config) => of_config(rt, alloc, &config, task, gate),

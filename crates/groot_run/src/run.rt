@@ -12,7 +12,7 @@ ghost use Rattle.groot_line.specs.declared.job.Job.TheVariants.{Check};
 ghost use Rattle.groot_line.specs.Job.{job_of};
 ghost use Rattle.groot_run.specs.declared.ending.Ending.{Ending as Ended};
 ghost use Rattle.groot_run.specs.Laws.{HasClasses};
-ghost use Rattle.groot_run.specs.Outcome.{Outcome, Checks, IsEnding, JobComesTo, NoJobReadFailed, writes_nothing, no_memory};
+ghost use Rattle.groot_run.specs.Outcome.{Outcome, Checks, IsEnding, JobComesTo, JobOpensNoOther, NoJobReadFailed, writes_nothing, no_memory};
 ghost use Rattle.groot_run.specs.Writing.{IsLeft, TookLine};
 
 use crate::drill::drill;
@@ -71,8 +71,10 @@ pub fn groot<F: Files, O: Sink, E: Sink, G: Gate + Sync, R: Threads + Wait + Syn
     ensures write_fault { result ≡ Status.WriteFault → Rose (O.faults out.old) (O.faults out.new) }
     ensures silent { IsTrue (writes_nothing result) → Keeps (O.taken out.old) (O.taken out.new) }
 
-    // Files that told all from the start tell the same after the run.
+    // Files that told all from the start tell the same after the run. No other file is opened than those to which the job
+    // comes: so no zone file of metadata that are refused.
     ensures from_the_start { TellsAll (F.told files.old) → F.told files.new ≡ F.told files.old }
+    ensures opens { JobOpensNoOther (F.told files.old) (F.told files.new) (job_of (map (λ word. word.now) words.now)) }
 {
     query_classes();
     let ending = run_words(rt, alloc, words, files, gate);
@@ -116,8 +118,10 @@ pub fn run_words<F: Files, G: Gate + Sync, R: Threads + Wait + Sync>(
     ensures no_write_fault { result.status ≢ Status.WriteFault }
     ensures silent { IsTrue (writes_nothing result.status) → result.out ≡ [] }
 
-    // Files that told all from the start tell the same after the run.
+    // Files that told all from the start tell the same after the run. No other file is opened than those to which the job
+    // comes: so no zone file of metadata that are refused.
     ensures from_the_start { TellsAll (F.told files.old) → F.told files.new ≡ F.told files.old }
+    ensures opens { JobOpensNoOther (F.told files.old) (F.told files.new) (job_of (map (λ word. word.now) words.now)) }
 {
     match read_words(alloc, words) {
         Ok(

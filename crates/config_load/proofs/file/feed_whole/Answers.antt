@@ -4,6 +4,7 @@ use Rattle.io_edges.proofs.Loops.{NoneFell-then}
 use Rattle.io_edges.proofs.Told.{StaysTold-then, first_told-long}
 use Rattle.master_read.specs.Reader.{IsReaderOf}
 use Rattle.config_load.proofs.Follows.{Follows-whole, Answers-too_long}
+use Rattle.config_load.proofs.Opens.{SameElsewhere-then}
 use Rattle.config_load.proofs.file.feed_whole.Goals as goal
 
 pub returns-then-count-eq0-clause-asked : goal.returns-then-count-eq0-clause-asked
@@ -30,6 +31,7 @@ loop-at-preserved g c = record {
   fed = c.in_ok-count.ensures.fed;
   stands = λ origin room includes ended before. c.in_ok-count.ensures.stands origin room includes ended (c.loop-at.invariant.stands origin room includes ended before);
   stays = StaysTold-then (g.F.Files.told c.args.files.now) (g.F.Files.told c.loop-at.files) (g.F.Files.told c.feed_more.new.files) c.loop-at.invariant.stays c.in_ok-count.ensures.stays;
+  others = SameElsewhere-then c.args.name.now (g.F.Files.told c.args.files.now) (g.F.Files.told c.loop-at.files) (g.F.Files.told c.feed_more.new.files) c.loop-at.invariant.others c.in_ok-count.ensures.others;
   never_fall = NoneFell-then (g.F.Files.faults c.args.files.now) (g.F.Files.faults c.loop-at.files) (g.F.Files.faults c.feed_more.new.files) c.loop-at.invariant.never_fall c.in_ok-count.ensures.never_fall;
 }
 

@@ -1,6 +1,6 @@
 use Rattle.std.proofs.Common.{◌≡◌, ◌≤◌, ◌-◌, false, length, []}
 use Rattle.io_edges.specs.Counts.{NoneFell}
-use Rattle.io_edges.specs.Files.{StaysTold, first_told}
+use Rattle.io_edges.specs.Files.{SameElsewhere, StaysTold, first_told}
 use Rattle.config_load.specs.Fed.{IsFed}
 use Rattle.config_load.proofs.file.feed_whole.Given as goal
 
@@ -13,6 +13,7 @@ invariant-loop-at g l = record {
   fed : l.reader.fed ≡ l.at;
   stands : IsFed l.fn.reader [] l.reader (first_told (g.F.Files.told l.files l.name) l.at);
   stays : StaysTold (g.F.Files.told l.fn.files) (g.F.Files.told l.files);
+  others : SameElsewhere l.name (g.F.Files.told l.fn.files) (g.F.Files.told l.files);
   never_fall : NoneFell (g.F.Files.faults l.fn.files) (g.F.Files.faults l.files);
 }
 

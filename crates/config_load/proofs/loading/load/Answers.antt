@@ -1,6 +1,7 @@
 use Rattle.io_edges.proofs.Told.{TellsAll-same}
 use Rattle.config_load.specs.Conf.{conf}
 use Rattle.config_load.proofs.Answered.{Gives-answers, IsWhole-answers, FailedWhereItCame-answers, IsReadFault-misses, IsReadFault-unknown}
+use Rattle.config_load.proofs.Opens.{OpensNoOther-answers}
 use Rattle.config_load.proofs.loading.load.Goals as goal
 
 pub returns-clause-gives : goal.returns-clause-gives
@@ -31,3 +32,7 @@ returns-clause-unknown g c file is =
 pub returns-clause-from_the_start : goal.returns-clause-from_the_start
 returns-clause-from_the_start g c all =
     TellsAll-same (g.F.Files.told c.args.files.now) (g.F.Files.told c.read_config.new.files) all c.read_config.ensures.stays
+
+pub returns-clause-opens : goal.returns-clause-opens
+returns-clause-opens g c =
+    OpensNoOther-answers c.args.meta.now (g.F.Files.told c.args.files.now) (g.F.Files.told c.read_config.new.files) c.read_config.ensures.opens

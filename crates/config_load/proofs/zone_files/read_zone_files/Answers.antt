@@ -1,5 +1,6 @@
-use Rattle.std.proofs.Common.{[], List, ℕ, Result, inr, refl, subst, sym, ap, ◌∙◌, arith}
+use Rattle.std.proofs.Common.{[], List, ℕ, Result, inl, inr, refl, subst, sym, ap, ◌∙◌, arith}
 use Rattle.dns_data.specs.Name.{Labels}
+use Rattle.io_edges.specs.Files.{SameElsewhere}
 use Rattle.io_edges.proofs.Loops.{NoneFell-then}
 use Rattle.io_edges.proofs.Told.{StaysTold-then}
 use Rattle.master_read.specs.Reader.{IsReaderOf}
@@ -11,7 +12,7 @@ use Rattle.config_load.specs.Joined.{joined}
 use Rattle.config_load.specs.ReadFiles.{read_files}
 use Rattle.config_load.specs.declared.fault.LoadFault.{LoadFault}
 use Rattle.config_load.specs.declared.zone_files.ZoneFiles.{ZoneFiles}
-use Rattle.config_load.proofs.OpenedFiles.{is_done, HasOpened, HasOpened-first, HasOpened-more, HasOpened-open, HasOpened-over, Answers-finished, Answers-unread}
+use Rattle.config_load.proofs.OpenedFiles.{is_done, HasOpened, HasOpened-first, HasOpened-more, HasOpened-open, HasOpened-opens, HasOpened-over, Answers-finished, Answers-unread}
 use Rattle.config_load.proofs.Steps.{Answers-wanting, FailedAt-wanting}
 use Rattle.config_load.proofs.zone_files.read_zone_files.Goals as goal
 
@@ -28,6 +29,7 @@ files-init g c =
       still_open = c.new-reader.ensures.open;
       none = c.new-reader.ensures.fed;
       stays = λ name. inr refl;
+      opens = λ name. inl refl;
       never_fall = λ name. omega arith;
     }
 
@@ -63,6 +65,8 @@ files-preserved g c =
       still_open = goes_on.0;
       none = goes_on.1;
       stays = StaysTold-then (g.F.Files.told c.args.files.now) before told c.files.invariant.stays c.in_ok-file.ensures.stays;
+      opens = HasOpened-opens c.args.meta.now c.args.row.now c.args.left (g.F.Files.told c.files.files) (g.F.Files.told c.feed_whole.new.files) c.files.names c.files.name c.files.reader c.feed_whole.new.reader (g.F.Files.told c.args.files.now) c.in_ok-file.ensures.stays c.files.invariant.opened
+          (subst (λ (name : List ℕ). SameElsewhere name (g.F.Files.told c.files.files) (g.F.Files.told c.feed_whole.new.files)) c.as_str-in-files.ensures c.in_ok-file.ensures.others) c.files.invariant.opens;
       never_fall = NoneFell-then (g.F.Files.faults c.args.files.now) (g.F.Files.faults c.files.files) (g.F.Files.faults c.feed_whole.new.files) c.files.invariant.never_fall c.in_ok-file.ensures.never_fall;
     }
 
@@ -86,3 +90,28 @@ returns-clause-answers g c =
     let given = Answers-finished c.args.meta.now c.args.row.now c.args.left (g.F.Files.told c.files.files) told c.files.names c.files.name c.files.reader after c.finish.result c.in_ok-file.ensures.stays c.files.invariant.opened fed c.finish.ensures.answers in
     let named_so = subst (λ (names : List (List ℕ)). Answers told reading (read_files names c.finish.result)) (sym c.in_ok-push-2.ensures.ok) given in
     subst (λ (result : Result ZoneFiles LoadFault). Answers told reading result) (sym c.told.ensures) named_so
+
+pub returns-in_err-file-clause-opens : goal.returns-in_err-file-clause-opens
+returns-in_err-file-clause-opens g c =
+    HasOpened-opens c.args.meta.now c.args.row.now c.args.left (g.F.Files.told c.files.files) (g.F.Files.told c.feed_whole.new.files) c.files.names c.files.name c.files.reader c.feed_whole.new.reader (g.F.Files.told c.args.files.now) c.in_err-file.ensures.stays c.files.invariant.opened
+    (subst (λ (name : List ℕ). SameElsewhere name (g.F.Files.told c.files.files) (g.F.Files.told c.feed_whole.new.files)) c.as_str-in-files.ensures c.in_err-file.ensures.others) c.files.invariant.opens
+
+pub returns-in_err-next-clause-opens : goal.returns-in_err-next-clause-opens
+returns-in_err-next-clause-opens g c =
+    HasOpened-opens c.args.meta.now c.args.row.now c.args.left (g.F.Files.told c.files.files) (g.F.Files.told c.feed_whole.new.files) c.files.names c.files.name c.files.reader c.feed_whole.new.reader (g.F.Files.told c.args.files.now) c.in_ok-file.ensures.stays c.files.invariant.opened
+    (subst (λ (name : List ℕ). SameElsewhere name (g.F.Files.told c.files.files) (g.F.Files.told c.feed_whole.new.files)) c.as_str-in-files.ensures c.in_ok-file.ensures.others) c.files.invariant.opens
+
+pub returns-in_err-push-clause-opens : goal.returns-in_err-push-clause-opens
+returns-in_err-push-clause-opens g c =
+    HasOpened-opens c.args.meta.now c.args.row.now c.args.left (g.F.Files.told c.files.files) (g.F.Files.told c.feed_whole.new.files) c.files.names c.files.name c.files.reader c.feed_whole.new.reader (g.F.Files.told c.args.files.now) c.in_ok-file.ensures.stays c.files.invariant.opened
+    (subst (λ (name : List ℕ). SameElsewhere name (g.F.Files.told c.files.files) (g.F.Files.told c.feed_whole.new.files)) c.as_str-in-files.ensures c.in_ok-file.ensures.others) c.files.invariant.opens
+
+pub returns-in_err-push-2-clause-opens : goal.returns-in_err-push-2-clause-opens
+returns-in_err-push-2-clause-opens g c =
+    HasOpened-opens c.args.meta.now c.args.row.now c.args.left (g.F.Files.told c.files.files) (g.F.Files.told c.feed_whole.new.files) c.files.names c.files.name c.files.reader c.feed_whole.new.reader (g.F.Files.told c.args.files.now) c.in_ok-file.ensures.stays c.files.invariant.opened
+    (subst (λ (name : List ℕ). SameElsewhere name (g.F.Files.told c.files.files) (g.F.Files.told c.feed_whole.new.files)) c.as_str-in-files.ensures c.in_ok-file.ensures.others) c.files.invariant.opens
+
+pub returns-clause-opens : goal.returns-clause-opens
+returns-clause-opens g c =
+    HasOpened-opens c.args.meta.now c.args.row.now c.args.left (g.F.Files.told c.files.files) (g.F.Files.told c.feed_whole.new.files) c.files.names c.files.name c.files.reader c.feed_whole.new.reader (g.F.Files.told c.args.files.now) c.in_ok-file.ensures.stays c.files.invariant.opened
+    (subst (λ (name : List ℕ). SameElsewhere name (g.F.Files.told c.files.files) (g.F.Files.told c.feed_whole.new.files)) c.as_str-in-files.ensures c.in_ok-file.ensures.others) c.files.invariant.opens

@@ -1,6 +1,8 @@
 use Rattle.std.proofs.Common.{◌≡◌, ◌+◌, ◌-◌, false, length}
 use Rattle.io_edges.specs.Counts.{NoneFell}
 use Rattle.io_edges.specs.Files.{StaysTold}
+use Rattle.config_load.specs.Conf.{zone_files}
+use Rattle.config_load.specs.Follows.{OpensWhereItComes}
 use Rattle.config_load.proofs.OpenedFiles.{HasOpened}
 use Rattle.config_load.proofs.zone_files.read_zone_files.Given as goal
 
@@ -11,6 +13,7 @@ invariant-files g l = record {
   still_open : l.reader.ended ≡ false;
   none : l.reader.fed ≡ 0;
   stays : StaysTold (g.F.Files.told l.fn.files) (g.F.Files.told l.files);
+  opens : OpensWhereItComes (g.F.Files.told l.fn.files) (g.F.Files.told l.files) (zone_files l.meta l.row l.fn.left);
   never_fall : NoneFell (g.F.Files.faults l.fn.files) (g.F.Files.faults l.files);
 }
 
