@@ -17,7 +17,7 @@ use Rattle.net_model.specs.declared.config.Config.{Config}
 use Rattle.net_model.specs.declared.walk.Leaf.{Leaf}
 use Rattle.net_model.specs.declared.walk.State.{State}
 use Rattle.zone_tree.specs.Tree.{ZoneTree, name_of}
-use Rattle.straight_walks.specs.Leads.{Extends, IsSettingOf, LeadsBy, Passes, RefersOn, state_at, state_of}
+use Rattle.straight_walks.specs.Leads.{Extends, IsSettingOf, LeadsBy, RefersOn, state_at, state_of}
 use Rattle.straight_walks.specs.Regions.{HasBegunBelow, IsNearestOrigin, LeadsPast, SortsOut}
 use Rattle.straight_walks.specs.Straight.{StepsStraight}
 use Rattle.straight_walks.specs.declared.asked.Asked.{Asked}
@@ -26,7 +26,7 @@ use Rattle.straight_walks.specs.declared.server.Leads.TheVariants as leads
 use Rattle.straight_walks.proofs.BelowOrigins.{cut_stays, same_nearest}
 use Rattle.straight_walks.proofs.GoingOn.{still_asked}
 use Rattle.straight_walks.proofs.OtherNames.{refers_for}
-use Rattle.straight_walks.proofs.StraightSearch.{AreAmong, referral_passes, silent_passes, steps_still}
+use Rattle.straight_walks.proofs.StraightSearch.{AreAmong, Passes, referral_passes, silent_passes, steps_still}
 
 module _ (config : Config) (deps : Deps) (origin : Labels) where
   -- ---- one server

@@ -1,8 +1,9 @@
 -- The search for the states from which walks go straight.
-use Rattle.std.proofs.Common.{◌≡◌, ℕ, ◌+◌, ◌<◌, ◌≤◌, true, List, [], ◌∷◌, ◌++◌, length, map, take, take_all, get_or, Option, Some, None, Bor, refl, sym, ap, ◌∙◌, subst, inl, inr, arith}
+use Rattle.std.proofs.Common.{◌≡◌, ℕ, ◌+◌, ◌<◌, ◌≤◌, true, List, [], ◌∷◌, ◌++◌, length, map, take, take_all, get_or, Option, Some, None, IfSome, Bor, refl, sym, ap, ◌∙◌, subst, inl, inr, arith}
 use Rattle.std.specs.Prelude.{◌⊎◌, Contains}
 use Rattle.std.specs.List.{AllByRecursion}
 use Rattle.std.proofs.lemmas.List.{append-nil, length-append, length-map, map-append, take_more, take-append-le}
+use Rattle.std.proofs.lemmas.Option.{slice_get_read}
 use Rattle.dns_data.specs.Name.{Labels}
 use Rattle.dns_data.specs.declared.rdata.Rdata.{Rdata}
 use Rattle.dns_data.specs.declared.rr_type.RrType.{RrType}
@@ -19,12 +20,22 @@ use Rattle.net_model.specs.declared.walk.Leaf.{Leaf}
 use Rattle.net_model.specs.declared.walk.Leaf.TheVariants.{NoData}
 use Rattle.net_model.specs.declared.walk.State.{State}
 use Rattle.zone_tree.specs.Tree.{ZoneTree, name_of}
-use Rattle.straight_walks.specs.Leads.{Extends, IsSettingOf, IsTold, LeadsBy, Passes, RefersOn, Searched, TellsTheSame, data_told, leaf_by, leaf_told, leaf_with, state_at, state_of, to_servers}
+use Rattle.straight_walks.specs.Leads.{Extends, IsInside, IsSettingOf, IsTold, LeadsBy, MetBy, RefersOn, Searched, TellsTheSame, data_told, leaf_by, leaf_told, leaf_with, state_at, state_of, to_servers}
 use Rattle.straight_walks.specs.Straight.{EndsSilent, GoesStraight, GoesTo, StepsStraight, Tells}
 use Rattle.straight_walks.specs.declared.asked.Asked.{Asked}
+use Rattle.straight_walks.specs.declared.met.Met.TheVariants as met
 use Rattle.straight_walks.specs.declared.server.Leads.TheVariants as leads
 use Rattle.straight_walks.proofs.GoingOn.{goes_still, still_asked}
 use Rattle.straight_walks.proofs.ServerLeads.{refers_to, silent_ends}
+
+-- from a server walks go straight: to an end, or on to servers that are asked then; its zone tells what the first one
+-- does, or is the first
+pub record Passes (config : Config) (deps : Deps) (query server : Labels) (before : List Asked) (first_before : Option (Bor ZoneTree)) (after : List Asked) (first_after : Option (Bor ZoneTree)) : Type 0 where
+  pub asks : Extends before after
+  pub inside : IfSome first_before (IsInside query) → IfSome first_after (IsInside query)
+  pub still : (leaf : RrType → Leaf) → IsTold query leaf first_after → IsTold query leaf first_before
+  pub steps : (setting : Setting) (leaf : RrType → Leaf) (above : ℕ) → IsSettingOf config deps setting → IsTold query leaf first_after
+      → StepsStraight setting deps leaf (map (state_of config query) after) (state_at config query server above)
 
 -- what a zone tells is told with authority
 data_tell : (found : List Rdata) → is_authoritative (leaf_with found) ≡ true
@@ -57,7 +68,7 @@ module _ (config : Config) (deps : Deps) (query : Labels) where
   abbrev pub AreAmong : List Asked → List Asked → Type 0
   AreAmong before after = (state : State) → Contains (map (state_of config query) before) state → Contains (map (state_of config query) after) state
 
-  -- still where all of them are asked
+  -- a branch that goes straight where some servers are asked does so where those and others are
   goes_straight_still : (setting : Setting) (leaf : Leaf) (before after : List Asked) → AreAmong before after → (branch : Branch) → Straight setting leaf before branch
       → Straight setting leaf after branch
   goes_straight_still setting leaf before after more branch (inl ends) = inl ends
@@ -156,6 +167,19 @@ module _ (config : Config) (deps : Deps) (query : Labels) where
           ap (map (state_of config query))
           (ap (take (at + 1)) one.asks.1 ∙ take-append-le (at + 1) asked one.asks.0 (omega (arith, within)) ∙ take_more asked at item within ∙ (λ j. take at asked ++ sym is j ∷ []))
           ∙ map-append (state_of config query) (take at asked) (item ∷ [])
+
+  -- up to a server that refers the name, and that server
+  pub referral_passed : (asked after : List Asked) (before at : ℕ) (first first_after : Option (Bor ZoneTree)) (tree : Bor ZoneTree) (cut : ℕ) (item : Asked) → item ≡ get_or asked at item
+      → MetBy config query asked before first first_after (met.Refers at tree cut) → Searched config deps query asked before first
+      → Extends asked after × RefersOn config deps query item.server.now tree.now.zone (name_of tree.now cut) (ns_names tree.now.zone (name_of tree.now cut)) after
+      → Searched config deps query after (at + 1) first_after
+  referral_passed asked after before at first first_after tree cut item is meets so on =
+      one_passed asked after at first_after first_after item meets.1 is (meets.3 deps so) (referral_passes item.server.now asked first_after tree cut after refers on.0 on.1)
+    where
+      refers : LeadsBy config query item.server.now (leads.Refers tree cut)
+      refers =
+          subst (λ (found : Option Asked). IfSome found (λ one. LeadsBy config query one.server.now (leads.Refers tree cut)))
+          (slice_get_read asked (length asked) at item refl meets.1 is) meets.2
 
   -- where all are
   pub all_passed : (asked : List Asked) (at most : ℕ) (first : Option (Bor ZoneTree)) → Searched config deps query asked at first → length asked ≤ at → length asked ≤ most

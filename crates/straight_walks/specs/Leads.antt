@@ -1,7 +1,7 @@
 -- Where walks lead from a server, as it is looked for: for the contracts of inner calls alone.
-use Rattle.std.specs.Prelude.{◌≡◌, ◌≤◌, ℕ, true, List, [], ◌∷◌, ◌++◌, map, take, length, Contains, Option, Some, None, option_map, IfSome, ◌⊎◌}
+use Rattle.std.specs.Prelude.{◌≡◌, ◌<◌, ◌≤◌, ℕ, true, List, [], ◌∷◌, ◌++◌, map, take, length, Contains, Option, Some, None, option_map, IfSome, ◌⊎◌}
 use Rattle.std.specs.Borrow.{Bor}
-use Rattle.std.specs.List.{AllByRecursion}
+use Rattle.std.specs.List.{AllByRecursion, slice_get}
 use Rattle.dns_data.specs.Name.{Labels, is_prefix}
 use Rattle.dns_data.specs.declared.rdata.Rdata.{Rdata}
 use Rattle.dns_data.specs.declared.rr_type.RrType.{RrType}
@@ -19,9 +19,11 @@ use Rattle.net_model.specs.declared.walk.Leaf.{Leaf}
 use Rattle.net_model.specs.declared.walk.Leaf.TheVariants.{Answer, NoData, NxDomain}
 use Rattle.net_model.specs.declared.walk.State.{State}
 use Rattle.zone_tree.specs.Tree.{ZoneTree, IsNode, name_of}
-use Rattle.straight_walks.specs.Straight.{EndsSilent, FollowsLeast, GoesTo, IsSound, StepsStraight}
+use Rattle.straight_walks.specs.Straight.{EndsSilent, FollowsLeast, GoesStraight, GoesTo, IsSound, StepsStraight}
 use Rattle.straight_walks.specs.declared.asked.Asked.{Asked}
 use Rattle.straight_walks.specs.declared.begun.Begun.{Begun}
+use Rattle.straight_walks.specs.declared.met.Met.{Met}
+use Rattle.straight_walks.specs.declared.met.Met.TheVariants as met
 use Rattle.straight_walks.specs.declared.name_server.Behind.{Behind}
 use Rattle.straight_walks.specs.declared.name_server.Behind.TheVariants as behind
 use Rattle.straight_walks.specs.declared.server.Leads.{Leads}
@@ -130,15 +132,6 @@ LeadsBy config query server (leads.Refers tree cut) =
     × (deciding tree.now.zone query ≡ ByCut (name_of tree.now cut))
 LeadsBy config query server leads.Unclear = Unit {0}
 
--- from a server walks go straight: to an end, or on to servers that are asked then; its zone tells what the first one
--- does, or is the first
-pub record Passes (config : Config) (deps : Deps) (query server : Labels) (before : List Asked) (first_before : Option (Bor ZoneTree)) (after : List Asked) (first_after : Option (Bor ZoneTree)) : Type 0 where
-  pub asks : Extends before after
-  pub inside : IfSome first_before (IsInside query) → IfSome first_after (IsInside query)
-  pub still : (leaf : RrType → Leaf) → IsTold query leaf first_after → IsTold query leaf first_before
-  pub steps : (setting : Setting) (leaf : RrType → Leaf) (above : ℕ) → IsSettingOf config deps setting → IsTold query leaf first_after
-      → StepsStraight setting deps leaf (map (state_of config query) after) (state_at config query server above)
-
 -- ---- searches
 
 -- the search for the name begins at the top servers, walks go straight from the first so many servers that are asked, and
@@ -153,3 +146,16 @@ pub record Searched (config : Config) (deps : Deps) (query : Labels) (asked : Li
 -- the search for the name has begun so
 abbrev pub HasBegun : Config → Deps → Labels → Begun → Type 0
 HasBegun config deps query begun = Searched config deps query begun.asked.items begun.passed None
+
+-- what a search meets that has passed so many of the servers, with the zone that told something first before and after: where
+-- walks end at all of them the query goes straight; where one refers the name it has passed all up to that one
+abbrev pub MetBy : Config → Labels → List Asked → ℕ → Option (Bor ZoneTree) → Option (Bor ZoneTree) → Met → Type 0
+MetBy config query asked before first_before first_after met.Ends =
+    (deps : Deps) → Searched config deps query asked before first_before
+    → (most : ℕ) → length asked ≤ most → (setting : Setting) → IsSettingOf config deps setting → GoesStraight setting deps most query
+MetBy config query asked before first_before first_after (met.Refers passed tree cut) =
+    (before ≤ passed)
+    × (passed < length asked)
+    × IfSome (slice_get asked passed) (λ one. LeadsBy config query one.server.now (leads.Refers tree cut))
+    × ((deps : Deps) → Searched config deps query asked before first_before → Searched config deps query asked passed first_after)
+MetBy config query asked before first_before first_after met.Unclear = Unit {0}

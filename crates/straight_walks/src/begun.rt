@@ -3,7 +3,6 @@
 ghost use Rattle.std.specs.Prelude.{IfOk};
 ghost use Rattle.dns_data.specs.Name.{Labels};
 ghost use Rattle.graph_form.specs.declared.deps.Deps.{Deps};
-ghost use Rattle.net_model.specs.declared.config.Config.{Config};
 ghost use Rattle.straight_walks.specs.Leads.{HasBegun};
 
 use crate::asked::{Asked, top_servers};
@@ -27,16 +26,5 @@ impl<'a> Begun<'a> {
     {
         let asked = top_servers(alloc, hosts, name)?;
         Ok(Begun { asked, passed: 0 })
-    }
-
-    /// An equal one.
-    pub fn copy(&self, alloc: Global) -> Result<Begun<'a>, NoMemory>
-        ensures { IfOk result (λ begun. (config : Config) (deps : Deps) (query : Labels) → HasBegun config deps query self.now → HasBegun config deps query begun) }
-    {
-        let asked = Vec::from_slice(alloc, self.asked.as_slice())?;
-        Ok(Begun {
-            asked,
-            passed: self.passed,
-        })
     }
 }

@@ -11,13 +11,14 @@
 //! for the server, where no origin of the server's stands between the query and its nearest origin, and what decides at the query
 //! is looked for. Where several zones tell something of the query, what decides is looked for once more for each further one, in
 //! it and in the first one, and their data are compared, type by type. All this takes no memory. Only where one of these servers
-//! refers the query its nearest origin's states are copied, and the same is looked for anew, as for an origin, at these servers
-//! and at those to which they refer it. Where no origin is at or above the query, a list is made of the top servers. No graph is
-//! made.
+//! refers the query its nearest origin's states are copied, once, and each name server of the zone cut is looked into, as for an
+//! origin. The search goes on from there, at the servers behind that one and at those to which it refers the query, and looks at
+//! no state twice. Where no origin is at or above the query, a list is made of the top servers. No graph is made.
 #![tactic(auto)]
 
 mod asked;
 mod begun;
+mod met;
 mod name_server;
 mod origins;
 mod referrals;

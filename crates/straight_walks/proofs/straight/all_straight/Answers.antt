@@ -1,18 +1,21 @@
-use Rattle.std.proofs.Common.{arith}
-use Rattle.straight_walks.proofs.StraightSearch.{all_passed, one_passed}
+use Rattle.std.proofs.Common.{List, subst}
+use Rattle.straight_walks.specs.Leads.{MetBy}
+use Rattle.straight_walks.specs.declared.asked.Asked.{Asked}
+use Rattle.straight_walks.specs.declared.met.Met.TheVariants as met
+use Rattle.straight_walks.proofs.StraightSearch.{referral_passed}
 use Rattle.straight_walks.proofs.straight.all_straight.Goals as goal
 
-pub is_straight-requires : goal.is_straight-requires
-is_straight-requires c = c.loop-begun.invariant.inside
-
-pub loop-begun-preserved : goal.loop-begun-preserved
-loop-begun-preserved c =
-    let begun = c.loop-begun.begun in
-    one_passed c.args.hosts.now c.args.sets.now c.args.query.now begun.asked.items c.is_straight.new.asked.items begun.passed c.loop-begun.first c.is_straight.new.first
-    c.index-one.result.now (omega (arith, c.loop-begun-test.true, c.len.ensures)) c.index-one.ensures c.loop-begun.invariant (c.in_ok-is_straight.ensures c.if-not-branch.false)
-
-pub returns : goal.returns
-returns c = λ yes.
-    let begun = c.loop-begun.begun in
-    all_passed c.args.hosts.now c.args.sets.now c.args.query.now begun.asked.items begun.passed c.args.most c.loop-begun.first c.loop-begun.invariant
-    (omega (arith, c.loop-begun-test.false, c.len.ensures)) (omega (arith, c.loop-begun-test.false, c.len.ensures, c.if-begun-most.false))
+pub loop-first-preserved : goal.loop-first-preserved
+loop-first-preserved c =
+    let config = c.args.hosts.now in
+    let query = c.args.query.now in
+    let asked = c.loop-first.asked.items in
+    let before = c.loop-first.passed in
+    let first = c.loop-first.first in
+    let first_after = c.next_referral.new.first in
+    let at = c.in-Refers.at in
+    let tree = c.in-Refers.tree in
+    let cut = c.in-Refers.cut in
+    referral_passed config c.args.sets.now query asked c.refer_on.new.asked.items before at first first_after tree cut c.index.result.now c.index.ensures
+    (subst (λ (all : List Asked). MetBy config query all before first first_after (met.Refers at tree cut)) c.as_slice.ensures.value c.in-Refers.ensures)
+    c.loop-first.invariant (c.in_ok-refer_on-in-Refers.ensures c.if-not-branch.false)
