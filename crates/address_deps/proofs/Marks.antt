@@ -8,12 +8,6 @@ use Rattle.net_model.specs.declared.config.Config.{Config}
 use Rattle.graph_form.specs.Graph.{PlainGraph}
 use Rattle.address_deps.specs.Giving.{is_marked, gives_from, AreGiving}
 
--- a mark by its place
-pub marked_at : (marks : List Bool) (at : ℕ) (d : Bool) → at < length marks → is_marked marks at ≡ get_or marks at d
-marked_at [] at d within = absurd (omega arith)
-marked_at (mark ∷ marks) zero d within = refl
-marked_at (mark ∷ marks) (suc at) d within = marked_at marks at d (omega arith)
-
 -- another one stays where one is set
 set_other : (marks : List Bool) (at other : ℕ) → (other ≡ at → ⊥) → is_marked (set marks at true) other ≡ is_marked marks other
 set_other [] at other apart = refl

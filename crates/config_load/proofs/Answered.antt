@@ -97,7 +97,7 @@ FailedWhereItCame-answers told meta (Err (ZoneTwice row)) a = tt
 -- where no read failed the answer is the whole of what the reading gives
 pub IsWhole-answers : (told : FilesTold) (meta : List ℕ) (before after : List ℕ → ℕ) (reading : Reading Config) (result : Result Config LoadFault) → Gives reading result → FailedAt before after result → FailedWhereItCame meta told result → NoReadFailed meta told before after → IsWhole reading result
 IsWhole-answers told meta before after reading (Ok value) gives rose came none = subst (λ r. IsWhole r (Ok value)) (sym gives) (inl refl)
-IsWhole-answers told meta before after reading (Err (Read file)) gives rose came none = absurd (none file (inr (inr came)) rose)
+IsWhole-answers told meta before after reading (Err (Read file)) gives rose came none = absurd (none file came rose)
 IsWhole-answers told meta before after (Reads value) (Err NoMemory) gives rose came none = inr refl
 IsWhole-answers told meta before after (Refuses fault) (Err NoMemory) gives rose came none = inr refl
 IsWhole-answers told meta before after (Misses file) (Err NoMemory) gives rose came none = refl

@@ -1,11 +1,9 @@
 -- What loading answers.
-use Rattle.std.specs.Prelude.{◌≡◌, ℕ, ◌⊎◌, nat_eq, List, map, Contains, Result, Ok, Err, if◌then◌else◌}
+use Rattle.std.specs.Prelude.{◌≡◌, ℕ, ◌⊎◌, nat_eq, List, Result, Ok, Err, if◌then◌else◌}
 use lib.Pointwise.{pointwise}
 use Rattle.io_edges.specs.Counts.{Rose}
 use Rattle.io_edges.specs.Files.{FilesTold, Told, Untold}
-use Rattle.meta_read.specs.declared.meta.Meta.{Meta as Metadata}
-use Rattle.config_load.specs.Conf.{conf, metadata}
-use Rattle.config_load.specs.Joined.{joined}
+use Rattle.config_load.specs.Conf.{conf}
 use Rattle.config_load.specs.Reading.{Reading, Reads, Refuses, Misses, Unknown}
 use Rattle.config_load.specs.declared.fault.LoadFault.{LoadFault}
 use Rattle.config_load.specs.declared.fault.LoadFault.TheVariants.{Read, NoMemory}
@@ -19,19 +17,9 @@ without file told name = if pointwise nat_eq name file then Untold else told nam
 abbrev pub ReadingComesTo : List ℕ → FilesTold → List ℕ → Type 0
 ReadingComesTo meta told file = conf meta (without file told) ≡ Unknown file
 
--- the metadata read, and some row of them names this file
-abbrev pub IsRowsFile : List ℕ → FilesTold → List ℕ → Type 0
-IsRowsFile meta told file =
-    (found : Metadata) × (metadata meta told ≡ Reads found) × Contains (map (λ row. joined meta row.file) found.rows) file
-
--- the names of the files that are opened: the metadata file, those of its rows, and those that are included where the
--- reading comes to
-abbrev pub IsOpened : List ℕ → FilesTold → List ℕ → Type 0
-IsOpened meta told file = (file ≡ meta) ⊎ (IsRowsFile meta told file ⊎ ReadingComesTo meta told file)
-
--- no count of an opened file rose
+-- no count of a file rose to which the reading comes
 abbrev pub NoReadFailed : List ℕ → FilesTold → (List ℕ → ℕ) → (List ℕ → ℕ) → Type 0
-NoReadFailed meta told before after = (file : List ℕ) → IsOpened meta told file → Rose (before file) (after file) → ⊥
+NoReadFailed meta told before after = (file : List ℕ) → ReadingComesTo meta told file → Rose (before file) (after file) → ⊥
 
 -- an answer is what the reading gives: what was read, or the refusal; a failed read and want of memory are free
 abbrev pub Gives : {T : Type 0} → Reading T → Result T LoadFault → Type 0

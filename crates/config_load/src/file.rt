@@ -1,6 +1,6 @@
 //! Reading files to their ends.
 
-ghost use Rattle.std.specs.Prelude.{◌≡◌, ℕ, ◌+◌, ◌<◌, ◌≤◌, ◌++◌, length, take, vec_len, false, IfOk, IfErr, OnOk};
+ghost use Rattle.std.specs.Prelude.{◌≡◌, ◌+◌, ◌<◌, ◌≤◌, ◌++◌, length, take, vec_len, false, IfOk, IfErr, OnOk};
 ghost use Rattle.io_edges.specs.Counts.{NoneFell};
 ghost use Rattle.io_edges.specs.Files.{Holds, SameElsewhere, StaysTold, first_told};
 ghost use Rattle.config_load.specs.Faults.{FailedAt, IsReadOf};

@@ -1,6 +1,5 @@
 //! The zone of a row.
 
-ghost use Rattle.std.specs.Prelude.{◌≡◌};
 ghost use Rattle.std.specs.Option.{option_map};
 ghost use Rattle.dns_data.specs.Answers.{AnswersOr, with_fault};
 ghost use Rattle.io_edges.specs.Counts.{NoneFell};

@@ -44,7 +44,7 @@ module _ (told : FilesTold) (before after : List ℕ → ℕ) (said : Result Job
           inl (subst (λ (n : ℕ). Checks n rewrites' config ending) one
           (subst (λ (n : ℕ). Checks classes n config ending) other
           (subst (λ (read : Reading Config). OfReading meta' (Checks classes rewrites) read ending) reads reading)))
-      by (inr (inl (file, failed, comes, rose))) = absurd (none file (inr (inr comes)) rose)
+      by (inr (inl (file, failed, comes, rose))) = absurd (none file comes rose)
       by (inr (inr ran_out)) = inr ran_out
 
   -- a query ends in its outcome, in a failed read or for want of memory

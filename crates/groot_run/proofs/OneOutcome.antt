@@ -14,7 +14,7 @@ use Rattle.groot_line.specs.declared.fault.LineFault.{LineFault}
 use Rattle.groot_line.specs.declared.job.Job.{Job}
 use Rattle.groot_line.specs.declared.job.Job.TheVariants as jobs
 use Rattle.groot_run.specs.declared.ending.Ending.{Ending}
-use Rattle.groot_run.specs.Outcome.{reported, listed, WithinNames, WithinStates, IsReported, most_states, too_many_states, Checks, IsClassList, ListsClasses, ask_rewrites, most_learning_walks, IsAnswerWith, Asks, answered, too_many_to_learn, OfReading, Outcome, Drills, IsDrilled, drilled, drill_names, drill_rewrites}
+use Rattle.groot_run.specs.Outcome.{reported, listed, WithinNames, WithinStates, IsReported, most_states, too_many_states, Checks, IsClassList, ListsClasses, ask_rewrites, most_learning_walks, IsAnswerWith, Asks, walks_written, too_many_to_learn, OfReading, Outcome, Drills, IsDrilled, drilled, drill_names, drill_rewrites}
 use Rattle.groot_run.proofs.OneReport.{one_report}
 use Rattle.groot_run.proofs.Budgets.{one_passed}
 use Rattle.groot_run.proofs.OneClassList.{one_class_list}
@@ -62,7 +62,7 @@ one_answer config followed name rtype a b (inl p) (inr q) = absurd (q.0 p.0)
 one_answer config followed name rtype a b (inr p) (inl q) = absurd (p.0 q.0)
 one_answer config followed name rtype a b (inr p) (inr q) =
     p.1.as_text
-    ∙ ap (answered name rtype)
+    ∙ ap (walks_written name rtype)
     (one_walks (following config ask_rewrites followed) name rtype p.1.walks q.1.walks p.1.are_walks q.1.are_walks)
     ∙ sym q.1.as_text
 

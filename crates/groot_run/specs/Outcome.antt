@@ -94,8 +94,8 @@ abbrev pub listed : List ListedClass → Ending
 listed classes = record { status = Clean; out = class_list_text classes; err = [] }
 
 -- the answer of a query
-abbrev pub answered : Labels → RrType → List Walk → Ending
-answered name rtype walks = record { status = Clean; out = ask_text name rtype walks; err = [] }
+abbrev pub walks_written : Labels → RrType → List Walk → Ending
+walks_written name rtype walks = record { status = Clean; out = ask_text name rtype walks; err = [] }
 
 -- the query has more walks than are written
 abbrev pub too_many_walks : Ending
@@ -165,7 +165,7 @@ most_learning_walks = 10000
 pub record AreWritten (config : Config) (followed : List Labels) (name : Labels) (rtype : RrType) (ending : Ending) : Type 0 where
   pub walks : List Walk
   pub are_walks : AreWalks (following config ask_rewrites followed) name rtype walks
-  pub as_text : ending ≡ answered name rtype walks
+  pub as_text : ending ≡ walks_written name rtype walks
 
 -- the answer of the query while these servers are followed: its walks, unless there are more than may be written
 abbrev pub IsAnswerWith : Config → List Labels → Labels → RrType → Ending → Type 0

@@ -1,7 +1,7 @@
 //! The walks of a query.
 
 ghost use Rattle.std.specs.Prelude.{◌≡◌, ◌⊎◌};
-ghost use Rattle.groot_run.specs.Outcome.{Asks, IsAnswerWith, answered, no_memory};
+ghost use Rattle.groot_run.specs.Outcome.{Asks, IsAnswerWith, walks_written, no_memory};
 
 use crate::ending::Ending;
 use crate::line::Line;
@@ -49,15 +49,15 @@ fn answer(alloc: Global, hosts: &Hosts<'_>, followed: &[Name], name: &Name, rtyp
     ensures { IsAnswerWith hosts.now followed.now name.now rtype result ⊎ (result ≡ no_memory) }
 {
     match resolve_at(alloc, hosts, REWRITES, followed, name, rtype, MOST_WALKS) {
-        Ok(walks) => answered(alloc, name, rtype, walks.items()),
+        Ok(walks) => walks_written(alloc, name, rtype, walks.items()),
         Err(ResolveFault::WalksPassed) => Ending::too_many_walks(),
         Err(ResolveFault::NoMemory) => Ending::no_memory(),
     }
 }
 
 /// The answer with these walks.
-fn answered(alloc: Global, name: &Name, rtype: RrType, walks: &[Walk]) -> Ending
-    ensures { (result ≡ answered name.now rtype walks.now) ⊎ (result ≡ no_memory) }
+fn walks_written(alloc: Global, name: &Name, rtype: RrType, walks: &[Walk]) -> Ending
+    ensures { (result ≡ walks_written name.now rtype walks.now) ⊎ (result ≡ no_memory) }
 {
     match ask_text(alloc, name, rtype, walks) {
         Ok(out) => Ending {

@@ -28,11 +28,6 @@ pub all_len : (filled : List (List ℕ)) (count : ℕ) → length filled ≤ cou
 all_len filled count within =
     omega (arith, within, length-append filled (empty (count - length filled)), length-replicate {A = List ℕ} (count - length filled) [])
 
--- no more than one for each place is kept
-pub filled_within : (rows after : List (List ℕ)) (place count : ℕ) → IsFilledOn rows place after → length rows ≤ count → place < count → length after ≤ count
-filled_within rows after place count filled within low =
-    omega (arith, within, low, filled.within, ap (λ (l : List (List ℕ)). length l) filled.is, length-append rows (empty filled.more), length-replicate {A = List ℕ} filled.more [])
-
 -- they are those they were
 pub filled_same : (rows after : List (List ℕ)) (place count : ℕ) → IsFilledOn rows place after → length rows ≤ count → place < count
     → all_rows after count ≡ all_rows rows count

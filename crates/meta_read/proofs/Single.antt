@@ -18,10 +18,6 @@ module _ {A : Type 0} (name_of : A → Labels) (items : List A) where
   abbrev pub HasFirst : ℕ → tree.BTreeSet Labels → Type 0
   HasFirst i set = (name : Labels) → tree.contains name_cmp set name ≡ list_any (λ item. name_eq name (name_of item)) (take i items)
 
-  -- an empty set has the names of no item
-  pub has-none : (set : tree.BTreeSet Labels) → tree.IsEmpty set → HasFirst 0 set
-  has-none set empty name = ap (list_any (is_at (name_cmp name))) empty
-
   -- a set to which the name of the next item was added
   pub has-more : (i : ℕ) (old new : tree.BTreeSet Labels) (item : A) → i < length items → item ≡ get_or items i item → tree.Updates name_cmp old new (name_of item) true → HasFirst i old → HasFirst (i + 1) new
   has-more i old new item below is updates has name =
@@ -53,7 +49,3 @@ module _ (names : List Labels) (i : ℕ) where
       ap (distinct_behind name_eq (take i names)) (here name below is)
       ∙ (ap (λ b. cond b (distinct_behind name_eq (take i names ++ name ∷ []) (drop (i + 1) names)) (name ∷ distinct_behind name_eq (take i names ++ name ∷ []) (drop (i + 1) names))) new
       ∙ ap (λ front. name ∷ distinct_behind name_eq front (drop (i + 1) names)) (sym (before name below is)))
-
-  -- no name is left
-  pub once-end : (single : List Labels) → length names ≤ i → single ++ distinct_behind name_eq (take i names) (drop i names) ≡ single
-  once-end single past = ap (λ rest. single ++ distinct_behind name_eq (take i names) rest) (drop_of_length-le names past) ∙ append-nil single

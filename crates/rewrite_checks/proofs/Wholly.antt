@@ -114,14 +114,6 @@ module _ (class : Class) (graph : PlainGraph) where
             (elim (first_or_later t [] r has) [ inl same ↦ subst (λ q. Contains (answers_of class t ∷ []) (answers_of class q)) same (has_first (answers_of class t) []) | inr none ↦ absurd (none_in_nil r none) ]);
       })
 
-  pub not_put : (t : RrType) (old : List Seen) → (Differ graph t → ⊥) → PutsAnswers class graph (t ∷ []) old old
-  not_put t old same =
-      record {
-        kept = λ s has. has;
-        from = λ s has. inl has;
-        all = λ r has differ. absurd (elim (first_or_later t [] r has) [ inl is ↦ same (subst (Differ graph) (sym is) differ) | inr none ↦ absurd (none_in_nil r none) ]);
-      }
-
 -- ---- the whole
 
 -- the ends, then the answers, then the first types

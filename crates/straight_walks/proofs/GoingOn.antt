@@ -95,9 +95,6 @@ pub goes_still : (config : Config) (deps : Deps) (states all : List State) → (
 goes_still config deps states all more branch goes = (goes.0, goes.1, goes.2, goes.3, more goes.1 goes.4)
 
 module _ (config : Config) (deps : Deps) (query server : Labels) (zone : Zone) (cut : Labels) where
-  pub none_refers : (asked : List Asked) → RefersOn config deps query server zone cut [] asked
-  none_refers asked setting above of = tt
-
   -- where more servers are asked
   pub refers_still : (names : List Labels) (before after : List Asked) → Extends before after → RefersOn config deps query server zone cut names before
       → RefersOn config deps query server zone cut names after

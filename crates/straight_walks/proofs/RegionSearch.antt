@@ -75,15 +75,6 @@ module _ (config : Config) (deps : Deps) (origin : Labels) where
     pub sorted : (one : Asked) → Contains (take at asked) one → Contains (passed ++ again) one
     pub lead_past : AllByRecursion (λ one. LeadsPast config deps origin one.server.now asked) passed
 
-  pub none_sorted : (asked : List Asked) → ((query : Labels) → map (state_of config query) asked ≡ start config query) → SortedOut asked 0 [] []
-  none_sorted asked is =
-      record {
-        within = omega arith;
-        begins = λ query state has. subst (λ (all : List State). Contains all state) (sym (is query)) has;
-        sorted = λ one has. absurd (none_in_nil one has);
-        lead_past = tt;
-      }
-
   -- an item more on either side
   more_passed : (passed again : List Asked) (item one : Asked) → Contains (passed ++ again) one ⊎ (item ≡ one) → Contains ((passed ++ item ∷ []) ++ again) one
   more_passed passed again item one (inl has) = by (Contains-append_cases passed again one has) where

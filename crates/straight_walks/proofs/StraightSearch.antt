@@ -138,15 +138,6 @@ module _ (config : Config) (deps : Deps) (query : Labels) where
 
   -- ---- those that are passed over
 
-  pub none_passed : (asked : List Asked) → map (state_of config query) asked ≡ start config query → Searched config deps query asked 0 None
-  none_passed asked is =
-      record {
-        within = omega arith;
-        begins = λ state has. subst (λ (all : List State). Contains all state) (sym is) has;
-        inside = tt;
-        passes = λ setting leaf of told. tt;
-      }
-
   pub one_passed : (asked after : List Asked) (at : ℕ) (first first_after : Option (Bor ZoneTree)) (item : Asked) → at < length asked → item ≡ get_or asked at item
       → Searched config deps query asked at first → Passes config deps query item.server.now asked first after first_after → Searched config deps query after (at + 1) first_after
   one_passed asked after at first first_after item within is so one =

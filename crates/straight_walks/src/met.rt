@@ -10,9 +10,9 @@ use dns_data::Name;
 use zone_lookup::Hosts;
 use zone_tree::{NodeId, Tree};
 
-/// What a search meets that goes over the servers that are asked: walks end at all of them, and all zones that tell something of
-/// the name tell the same; or they do so at the first so many servers, and the next one's zone refers the name by this cut. Of
-/// other searches nothing is said.
+/// What a search meets that goes over the servers that are asked and that it hasn't passed yet: walks end at all of them, and
+/// all zones that tell something of the name tell the same; or they do so up to the server of this place, whose zone refers the
+/// name by this cut. Of other searches nothing is said.
 #[derive(Clone, Copy)]
 pub(crate) enum Met<'h, 'a> {
     Ends,

@@ -76,8 +76,8 @@ abbrev pub own_network : ℕ → ℕ
 own_network i = if i % 10 == 7 then 2 else 0
 
 -- a zone of so many
-abbrev pub zone_text : ℕ → ℕ → List ℕ
-zone_text n i =
+abbrev pub made_zone_text : ℕ → ℕ → List ℕ
+made_zone_text n i =
     codes "$TTL 60\n" ++ soa_line i ++ delegation_line i ++ server_line (own_network i) i ++ web_line i
     ++ alias_line i (next_zone n i) ++ gone_line i
 
@@ -89,7 +89,7 @@ zone_file i = codes "z" ++ decimal i ++ codes ".zone"
 abbrev pub drill_files : ℕ → List (List ℕ × List ℕ)
 drill_files n =
     (codes "meta.json", meta_text n) ∷ (codes "root.zone", root_text n)
-    ∷ map (λ i. (zone_file i, zone_text n i)) (zone_numbers n)
+    ∷ map (λ i. (zone_file i, made_zone_text n i)) (zone_numbers n)
 
 -- the files with more of them, put in one after the other
 abbrev pub with_files : FilesInMemory → List (List ℕ × List ℕ) → FilesInMemory

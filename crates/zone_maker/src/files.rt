@@ -1,9 +1,9 @@
 //! The files of a drill.
 
 ghost use Rattle.std.specs.Prelude.{◌≡◌, ◌<◌, ◌≤◌, ◌∷◌, [], IfOk, OnOk};
-ghost use Rattle.zone_maker.specs.Drill.{drill, with_files, zone_file, zone_text as text_of_zone};
+ghost use Rattle.zone_maker.specs.Drill.{drill, with_files, zone_file, made_zone_text};
 
-use crate::texts::{meta_text, root_text, zone_name, zone_text};
+use crate::texts::{made_zone_text, meta_text, root_text, zone_name};
 use dns_data::{List, NoMemory};
 use io_edges::MemoryFiles;
 use std::alloc::Global;
@@ -27,9 +27,9 @@ pub fn make(alloc: Global, zones: u32) -> Result<MemoryFiles, NoMemory>
 fn add_zone(alloc: Global, files: &mut MemoryFiles, zones: u32, i: u32) -> Result<(), NoMemory>
     requires within { i < zones }
     requires few { zones ≤ 5000 }
-    ensures { OnOk result (files.new ≡ with_files files.old ((zone_file i, text_of_zone zones i) ∷ [])) }
+    ensures { OnOk result (files.new ≡ with_files files.old ((zone_file i, made_zone_text zones i) ∷ [])) }
 {
     let name = zone_name(alloc, i)?;
-    let text = zone_text(alloc, zones, i)?;
+    let text = made_zone_text(alloc, zones, i)?;
     files.add(name.as_str(), text.as_bytes())
 }

@@ -2,7 +2,7 @@
 
 ghost use Rattle.std.specs.Prelude.{◌≡◌, ◌<◌, ◌≤◌, ◌++◌, IfOk, OnOk};
 ghost use Rattle.std.specs.String.{string_bytes};
-ghost use Rattle.zone_maker.specs.Drill.{address_end, meta_row, meta_rows, meta_text, delegation_line, server_line, referral_lines, root_text, soa_end, soa_line, web_line, alias_line, gone_line, next_zone, zone_text, zone_file};
+ghost use Rattle.zone_maker.specs.Drill.{address_end, meta_row, meta_rows, meta_text, delegation_line, server_line, referral_lines, root_text, soa_end, soa_line, web_line, alias_line, gone_line, next_zone, made_zone_text, zone_file};
 
 use dns_data::NoMemory;
 use std::alloc::Global;
@@ -65,10 +65,10 @@ fn put_referral(text: &mut String, i: u32) -> Result<(), NoMemory>
 }
 
 /// The zone with this number, of so many.
-pub(crate) fn zone_text(alloc: Global, zones: u32, i: u32) -> Result<String, NoMemory>
+pub(crate) fn made_zone_text(alloc: Global, zones: u32, i: u32) -> Result<String, NoMemory>
     requires within { i < zones }
     requires few { zones ≤ 5000 }
-    ensures { IfOk result (λ text. string_bytes text ≡ zone_text zones i) }
+    ensures { IfOk result (λ text. string_bytes text ≡ made_zone_text zones i) }
 {
     let mut text = String::from_str(alloc, "$TTL 60\n")?;
     put_soa(&mut text, i)?;

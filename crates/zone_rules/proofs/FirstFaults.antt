@@ -100,7 +100,3 @@ module _ (origin : Labels) (rrs : List Rr) (i : ℕ) where
   fault-next rr fault below is first =
       here rr below is
       ∙ ap (λ found. option_or found (first_fault_behind origin (take (i + 1) rrs) (drop (i + 1) rrs))) (sym first)
-
-  -- no record is left
-  pub fault-none : length rrs ≤ i → first_fault_behind origin (take i rrs) (drop i rrs) ≡ None
-  fault-none past = ap (first_fault_behind origin (take i rrs)) (drop_of_length-le rrs past)

@@ -43,6 +43,6 @@ rule_in kept has_rival origin rr =
 abbrev pub fault_in : Before → Bool → Labels → Rr → Option RuleFault
 fault_in kept has_rival origin rr = option_map (λ cause. At rr.file rr.line cause) (rule_in kept has_rival origin rr)
 
--- a rule speaks of the record whatever stands at its owner
+-- an SOA, an NS or a DNAME record, which may break a rule also without a rival
 abbrev pub is_watched : Rr → Bool
 is_watched rr = is_type types.Soa rr || (is_type types.Ns rr || is_type types.Dname rr)

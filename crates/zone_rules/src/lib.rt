@@ -8,10 +8,10 @@
 //! Costs: records are looked at three times, once more where no origin is given, and their keys, of 16 octets each, nine
 //! times. The keys fall into buckets, four for a record, by one half of numbers that identical records share, and those
 //! that share a bucket there into others, sixteen for a key, by the other half; and again by numbers of their owners. Only
-//! a record that shares both its buckets is put into an ordered set and looked for there; such records, and those of the
-//! types that rules speak of wherever they stand, are looked at once more. So a usual zone is passed over in a time that
-//! grows with its octets, and any zone, also one made so that all records share their buckets, takes as many searches in a
-//! set as it has records. No record is copied.
+//! a record that shares both its buckets, and at the rules each DNAME record, is put into an ordered set and looked for
+//! there; such records, and SOA and NS records, are looked at once more. So a usual zone is passed over in a time that
+//! grows with its octets, and any zone, also one made so that all records share their buckets, takes at most five searches
+//! in sets for each record. No record is copied.
 #![tactic(auto)]
 
 mod apex;

@@ -1,6 +1,6 @@
 //! The rules of a zone.
 
-ghost use Rattle.std.specs.Prelude.{◌≡◌, ◌⊎◌, ◌++◌, ◌∷◌, [], ◌&&◌, ◌||◌, not, map, true, Bool, None, Some, Err, List, IfOk, OnOk, IfErr, if◌then◌else◌};
+ghost use Rattle.std.specs.Prelude.{◌≡◌, ◌⊎◌, ◌++◌, ◌∷◌, [], ◌&&◌, ◌||◌, map, true, Bool, None, Some, Err, List, IfOk, OnOk, IfErr, if◌then◌else◌};
 ghost use Rattle.dns_data.specs.Name.{Labels, name_eq};
 ghost use Rattle.zone_rules.specs.Apex.{is_type};
 ghost use Rattle.zone_rules.specs.Before.{fault_in, has_name, is_watched, IsSummaryOf, rule_in};
@@ -27,8 +27,8 @@ pub(crate) struct Before<'a> {
     dnames: BTreeSet<&'a Name>,
 }
 
-/// Looks for the first record that breaks a rule, and for an SOA record. A record without a rival, of which no rule speaks
-/// whatever stands at its owner, breaks none and is passed over.
+/// Looks for the first record that breaks a rule, and for an SOA record. An SOA, an NS or a DNAME record is always looked at,
+/// any other only where it may have a rival at its owner: else it breaks no rule.
 pub(crate) fn check_rules(alloc: Global, origin: &Name, rrs: &[Rr]) -> Result<(), RuleFault>
     ensures ok { OnOk result ((first_fault origin.now rrs.now ≡ None) × (had RrType.Soa rrs.now ≡ true)) }
     ensures err { IfErr result (λ fault. (fault ≡ RuleFault.NoMemory) ⊎ (checked origin.now rrs.now ≡ Err fault)) }
@@ -50,7 +50,7 @@ pub(crate) fn check_rules(alloc: Global, origin: &Name, rrs: &[Rr]) -> Result<()
 }
 
 /// Of each record the number of its owner with whether it has to stand alone there, as a CNAME record has (RFC 1034 section
-/// 3.6.2), and whether a rule speaks of it whatever stands at its owner.
+/// 3.6.2), and whether it is an SOA, an NS or a DNAME record, which may break a rule also without a rival.
 #[derive(Drop)]
 struct Owners {
     keys: Vec<(u64, bool)>,
@@ -86,8 +86,8 @@ impl<'a> Before<'a> {
         }
     }
 
-    /// One record more stands before, unless it breaks a rule. It may have a rival at its owner, or hasn't any. Where it hasn't,
-    /// and no rule speaks of it whatever stands at its owner, it isn't looked at.
+    /// One record more stands before, unless it breaks a rule. It may have a rival at its owner, or hasn't any. One that hasn't,
+    /// and is none of those that are watched, isn't looked at.
     fn check(
         &mut self,
         origin: &Name,

@@ -3,7 +3,7 @@ use Rattle.groot_run.proofs.ask.answer.Goals as goal
 
 pub returns-in-Ok : goal.returns-in-Ok
 returns-in-Ok c =
-    elim c.answered.ensures [
+    elim c.walks_written.ensures [
       | inl ends ↦ inl (inr (
         c.in-Ok.ensures.few,
         record { walks = c.items.result.now; are_walks = rw c.items.ensures c.in-Ok.ensures.walks; as_text = ends },
