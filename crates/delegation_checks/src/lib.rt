@@ -20,6 +20,3 @@ mod sound;
 
 pub use delegations::delegation_faults;
 pub use learnt_sets::{LearntSets, set_of};
-
-#[cfg(test)]
-mod tests;

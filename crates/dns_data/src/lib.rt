@@ -37,6 +37,3 @@ pub use spelling::escaped_octet;
 pub use text::Text;
 pub use type_set::TypeSet;
 pub use words::is_word;
-
-#[cfg(test)]
-mod tests;

@@ -24,6 +24,3 @@ pub use laws::{one_outcome, one_report, query_classes};
 pub use line::Line;
 pub use run::{groot, run_words};
 pub use status::Status;
-
-#[cfg(test)]
-mod tests;

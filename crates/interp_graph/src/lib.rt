@@ -28,6 +28,3 @@ pub use building::build;
 pub use fault::GraphFault;
 pub use restriction::restrict;
 pub use trees::Trees;
-
-#[cfg(test)]
-mod tests;

@@ -23,8 +23,6 @@ mod memory_sink;
 mod out_sink;
 mod shelf;
 mod sink;
-#[cfg(test)]
-mod tests;
 
 pub use disk_files::DiskFiles;
 pub use failed::Failed;

@@ -27,6 +27,3 @@ pub use laws::{pieces_spell_the_text, what_is_whole_stays};
 pub use lexer::Lexer;
 pub use reading::{Reading, read_entries};
 pub use taken::Taken;
-
-#[cfg(test)]
-mod tests;

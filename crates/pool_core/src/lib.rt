@@ -17,6 +17,3 @@ pub use event::{Event, StopCause};
 pub use fault::StepFault;
 pub use machine::Core;
 pub use spot::Spot;
-
-#[cfg(test)]
-mod tests;

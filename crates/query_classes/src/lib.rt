@@ -25,6 +25,3 @@ pub use fault::TreeFault;
 pub use level::children;
 pub use live_name::LiveName;
 pub use tree::{ClassRow, class_tree};
-
-#[cfg(test)]
-mod tests;

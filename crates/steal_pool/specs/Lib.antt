@@ -5,4 +5,3 @@ pub mod Slots
 pub mod Faults
 pub mod Runs
 pub mod Finish
-pub mod Trees

@@ -23,6 +23,3 @@ pub use row::{OtherRow, OwnRow, Taken};
 pub use rule::SeatView;
 pub use run::{run_tree, run_tree_counted};
 pub use slot::{Ended, Slot};
-
-#[cfg(test)]
-mod tests;

@@ -20,6 +20,3 @@ pub use filed::Filed;
 pub use filing::{Back, FileFault, Issued};
 pub use walk::{WalkFault, walk_tree};
 pub use work::{JudgeShare, Work};
-
-#[cfg(test)]
-mod tests;
