@@ -8,7 +8,6 @@
 //! for each walk that it gives, and keeps two marks a node.
 #![tactic(auto)]
 
-mod deps;
 mod first_path;
 mod first_walks;
 mod graph;
@@ -19,7 +18,6 @@ mod report;
 mod shows;
 mod verdict;
 
-pub use deps::Deps;
 pub use first_walks::trails;
 pub use graph::{Graph, type_count};
 pub use laws::{pairs_are_reached, paths_are_walks, walks_and_zones_show};
@@ -28,3 +26,4 @@ pub use repeated::repeats;
 pub use report::{Report, ReportEntry, Seen};
 pub use shows::{is_authoritative, is_same_answer};
 pub use verdict::first_types;
+pub use net_model::Deps;

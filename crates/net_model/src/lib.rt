@@ -5,6 +5,7 @@
 
 mod class;
 mod config;
+mod deps;
 mod fault;
 mod follow;
 mod found;
@@ -14,6 +15,7 @@ mod walk;
 
 pub use class::Class;
 pub use config::{Config, Server, Zone};
+pub use deps::Deps;
 pub use fault::Fault;
 pub use follow::may_follow;
 pub use found::Found;
