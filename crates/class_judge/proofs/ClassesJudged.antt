@@ -5,7 +5,7 @@ use Rattle.delegation_checks.specs.Delegations.{is_of_delegations}
 use Rattle.graph_form.specs.Graph.{PlainGraph}
 use Rattle.graph_form.specs.GraphOf.{IsExactIn, IsGraphOf}
 use Rattle.graph_form.specs.Verdict.{AreFirstTypes, AreShownOf}
-use Rattle.graph_form.specs.declared.deps.Deps.{Deps}
+use Rattle.net_model.specs.declared.deps.Deps.{Deps}
 use Rattle.graph_form.specs.declared.report.Seen.{Seen}
 use Rattle.net_model.specs.declared.class.Class.{Class}
 use Rattle.net_model.specs.declared.class.Class.TheVariants.{Below}

@@ -1,7 +1,7 @@
 -- Where a name reaches more pairs of state and type than so many, so does the representative of its class.
 use Rattle.std.proofs.Common.{◌≡◌, ℕ, Option, None, refl, sym, subst}
 use Rattle.std.specs.Prelude.{MatchOption}
-use Rattle.graph_form.specs.declared.deps.Deps.{Deps}
+use Rattle.net_model.specs.declared.deps.Deps.{Deps}
 use Rattle.class_judge.specs.Setup.{AreSets, SomeNamePasses}
 use Rattle.dns_data.specs.Name.{Labels, IsName}
 use Rattle.net_model.specs.declared.class.Class.{Class}

@@ -14,7 +14,7 @@ use Rattle.dns_data.proofs.EqualData.{equal_is_same}
 use Rattle.dns_data.proofs.Names.{name_eq_decides}
 use Rattle.dns_data.proofs.Searches.{any_has, filter_none, from_any}
 use Rattle.graph_form.specs.Trails.{AddressesDiffer, ZonesDiffer, WantsGlue, DependsOnItself}
-use Rattle.graph_form.specs.declared.deps.Deps.{Deps}
+use Rattle.net_model.specs.declared.deps.Deps.{Deps}
 use Rattle.net_model.specs.Nearest.{held_zone, is_configured, is_top}
 use Rattle.net_model.specs.Order.{in_order}
 use Rattle.net_model.specs.Shown.{with_lists}
