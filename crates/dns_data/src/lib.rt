@@ -16,8 +16,10 @@ mod octets;
 mod printing;
 mod rdata;
 mod rr_type;
+mod short;
 mod spelling;
 mod text;
+mod to_text;
 mod type_set;
 mod words;
 
