@@ -16,7 +16,7 @@ use Rattle.net_model.specs.Retail.{retailed_state, retailed_hop, retailed_hops, 
 use Rattle.net_model.specs.Step.{Setting, Branch, Go, End, next}
 use Rattle.net_model.specs.Tails.{is_overlong, IsFrontOf}
 use Rattle.net_model.specs.Walk.{led_on, branched, walk_from}
-use Rattle.net_model.proofs.AlikeSteps.{retailed_branch, Alike, Follows, alike, follows_on}
+use Rattle.walk_laws.proofs.Simulation.AlikeSteps.{retailed_branch, Alike, Follows, alike, follows_on}
 use Rattle.net_model.proofs.Leads.{GoesOn, EndsBy, branch_taken, first_state}
 
 -- a walk from a state by a branch that goes on, and then along the numbers

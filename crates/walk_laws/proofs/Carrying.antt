@@ -28,8 +28,9 @@ use Rattle.net_model.specs.Shown.{FaultSetting, with_sets, Refers, EndsBehind, L
 use Rattle.net_model.specs.Step.{following}
 use Rattle.net_model.specs.Tails.{AreTails, is_overlong}
 use Rattle.net_model.specs.Walk.{IsWalk}
-use Rattle.net_model.proofs.ClassTails.{named_everywhere, tails_in_class, one_class}
-use Rattle.net_model.proofs.Simulation.{walks_kept, front_kept}
+use Rattle.net_model.proofs.OneClass.{one_class}
+use Rattle.walk_laws.proofs.Simulation.ClassTails.{named_everywhere, tails_in_class}
+use Rattle.walk_laws.proofs.Simulation.QueryWalks.{walks_kept, front_kept}
 use Rattle.net_model.proofs.TrialOrder.{one_representative}
 
 -- ---- what a walk with the tail replaced shows
@@ -271,7 +272,13 @@ overlong_itself config rewrites class query representative of_class stands rtype
     (subst (λ (c : Class). IsRepresentative (ground_of config) c representative) same stands) in
     subst (λ (q : Labels). ShowsIn config rewrites q rtype (faults.Overlong place)) one shows
 
--- each fault that a query shows, the representative of its class shows
+-- each fault that a query shows, the representative of its class shows. A named name is alone in its class. Of a class below
+-- a name, a member and the representative have unnamed tails (ClassTails.tails_in_class), so each walk of the member that
+-- doesn't end overlong is, with the tail replaced, one of the representative (QueryWalks.walks_kept), and a front of one where
+-- a referral on it is all that counts (front_kept). With the tail replaced the walks show what they showed: the cuts, the
+-- places and the ends that no name enters stay (refers_kept, rewrite_stays, shown). Answers are shown of one class, and both
+-- are in the same (class_kept). An overlong fault is told of the representative alone, which is one (OneClass.one_class,
+-- TrialOrder.one_representative), so the query is it.
 pub carried : (config : Config) (rewrites : ℕ) (class : Class) (query representative : Labels) → IsName query
     → IsClassOf (ground_of config) query class → IsRepresentative (ground_of config) class representative
     → (rtype : RrType) (fault : Fault) → ShowsIn config rewrites query rtype fault → ShowsIn config rewrites representative rtype fault

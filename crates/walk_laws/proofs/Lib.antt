@@ -1,0 +1,4 @@
+pub mod Carrying
+pub mod GivenSets
+pub mod Returns
+pub mod Simulation
