@@ -121,29 +121,16 @@ module _ (setting : FaultSetting) (above own other : Labels) (tails : AreTails s
   )
   shown (walk ∷ []) (faults.Differs cut) never are show =
       let whole = refers_kept walk cut are.0 show.refers in
-      (whole.0 ∷ [], (whole.1, tt), record { refers = whole.2; sides = show.sides; differ = show.differ })
+      (whole.0 ∷ [], (whole.1, tt), record { refers = whole.2; zones = show.zones })
   shown (walk ∷ []) (faults.NoGlue cut) never are show =
       let whole = refers_kept walk cut are.0 show.refers in
-      (whole.0 ∷ [], (whole.1, tt), record { refers = whole.2; inside = show.inside; no_glue = show.no_glue })
+      (whole.0 ∷ [], (whole.1, tt), record { refers = whole.2; wants = show.wants })
   shown (walk ∷ []) (faults.GlueDiffers cut) never are show =
-      let whole = refers_kept walk cut are.0 show.refers in (
-        whole.0 ∷ [],
-        (whole.1, tt),
-        record { refers = whole.2; inside = show.inside; sides = show.sides; above = show.above; below = show.below; differ = show.differ },
-      )
+      let whole = refers_kept walk cut are.0 show.refers in
+      (whole.0 ∷ [], (whole.1, tt), record { refers = whole.2; glue = show.glue })
   shown (walk ∷ []) (faults.Cyclic cut) never are show =
-      let whole = refers_kept walk cut are.0 show.refers in (
-        whole.0 ∷ [],
-        (whole.1, tt),
-        record {
-          refers = whole.2;
-          configured = show.configured;
-          no_top = show.no_top;
-          no_glue = show.no_glue;
-          learnt_at_most = show.learnt_at_most;
-          not_at_least = show.not_at_least;
-        },
-      )
+      let whole = refers_kept walk cut are.0 show.refers in
+      (whole.0 ∷ [], (whole.1, tt), record { refers = whole.2; depends = show.depends })
   shown (walk ∷ []) (faults.Limit place) never are show = (changed walk ∷ [], (kept walk are.0 (ap is_overlong show), tt), show)
   shown (walk ∷ []) (faults.Blackhole place) never are show = (
     changed walk ∷ [],
