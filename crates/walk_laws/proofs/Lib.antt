@@ -1,4 +1,5 @@
-pub mod Carrying
+pub mod FaultsCarried
 pub mod GivenSets
+pub mod JoinedGround
 pub mod Returns
-pub mod Simulation
+pub mod WalksAlike

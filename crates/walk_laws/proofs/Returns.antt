@@ -30,7 +30,7 @@ use Rattle.net_model.proofs.Branches.{cut_at, place_in}
 use Rattle.net_model.proofs.EndsSomewhere.{origin_labels, GoesDown, goes_down}
 use Rattle.net_model.proofs.WalkEnds.{item}
 use Rattle.net_model.proofs.Leads.{Leads, walk_leads, leads_walk}
-use Rattle.walk_laws.proofs.Simulation.QueryWalks.{begins_at, begun_walk}
+use Rattle.walk_laws.proofs.WalksAlike.QueryWalks.{begins_at, begun_walk}
 
 -- the states ask the same server for the same name
 pub record StandAlike (one two : State) : Type 0 where

@@ -1,4 +1,4 @@
-use Rattle.walk_laws.proofs.Carrying.{carried, carried_under}
+use Rattle.walk_laws.proofs.FaultsCarried.{carried, carried_under}
 use Rattle.walk_laws.proofs.laws.carrying.Goals as goal
 
 pub returns-clause-own : goal.returns-clause-own

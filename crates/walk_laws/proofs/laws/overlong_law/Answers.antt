@@ -1,4 +1,4 @@
-use Rattle.walk_laws.proofs.Simulation.QueryWalks.{overlong_too}
+use Rattle.walk_laws.proofs.WalksAlike.QueryWalks.{overlong_too}
 use Rattle.walk_laws.proofs.laws.overlong_law.Goals as goal
 
 pub returns : goal.returns

@@ -1,5 +1,5 @@
-use Rattle.walk_laws.proofs.Simulation.ClassTails.{class_tails}
-use Rattle.walk_laws.proofs.Simulation.QueryWalks.{walks_as, reaches_more, reaches_no_fewer}
+use Rattle.walk_laws.proofs.WalksAlike.ClassTails.{class_tails}
+use Rattle.walk_laws.proofs.WalksAlike.QueryWalks.{walks_as, reaches_more, reaches_no_fewer}
 use Rattle.walk_laws.proofs.laws.simulation.Goals as goal
 
 pub returns-clause-walks : goal.returns-clause-walks

@@ -29,8 +29,8 @@ use Rattle.net_model.specs.Step.{following}
 use Rattle.net_model.specs.Tails.{AreTails, is_overlong}
 use Rattle.net_model.specs.Walk.{IsWalk}
 use Rattle.net_model.proofs.OneClass.{one_class}
-use Rattle.walk_laws.proofs.Simulation.ClassTails.{named_everywhere, tails_in_class}
-use Rattle.walk_laws.proofs.Simulation.QueryWalks.{walks_kept, front_kept}
+use Rattle.walk_laws.proofs.WalksAlike.ClassTails.{named_everywhere, tails_in_class}
+use Rattle.walk_laws.proofs.WalksAlike.QueryWalks.{walks_kept, front_kept}
 use Rattle.net_model.proofs.TrialOrder.{one_representative}
 
 -- ---- what a walk with the tail replaced shows

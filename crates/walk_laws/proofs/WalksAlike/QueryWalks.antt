@@ -25,13 +25,13 @@ use Rattle.net_model.specs.Step.{Setting, Go, following, arrived, start, next}
 use Rattle.net_model.specs.Tails.{AreTails, is_overlong, IsFrontOf, WalksAs}
 use Rattle.net_model.specs.Tree.{IsReached, AreReached, HasMoreThan}
 use Rattle.net_model.specs.Walk.{walk_from, walk_along, IsWalk, AreWalks, IsBoundedWith}
-use Rattle.walk_laws.proofs.Simulation.AlikeSteps.{retailed_tail, map_same, Follows, follows_on}
-use Rattle.walk_laws.proofs.Simulation.AlikeWalks.{along_from, walk_kept, overlong_front, overlong_back}
+use Rattle.walk_laws.proofs.WalksAlike.AlikeSteps.{retailed_tail, map_same, Follows, follows_on}
+use Rattle.walk_laws.proofs.WalksAlike.AlikeWalks.{along_from, walk_kept, overlong_front, overlong_back}
 use Rattle.net_model.proofs.Counting.{more_images, no_more_than}
 use Rattle.net_model.proofs.EndsSomewhere.{ends_somewhere}
 use Rattle.net_model.proofs.WalkEnds.{item}
 use Rattle.net_model.proofs.Leads.{GoesOn, EndsBy, branch_taken}
-use Rattle.walk_laws.proofs.Simulation.UnnamedTails.{nearest_with_tail}
+use Rattle.walk_laws.proofs.WalksAlike.UnnamedTails.{nearest_with_tail}
 
 -- a walk of a query begins at one of its start states
 pub record BeginsAt (setting : Setting) (query : Labels) (rtype : RrType) (numbers : List ℕ) (walk : Walk) : Type 0 where
