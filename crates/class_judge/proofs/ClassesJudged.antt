@@ -14,7 +14,7 @@ use Rattle.net_model.specs.Learnt.{IsGreatest, IsLeast}
 use Rattle.net_model.specs.Reading.{Ground, ground_of}
 use Rattle.net_model.specs.Shown.{with_lists, with_sets}
 use Rattle.net_model.specs.Step.{following}
-use Rattle.net_model.proofs.GivenSets.{lists_show}
+use Rattle.walk_laws.proofs.GivenSets.{lists_show}
 use Rattle.net_model.proofs.InForce.{one_in_force}
 use Rattle.label_graph.specs.Pairs.{AreSame}
 use Rattle.query_classes.specs.Children.{AreChildren, IsInTree}

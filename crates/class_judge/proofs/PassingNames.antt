@@ -9,8 +9,8 @@ use Rattle.net_model.specs.declared.class.Class.TheVariants.{Exact, Below}
 use Rattle.net_model.specs.declared.config.Config.{Config}
 use Rattle.net_model.specs.Class.{IsClassOf}
 use Rattle.net_model.specs.Reading.{ground_of}
-use Rattle.net_model.proofs.ClassTails.{tails_in_class}
-use Rattle.net_model.proofs.Simulation.{reaches_more}
+use Rattle.walk_laws.proofs.WalksAlike.ClassTails.{tails_in_class}
+use Rattle.walk_laws.proofs.WalksAlike.QueryWalks.{reaches_more}
 use Rattle.query_classes.specs.Members.{IsInOneClass, RepresentsClass}
 use Rattle.class_judge.specs.Passed.{SomeClassPasses}
 use Rattle.class_judge.specs.Verdict.{PassesStates}

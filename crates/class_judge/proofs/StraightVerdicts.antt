@@ -10,7 +10,7 @@ use Rattle.net_model.specs.declared.fault.Fault.{Fault}
 use Rattle.net_model.specs.Shown.{FaultSetting, Shows, with_lists}
 use Rattle.net_model.specs.Step.{following}
 use Rattle.net_model.specs.Tree.{HasMoreThan, IsReached}
-use Rattle.net_model.proofs.GivenSets.{lists_show}
+use Rattle.walk_laws.proofs.GivenSets.{lists_show}
 use Rattle.class_judge.specs.Setup.{AreSets}
 use Rattle.class_judge.specs.Verdict.{IsClassVerdict}
 use Rattle.class_judge.specs.declared.verdict.ClassVerdict.TheVariants.{Faults}

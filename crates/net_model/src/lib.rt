@@ -1,6 +1,6 @@
 //! The plain values of hosted zones and of the queries that are followed through them, and the
 //! definitions that every promise of the crates above is stated in: existence, lookup, walks, classes
-//! and faults. The definitions stand in `specs/`; the laws over them are the contracts of `laws`.
+//! and faults. The definitions stand in `specs/`; the laws over them are the contracts of `walk_laws`.
 #![tactic(auto)]
 
 mod class;
@@ -9,7 +9,6 @@ mod deps;
 mod fault;
 mod follow;
 mod found;
-pub mod laws;
 mod place;
 mod walk;
 
