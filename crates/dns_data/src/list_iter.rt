@@ -6,7 +6,8 @@ ghost use Rattle.std.specs.Iterator.{YieldsFirst, item_count};
 use std::collections::VecDeque;
 use std::marker::Model;
 
-/// The items of a list that are left, the first next.
+/// The items of a list that are left, the first next. Contracts see it as the list of these; so in the invariant of a
+/// loop `for item in list`, `item-iterator` is the list of the items that are to come.
 #[derive(Drop)]
 pub struct ListIter<T> {
     left: VecDeque<T>,

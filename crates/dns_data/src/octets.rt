@@ -102,7 +102,7 @@ impl Octets {
         self.items().len()
     }
 
-    /// Whether there is none.
+    /// Whether there are no octets.
     pub fn is_empty(&self) -> bool
         ensures { IsTrue result ↔ (self.now ≡ []) }
     {
