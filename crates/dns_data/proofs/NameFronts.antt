@@ -1,5 +1,5 @@
 -- Names whose labels begin another's: those at or above it. And how many octets they have.
-use Rattle.std.proofs.Common.{◌≡◌, ℕ, ◌+◌, ◌<◌, ◌≤◌, true, List, [], ◌∷◌, ◌++◌, ◌⊎◌, length, refl, ap, inl, inr, append-nil, arith}
+use Rattle.std.proofs.Common.{◌≡◌, ℕ, ◌+◌, ◌≤◌, true, List, [], ◌∷◌, ◌++◌, ◌⊎◌, length, refl, ap, inl, inr, append-nil, arith}
 use Rattle.std.specs.Prelude.{sum_by}
 use Rattle.std.proofs.lemmas.List.Sums.{sum_by-append, sum_by-cons}
 use Rattle.dns_data.specs.Name.{Labels, wire_octets, is_prefix}
@@ -50,8 +50,3 @@ octets_of_prefix above name (below, e) = omega (arith, octets_below above below,
 -- a label takes its length and one
 pub octets_with_label : (above : Labels) (label : List ℕ) → wire_octets (above ++ label ∷ []) ≡ wire_octets above + (length label + 1)
 octets_with_label above label = omega (arith, octets_below above (label ∷ []), sum_by-cons (λ (x : List ℕ). length x + 1) label [])
-
--- a name has fewer labels than octets
-pub labels_fewer : (name : Labels) → length name < wire_octets name
-labels_fewer [] = omega arith
-labels_fewer (label ∷ name) = omega (arith, labels_fewer name, sum_by-cons (λ (x : List ℕ). length x + 1) label name)

@@ -1,5 +1,5 @@
 -- What a search of a list by a test finds, and what a filter leaves; tests that agree on its items.
-use Rattle.std.proofs.Common.{◌≡◌, Bool, true, false, cond, List, [], ◌∷◌, length, Contains, filter, Option, Some, None, sym, refl, ap, subst, ◌∙◌, inl, inr, arith, true≢false}
+use Rattle.std.proofs.Common.{◌≡◌, Bool, true, false, cond, List, [], ◌∷◌, Contains, filter, Option, Some, None, sym, refl, ap, subst, ◌∙◌, inl, inr, true≢false}
 use Rattle.std.specs.List.{find, list_any, list_all, filter_map, cons_option}
 use Rattle.std.proofs.lemmas.Bool.{and_parts, or_cases, or_from, or_left, or_right, or_parts}
 use Rattle.dns_data.proofs.Membership.{none_in_nil, has_first, has_later, first_or_later}
@@ -128,13 +128,3 @@ module _ {A B : Type 0} (f : A → Option B) where
           | inl same ↦ (first, has_first first xs, e ∙ ap (λ (z : B). Some z) same)
           | inr later ↦ behind (rest later)
         ]
-
--- items of a list with one item are one
-pub same_if_alone : {A : Type 0} (xs : List A) (x y : A) → length xs ≡ 1 → Contains xs x → Contains xs y → x ≡ y
-same_if_alone [] x y alone has also = absurd (none_in_nil x has)
-same_if_alone (one ∷ []) x y alone has also =
-    elim (first_or_later one [] x has) [
-      | inl same ↦ elim (first_or_later one [] y also) [ inl other ↦ sym same ∙ other | inr later ↦ absurd (none_in_nil y later) ]
-      | inr later ↦ absurd (none_in_nil x later)
-    ]
-same_if_alone (one ∷ two ∷ xs) x y alone has also = absurd (omega arith)

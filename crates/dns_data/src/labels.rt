@@ -53,7 +53,7 @@ impl<'a> Labels<'a> {
         }
     }
 
-    /// Whether there is none.
+    /// Whether there is no label.
     pub fn is_empty(&self) -> bool
         ensures { IsTrue result ↔ (self.now ≡ []) }
     {

@@ -173,6 +173,7 @@ impl Name {
                 Err(JoinFault::NoMemory) => return Err(NameFault::NoMemory),
             }
         }
+        // The octets are read, so that it is known here that the name has at most 255.
         let _ = name.octets();
         Ok(name)
     }

@@ -4,6 +4,7 @@ ghost use Rattle.std.specs.Prelude.{◌≡◌, ◌+◌, ◌≤◌, [], ◌∷◌
 
 use crate::common::{octets_order, same_octets};
 use crate::memory::NoMemory;
+use crate::short::Short;
 use std::alloc::Global;
 use std::cmp::Ordering;
 use std::marker::Model;
@@ -14,73 +15,6 @@ const MOST_INLINE: usize = 30;
 /// How many octets a vector has room for at least where octets grow out of their place, so that those that come one
 /// by one don't make it grow at once.
 const LEAST_ROOM: usize = 64;
-
-/// At most 30 octets.
-#[derive(Debug, Drop)]
-struct Short {
-    count: u8,
-    octets: [u8; 30],
-}
-
-impl Model for Short {
-    ghost use Rattle.std.specs.Prelude.{List, ℕ, ◌≤◌, take};
-
-    ghost Value = { List ℕ };
-
-    ghost view = { λ short. take short.count short.octets };
-
-    ghost invariant = { λ short. short.count ≤ 30 };
-}
-
-impl Short {
-    /// No octets.
-    fn new() -> Short
-        ensures { result ≡ [] }
-    {
-        Short {
-            count: 0,
-            octets: [0; 30],
-        }
-    }
-
-    /// The octets.
-    fn items(&self) -> &[u8]
-        ensures same { result.now ≡ self.now }
-        ensures short { length self.now ≤ 30 }
-    {
-        &self.octets[..self.count as usize]
-    }
-
-    /// Equal octets.
-    fn copy(&self) -> Short
-        ensures { result ≡ self.now }
-    {
-        Short {
-            count: self.count,
-            octets: self.octets,
-        }
-    }
-
-    /// Puts octets at the end.
-    fn append(&mut self, more: &[u8])
-        requires { length self.old + length more.now ≤ 30 }
-        ensures { self.new ≡ self.old ++ more.now }
-    {
-        let start = self.count as usize;
-        let end = start + more.len();
-        self.octets[start..end].copy_from_slice(more);
-        self.count = end as u8;
-    }
-
-    /// Keeps the first octets, at most so many.
-    fn truncate(&mut self, len: usize)
-        ensures { self.new ≡ take len self.old }
-    {
-        if len < self.count as usize {
-            self.count = len as u8;
-        }
-    }
-}
 
 /// Where octets are kept: up to 30 in the value, more in a vector.
 #[derive(Debug, Drop)]
@@ -168,7 +102,7 @@ impl Octets {
         self.items().len()
     }
 
-    /// Whether there is none.
+    /// Whether there are no octets.
     pub fn is_empty(&self) -> bool
         ensures { IsTrue result ↔ (self.now ≡ []) }
     {

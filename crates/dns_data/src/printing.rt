@@ -12,7 +12,7 @@ use crate::name::Name;
 use crate::octets::Octets;
 use crate::rdata::Rdata;
 use crate::rr_type::RrType;
-use crate::spelling::push_octet;
+use crate::to_text::push_octet;
 use std::alloc::Global;
 use std::fmt::Write;
 

@@ -156,7 +156,7 @@ impl Rdata {
         }
     }
 
-    /// The same of a start of authority.
+    /// An equal SOA record's data.
     fn copy_soa(&self, alloc: Global) -> Result<Rdata, NoMemory>
         requires { type_of_data self.now ≡ Some RrType.Soa }
         ensures { IfOk result (λ copy. copy ≡ self.now) }
@@ -184,7 +184,7 @@ impl Rdata {
         })
     }
 
-    /// The same of a service.
+    /// An equal SRV record's data.
     fn copy_srv(&self, alloc: Global) -> Result<Rdata, NoMemory>
         requires { type_of_data self.now ≡ Some RrType.Srv }
         ensures { IfOk result (λ copy. copy ≡ self.now) }
@@ -206,7 +206,7 @@ impl Rdata {
         })
     }
 
-    /// The same of authorities that may issue certificates.
+    /// An equal CAA record's data.
     fn copy_caa(&self, alloc: Global) -> Result<Rdata, NoMemory>
         requires { type_of_data self.now ≡ Some RrType.Caa }
         ensures { IfOk result (λ copy. copy ≡ self.now) }

@@ -1,18 +1,15 @@
-//! The texts of names.
+//! The names that texts spell.
 
-ghost use Rattle.std.specs.Prelude.{◌≡◌, ◌++◌, ◌+◌, ◌<◌, ◌≤◌, ℕ, List, ◌∷◌, [], length, map, reverse, drop, true, false, Ok, Err, Some, None, ◌&&◌, nat_le, IsTrue, SomeIff, MatchOption, IfOk, IfErr, IfSome, OnOk, if◌then◌else◌};
-ghost use Rattle.std.specs.List.{flat_map, prefix_len};
-ghost use Rattle.std.specs.String.{string_bytes};
+ghost use Rattle.std.specs.Prelude.{◌≡◌, ◌++◌, ◌+◌, ◌<◌, ◌≤◌, ℕ, List, ◌∷◌, [], length, map, drop, true, false, Ok, Err, Some, None, ◌&&◌, nat_le, IsTrue, SomeIff, MatchOption, IfOk, IfErr, IfSome, if◌then◌else◌};
+ghost use Rattle.std.specs.List.{prefix_len};
 ghost use Rattle.dns_data.specs.Answers.{AnswersOr};
 ghost use Rattle.dns_data.specs.Encoding.{labels_of, EncodesName};
 ghost use Rattle.dns_data.specs.Label.{IsLabel};
-ghost use Rattle.dns_data.specs.Octet.{is_digit, folded, three_digit_value, decimal_escape, escaped_as};
+ghost use Rattle.dns_data.specs.Octet.{is_digit, folded, three_digit_value};
 ghost use Rattle.dns_data.specs.Put.{IsPut, IsSpelled, PutsFirst, BeginsWith, is_plain};
-ghost use Rattle.dns_data.specs.Spelling.{Sign, signs, escaped, escape_octets, spelled, after_label, placed, name_of_text, is_special, octet_text, label_text, name_text};
+ghost use Rattle.dns_data.specs.Spelling.{Sign, signs, escaped, escape_octets, spelled, after_label, placed, name_of_text};
 
 use crate::fault::NameFault;
-use crate::labels::Labels;
-use crate::memory::NoMemory;
 use crate::name::Name;
 use arrayvec::ArrayVec;
 use std::alloc::Global;
@@ -45,14 +42,6 @@ impl Name {
         let mut out = [0; 254];
         let (start, absolute) = spell(&mut out, text)?;
         Name::placed(alloc, labels_above(origin, absolute), &out[start..])
-    }
-
-    /// The name as text, which reads back as the name under any origin (RFC 1035 section 5.1).
-    pub fn to_text(&self, alloc: Global) -> Result<String, NoMemory>
-        ensures text { IfOk result (λ text. string_bytes text ≡ name_text self.now) }
-        ensures reads_back { IfOk result (λ text. (origin : List (List ℕ)) → name_of_text (string_bytes text) origin ≡ Ok self.now) }
-    {
-        text_of(alloc, &self.labels())
     }
 }
 
@@ -229,91 +218,4 @@ fn three_digits(a: u8, b: u8, c: u8) -> Option<u8>
     }
     let value = u16::from(a - b'0') * 100 + u16::from(b - b'0') * 10 + u16::from(c - b'0');
     u8::try_from(value).ok()
-}
-
-/// The text of the name with these labels.
-fn text_of(alloc: Global, labels: &Labels<'_>) -> Result<String, NoMemory>
-    ensures { IfOk result (λ text. string_bytes text ≡ name_text labels.now) }
-{
-    let mut text = String::new(alloc);
-    if labels.is_empty() {
-        text.push('.')?;
-    }
-    push_labels(&mut text, labels)?;
-    Ok(text)
-}
-
-/// Puts the texts of the labels at the end, the leaf first.
-#[tactic(auto, using(crate::proofs::Spellings::texts_leaf_first))]
-fn push_labels(text: &mut String, labels: &Labels<'_>) -> Result<(), NoMemory>
-    ensures { OnOk result (string_bytes text.new ≡ string_bytes text.old ++ flat_map label_text (reverse labels.now)) }
-{
-    if let Some((label, below)) = labels.split_first() {
-        push_labels(text, &below)?;
-        push_label(text, label)?;
-    }
-    Ok(())
-}
-
-/// Puts a label's text and the dot that ends it at the end.
-fn push_label(text: &mut String, label: &[u8]) -> Result<(), NoMemory>
-    ensures { OnOk result (string_bytes text.new ≡ string_bytes text.old ++ label_text label.now) }
-{
-    for octet in label {
-        push_label_octet(text, *octet)?;
-    }
-    text.push('.')?;
-    Ok(())
-}
-
-/// Puts the text of a label's octet at the end.
-fn push_label_octet(text: &mut String, octet: u8) -> Result<(), NoMemory>
-    ensures { OnOk result (string_bytes text.new ≡ string_bytes text.old ++ octet_text octet) }
-{
-    push_octet(text, octet, is_special(octet), (33..=126).contains(&octet))
-}
-
-/// Whether the octet stands behind a backslash in a name's text.
-fn is_special(octet: u8) -> bool
-    ensures special { result ≡ is_special octet }
-    ensures ascii { result ≡ true → octet < 128 }
-{
-    matches!(
-        octet,
-        b'.' | b'\\' | b'"' | b'(' | b')' | b';' | b'@' | b'$'
-    )
-}
-
-/// Puts an octet at the end: behind a backslash where it has a meaning of its own in the text, as it is where it may
-/// stand, or else in three digits.
-pub(crate) fn push_octet(
-    text: &mut String,
-    octet: u8,
-    has_meaning: bool,
-    may_stand: bool,
-) -> Result<(), NoMemory>
-    requires meaning { has_meaning ≡ true → octet < 128 }
-    requires stands { may_stand ≡ true → octet < 128 }
-    ensures { OnOk result (string_bytes text.new ≡ string_bytes text.old ++ escaped_as has_meaning may_stand octet) }
-{
-    if has_meaning {
-        text.push('\\')?;
-        text.push(char::from(octet))?;
-    } else if may_stand {
-        text.push(char::from(octet))?;
-    } else {
-        push_decimal_escape(text, octet)?;
-    }
-    Ok(())
-}
-
-/// Puts a backslash and the octet's number in three digits at the end.
-fn push_decimal_escape(text: &mut String, octet: u8) -> Result<(), NoMemory>
-    ensures { OnOk result (string_bytes text.new ≡ string_bytes text.old ++ decimal_escape octet) }
-{
-    text.push('\\')?;
-    text.push(char::from(b'0' + octet / 100))?;
-    text.push(char::from(b'0' + octet / 10 % 10))?;
-    text.push(char::from(b'0' + octet % 10))?;
-    Ok(())
 }

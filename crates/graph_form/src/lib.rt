@@ -8,7 +8,6 @@
 //! for each walk that it gives, and keeps two marks a node.
 #![tactic(auto)]
 
-mod deps;
 mod first_path;
 mod first_walks;
 mod graph;
@@ -19,10 +18,10 @@ mod report;
 mod shows;
 mod verdict;
 
-pub use deps::Deps;
 pub use first_walks::trails;
 pub use graph::{Graph, type_count};
 pub use laws::{pairs_are_reached, paths_are_walks, walks_and_zones_show};
+pub use net_model::Deps;
 pub use node::{Arm, Branch, Node};
 pub use repeated::repeats;
 pub use report::{Report, ReportEntry, Seen};

@@ -307,6 +307,7 @@ pairs_rise [] rise = λ i j d before within. absurd (omega arith)
 pairs_rise (x ∷ xs) rise =
     AllPairs-cons (λ (a b : Numbered). path_cmp a.0 b.0 ≡ Less) x xs (all_from_contains (λ (y : Numbered). path_cmp x.0 y.0 ≡ Less) xs rise.0) (pairs_rise xs rise.1)
 
+-- so the walks are listed in the order of their numbers
 pub along_ordered : (setting : Setting) (rtype : RrType) (depth : ℕ) (query : Labels)
     → AllPairs (λ (a b : Numbered). path_cmp a.0 b.0 ≡ Less) (all_along depth setting rtype query)
 along_ordered setting rtype depth query = pairs_rise (all_along depth setting rtype query) (along_rises setting rtype depth query)

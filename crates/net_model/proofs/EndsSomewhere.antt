@@ -35,7 +35,7 @@ use Rattle.net_model.specs.Zone.{is_of, owns, target_of, data_at, targets_at, ns
 use Rattle.net_model.proofs.Branches.{LooksUp, IsDelegated, cut_at, place_in, each_branch}
 use Rattle.net_model.proofs.WalkEnds.{item}
 use Rattle.net_model.proofs.StepBounds.{cut_refers, is_the_cut}
-use Rattle.net_model.proofs.UnnamedTails.{nearest_tells}
+use Rattle.net_model.proofs.NearestZones.{nearest_tells}
 
 -- ---- a referral is found at the zone cut
 
@@ -45,6 +45,7 @@ pub record IsReferral (zone : Zone) (cut : Labels) (names : List Labels) : Type 
   pub owner : owns zone cut types.Ns ≡ true
   pub names_are : names ≡ ns_names zone cut
 
+-- where a zone gives a referral, its cut is below the origin and owns the NS records
 pub referral_found : (zone : Zone) (name : Labels) (rtype : RrType) (cut : Labels) (names : List Labels) → found zone name rtype ≡ found_as.Referral cut names
     → IsReferral zone cut names
 referral_found zone name rtype cut names e =
@@ -89,6 +90,7 @@ referral_down setting rtype state zone below cut ns names looks delegated =
     ap (λ (z : Option Zone). option_map_or (λ zone. length zone.origin) z 0) delegated.nearest in
     (refl, refl, omega (arith, longer, here, there, ap length begins.1, length-append cut begins.0))
 
+-- so each branch of a state goes down
 pub goes_down : (setting : Setting) (rtype : RrType) (state : State) → AllByRecursion (GoesDown setting state) (next setting rtype state)
 goes_down setting rtype state =
     each_branch setting rtype state (GoesDown setting state) (λ leaf. tt) (λ cut leaf. tt)

@@ -115,6 +115,7 @@ named_as_base : (ground : Ground) (name : Labels) → listed ground.names name �
 named_as_base ground name h =
     record { base = name; among = from_listed ground.names name h; reads = ([], refl) }
 
+-- where the name that a redirection makes of a name is named, the name is
 pub one_reading_more : (ground : Ground) (name : Labels) (redirection : Redirection) → Contains ground.redirections redirection
     → is_prefix redirection.owner name ≡ true → IsNamed ground (swap name redirection.owner redirection.target) → IsNamed ground name
 one_reading_more ground name redirection among begins named =

@@ -52,6 +52,7 @@ module _ (zone : Zone) (above : Labels) (label : List ℕ) (rest : Labels) (insi
       false_from_ne_true (exists_in zone ((above ++ label ∷ []) ++ beneath))
       (λ e. true≢false (sym (prefix_exists zone (above ++ label ∷ []) beneath inside_next e) ∙ absent))
 
+  -- so no name with a longer front of the labels exists
   pub none_exists : (below : Labels) → Contains (longer (label ∷ rest)) below → exists_in zone (above ++ below) ≡ false
   none_exists below has = let way = further below has in ap (exists_in zone) way.1 ∙ none_beneath way.0
 
@@ -108,6 +109,7 @@ module _ (zone : Zone) (above : Labels) (label : List ℕ) (rest : Labels) (insi
       ap (λ (b : Bool). cond b (ByRecords (above ++ label ∷ rest)) (synthesized zone (closest_encloser zone (above ++ label ∷ rest)))) whole_is_missing
       ∙ ap (synthesized zone) closest_encloser_above
 
+  -- so one value decides, whatever the rest of the labels is
   pub deciding_open : deciding zone (above ++ label ∷ rest) ≡ open_deciding zone above
   deciding_open =
       missing_decided (shorter_decides zone (zone_cut zone (above ++ label ∷ rest)) (dname_owner zone (above ++ label ∷ rest)))

@@ -96,6 +96,7 @@ module _ (setting : Setting) (rtype : RrType) where
   by_rewrites (suc left) state near many =
       by_cut (suc left) (λ to also less. by_rewrites left to also (omega arith)) (length state.name - state.cut) state near many (omega arith)
 
+  -- so each state settles, by as many rewrites and labels of cuts as are left
   pub settles : (state : State) → IsNear setting state → Settles state
   settles state near = by_rewrites (setting.rewrites - state.used) state near (omega arith)
 

@@ -1,0 +1,45 @@
+//! The items of a list by value, one after the other.
+
+ghost use Rattle.std.specs.Prelude.{◌≡◌};
+ghost use Rattle.std.specs.Iterator.{YieldsFirst, item_count};
+
+use std::collections::VecDeque;
+use std::marker::Model;
+
+/// The items of a list that are left, the first next. Contracts see it as the list of these; so in the invariant of a
+/// loop `for item in list`, `item-iterator` is the list of the items that are to come.
+#[derive(Drop)]
+pub struct ListIter<T> {
+    left: VecDeque<T>,
+}
+
+impl<T> Model for ListIter<T> {
+    ghost use Rattle.std.specs.Prelude.{List};
+
+    ghost Value = { List T };
+
+    ghost view = { λ iter. iter.left.items };
+}
+
+impl<T> ListIter<T> {
+    /// All the items of a vector are left.
+    pub(crate) fn new(items: Vec<T>) -> ListIter<T>
+        ensures { result ≡ items.items }
+    {
+        ListIter {
+            left: VecDeque::from_vec(items),
+        }
+    }
+}
+
+impl<T: Drop> Iterator for ListIter<T> {
+    type Item = T;
+
+    ghost next_gives = { YieldsFirst (λ left. left) };
+
+    ghost remaining = { item_count (λ left. left) };
+
+    fn next(&mut self) -> Option<T> {
+        self.left.pop_front()
+    }
+}

@@ -1,9 +1,0 @@
-use Rattle.net_model.proofs.Returns.{limit_between, limit_shown}
-use Rattle.net_model.proofs.laws.return_law.Goals as goal
-
-pub returns-clause-limit : goal.returns-clause-limit
-returns-clause-limit c = λ setting query rtype walk is back. limit_between setting query rtype walk is back
-
-pub returns-clause-shows : goal.returns-clause-shows
-returns-clause-shows c =
-    λ config rewrites followed in_force query rtype walk is back. limit_shown config rewrites followed in_force query rtype walk is back
