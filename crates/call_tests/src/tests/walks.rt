@@ -1,6 +1,7 @@
 //! All walks of a query, by two ways: each followed by itself, and the paths of a graph.
 
 use super::configs::{loaded, name};
+use address_deps::dependencies;
 use delegation_checks::delegation_faults;
 use dns_data::{List, Name, NoMemory, RrType};
 use graph_form::{Branch, Deps, Graph};
@@ -45,19 +46,15 @@ fn paths_of_a_graph_are_the_walks_that_are_followed(rt: HostRuntime) -> Result<(
     assert_eq!(rt; text.items(), WALKS.as_bytes(), "the walks");
 
     let trees = Trees::build(alloc, &config)?;
-    let asked = SymName {
-        known: name(alloc, "a.t.")?,
-        tail: None,
-    };
-    let graph = build(alloc, &trees, &asked, 12, 100)?;
+    let graph = graph_of(alloc, &trees, &query)?;
     let mut paths = List::new(alloc);
-    for numbers in [[0, 0, 0, 0].as_slice(), &[0, 0, 1], &[0, 0, 2]] {
+    for numbers in [[0, 0, 0].as_slice(), &[0, 1], &[0, 2]] {
         paths.push(path_along(alloc, &graph, numbers)?.ok_or("no path")?)?;
     }
     let text = ask_text(alloc, &query, RrType::A, paths.items())?;
     assert_eq!(rt; text.items(), WALKS.as_bytes(), "the paths");
     assert!(rt;
-        path_along(alloc, &graph, &[0, 0, 3])?.is_none(),
+        path_along(alloc, &graph, &[0, 3])?.is_none(),
         "a fourth path"
     );
 
@@ -74,28 +71,20 @@ fn paths_of_a_graph_are_the_walks_that_are_followed(rt: HostRuntime) -> Result<(
     Ok(())
 }
 
-/// The walk with type A that begins in the start with the first number, and takes the branches with the others, all counted
-/// from 0.
+/// The walk with type A from the first start that takes the branches with these numbers, counted from 0.
 fn path_along(alloc: Global, graph: &Graph, numbers: &[usize]) -> Result<Option<Walk>, NoMemory> {
     let (mut states, mut hops) = (List::new(alloc), List::new(alloc));
-    let mut at = 0;
-    for (depth, number) in numbers.iter().enumerate() {
-        if depth == 0 {
-            match graph.starts().get(*number) {
-                Some(start) => at = *start,
-                None => return Ok(None),
-            }
-            continue;
-        }
-        if at >= graph.nodes() {
-            return Ok(None);
-        }
-        let node = graph.node(at);
+    let mut at = graph.starts().first().copied();
+    for number in numbers {
+        let node = match at {
+            Some(at) if at < graph.nodes() => graph.node(at),
+            _ => return Ok(None),
+        };
         states.push(node.state.copy(alloc)?)?;
         match node.branches(RrType::A).get(*number) {
             Some(Branch::Go { hop, to }) => {
                 hops.push(hop.copy(alloc)?)?;
-                at = *to;
+                at = Some(*to);
             }
             Some(Branch::End { hop, leaf }) => {
                 if let Some(hop) = hop {
@@ -140,15 +129,39 @@ const CIRCLE: [(&str, &str); 3] = [
 ];
 
 // Begun with no server nothing is learnt, and begun with all both are, so that each depends on the other (RFC 1034 section
-// 4.2.1).
+// 4.2.1). The graphs of the servers' names give the same two sets.
 #[test]
 fn addresses_in_a_circle_are_learnt_from_each_other_alone(rt: HostRuntime) -> Result<(), Fail> {
     let alloc = rt.alloc();
     let config = loaded(alloc, TWO_FIRMS, &CIRCLE)?;
+    let all = servers(alloc, &config)?;
+    let both = [name(alloc, "ns.q.")?, name(alloc, "ns.p.")?];
     let least = learnt(alloc, &config, 12, &List::new(alloc), 10)?;
     assert!(rt; least.items().is_empty(), "the least set");
-    let greatest = learnt(alloc, &config, 12, &servers(alloc, &config)?, 10)?;
-    let both = [name(alloc, "ns.q.")?, name(alloc, "ns.p.")?];
+    let greatest = learnt(alloc, &config, 12, &all, 10)?;
     assert_eq!(rt; greatest.items(), both.as_slice(), "the greatest set");
+
+    let trees = Trees::build(alloc, &config)?;
+    let mut graphs = Vec::new(alloc);
+    for name in all.items() {
+        graphs.push(graph_of(alloc, &trees, name)?)?;
+    }
+    assert_eq!(rt; graphs.len(), config.servers.items().len(), "the graphs");
+    let deps = dependencies(alloc, &config, graphs.as_slice())?;
+    assert!(rt; deps.least.items().is_empty(), "the least set by graphs");
+    assert_eq!(rt;
+        deps.greatest.items(),
+        both.as_slice(),
+        "the greatest set by graphs"
+    );
     Ok(())
+}
+
+/// The graph of a name's walks, while every configured server is followed.
+fn graph_of(alloc: Global, trees: &Trees<'_>, name: &Name) -> Result<Graph, Fail> {
+    let asked = SymName {
+        known: name.copy(alloc)?,
+        tail: None,
+    };
+    Ok(build(alloc, trees, &asked, 12, 1000)?)
 }
