@@ -1,5 +1,5 @@
-//! Tests of the public calls of all crates: each call that takes memory and that no case goes through, once with enough of it,
-//! and what no clause can say of real files, writers and threads.
+//! Tests of the crates below, and nothing else: each public call that may answer want of memory and that the program doesn't
+//! make, once with enough of it; and what no clause can say of writers, of failed reads and of threads.
 #![tactic(auto)]
 
 #[cfg(test)]

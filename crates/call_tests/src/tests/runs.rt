@@ -1,7 +1,7 @@
-//! Reads and writes that fail, and workers at work at once. Whole runs over a disk stand in cases/.
+//! Whole runs in which a read or a write fails, and one with two workers at once. Those over a disk stand in cases/.
 
-use crate::groot;
 use dns_data::{List, NoMemory};
+use groot_run::groot;
 use io_edges::{Files, FreeGate, Gate, MemoryFiles, MemorySink};
 use std::alloc::Global;
 use std::process::Abort;
@@ -98,7 +98,7 @@ fn ends(rt: &impl Abort, shown: &Shown, number: u8, out: &str, err: &str) {
 // Calls 1 and 2 read the metadata and their end, calls 3 and 4 the first zone file and its end. Its records break a rule, so
 // the second file, which doesn't read either, is never read: call 5 is the first behind the run.
 #[test]
-fn read_that_fails(rt: HostRuntime) -> Result<(), Fail> {
+fn a_failed_read_is_told_with_its_file(rt: HostRuntime) -> Result<(), Fail> {
     let asked = Asked {
         words: &["check", "m.json"],
         metadata: TWO_FILES,
@@ -122,7 +122,7 @@ fn read_that_fails(rt: HostRuntime) -> Result<(), Fail> {
 
 // Out takes what fits, and then fails: nothing of the report, or a front of it, and never the whole.
 #[test]
-fn output_that_fails(rt: HostRuntime) -> Result<(), Fail> {
+fn a_failed_write_ends_the_output(rt: HostRuntime) -> Result<(), Fail> {
     let asked = Asked {
         words: &["check", "m.json"],
         metadata: ONE_FILE,
@@ -186,25 +186,5 @@ fn two_workers_judge_at_once(rt: HostRuntime) -> Result<(), Fail> {
         1,
         "a second call came while the first one waited"
     );
-    Ok(())
-}
-
-// A drill makes its files itself, and reads none of those that are handed in: the first read fails only behind the run.
-#[test]
-fn drill_of_one_zone(rt: HostRuntime) -> Result<(), Fail> {
-    let asked = Asked {
-        words: &["drill", "1"],
-        metadata: "",
-        zones: ["", ""],
-    };
-    let shown = run(&rt, rt.alloc(), asked, &FreeGate, Some(1), 200)?;
-    ends(
-        &rt,
-        &shown,
-        0,
-        "drill 1: files 2, records 9, names 5, faults 0\n",
-        "",
-    );
-    assert_eq!(rt; shown.next_fails, true, "a drill reads none of the files");
     Ok(())
 }

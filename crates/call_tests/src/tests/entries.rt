@@ -1,12 +1,11 @@
-//! The call that takes memory and that the program doesn't make, with enough of it.
+//! Entries of master files (RFC 1035 section 5.1).
 
-use crate::fault::LexKind;
-use crate::reading::read_entries;
+use master_lex::{LexKind, read_entries};
 use std::test::Fail;
 
 // An entry over two lines, one behind it, and a parenthesis that nothing opens.
 #[test]
-fn entries_of_pieces(rt: HostRuntime) -> Result<(), Fail> {
+fn entries_come_from_pieces_up_to_a_fault(rt: HostRuntime) -> Result<(), Fail> {
     let alloc = rt.alloc();
     let pieces: [&[u8]; 3] = [b"a (", b"\n b) c\n\"d", b"\" e\n)"];
     let reading = read_entries(alloc, &pieces)?;

@@ -1,0 +1,12 @@
+//! The tests, a file for what they call.
+
+mod classes;
+mod configs;
+mod entries;
+mod open_tails;
+mod outputs;
+mod pool_machine;
+mod runs;
+mod values;
+mod walks;
+mod workers;
