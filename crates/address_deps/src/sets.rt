@@ -18,18 +18,33 @@ use net_model::Config;
 use std::alloc::Global;
 use zone_lookup::Hosts;
 
-/// The least and the greatest set of learnt addresses, each in the order of the configured servers, where the graphs are
-/// those of the servers' names, in their order.
+/// The least and the greatest set of learnt addresses of a configuration, each in the order of the configured servers, where
+/// the graphs are those of the servers' names, in their order. The trees of all zones are built for it: where they are built
+/// already, call `dependencies_among`.
 pub fn dependencies(alloc: Global, config: &Config, graphs: &[Graph]) -> Result<Deps, NoMemory>
     requires { length graphs.now ≡ length config.now.servers }
     ensures least { IfOk result (λ deps. (rewrites : ℕ) → AreServerGraphs config.now rewrites graphs.now → IsLeast config.now rewrites deps.least) }
     ensures greatest { IfOk result (λ deps. (rewrites : ℕ) → AreServerGraphs config.now rewrites graphs.now → IsGreatest config.now rewrites deps.greatest) }
 {
     let hosts = Hosts::build(alloc, config)?;
-    let dependents = Dependents::of(alloc, &hosts, graphs)?;
+    dependencies_among(alloc, &hosts, graphs)
+}
+
+/// The least and the greatest set of learnt addresses among these servers, each in the order of the configured servers, where
+/// the graphs are those of the servers' names, in their order.
+pub fn dependencies_among(
+    alloc: Global,
+    hosts: &Hosts<'_>,
+    graphs: &[Graph],
+) -> Result<Deps, NoMemory>
+    requires { length graphs.now ≡ length hosts.now.servers }
+    ensures least { IfOk result (λ deps. (rewrites : ℕ) → AreServerGraphs hosts.now rewrites graphs.now → IsLeast hosts.now rewrites deps.least) }
+    ensures greatest { IfOk result (λ deps. (rewrites : ℕ) → AreServerGraphs hosts.now rewrites graphs.now → IsGreatest hosts.now rewrites deps.greatest) }
+{
+    let dependents = Dependents::of(alloc, hosts, graphs)?;
     Ok(Deps {
-        least: least(alloc, &hosts, graphs, &dependents)?,
-        greatest: greatest(alloc, &hosts, graphs, &dependents)?,
+        least: least(alloc, hosts, graphs, &dependents)?,
+        greatest: greatest(alloc, hosts, graphs, &dependents)?,
     })
 }
 
