@@ -10,7 +10,7 @@ use Rattle.net_model.specs.declared.config.Config.{Config}
 use Rattle.net_model.specs.declared.fault.Fault.{Fault}
 use Rattle.net_model.specs.Class.{IsClassOf, IsRepresentative}
 use Rattle.net_model.specs.Reading.{IsNamed, ground_of}
-use Rattle.net_model.proofs.Carrying.{carried}
+use Rattle.walk_laws.proofs.FaultsCarried.{carried}
 use Rattle.query_classes.specs.Members.{IsInOneClass}
 use Rattle.class_judge.specs.Carried.{whole, SomeClassShows}
 

@@ -5,7 +5,7 @@ use Rattle.delegation_checks.specs.Delegations.{is_of_delegations}
 use Rattle.graph_form.specs.Graph.{PlainGraph}
 use Rattle.graph_form.specs.GraphOf.{IsExactIn, IsGraphOf}
 use Rattle.graph_form.specs.Verdict.{AreFirstTypes, AreShownOf}
-use Rattle.graph_form.specs.declared.deps.Deps.{Deps}
+use Rattle.net_model.specs.declared.deps.Deps.{Deps}
 use Rattle.graph_form.specs.declared.report.Seen.{Seen}
 use Rattle.net_model.specs.declared.class.Class.{Class}
 use Rattle.net_model.specs.declared.class.Class.TheVariants.{Below}
@@ -14,7 +14,7 @@ use Rattle.net_model.specs.Learnt.{IsGreatest, IsLeast}
 use Rattle.net_model.specs.Reading.{Ground, ground_of}
 use Rattle.net_model.specs.Shown.{with_lists, with_sets}
 use Rattle.net_model.specs.Step.{following}
-use Rattle.net_model.proofs.GivenSets.{lists_show}
+use Rattle.walk_laws.proofs.GivenSets.{lists_show}
 use Rattle.net_model.proofs.InForce.{one_in_force}
 use Rattle.label_graph.specs.Pairs.{AreSame}
 use Rattle.query_classes.specs.Children.{AreChildren, IsInTree}

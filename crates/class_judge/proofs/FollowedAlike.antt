@@ -12,7 +12,7 @@ use Rattle.dns_data.proofs.Searches.{each_of_all, from_any}
 use Rattle.delegation_checks.specs.LearntSets.{IsSetOf}
 use Rattle.graph_form.specs.Graph.{PlainGraph}
 use Rattle.graph_form.specs.GraphOf.{IsExactIn, IsGraphOf, TellsStep}
-use Rattle.graph_form.specs.declared.deps.Deps.{Deps}
+use Rattle.net_model.specs.declared.deps.Deps.{Deps}
 use Rattle.interp_graph.specs.Asked.{IsBuilt}
 use Rattle.net_model.specs.declared.config.Config.{Config}
 use Rattle.net_model.specs.declared.config.Server.{Server}

@@ -1,7 +1,7 @@
 -- Where a name reaches more pairs of state and type than so many, so does the representative of its class.
 use Rattle.std.proofs.Common.{◌≡◌, ℕ, Option, None, refl, sym, subst}
 use Rattle.std.specs.Prelude.{MatchOption}
-use Rattle.graph_form.specs.declared.deps.Deps.{Deps}
+use Rattle.net_model.specs.declared.deps.Deps.{Deps}
 use Rattle.class_judge.specs.Setup.{AreSets, SomeNamePasses}
 use Rattle.dns_data.specs.Name.{Labels, IsName}
 use Rattle.net_model.specs.declared.class.Class.{Class}
@@ -9,8 +9,8 @@ use Rattle.net_model.specs.declared.class.Class.TheVariants.{Exact, Below}
 use Rattle.net_model.specs.declared.config.Config.{Config}
 use Rattle.net_model.specs.Class.{IsClassOf}
 use Rattle.net_model.specs.Reading.{ground_of}
-use Rattle.net_model.proofs.ClassTails.{tails_in_class}
-use Rattle.net_model.proofs.Simulation.{reaches_more}
+use Rattle.walk_laws.proofs.WalksAlike.ClassTails.{tails_in_class}
+use Rattle.walk_laws.proofs.WalksAlike.QueryWalks.{reaches_more}
 use Rattle.query_classes.specs.Members.{IsInOneClass, RepresentsClass}
 use Rattle.class_judge.specs.Passed.{SomeClassPasses}
 use Rattle.class_judge.specs.Verdict.{PassesStates}

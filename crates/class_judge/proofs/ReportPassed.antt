@@ -11,11 +11,11 @@ use Rattle.dns_data.specs.Name.{Labels, name_cmp}
 use Rattle.dns_data.proofs.Membership.{from_map}
 use Rattle.dns_data.proofs.NameOrder.{names_total}
 use Rattle.dns_data.proofs.OrderedLists.{never_before_itself}
-use Rattle.graph_form.specs.Report.{IsClass, class_name}
+use Rattle.graph_form.specs.Report.{IsClass}
 use Rattle.net_model.specs.declared.class.Class.{Class}
 use Rattle.net_model.specs.declared.class.Class.TheVariants.{Exact, Below}
 use Rattle.net_model.specs.declared.config.Config.{Config}
-use Rattle.net_model.specs.Class.{class_cmp, IsRepresentative}
+use Rattle.net_model.specs.Class.{class_cmp, class_name, IsRepresentative}
 use Rattle.net_model.specs.Reading.{ground_of}
 use Rattle.net_model.proofs.TrialOrder.{one_representative}
 use Rattle.query_classes.specs.Children.{IsBelow, IsInTree}

@@ -4,13 +4,13 @@ use Rattle.std.specs.Prelude.{IfOk}
 use Rattle.dns_data.specs.Name.{Labels}
 use Rattle.dns_data.specs.declared.rr_type.RrType.{RrType}
 use Rattle.graph_form.specs.Verdict.{AreShownOf}
-use Rattle.graph_form.specs.declared.deps.Deps.{Deps}
+use Rattle.net_model.specs.declared.deps.Deps.{Deps}
 use Rattle.net_model.specs.declared.config.Config.{Config}
 use Rattle.net_model.specs.declared.fault.Fault.{Fault}
 use Rattle.net_model.specs.Shown.{FaultSetting, Shows, with_lists}
 use Rattle.net_model.specs.Step.{following}
 use Rattle.net_model.specs.Tree.{HasMoreThan, IsReached}
-use Rattle.net_model.proofs.GivenSets.{lists_show}
+use Rattle.walk_laws.proofs.GivenSets.{lists_show}
 use Rattle.class_judge.specs.Setup.{AreSets}
 use Rattle.class_judge.specs.Verdict.{IsClassVerdict}
 use Rattle.class_judge.specs.declared.verdict.ClassVerdict.TheVariants.{Faults}

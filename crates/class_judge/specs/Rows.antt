@@ -12,12 +12,11 @@ use Rattle.class_judge.specs.declared.rows.Row.{Row}
 use Rattle.class_judge.specs.declared.verdict.ClassVerdict.{ClassVerdict}
 use Rattle.class_judge.specs.declared.verdict.ClassVerdict.TheVariants.{Faults, StatesPassed}
 use Rattle.dns_data.specs.Name.{Labels, name_cmp}
-use Rattle.graph_form.specs.Report.{class_name}
 use Rattle.graph_form.specs.declared.report.Seen.{Seen}
 use Rattle.net_model.specs.declared.class.Class.{Class}
 use Rattle.net_model.specs.declared.class.Class.TheVariants.{Exact, Below}
 use Rattle.net_model.specs.declared.config.Config.{Config}
-use Rattle.net_model.specs.Class.{class_cmp}
+use Rattle.net_model.specs.Class.{class_cmp, class_name}
 use Rattle.net_model.specs.FaultOrder.{fault_cmp}
 use Rattle.net_model.specs.Reading.{ground_of}
 use Rattle.net_model.specs.Tree.{IsClassTree}

@@ -3,7 +3,7 @@ use Rattle.std.specs.Prelude.{◌≡◌, ℕ, true, List, Contains, Option, Some
 use Rattle.class_judge.specs.Verdict.{PassesStates, SomeServerPasses}
 use Rattle.class_judge.specs.declared.setup.Setup.{Setup}
 use Rattle.dns_data.specs.Name.{Labels, IsName}
-use Rattle.graph_form.specs.declared.deps.Deps.{Deps}
+use Rattle.net_model.specs.declared.deps.Deps.{Deps}
 use Rattle.label_graph.specs.LiveSet.{AreInOrder}
 use Rattle.label_graph.specs.Pairs.{AreSame}
 use Rattle.net_model.specs.declared.class.Class.{Class}

@@ -5,7 +5,7 @@ ghost use Rattle.address_deps.specs.Sets.{AreServerGraphs};
 ghost use Rattle.class_judge.specs.Setup.{AreRegionsOf, AreSets, FollowsAll, IsSetup, SomeNamePasses};
 ghost use Rattle.class_judge.specs.Values.{AreValues};
 ghost use Rattle.class_judge.specs.Verdict.{PassesStates, SomeServerPasses};
-ghost use Rattle.graph_form.specs.declared.deps.Deps.{Deps};
+ghost use Rattle.net_model.specs.declared.deps.Deps.{Deps};
 ghost use Rattle.interp_graph.specs.Asked.{IsBuilt};
 ghost use Rattle.label_graph.specs.LiveSet.{AreInOrder};
 ghost use Rattle.label_graph.specs.Pairs.{AreSame};

@@ -7,7 +7,7 @@ use Rattle.dns_data.specs.declared.rr_type.RrType.{RrType}
 use Rattle.dns_data.proofs.Membership.{none_in_nil, has_first, first_or_later, flat_map_has, from_flat_map, from_map, map_has}
 use Rattle.graph_form.specs.Branches.{PlainBranch, typed_branches}
 use Rattle.graph_form.specs.Graph.{PlainGraph}
-use Rattle.graph_form.specs.declared.deps.Deps.{Deps}
+use Rattle.net_model.specs.declared.deps.Deps.{Deps}
 use Rattle.graph_form.specs.declared.node.Branch.{Branch}
 use Rattle.graph_form.specs.declared.node.Branch.TheVariants.{Go, End}
 use Rattle.graph_form.specs.declared.report.Seen.{Seen}

@@ -13,7 +13,7 @@ use Rattle.graph_form.specs.Branches.{plain, typed_branches}
 use Rattle.graph_form.specs.Graph.{HasBranch, PlainGraph}
 use Rattle.graph_form.specs.GraphOf.{IsExactIn, IsGraphOf, TellsStep}
 use Rattle.graph_form.specs.Verdict.{AreFirstTypes, AreShownOf, IsCovered}
-use Rattle.graph_form.specs.declared.deps.Deps.{Deps}
+use Rattle.net_model.specs.declared.deps.Deps.{Deps}
 use Rattle.graph_form.specs.declared.node.Branch.{Branch}
 use Rattle.graph_form.specs.declared.node.Branch.TheVariants.{Go, End}
 use Rattle.graph_form.specs.declared.node.Node.{Node}
@@ -115,14 +115,14 @@ module _ (setting : Setting) (query : Labels) (deps : Deps) (graph : PlainGraph)
         let one = shown_one (zones_differ setting.config cut) (faults.Differs cut) fault here in
         let zones = differ_told setting.config cut one.0 in
         subst (Shown rtype) one.1
-        (record { may = tt; walks = on.walk ∷ []; are_walks = (on.is_walk, tt); show = record { refers = on.among; sides = zones.sides; differ = zones.differ } })
+        (record { may = tt; walks = on.walk ∷ []; are_walks = (on.is_walk, tt); show = record { refers = on.among; zones = zones } })
 
     of_glue : Contains (if_shown (wants_glue setting.config cut) (faults.NoGlue cut)) fault → Shown rtype fault
     of_glue here =
         let one = shown_one (wants_glue setting.config cut) (faults.NoGlue cut) fault here in
         let wants = glue_told setting.config cut one.0 in
         subst (Shown rtype) one.1
-        (record { may = tt; walks = on.walk ∷ []; are_walks = (on.is_walk, tt); show = record { refers = on.among; inside = wants.inside; no_glue = wants.no_glue } })
+        (record { may = tt; walks = on.walk ∷ []; are_walks = (on.is_walk, tt); show = record { refers = on.among; wants = wants } })
 
     of_cyclic : Contains (if_shown (depends_on_itself setting.config deps cut) (faults.Cyclic cut)) fault → Shown rtype fault
     of_cyclic here =
@@ -133,14 +133,7 @@ module _ (setting : Setting) (query : Labels) (deps : Deps) (graph : PlainGraph)
           may = tt;
           walks = on.walk ∷ [];
           are_walks = (on.is_walk, tt);
-          show = record {
-            refers = on.among;
-            configured = depends.configured;
-            no_top = depends.no_top;
-            no_glue = depends.no_glue;
-            learnt_at_most = depends.learnt_at_most;
-            not_at_least = depends.not_at_least;
-          };
+          show = record { refers = on.among; depends = depends };
         })
 
     of_other_glue : Contains (other_glue cut) fault → Shown rtype fault
@@ -152,14 +145,7 @@ module _ (setting : Setting) (query : Labels) (deps : Deps) (graph : PlainGraph)
           may = tt;
           walks = on.walk ∷ [];
           are_walks = (on.is_walk, tt);
-          show = record {
-            refers = on.among;
-            inside = zones.inside;
-            sides = zones.sides;
-            above = zones.above;
-            below = zones.below;
-            differ = zones.differ;
-          };
+          show = record { refers = on.among; glue = zones };
         })
 
   -- of a hop
@@ -348,29 +334,21 @@ module _ (setting : Setting) (query : Labels) (deps : Deps) (graph : PlainGraph)
   by_kind rtype (faults.Differs cut) walk kind is_walk show =
       of_referral rtype cut (faults.Differs cut) (hop_of_walk graph rtype setting query is exact walk (Refer cut) is_walk show.refers)
       (in_differing cut (faults.Differs cut)
-      (one_shown (zones_differ setting.config cut) (faults.Differs cut) (told_differ setting.config cut (record { sides = show.sides; differ = show.differ }))))
+      (one_shown (zones_differ setting.config cut) (faults.Differs cut) (told_differ setting.config cut show.zones)))
   by_kind rtype (faults.NoGlue cut) walk kind is_walk show =
       of_referral rtype cut (faults.NoGlue cut) (hop_of_walk graph rtype setting query is exact walk (Refer cut) is_walk show.refers)
       (in_missing cut (faults.NoGlue cut)
-      (one_shown (wants_glue setting.config cut) (faults.NoGlue cut) (told_glue setting.config cut (record { inside = show.inside; no_glue = show.no_glue }))))
+      (one_shown (wants_glue setting.config cut) (faults.NoGlue cut) (told_glue setting.config cut show.wants)))
   by_kind rtype (faults.GlueDiffers cut) walk kind is_walk show =
       of_referral rtype cut (faults.GlueDiffers cut) (hop_of_walk graph rtype setting query is exact walk (Refer cut) is_walk show.refers)
       (in_other_glue cut (faults.GlueDiffers cut)
       (one_shown (addresses_differ setting.config cut) (faults.GlueDiffers cut)
-      (told_addresses setting.config cut
-      (record { inside = show.inside; sides = show.sides; above = show.above; below = show.below; differ = show.differ }))))
+      (told_addresses setting.config cut show.glue)))
   by_kind rtype (faults.Cyclic cut) walk kind is_walk show =
       of_referral rtype cut (faults.Cyclic cut) (hop_of_walk graph rtype setting query is exact walk (Refer cut) is_walk show.refers)
       (in_cyclic cut (faults.Cyclic cut)
       (one_shown (depends_on_itself setting.config deps cut) (faults.Cyclic cut)
-      (told_cyclic setting deps cut
-      (record {
-        configured = show.configured;
-        no_top = show.no_top;
-        no_glue = show.no_glue;
-        learnt_at_most = show.learnt_at_most;
-        not_at_least = show.not_at_least;
-      }))))
+      (told_cyclic setting deps cut show.depends)))
   by_kind rtype fault walk kind is_walk show = cc
 
   shown_collected : (rtype : RrType) (fault : Fault) → is_of_delegations fault ≡ true → Shown rtype fault → Covered rtype fault

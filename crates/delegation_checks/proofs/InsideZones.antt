@@ -23,7 +23,7 @@ use Rattle.net_model.specs.declared.walk.Hop.TheVariants.{Refer, Rewrite}
 use Rattle.net_model.specs.declared.walk.State.{State}
 use Rattle.net_model.proofs.Prefixes.{from_prefixes}
 use Rattle.net_model.proofs.StepBounds.{cut_refers, is_the_cut}
-use Rattle.net_model.proofs.UnnamedTails.{nearest_tells}
+use Rattle.net_model.proofs.NearestZones.{nearest_tells}
 
 -- the origin is above the cut
 abbrev pub HopInside : Hop → Type 0

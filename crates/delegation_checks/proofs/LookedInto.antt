@@ -11,7 +11,7 @@ use Rattle.dns_data.specs.RrType.{number_of}
 use Rattle.dns_data.specs.declared.rr_type.RrType.{RrType}
 use Rattle.dns_data.proofs.Membership.{none_in_nil, first_or_later, from_map, map_has}
 use Rattle.graph_form.specs.Verdict.{IsCovered}
-use Rattle.graph_form.specs.declared.deps.Deps.{Deps}
+use Rattle.net_model.specs.declared.deps.Deps.{Deps}
 use Rattle.graph_form.specs.declared.report.Seen.{Seen}
 use Rattle.net_model.specs.declared.config.Config.{Config}
 use Rattle.net_model.specs.declared.fault.Fault.{Fault}

@@ -13,11 +13,10 @@ use Rattle.dns_data.specs.declared.rr_type.RrType.TheVariants as types
 use Rattle.dns_data.proofs.EqualData.{equal_is_same}
 use Rattle.dns_data.proofs.Names.{name_eq_decides}
 use Rattle.dns_data.proofs.Searches.{any_has, filter_none, from_any}
-use Rattle.graph_form.specs.Trails.{AddressesDiffer, ZonesDiffer, WantsGlue, DependsOnItself}
-use Rattle.graph_form.specs.declared.deps.Deps.{Deps}
+use Rattle.net_model.specs.declared.deps.Deps.{Deps}
 use Rattle.net_model.specs.Nearest.{held_zone, is_configured, is_top}
 use Rattle.net_model.specs.Order.{in_order}
-use Rattle.net_model.specs.Shown.{with_lists}
+use Rattle.net_model.specs.Shown.{ZonesDiffer, WantsGlue, AddressesDiffer, DependsOnItself, with_lists}
 use Rattle.net_model.specs.Step.{Setting, has_glue}
 use Rattle.net_model.specs.Zone.{addresses, data_cmp, exists_in, is_of, ns_names, owns, target_of}
 use Rattle.net_model.specs.declared.config.Config.{Config}

@@ -2,7 +2,7 @@
 use Rattle.std.specs.Prelude.{◌≡◌, List}
 use Rattle.std.specs.BTreeSet as tree
 use Rattle.dns_data.specs.Name.{Labels, name_cmp}
-use Rattle.graph_form.specs.declared.deps.Deps.{Deps}
+use Rattle.net_model.specs.declared.deps.Deps.{Deps}
 use Rattle.delegation_checks.specs.Referrals.{is_among}
 
 -- the set has the names of the list

@@ -6,7 +6,7 @@ use Rattle.std.specs.declared.cmp.Ordering.{Ordering}
 use Rattle.dns_data.specs.RrType.{number_of}
 use Rattle.dns_data.specs.declared.rr_type.RrType.{RrType}
 use Rattle.graph_form.specs.Verdict.{IsCovered}
-use Rattle.graph_form.specs.declared.deps.Deps.{Deps}
+use Rattle.net_model.specs.declared.deps.Deps.{Deps}
 use Rattle.graph_form.specs.declared.report.Seen.{Seen}
 use Rattle.net_model.specs.FaultOrder.{cut_cmp}
 use Rattle.net_model.specs.declared.config.Config.{Config}

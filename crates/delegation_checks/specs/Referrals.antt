@@ -7,7 +7,7 @@ use Rattle.dns_data.specs.Rdata.{data_eq}
 use Rattle.dns_data.specs.declared.rdata.Rdata.{Rdata}
 use Rattle.dns_data.specs.declared.rr_type.RrType.{RrType}
 use Rattle.graph_form.specs.Branches.{PlainBranch}
-use Rattle.graph_form.specs.declared.deps.Deps.{Deps}
+use Rattle.net_model.specs.declared.deps.Deps.{Deps}
 use Rattle.graph_form.specs.declared.node.Branch.{Branch}
 use Rattle.graph_form.specs.declared.node.Branch.TheVariants.{Go, End}
 use Rattle.net_model.specs.Nearest.{held_zone, is_configured, is_top}

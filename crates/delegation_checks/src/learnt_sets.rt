@@ -19,7 +19,7 @@ pub struct LearntSets {
 }
 
 impl Model for LearntSets {
-    ghost use Rattle.graph_form.specs.declared.deps.Deps.{Deps};
+    ghost use Rattle.net_model.specs.declared.deps.Deps.{Deps};
     ghost use Rattle.delegation_checks.specs.LearntSets.{AreSetsOf};
 
     ghost Value = { Deps };

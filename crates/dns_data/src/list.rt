@@ -1,13 +1,16 @@
 //! A list that contracts see as its items.
 
-ghost use Rattle.std.specs.Prelude.{◌≡◌, ◌∷◌, ◌++◌, [], IfOk, OnOk, OnErr};
+ghost use Rattle.std.specs.Prelude.{◌≡◌, ◌==◌, ◌∷◌, ◌++◌, [], length, IfOk, OnOk, OnErr};
+ghost use Rattle.std.specs.Slice.Iter.{iter_rest};
 
+use crate::list_iter::ListIter;
 use crate::memory::NoMemory;
 use crate::name::Name;
 use crate::octets::Octets;
 use std::alloc::Global;
 use std::cmp::Ordering;
 use std::marker::Model;
+use std::slice;
 
 /// Items in order.
 #[derive(Debug, Drop)]
@@ -54,6 +57,27 @@ impl<T> List<T> {
         self.items.as_slice()
     }
 
+    /// The items one after the other, in order.
+    pub fn iter(&self) -> slice::Iter<'_, T>
+        ensures { iter_rest result ≡ self.now }
+    {
+        self.items.iter()
+    }
+
+    /// How many items there are.
+    pub fn len(&self) -> usize
+        ensures { result ≡ length self.now }
+    {
+        self.items.len()
+    }
+
+    /// Whether there is no item.
+    pub fn is_empty(&self) -> bool
+        ensures { result ≡ (length self.now == 0) }
+    {
+        self.items.is_empty()
+    }
+
     /// Puts an item at the end. After an error the list is as it was.
     pub fn push(&mut self, item: T) -> Result<(), NoMemory>
     where
@@ -63,6 +87,23 @@ impl<T> List<T> {
     {
         self.items.push(item)?;
         Ok(())
+    }
+}
+
+impl<T: Drop> IntoIterator for List<T> {
+    ghost use Rattle.std.specs.Prelude.{◌≡◌};
+    ghost use Rattle.std.specs.Iterator.{YieldsFirst};
+    ghost use Rattle.std.specs.Iterator.Runs.{YieldsInOrder};
+
+    type Item = T;
+
+    type IntoIter = ListIter<T>;
+
+    ghost into_iter_gives = { λ list iter. (iter ≡ list)
+        × YieldsInOrder (YieldsFirst {A = T} (λ left. left)) (λ left. left) };
+
+    fn into_iter(self) -> ListIter<T> {
+        ListIter::new(self.into_vec())
     }
 }
 

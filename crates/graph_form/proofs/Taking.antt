@@ -23,18 +23,10 @@ taken setting walks fault shows = absurd shows
 -- and the zones show it
 pub zones : (setting : FaultSetting) (walks : List Walk) (fault : Fault) → WalksShow setting walks fault → ZonesShow setting fault
 zones setting (walk ∷ []) (faults.Lame cut) shows = tt
-zones setting (walk ∷ []) (faults.Differs cut) shows = record { sides = shows.sides; differ = shows.differ }
-zones setting (walk ∷ []) (faults.NoGlue cut) shows = record { inside = shows.inside; no_glue = shows.no_glue }
-zones setting (walk ∷ []) (faults.GlueDiffers cut) shows =
-    record { inside = shows.inside; sides = shows.sides; above = shows.above; below = shows.below; differ = shows.differ }
-zones setting (walk ∷ []) (faults.Cyclic cut) shows =
-    record {
-      configured = shows.configured;
-      no_top = shows.no_top;
-      no_glue = shows.no_glue;
-      learnt_at_most = shows.learnt_at_most;
-      not_at_least = shows.not_at_least;
-    }
+zones setting (walk ∷ []) (faults.Differs cut) shows = shows.zones
+zones setting (walk ∷ []) (faults.NoGlue cut) shows = shows.wants
+zones setting (walk ∷ []) (faults.GlueDiffers cut) shows = shows.glue
+zones setting (walk ∷ []) (faults.Cyclic cut) shows = shows.depends
 zones setting (walk ∷ []) (faults.Limit place) shows = tt
 zones setting (walk ∷ []) (faults.Blackhole place) shows = tt
 zones setting (one ∷ other ∷ []) (faults.Answers class rtype) shows = tt
@@ -45,19 +37,10 @@ zones setting walks fault shows = absurd shows
 -- the other way round
 pub shown : (setting : FaultSetting) (walks : List Walk) (fault : Fault) → WalksTake walks fault → ZonesShow setting fault → WalksShow setting walks fault
 shown setting (walk ∷ []) (faults.Lame cut) take hold = take
-shown setting (walk ∷ []) (faults.Differs cut) take hold = record { refers = take; sides = hold.sides; differ = hold.differ }
-shown setting (walk ∷ []) (faults.NoGlue cut) take hold = record { refers = take; inside = hold.inside; no_glue = hold.no_glue }
-shown setting (walk ∷ []) (faults.GlueDiffers cut) take hold =
-    record { refers = take; inside = hold.inside; sides = hold.sides; above = hold.above; below = hold.below; differ = hold.differ }
-shown setting (walk ∷ []) (faults.Cyclic cut) take hold =
-    record {
-      refers = take;
-      configured = hold.configured;
-      no_top = hold.no_top;
-      no_glue = hold.no_glue;
-      learnt_at_most = hold.learnt_at_most;
-      not_at_least = hold.not_at_least;
-    }
+shown setting (walk ∷ []) (faults.Differs cut) take hold = record { refers = take; zones = hold }
+shown setting (walk ∷ []) (faults.NoGlue cut) take hold = record { refers = take; wants = hold }
+shown setting (walk ∷ []) (faults.GlueDiffers cut) take hold = record { refers = take; glue = hold }
+shown setting (walk ∷ []) (faults.Cyclic cut) take hold = record { refers = take; depends = hold }
 shown setting (walk ∷ []) (faults.Limit place) take hold = take
 shown setting (walk ∷ []) (faults.Blackhole place) take hold = take
 shown setting (one ∷ other ∷ []) (faults.Answers class rtype) take hold = take

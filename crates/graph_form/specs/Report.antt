@@ -10,12 +10,11 @@ use Rattle.dns_data.specs.Name.{Labels, IsName, name_eq, is_prefix}
 use Rattle.dns_data.specs.RrType.{number_of}
 use Rattle.dns_data.specs.declared.rr_type.RrType.{RrType}
 use Rattle.net_model.specs.declared.class.Class.{Class}
-use Rattle.net_model.specs.declared.class.Class.TheVariants.{Exact, Below}
 use Rattle.net_model.specs.declared.config.Config.{Config}
 use Rattle.net_model.specs.declared.fault.Fault.{Fault}
 use Rattle.net_model.specs.declared.walk.State.{State}
 use Rattle.net_model.specs.declared.walk.Walk.{Walk}
-use Rattle.net_model.specs.Class.{class_cmp, IsRepresentative}
+use Rattle.net_model.specs.Class.{class_cmp, class_name, IsRepresentative}
 use Rattle.net_model.specs.FaultOrder.{fault_cmp}
 use Rattle.net_model.specs.Learnt.{IsInForce}
 use Rattle.net_model.specs.Reading.{Ground, IsNamed}
@@ -42,11 +41,6 @@ is_same_place a b = name_eq a.server b.server && name_eq a.name b.name
 abbrev pub repeats : List State → Bool
 repeats [] = false
 repeats (state ∷ states) = list_any (is_same_place state) states || repeats states
-
--- the name of a class
-abbrev pub class_name : Class → Labels
-class_name (Exact name) = name
-class_name (Below name) = name
 
 -- it is a class of the tree, at or below the name: of a name that is named
 pub record IsClass (subject : Subject) (class : Class) : Type 0 where

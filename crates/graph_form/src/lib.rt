@@ -9,7 +9,6 @@
 #![tactic(auto)]
 
 mod branches;
-mod deps;
 mod first_faults;
 mod first_path;
 mod first_walks;
@@ -22,11 +21,11 @@ mod shows;
 mod verdict;
 
 pub use branches::{TypedBranch, typed_branches};
-pub use deps::Deps;
 pub use first_faults::{OfFault, first_of_each};
 pub use first_walks::trails;
 pub use graph::{Graph, type_count};
 pub use laws::{pairs_are_reached, paths_are_walks, walks_and_zones_show};
+pub use net_model::Deps;
 pub use node::{Arm, Branch, Node};
 pub use repeated::repeats;
 pub use report::{Report, ReportEntry, Seen};

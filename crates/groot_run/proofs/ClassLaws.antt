@@ -6,8 +6,8 @@ use Rattle.net_model.specs.declared.config.Config.{Config}
 use Rattle.net_model.specs.Reading.{IsNamed, ground_of}
 use Rattle.net_model.specs.Step.{following}
 use Rattle.net_model.specs.Tails.{AreTails}
-use Rattle.net_model.proofs.ClassTails.{tails_in_class}
-use Rattle.net_model.proofs.Simulation.{walks_as, reaches_more}
+use Rattle.walk_laws.proofs.WalksAlike.ClassTails.{tails_in_class}
+use Rattle.walk_laws.proofs.WalksAlike.QueryWalks.{walks_as, reaches_more}
 use Rattle.query_classes.specs.Members.{IsInOneClass}
 use Rattle.groot_run.specs.Laws.{WalkAlike, HasClasses}
 

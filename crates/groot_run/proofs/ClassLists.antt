@@ -10,13 +10,12 @@ use Rattle.dns_data.specs.Name.{Labels, name_cmp}
 use Rattle.net_model.specs.declared.class.Class.{Class}
 use Rattle.net_model.specs.declared.class.Class.TheVariants.{Exact, Below}
 use Rattle.net_model.specs.declared.config.Config.{Config}
-use Rattle.net_model.specs.Class.{class_cmp, IsRepresentative}
+use Rattle.net_model.specs.Class.{class_cmp, class_name, IsRepresentative}
 use Rattle.net_model.specs.Reading.{Ground, ground_of}
 use Rattle.net_model.specs.Tree.{IsClassTree, AreBelowClasses, HasMoreThan}
 use Rattle.query_classes.specs.declared.tree.ClassRow.{ClassRow}
 use Rattle.label_graph.specs.Pairs.{AreSame}
 use Rattle.query_classes.specs.Children.{IsInTree, IsBelow}
-use Rattle.query_classes.specs.Members.{class_name}
 use Rattle.query_classes.specs.Rows.{tree_names, if_some, below_names}
 use Rattle.groot_run.specs.declared.ending.Ending.{Ending}
 use Rattle.groot_run.specs.declared.status.Status.TheVariants.{Clean}

@@ -7,10 +7,9 @@ use Rattle.dns_data.specs.Spelling.{name_text}
 use Rattle.net_model.specs.declared.class.Class.{Class}
 use Rattle.net_model.specs.declared.class.Class.TheVariants.{Exact, Below}
 use Rattle.net_model.specs.declared.config.Config.{Config}
-use Rattle.net_model.specs.Class.{class_cmp, IsRepresentative}
+use Rattle.net_model.specs.Class.{class_cmp, class_name, IsRepresentative}
 use Rattle.net_model.specs.Reading.{ground_of}
 use Rattle.query_classes.specs.Children.{IsInTree}
-use Rattle.query_classes.specs.Members.{class_name}
 
 -- a class of query names, with the name that stands for it
 pub record ListedClass : Type 0 where

@@ -7,7 +7,7 @@ use Rattle.net_model.specs.Reading.{IsNamed, ground_of}
 use Rattle.net_model.specs.Tails.{AreTails, IsUnnamedTail}
 use Rattle.net_model.specs.Tree.{IsReached, HasMoreThan}
 use Rattle.net_model.specs.declared.config.Config.{Config}
-use Rattle.net_model.proofs.Simulation.{walks_as, reaches_more}
+use Rattle.walk_laws.proofs.WalksAlike.QueryWalks.{walks_as, reaches_more}
 use Rattle.interp_graph.specs.Asked.{IsOpenName, AskedWith, IsAsked, StandsForOthers, ReachesMost}
 
 -- the two tails

@@ -35,7 +35,7 @@ use Rattle.net_model.specs.Zone.{is_of, owns, target_of, data_at, targets_at, ns
 use Rattle.net_model.proofs.Branches.{LooksUp, IsDelegated, cut_at, place_in, each_branch}
 use Rattle.net_model.proofs.WalkEnds.{item}
 use Rattle.net_model.proofs.StepBounds.{cut_refers, is_the_cut}
-use Rattle.net_model.proofs.UnnamedTails.{nearest_tells}
+use Rattle.net_model.proofs.NearestZones.{nearest_tells}
 
 -- ---- a referral is found at the zone cut
 

@@ -1,6 +1,6 @@
 -- Below a name with a free label there is a label that is tried first among the free ones.
 use Rattle.std.proofs.Common.{◌≡◌, ℕ, zero, suc, ◌<◌, ◌≤◌, Bool, true, false, cond, not, ◌&&◌, ◌⊎◌, List, [], ◌∷◌, ◌++◌, map, flat_map, length, Contains, nat_eq, nat_lt, Ordering, Less, Equal, Greater, nat_cmp, sym, refl, ap, ◌∙◌, inl, inr, true≢false, arith, le_refl, le_trans, lt-ltb, ltb-true}
-use Rattle.std.specs.List.{list_any, list_all}
+use Rattle.std.specs.List.{list_any, list_all, AllByRecursion}
 use Rattle.std.specs.Cmp.Lexicographic.{slice_cmp}
 use Rattle.std.specs.Ordering.{ordering_then}
 use Rattle.std.proofs.lemmas.Bool.{and_parts, and_from, not-true, le-ltb, ne_eqb, cases_lt}
@@ -14,6 +14,11 @@ use Rattle.net_model.specs.Class.{octet_rank, trial_cmp, IsFirstUnnamed}
 use Rattle.net_model.specs.Reading.{Ground, IsNamed}
 use Rattle.net_model.proofs.Naming.{is_listed, from_listed, named_among, among_named}
 use Rattle.net_model.proofs.TrialOrder.{trials_total}
+
+-- a label of a name
+pub label_of_name : (above : Labels) (label : List ℕ) (rest : Labels) → AllByRecursion IsLabel (above ++ label ∷ rest) → IsLabel label
+label_of_name [] label rest each = each.0
+label_of_name (x ∷ above) label rest each = label_of_name above label rest each.1
 
 -- how a number stands to a greater one
 pub nat_cmp_less : (m n : ℕ) → m < n → nat_cmp m n ≡ Less

@@ -48,11 +48,13 @@ same_show config rewrites one other walk (GlueDiffers cut) show = show
 same_show config rewrites one other walk (Cyclic cut) show =
     record {
       refers = show.refers;
-      configured = show.configured;
-      no_top = show.no_top;
-      no_glue = show.no_glue;
-      learnt_at_most = show.learnt_at_most;
-      not_at_least = show.not_at_least;
+      depends = record {
+        configured = show.depends.configured;
+        no_top = show.depends.no_top;
+        no_glue = show.depends.no_glue;
+        learnt_at_most = show.depends.learnt_at_most;
+        not_at_least = show.depends.not_at_least;
+      };
     }
 same_show config rewrites one other walk (Limit place) show = show
 same_show config rewrites one other walk (Blackhole place) show = show

@@ -11,6 +11,11 @@ use Rattle.net_model.specs.declared.class.Class.{Class}
 use Rattle.net_model.specs.declared.class.Class.TheVariants.{Exact, Below}
 use Rattle.net_model.specs.Reading.{Ground, IsNamed}
 
+-- the name by which a class goes
+abbrev pub class_name : Class → Labels
+class_name (Exact alone) = alone
+class_name (Below above) = above
+
 -- above is the longest named prefix of the name
 pub record IsLongestNamed (ground : Ground) (name above : Labels) : Type 0 where
   pub below : Labels

@@ -69,6 +69,12 @@ abbrev pub ground_of : Config → Ground
 ground_of config =
     record { names = [] ∷ flat_map prefixes (origins_and_owners config); redirections = redirections_of config }
 
+-- a ground of several configurations and some names more: the root, the prefixes of all their origins and owners and of
+-- these names, and all their redirections
+abbrev pub joined_ground : List Config → List Labels → Ground
+joined_ground configs given =
+    record { names = [] ∷ flat_map prefixes (flat_map origins_and_owners configs ++ given); redirections = flat_map redirections_of configs }
+
 -- The ground covers the configuration: it has the root, all origins and owners, and the owner of each of its
 -- redirections; it has the prefixes of its names; and it has all DNAME records of the configuration.
 pub record Covers (ground : Ground) (config : Config) : Type 0 where

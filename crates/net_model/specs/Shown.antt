@@ -72,37 +72,53 @@ pub record ShowsLame (walk : Walk) (cut : Cut) : Type 0 where
   pub behind : EndsBehind walk cut
   pub ends : walk.leaf ≡ leaves.Lame cut.ns
 
--- delegation differs (RFC 1034 section 4.2.2): the delegated zone lists other name servers at its origin
-pub record ShowsDiffers (config : Config) (walk : Walk) (cut : Cut) : Type 0 where
-  pub refers : Refers walk cut
+-- the delegated zone lists other name servers at its origin than the referring one (RFC 1034 section 4.2.2)
+pub record ZonesDiffer (config : Config) (cut : Cut) : Type 0 where
   pub sides : BothSides config cut
   pub differ : ns_names sides.above cut.cut ≢ ns_names sides.below cut.cut
 
--- missing glue (RFC 1034 section 4.2.1): the name server is at or below the cut and has no glue
-pub record ShowsNoGlue (config : Config) (walk : Walk) (cut : Cut) : Type 0 where
+-- delegation differs: the walk goes by a referral whose two zones do
+pub record ShowsDiffers (config : Config) (walk : Walk) (cut : Cut) : Type 0 where
   pub refers : Refers walk cut
+  pub zones : ZonesDiffer config cut
+
+-- the name server is at or below the cut and has no glue (RFC 1034 section 4.2.1)
+pub record WantsGlue (config : Config) (cut : Cut) : Type 0 where
   pub inside : is_prefix cut.cut cut.ns ≡ true
   pub no_glue : has_glue config cut ≡ false
 
--- glue differs (RFC 1034 section 4.2.2): the name server is at or below the cut, both zones hold addresses of
--- it, and not the same ones
-pub record ShowsGlueDiffers (config : Config) (walk : Walk) (cut : Cut) : Type 0 where
+-- missing glue: the walk goes by a referral to such a name server
+pub record ShowsNoGlue (config : Config) (walk : Walk) (cut : Cut) : Type 0 where
   pub refers : Refers walk cut
+  pub wants : WantsGlue config cut
+
+-- the name server is at or below the cut, both zones hold addresses of it, and not the same ones (RFC 1034 section
+-- 4.2.2)
+pub record AddressesDiffer (config : Config) (cut : Cut) : Type 0 where
   pub inside : is_prefix cut.cut cut.ns ≡ true
   pub sides : BothSides config cut
   pub above : addresses sides.above cut.ns ≢ []
   pub below : addresses sides.below cut.ns ≢ []
   pub differ : addresses sides.above cut.ns ≢ addresses sides.below cut.ns
 
--- cyclic dependency (RFC 1034 section 4.2.1): without glue the name server's address is learnt only by way of
--- name servers of which the same is true
-pub record ShowsCyclic (setting : FaultSetting) (walk : Walk) (cut : Cut) : Type 0 where
+-- glue differs: the walk goes by a referral to such a name server
+pub record ShowsGlueDiffers (config : Config) (walk : Walk) (cut : Cut) : Type 0 where
   pub refers : Refers walk cut
+  pub glue : AddressesDiffer config cut
+
+-- without glue the address of the name server, a configured one, is learnt only by way of name servers of which the
+-- same is true (RFC 1034 section 4.2.1)
+pub record DependsOnItself (setting : FaultSetting) (cut : Cut) : Type 0 where
   pub configured : is_configured setting.walks.config cut.ns ≡ true
   pub no_top : is_top setting.walks.config cut.ns ≡ false
   pub no_glue : has_glue setting.walks.config cut ≡ false
   pub learnt_at_most : setting.in_greatest cut.ns
   pub not_at_least : setting.in_least cut.ns → ⊥
+
+-- cyclic dependency: the walk goes by a referral to such a name server
+pub record ShowsCyclic (setting : FaultSetting) (walk : Walk) (cut : Cut) : Type 0 where
+  pub refers : Refers walk cut
+  pub depends : DependsOnItself setting cut
 
 -- rewrite limit: the walk ends where one more rewrite isn't allowed
 abbrev pub ShowsLimit : Walk → Place → Type 0

@@ -60,7 +60,3 @@ AreWalks setting query rtype walks =
 -- no walk of the query with the type ends in a name of more than 255 octets
 abbrev pub IsBoundedWith : Setting → Labels → RrType → Type 0
 IsBoundedWith setting query rtype = (walk : Walk) (place : Place) → IsWalk setting query rtype walk → walk.leaf ≢ Overlong place
-
--- with any type
-abbrev pub IsBounded : Setting → Labels → Type 0
-IsBounded setting query = (rtype : RrType) → IsBoundedWith setting query rtype

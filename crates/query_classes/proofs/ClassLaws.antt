@@ -11,8 +11,7 @@ use Rattle.dns_data.proofs.Names.{name_append}
 use Rattle.net_model.specs.declared.class.Class.TheVariants.{Exact, Below}
 use Rattle.net_model.specs.Class.{IsClassOf, IsFirstUnnamed}
 use Rattle.net_model.specs.Reading.{Ground, IsNamed, ReadsOnTo}
-use Rattle.net_model.proofs.ClassTails.{label_of_name}
-use Rattle.net_model.proofs.FirstLabel.{shorter_first}
+use Rattle.net_model.proofs.FirstLabel.{label_of_name, shorter_first}
 use Rattle.label_graph.specs.LiveSet.{IsClosed, IsLiveSet, name_at}
 use Rattle.label_graph.proofs.LiveNames.{prefix_is_named}
 use Rattle.label_graph.proofs.TargetLinks.{place_among, among_place}

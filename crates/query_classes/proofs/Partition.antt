@@ -8,7 +8,7 @@ use Rattle.net_model.specs.Reading.{Ground, IsNamed}
 use Rattle.label_graph.specs.LiveSet.{IsClosed, IsLiveSet}
 use Rattle.label_graph.specs.Pairs.{AreSame}
 use Rattle.query_classes.specs.Members.{RepresentsClass, IsInOneClass}
-use Rattle.net_model.proofs.ClassTails.{one_class}
+use Rattle.net_model.proofs.OneClass.{one_class}
 use Rattle.query_classes.proofs.ClassLaws.{in_below, below_stood, stands_exact, first_label_of, not_named, live_named}
 use Rattle.query_classes.proofs.FirstFree.{first_free}
 use Rattle.query_classes.proofs.SameGrounds.{class_same, stands_same}

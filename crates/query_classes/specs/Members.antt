@@ -2,14 +2,8 @@
 use Rattle.std.specs.Prelude.{◌≡◌, ◌≤◌}
 use Rattle.dns_data.specs.Name.{Labels, IsName, wire_octets}
 use Rattle.net_model.specs.declared.class.Class.{Class}
-use Rattle.net_model.specs.declared.class.Class.TheVariants.{Exact, Below}
 use Rattle.net_model.specs.Class.{IsClassOf, IsRepresentative}
 use Rattle.net_model.specs.Reading.{Ground}
-
--- the name by which a class goes
-abbrev pub class_name : Class → Labels
-class_name (Exact alone) = alone
-class_name (Below above) = above
 
 -- no name is in the class
 abbrev pub IsEmptyClass : Ground → Class → Type 0

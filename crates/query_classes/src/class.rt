@@ -3,9 +3,9 @@
 ghost use Rattle.std.specs.Prelude.{◌≡◌, [], ◌∷◌, ◌++◌, MatchOption, IfOk};
 ghost use Rattle.dns_data.specs.Name.{IsName, Labels};
 ghost use Rattle.net_model.specs.declared.class.Class.{Class as ClassValue};
-ghost use Rattle.net_model.specs.Class.{IsClassOf};
+ghost use Rattle.net_model.specs.Class.{class_name, IsClassOf};
 ghost use Rattle.net_model.specs.Reading.{IsNamed};
-ghost use Rattle.query_classes.specs.Members.{class_name, IsEmptyClass, RepresentsClass};
+ghost use Rattle.query_classes.specs.Members.{IsEmptyClass, RepresentsClass};
 
 use crate::live_name::LiveName;
 use dns_data::{Label, Name, NoMemory};

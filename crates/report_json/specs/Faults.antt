@@ -9,7 +9,7 @@ use Rattle.net_model.specs.declared.fault.Fault.TheVariants.{Lame, Differs, NoGl
 use Rattle.net_model.specs.declared.place.Cut.{Cut}
 use Rattle.net_model.specs.declared.place.Place.{Place}
 use Rattle.serde_json.specs.Data.{Data, string}
-use Rattle.graph_form.specs.Report.{class_name}
+use Rattle.net_model.specs.Class.{class_name}
 use Rattle.report_json.specs.Json.{object_of, name_value}
 
 -- the word of a kind of fault

@@ -2,7 +2,7 @@
 
 ghost use Rattle.std.specs.Prelude.{◌≡◌, OnOk};
 ghost use Rattle.serde_json.specs.Events.{SendsValue};
-ghost use Rattle.graph_form.specs.Report.{class_name};
+ghost use Rattle.net_model.specs.Class.{class_name};
 ghost use Rattle.report_json.specs.Faults.{kind_word, cut_value, place_value, class_kind, class_value, fault_value};
 
 use crate::object::{name, send_object, word};

@@ -12,7 +12,7 @@ use Rattle.graph_form.specs.declared.node.Branch.{Branch}
 use Rattle.graph_form.specs.declared.node.Branch.TheVariants.{End}
 use Rattle.graph_form.proofs.EqualAnswers.{same_answers, answer_itself}
 use Rattle.graph_form.proofs.ReachedNodes.{end_of_walk, walk_by}
-use Rattle.net_model.proofs.ClassTails.{one_class}
+use Rattle.net_model.proofs.OneClass.{one_class}
 use Rattle.net_model.specs.Reading.{ground_of}
 use Rattle.net_model.specs.Shown.{Shows, ShowsAnswers, WalksShow, is_authoritative, with_sets}
 use Rattle.net_model.specs.Step.{Setting}

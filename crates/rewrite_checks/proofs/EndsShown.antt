@@ -18,7 +18,7 @@ use Rattle.graph_form.proofs.TypedBranches.{each_seen, seen_there}
 use Rattle.graph_form.proofs.Verdicts.{one_last}
 use Rattle.net_model.specs.Class.{IsRepresentative}
 use Rattle.net_model.specs.Reading.{ground_of}
-use Rattle.net_model.proofs.ClassTails.{one_class}
+use Rattle.net_model.proofs.OneClass.{one_class}
 use Rattle.net_model.specs.Shown.{MayShow, Shows, WalksShow, with_sets}
 use Rattle.net_model.specs.Step.{Setting}
 use Rattle.net_model.specs.Walk.{IsWalk}

@@ -21,9 +21,10 @@ use Rattle.net_model.specs.declared.class.Class.TheVariants.{Exact, Below}
 use Rattle.net_model.specs.declared.fault.Fault.TheVariants as faults
 use Rattle.net_model.specs.declared.place.Place.{Place}
 use Rattle.net_model.specs.declared.walk.Walk.{Walk}
-use Rattle.net_model.proofs.ClassTails.{one_class, tails_in_class}
-use Rattle.net_model.proofs.Returns.{limit_between}
-use Rattle.net_model.proofs.Simulation.{overlong_too}
+use Rattle.net_model.proofs.OneClass.{one_class}
+use Rattle.walk_laws.proofs.WalksAlike.ClassTails.{tails_in_class}
+use Rattle.walk_laws.proofs.Returns.{limit_between}
+use Rattle.walk_laws.proofs.WalksAlike.QueryWalks.{overlong_too}
 use Rattle.rewrite_checks.specs.Rewrites.{IsGraphFor, is_of_rewrites}
 
 module _ (setting : Setting) (query : Labels) (class : Class) (represents : Bool) (graph : PlainGraph) (for : IsGraphFor setting query class represents graph)

@@ -6,7 +6,7 @@ use Rattle.dns_data.specs.Name.{Labels}
 use Rattle.dns_data.specs.RrType.{types}
 use Rattle.dns_data.specs.declared.rr_type.RrType.{RrType}
 use Rattle.dns_data.proofs.Membership.{each_along, flat_map_has, map_has}
-use Rattle.graph_form.specs.declared.deps.Deps.{Deps}
+use Rattle.net_model.specs.declared.deps.Deps.{Deps}
 use Rattle.graph_form.proofs.Reached.{every_type}
 use Rattle.net_model.specs.Nearest.{server_names}
 use Rattle.net_model.specs.Step.{following}

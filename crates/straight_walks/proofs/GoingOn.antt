@@ -7,7 +7,7 @@ use Rattle.std.proofs.lemmas.List.Elements.{Contains-append_left}
 use Rattle.dns_data.specs.Name.{Labels, name_eq, is_prefix}
 use Rattle.dns_data.proofs.Names.{all_push, all_so}
 use Rattle.delegation_checks.specs.Referrals.{referral_faults}
-use Rattle.graph_form.specs.declared.deps.Deps.{Deps}
+use Rattle.net_model.specs.declared.deps.Deps.{Deps}
 use Rattle.net_model.specs.Nearest.{is_configured, is_top, nearest, nearest_of, server_named}
 use Rattle.net_model.specs.Step.{Setting, Branch, Go, End, delegated, has_glue, may_follow, referred}
 use Rattle.net_model.specs.declared.config.Config.{Config}

@@ -6,7 +6,7 @@ use Rattle.dns_data.specs.Name.{name_eq}
 use Rattle.dns_data.proofs.Membership.{map_has}
 use Rattle.dns_data.proofs.Names.{name_eq_decides}
 use Rattle.dns_data.proofs.Searches.{any_has, found_there}
-use Rattle.graph_form.specs.declared.deps.Deps.{Deps}
+use Rattle.net_model.specs.declared.deps.Deps.{Deps}
 use Rattle.net_model.specs.Nearest.{server_names, server_named}
 use Rattle.net_model.specs.Step.{following}
 use Rattle.net_model.specs.declared.config.Config.{Config}

@@ -7,7 +7,7 @@ use Rattle.dns_data.proofs.Membership.{each_along, from_map}
 use Rattle.dns_data.proofs.NameFronts.{is_prefix_tells, is_prefix_told}
 use Rattle.dns_data.proofs.Names.{name_eq_decides}
 use Rattle.dns_data.proofs.Searches.{find_some, found_there}
-use Rattle.graph_form.specs.declared.deps.Deps.{Deps}
+use Rattle.net_model.specs.declared.deps.Deps.{Deps}
 use Rattle.net_model.specs.Nearest.{held_zone, server_named, zone_with_origin}
 use Rattle.net_model.specs.declared.config.Config.{Config}
 use Rattle.net_model.specs.declared.config.Server.{Server}

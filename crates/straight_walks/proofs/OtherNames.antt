@@ -4,7 +4,7 @@ use Rattle.std.specs.Prelude.{◌⊎◌, Contains, option_map}
 use Rattle.std.specs.List.{AllByRecursion}
 use Rattle.dns_data.specs.Name.{Labels, is_prefix}
 use Rattle.dns_data.proofs.Membership.{from_map, map_has}
-use Rattle.graph_form.specs.declared.deps.Deps.{Deps}
+use Rattle.net_model.specs.declared.deps.Deps.{Deps}
 use Rattle.net_model.specs.Nearest.{is_configured, nearest_of}
 use Rattle.net_model.specs.Step.{Setting, Branch, Go, End, delegated, may_follow, referred}
 use Rattle.net_model.specs.declared.config.Config.{Config}

@@ -9,7 +9,7 @@ use Rattle.dns_data.specs.declared.rr_type.RrType.{RrType}
 use Rattle.dns_data.proofs.Membership.{first_or_later, from_map, has_first, map_has, none_in_nil}
 use Rattle.dns_data.proofs.NameFronts.{is_prefix_tells}
 use Rattle.dns_data.proofs.Names.{all_push, all_so}
-use Rattle.graph_form.specs.declared.deps.Deps.{Deps}
+use Rattle.net_model.specs.declared.deps.Deps.{Deps}
 use Rattle.net_model.specs.Lookup.{deciding}
 use Rattle.net_model.specs.Step.{Setting, start}
 use Rattle.net_model.specs.Zone.{ns_names}

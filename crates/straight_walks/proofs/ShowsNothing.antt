@@ -7,7 +7,7 @@ use Rattle.dns_data.specs.Name.{Labels}
 use Rattle.dns_data.specs.declared.rr_type.RrType.{RrType}
 use Rattle.dns_data.proofs.Membership.{has_first, each_along}
 use Rattle.graph_form.specs.Trails.{WalksTake, ZonesShow}
-use Rattle.graph_form.specs.declared.deps.Deps.{Deps}
+use Rattle.net_model.specs.declared.deps.Deps.{Deps}
 use Rattle.graph_form.proofs.Taking.{taken, zones}
 use Rattle.delegation_checks.specs.Referrals.{addresses_differ, depends_on_itself, if_shown, wants_glue, zones_differ}
 use Rattle.delegation_checks.proofs.ZonesTell.{told_addresses, told_cyclic, told_differ, told_glue}

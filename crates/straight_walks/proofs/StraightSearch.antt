@@ -9,7 +9,7 @@ use Rattle.dns_data.specs.declared.rdata.Rdata.{Rdata}
 use Rattle.dns_data.specs.declared.rr_type.RrType.{RrType}
 use Rattle.dns_data.proofs.Membership.{each_along, from_map}
 use Rattle.dns_data.proofs.Names.{all_push, all_so}
-use Rattle.graph_form.specs.declared.deps.Deps.{Deps}
+use Rattle.net_model.specs.declared.deps.Deps.{Deps}
 use Rattle.net_model.specs.Lookup.{Deciding, ByCut, ByNothing, ByRecords, ByRedirection, deciding}
 use Rattle.net_model.specs.Shown.{is_authoritative}
 use Rattle.net_model.specs.Step.{Setting, Branch, End, next, start}

@@ -6,7 +6,7 @@ use Rattle.std.specs.Option.{option_to_list}
 use Rattle.dns_data.specs.Name.{Labels}
 use Rattle.dns_data.specs.declared.rr_type.RrType.{RrType}
 use Rattle.dns_data.proofs.Names.{all_so}
-use Rattle.graph_form.specs.declared.deps.Deps.{Deps}
+use Rattle.net_model.specs.declared.deps.Deps.{Deps}
 use Rattle.graph_form.proofs.Places.{item_there}
 use Rattle.net_model.specs.Shown.{is_authoritative}
 use Rattle.net_model.specs.Step.{Setting, Branch, Go, End, next, start}

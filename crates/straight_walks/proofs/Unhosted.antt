@@ -6,7 +6,7 @@ use Rattle.dns_data.specs.Name.{Labels, name_eq, is_prefix}
 use Rattle.dns_data.proofs.Names.{name_eq_decides}
 use Rattle.dns_data.proofs.Searches.{found_there}
 use Rattle.delegation_checks.specs.Referrals.{glue_of_sides, if_shown, is_among, referral_faults, sides_differ}
-use Rattle.graph_form.specs.declared.deps.Deps.{Deps}
+use Rattle.net_model.specs.declared.deps.Deps.{Deps}
 use Rattle.net_model.specs.Nearest.{held_zone, is_top, nearest, nearest_of, server_named, zone_with_origin}
 use Rattle.net_model.specs.Prefix.{longest}
 use Rattle.net_model.specs.Step.{Setting, End, delegated, may_follow, referred}

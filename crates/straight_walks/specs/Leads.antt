@@ -5,7 +5,7 @@ use Rattle.std.specs.List.{AllByRecursion, slice_get}
 use Rattle.dns_data.specs.Name.{Labels, is_prefix}
 use Rattle.dns_data.specs.declared.rdata.Rdata.{Rdata}
 use Rattle.dns_data.specs.declared.rr_type.RrType.{RrType}
-use Rattle.graph_form.specs.declared.deps.Deps.{Deps}
+use Rattle.net_model.specs.declared.deps.Deps.{Deps}
 use Rattle.net_model.specs.Lookup.{Deciding, ByCut, ByRecords, deciding}
 use Rattle.net_model.specs.Nearest.{held_zone, nearest_of}
 use Rattle.net_model.specs.Order.{in_order}

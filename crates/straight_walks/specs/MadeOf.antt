@@ -1,5 +1,5 @@
 -- What regions are made of.
-use Rattle.graph_form.specs.declared.deps.Deps.{Deps}
+use Rattle.net_model.specs.declared.deps.Deps.{Deps}
 use Rattle.net_model.specs.declared.config.Config.{Config}
 
 -- a configuration, and the least and the greatest set of learnt addresses

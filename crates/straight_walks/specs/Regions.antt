@@ -5,7 +5,7 @@ use Rattle.std.specs.List.{AllByRecursion}
 use Rattle.std.specs.List.Sorted.{IsStrictlySortedBy}
 use Rattle.dns_data.specs.Name.{Labels, is_prefix, name_cmp}
 use Rattle.dns_data.specs.declared.rr_type.RrType.{RrType}
-use Rattle.graph_form.specs.declared.deps.Deps.{Deps}
+use Rattle.net_model.specs.declared.deps.Deps.{Deps}
 use Rattle.net_model.specs.Nearest.{held_zone}
 use Rattle.net_model.specs.Step.{Setting}
 use Rattle.net_model.specs.declared.config.Config.{Config}

@@ -4,7 +4,7 @@ use Rattle.std.specs.List.{AllByRecursion, list_any}
 use Rattle.delegation_checks.specs.Referrals.{referral_faults}
 use Rattle.dns_data.specs.Name.{Labels, name_eq}
 use Rattle.dns_data.specs.declared.rr_type.RrType.{RrType}
-use Rattle.graph_form.specs.declared.deps.Deps.{Deps}
+use Rattle.net_model.specs.declared.deps.Deps.{Deps}
 use Rattle.net_model.specs.Nearest.{is_configured}
 use Rattle.net_model.specs.Shown.{is_authoritative}
 use Rattle.net_model.specs.Step.{Setting, Branch, Go, End, next, start}

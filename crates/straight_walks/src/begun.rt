@@ -2,7 +2,7 @@
 
 ghost use Rattle.std.specs.Prelude.{IfOk};
 ghost use Rattle.dns_data.specs.Name.{Labels};
-ghost use Rattle.graph_form.specs.declared.deps.Deps.{Deps};
+ghost use Rattle.net_model.specs.declared.deps.Deps.{Deps};
 ghost use Rattle.straight_walks.specs.Leads.{HasBegun};
 
 use crate::asked::{Asked, top_servers};

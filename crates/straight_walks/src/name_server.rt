@@ -2,7 +2,7 @@
 
 ghost use Rattle.std.specs.Prelude.{◌≡◌, true, Some, None, IfOk};
 ghost use Rattle.dns_data.specs.Name.{Labels, is_prefix};
-ghost use Rattle.graph_form.specs.declared.deps.Deps.{Deps};
+ghost use Rattle.net_model.specs.declared.deps.Deps.{Deps};
 ghost use Rattle.net_model.specs.Nearest.{held_zone, server_named};
 ghost use Rattle.net_model.specs.declared.config.Config.{Config};
 ghost use Rattle.zone_tree.specs.Tree.{IsNode, name_of};

@@ -360,4 +360,4 @@ shown_11 : ShowsIn config_10 1 (codes "a" ∷ codes "b" ∷ codes "a" ∷ codes 
 unfolding digits
 shown_11 =
     shown_by config_10 1 (codes "a" ∷ codes "b" ∷ codes "a" ∷ codes "b" ∷ []) types.Aaaa (faults.Differs (cut_at (codes "a" ∷ codes "b" ∷ codes "a" ∷ codes "n" ∷ []) (codes "a" ∷ codes "b" ∷ []) (codes "a" ∷ codes "b" ∷ codes "a" ∷ []) (codes "a" ∷ codes "b" ∷ codes "n" ∷ codes "n" ∷ []))) (0 ∷ 0 ∷ 0 ∷ []) _ (λ followed. refl) tt
-    (record { refers = (0, omega arith, refl); sides = record { above = _; below = _; refers = refl; serves = refl }; differ = λ e. cc })
+    (record { refers = (0, omega arith, refl); zones = record { sides = record { above = _; below = _; refers = refl; serves = refl }; differ = λ e. cc } })

@@ -85,7 +85,7 @@ config_12 =
 shown_1 : ShowsIn config_12 3 (codes "a" ∷ codes "b" ∷ []) types.A (faults.Differs (cut_at (codes "a" ∷ codes "b" ∷ codes "b" ∷ codes "b" ∷ []) [] (codes "a" ∷ codes "b" ∷ []) (codes "a" ∷ codes "a" ∷ [])))
 shown_1 =
     shown_by config_12 3 (codes "a" ∷ codes "b" ∷ []) types.A (faults.Differs (cut_at (codes "a" ∷ codes "b" ∷ codes "b" ∷ codes "b" ∷ []) [] (codes "a" ∷ codes "b" ∷ []) (codes "a" ∷ codes "a" ∷ []))) (1 ∷ 0 ∷ 0 ∷ []) _ (λ followed. refl) tt
-    (record { refers = (0, omega arith, refl); sides = record { above = _; below = _; refers = refl; serves = refl }; differ = λ e. cc })
+    (record { refers = (0, omega arith, refl); zones = record { sides = record { above = _; below = _; refers = refl; serves = refl }; differ = λ e. cc } })
 
 abbrev zone_13_0 : Zone
 zone_13_0 =
@@ -106,7 +106,7 @@ config_13 =
 shown_2 : ShowsIn config_13 2 (codes "a" ∷ codes "b" ∷ codes "b" ∷ codes "c" ∷ []) types.Txt (faults.NoGlue (cut_at (codes "x" ∷ codes "b" ∷ codes "n" ∷ []) (codes "a" ∷ codes "b" ∷ []) (codes "a" ∷ codes "b" ∷ codes "b" ∷ []) (codes "a" ∷ codes "b" ∷ codes "b" ∷ codes "b" ∷ [])))
 shown_2 =
     shown_by config_13 2 (codes "a" ∷ codes "b" ∷ codes "b" ∷ codes "c" ∷ []) types.Txt (faults.NoGlue (cut_at (codes "x" ∷ codes "b" ∷ codes "n" ∷ []) (codes "a" ∷ codes "b" ∷ []) (codes "a" ∷ codes "b" ∷ codes "b" ∷ []) (codes "a" ∷ codes "b" ∷ codes "b" ∷ codes "b" ∷ []))) (0 ∷ 0 ∷ []) _ (λ followed. refl) tt
-    (record { refers = (0, omega arith, refl); inside = refl; no_glue = refl })
+    (record { refers = (0, omega arith, refl); wants = record { inside = refl; no_glue = refl } })
 
 abbrev zone_14_0 : Zone
 zone_14_0 =
@@ -128,7 +128,7 @@ config_14 =
 shown_3 : ShowsIn config_14 3 (codes "b" ∷ codes "c" ∷ codes "a" ∷ codes "b" ∷ codes "b" ∷ codes "*" ∷ []) types.A (faults.NoGlue (cut_at (codes "b" ∷ codes "c" ∷ codes "n" ∷ []) (codes "b" ∷ codes "c" ∷ []) (codes "b" ∷ codes "c" ∷ codes "a" ∷ []) (codes "b" ∷ codes "c" ∷ codes "a" ∷ [])))
 shown_3 =
     shown_by config_14 3 (codes "b" ∷ codes "c" ∷ codes "a" ∷ codes "b" ∷ codes "b" ∷ codes "*" ∷ []) types.A (faults.NoGlue (cut_at (codes "b" ∷ codes "c" ∷ codes "n" ∷ []) (codes "b" ∷ codes "c" ∷ []) (codes "b" ∷ codes "c" ∷ codes "a" ∷ []) (codes "b" ∷ codes "c" ∷ codes "a" ∷ []))) (0 ∷ 0 ∷ []) _ (λ followed. refl) tt
-    (record { refers = (0, omega arith, refl); inside = refl; no_glue = refl })
+    (record { refers = (0, omega arith, refl); wants = record { inside = refl; no_glue = refl } })
 
 abbrev zone_15_0 : Zone
 zone_15_0 =
@@ -167,4 +167,4 @@ none_is_learnt = after_same_rounds config_15 1 2 [] (is_round config_15 1 [] [] 
 shown_4 : ShowsIn config_15 1 (codes "c" ∷ []) types.A (faults.Differs (cut_at (codes "a" ∷ codes "n" ∷ []) [] (codes "c" ∷ []) (codes "x" ∷ codes "n" ∷ [])))
 shown_4 =
     shown_while config_15 1 [] none_is_learnt (codes "c" ∷ []) types.A (faults.Differs (cut_at (codes "a" ∷ codes "n" ∷ []) [] (codes "c" ∷ []) (codes "x" ∷ codes "n" ∷ []))) (0 ∷ 0 ∷ []) _ refl tt
-    (record { refers = (0, omega arith, refl); sides = record { above = _; below = _; refers = refl; serves = refl }; differ = λ e. cc })
+    (record { refers = (0, omega arith, refl); zones = record { sides = record { above = _; below = _; refers = refl; serves = refl }; differ = λ e. cc } })

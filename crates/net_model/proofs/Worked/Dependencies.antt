@@ -70,9 +70,11 @@ a_cyclic_dependency =
     shown_while circle 12 [] the_least_set p types.A (Cyclic (cut_at top [] p ns_q)) (0 ∷ 0 ∷ []) _ refl tt
     (record {
       refers = (0, omega arith, refl);
-      configured = refl;
-      no_top = refl;
-      no_glue = refl;
-      learnt_at_most = (both, the_greatest_set, (0, omega arith, refl));
-      not_at_least = λ least. not_in_least circle 12 ns_q nothing_is_learnt least;
+      depends = record {
+        configured = refl;
+        no_top = refl;
+        no_glue = refl;
+        learnt_at_most = (both, the_greatest_set, (0, omega arith, refl));
+        not_at_least = λ least. not_in_least circle 12 ns_q nothing_is_learnt least;
+      };
     })

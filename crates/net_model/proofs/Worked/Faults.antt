@@ -77,15 +77,14 @@ the_delegation_differs =
     shown_by two_sides 12 c types.A (Differs (cut_at ns t c ns1)) (0 ∷ 0 ∷ 0 ∷ []) _ (λ followed. refl) tt
     (record {
       refers = (0, omega arith, refl);
-      sides = record { above = _; below = _; refers = refl; serves = refl };
-      differ = λ e. cc;
+      zones = record { sides = record { above = _; below = _; refers = refl; serves = refl }; differ = λ e. cc };
     })
 
 -- the second name server has no glue
 glue_is_missing : ShowsIn two_sides 12 c types.A (NoGlue (cut_at ns t c ns2))
 glue_is_missing =
     shown_by two_sides 12 c types.A (NoGlue (cut_at ns t c ns2)) (0 ∷ 1 ∷ []) _ (λ followed. refl) tt
-    (record { refers = (0, omega arith, refl); inside = refl; no_glue = refl })
+    (record { refers = (0, omega arith, refl); wants = record { inside = refl; no_glue = refl } })
 
 -- the addresses of the first differ
 the_glue_differs : ShowsIn two_sides 12 c types.A (GlueDiffers (cut_at ns t c ns1))
@@ -93,11 +92,13 @@ the_glue_differs =
     shown_by two_sides 12 c types.A (GlueDiffers (cut_at ns t c ns1)) (0 ∷ 0 ∷ 0 ∷ []) _ (λ followed. refl) tt
     (record {
       refers = (0, omega arith, refl);
-      inside = refl;
-      sides = record { above = _; below = _; refers = refl; serves = refl };
-      above = λ e. cc;
-      below = λ e. cc;
-      differ = λ e. cc;
+      glue = record {
+        inside = refl;
+        sides = record { above = _; below = _; refers = refl; serves = refl };
+        above = λ e. cc;
+        below = λ e. cc;
+        differ = λ e. cc;
+      };
     })
 
 -- an alias to a name that doesn't exist

@@ -1,12 +1,16 @@
 -- Queries whose last labels nothing names, beside the representative of their class. The walks correspond.
 use Rattle.std.specs.Prelude.{◌≡◌, refl, [], ◌∷◌, ◌++◌, codes, replicate, Some, option_map}
-use Rattle.dns_data.specs.Name.{Labels}
+use Rattle.std.proofs.Common.{arith, subst}
+use Rattle.dns_data.specs.Name.{Labels, wire_octets}
 use Rattle.dns_data.specs.declared.rdata.Rdata.TheVariants.{A, Txt, Dname}
 use Rattle.dns_data.specs.declared.rr_type.RrType.TheVariants as types
 use Rattle.net_model.specs.declared.config.Config.{Config}
 use Rattle.net_model.specs.declared.walk.Leaf.TheVariants.{Answer, NxDomain, Limit, Overlong}
+use Rattle.net_model.specs.Reading.{IsNamed, ground_of}
 use Rattle.net_model.specs.Retail.{retail}
+use Rattle.net_model.specs.Tails.{IsUnnamedTail, AreTails}
 use Rattle.net_model.specs.Walk.{walk_along}
+use Rattle.net_model.proofs.Naming.{named, unnamed}
 use Rattle.net_model.proofs.Words.{rr, zone_at, place_at, following_all, alone, end_of}
 
 abbrev t : Labels
@@ -54,6 +58,12 @@ dname_ends = refl
 named_by_a_reading : end_of (walk_along (following_all dname_above 12) (d ++ codes "www" ∷ []) types.A (0 ∷ 0 ∷ 0 ∷ [])) ≡ Some (Answer (A (10 ∷ 0 ∷ 0 ∷ 1 ∷ []) ∷ []))
 named_by_a_reading = refl
 
+-- so the label www is no unnamed tail of d.t.
+no_tail : IsUnnamedTail dname_above d (codes "www" ∷ []) → ⊥
+no_tail tail =
+    let same : codes "www" ≡ tail.first = cc in
+    tail.unnamed (subst (λ label. IsNamed (ground_of dname_above) (d ++ label ∷ [])) same (named 1 (ground_of dname_above) (d ++ codes "www" ∷ []) refl))
+
 -- a chain of DNAME records that brings the labels back
 abbrev dname_round : Config
 dname_round = alone ns (zone_at t (rr d (Dname e) ∷ rr e (Dname d) ∷ []))
@@ -80,3 +90,24 @@ longer_ends = refl
 
 shorter_goes_on : end_of (walk_along (following_all dname_grows 12) (d ++ first_label) types.A (0 ∷ 0 ∷ 0 ∷ [])) ≡ Some NxDomain
 shorter_goes_on = refl
+
+-- both are unnamed tails of d.t., and with the label alone the name has no more octets
+both_are_tails : AreTails dname_grows d long_tail first_label
+both_are_tails =
+    let longer : wire_octets (d ++ long_tail) ≡ 188 = refl in
+    let shorter : wire_octets (d ++ first_label) ≡ 7 = refl in
+    record {
+      of_own = record {
+        first = replicate 60 120;
+        rest = replicate 60 121 ∷ replicate 60 122 ∷ [];
+        is = refl;
+        unnamed = unnamed (ground_of dname_grows) ((d ++ replicate 60 120 ∷ []) ∷ (long_target ++ replicate 60 120 ∷ []) ∷ []) (d ++ replicate 60 120 ∷ []) refl refl;
+      };
+      of_other = record {
+        first = codes "a";
+        rest = [];
+        is = refl;
+        unnamed = unnamed (ground_of dname_grows) ((d ++ codes "a" ∷ []) ∷ (long_target ++ codes "a" ∷ []) ∷ []) (d ++ codes "a" ∷ []) refl refl;
+      };
+      no_longer = omega arith;
+    }

@@ -1,6 +1,6 @@
 use Rattle.std.proofs.Common.{Option, subst}
 use Rattle.std.specs.Prelude.{MatchOption, IfOk}
-use Rattle.graph_form.specs.declared.deps.Deps.{Deps}
+use Rattle.net_model.specs.declared.deps.Deps.{Deps}
 use Rattle.net_model.specs.declared.config.Config.{Config}
 use Rattle.class_judge.specs.Setup.{AreSets, SomeNamePasses}
 use Rattle.class_judge.proofs.StraightVerdicts.{IsFew, IsSilent, straight_given}

@@ -1,6 +1,5 @@
 use Rattle.std.proofs.Common.{sym, subst}
-use Rattle.graph_form.specs.Report.{class_name}
-use Rattle.net_model.specs.Class.{IsRepresentative}
+use Rattle.net_model.specs.Class.{class_name, IsRepresentative}
 use Rattle.net_model.specs.declared.class.Class.{Class}
 use Rattle.net_model.specs.Reading.{IsNamed, ground_of}
 use Rattle.query_classes.specs.Children.{IsInTree}

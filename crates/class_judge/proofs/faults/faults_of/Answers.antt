@@ -3,7 +3,7 @@ use Rattle.std.specs.Prelude.{MatchOption}
 use Rattle.std.proofs.lemmas.Result.{IfOk-weaker}
 use Rattle.dns_data.specs.Name.{Labels}
 use Rattle.graph_form.specs.GraphOf.{IsExactIn, IsGraphOf}
-use Rattle.graph_form.specs.declared.deps.Deps.{Deps}
+use Rattle.net_model.specs.declared.deps.Deps.{Deps}
 use Rattle.net_model.specs.Step.{following}
 use Rattle.class_judge.specs.Setup.{AreSets, SomeNamePasses}
 use Rattle.class_judge.proofs.ClassesJudged.{all_sought}

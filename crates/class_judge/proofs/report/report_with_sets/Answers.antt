@@ -1,6 +1,6 @@
 use Rattle.std.proofs.Common.{Option, sym, subst}
 use Rattle.std.specs.Prelude.{MatchOption}
-use Rattle.graph_form.specs.declared.deps.Deps.{Deps}
+use Rattle.net_model.specs.declared.deps.Deps.{Deps}
 use Rattle.class_judge.specs.Setup.{AreSets, SomeNamePasses}
 use Rattle.class_judge.proofs.PassingNames.{never_none}
 use Rattle.class_judge.proofs.report.report_with_sets.Goals as goal

@@ -6,7 +6,7 @@ use Rattle.net_model.specs.Reading.{Ground, IsNamed}
 use Rattle.label_graph.specs.LiveSet.{IsClosed, IsLiveSet}
 use Rattle.label_graph.proofs.LiveNames.{prefix_is_named}
 use Rattle.query_classes.specs.Members.{RepresentsClass}
-use Rattle.net_model.proofs.ClassTails.{one_class}
+use Rattle.net_model.proofs.OneClass.{one_class}
 use Rattle.query_classes.proofs.ClassLaws.{in_below, below_stood, first_label_of, label_more, not_named, live_named}
 use Rattle.query_classes.proofs.FirstFree.{first_free}
 use Rattle.query_classes.proofs.class.class_of.Goals as goal

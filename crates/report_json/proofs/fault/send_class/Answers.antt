@@ -1,7 +1,7 @@
 use Rattle.std.proofs.Common.{◌≡◌, ◌∷◌, [], map, codes, refl, None}
 use Rattle.std.proofs.lemmas.Result.{on_ok_weaker}
 use Rattle.dns_data.specs.RrType.{word_of}
-use Rattle.graph_form.specs.Report.{class_name}
+use Rattle.net_model.specs.Class.{class_name}
 use Rattle.serde_json.specs.Data.{string}
 use Rattle.report_json.specs.Faults.{class_kind}
 use Rattle.report_json.specs.Json.{name_value}

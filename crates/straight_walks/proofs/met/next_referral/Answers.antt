@@ -1,7 +1,7 @@
 use Rattle.std.proofs.Common.{[], length, Option, refl, sym, subst, arith}
 use Rattle.std.specs.Prelude.{IfSome}
 use Rattle.std.proofs.lemmas.Option.{slice_get_read}
-use Rattle.graph_form.specs.declared.deps.Deps.{Deps}
+use Rattle.net_model.specs.declared.deps.Deps.{Deps}
 use Rattle.straight_walks.specs.Leads.{LeadsBy}
 use Rattle.straight_walks.specs.declared.asked.Asked.{Asked}
 use Rattle.straight_walks.specs.declared.server.Leads.TheVariants as leads

@@ -31,8 +31,9 @@ use Rattle.net_model.specs.Zone.{targets_at, data_at, data_cmp, ns_names}
 use Rattle.net_model.specs.OpenTail.{open_deciding}
 use Rattle.net_model.proofs.Branches.{LooksUp, each_branch}
 use Rattle.net_model.proofs.WalkEnds.{LeadsSo, item}
+use Rattle.net_model.proofs.NearestZones.{nearest_tells}
 use Rattle.net_model.proofs.OpenTails.{open_tail}
-use Rattle.net_model.proofs.UnnamedTails.{IsKnownAbove, known_above, nearest_tells, nearest_with_tail, opens_in, swapped_below, redirected_tail}
+use Rattle.walk_laws.proofs.WalksAlike.UnnamedTails.{IsKnownAbove, known_above, nearest_with_tail, opens_in, swapped_below, redirected_tail}
 
 -- a branch of a state with the tail replaced
 abbrev pub retailed_branch : ℕ → Labels → Bool → Branch → Branch

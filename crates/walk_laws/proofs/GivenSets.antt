@@ -29,11 +29,13 @@ module _ (setting : Setting) (least least' greatest greatest' : Labels → Type 
   one_shows walk (faults.Cyclic cut) show =
       record {
         refers = show.refers;
-        configured = show.configured;
-        no_top = show.no_top;
-        no_glue = show.no_glue;
-        learnt_at_most = (same_greatest cut.ns).0 show.learnt_at_most;
-        not_at_least = λ is. show.not_at_least ((same_least cut.ns).1 is);
+        depends = record {
+          configured = show.depends.configured;
+          no_top = show.depends.no_top;
+          no_glue = show.depends.no_glue;
+          learnt_at_most = (same_greatest cut.ns).0 show.depends.learnt_at_most;
+          not_at_least = λ is. show.depends.not_at_least ((same_least cut.ns).1 is);
+        };
       }
   one_shows walk (faults.Limit place) show = show
   one_shows walk (faults.Blackhole place) show = show

@@ -1,5 +1,5 @@
-use Rattle.net_model.proofs.Simulation.{overlong_too}
-use Rattle.net_model.proofs.laws.overlong_law.Goals as goal
+use Rattle.walk_laws.proofs.WalksAlike.QueryWalks.{overlong_too}
+use Rattle.walk_laws.proofs.laws.overlong_law.Goals as goal
 
 pub returns : goal.returns
 returns c = λ setting above own other tails rtype walk is long. overlong_too setting above own other tails rtype walk is long

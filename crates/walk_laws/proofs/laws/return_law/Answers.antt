@@ -1,5 +1,5 @@
-use Rattle.net_model.proofs.Returns.{limit_between, limit_shown}
-use Rattle.net_model.proofs.laws.return_law.Goals as goal
+use Rattle.walk_laws.proofs.Returns.{limit_between, limit_shown}
+use Rattle.walk_laws.proofs.laws.return_law.Goals as goal
 
 pub returns-clause-limit : goal.returns-clause-limit
 returns-clause-limit c = λ setting query rtype walk is back. limit_between setting query rtype walk is back

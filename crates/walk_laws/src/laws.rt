@@ -44,7 +44,8 @@ pub fn simulation()
         → (own other : Labels) × (query ≡ above ++ own) × (representative ≡ above ++ other) × AreTails config above own other }
 {}
 
-/// Where the one that isn't the longer meets an overlong rewrite, so does the other, with the same type.
+/// Of two names that differ in unnamed labels below one name: where the one that isn't the longer meets an overlong
+/// rewrite, so does the other, with the same type.
 pub fn overlong_law()
     ensures { (setting : Setting) (above own other : Labels) → AreTails setting.config above own other
         → (rtype : RrType) (walk : Walk) → IsWalk setting (above ++ other) rtype walk → is_overlong walk.leaf ≡ true

@@ -1,6 +1,6 @@
-use Rattle.net_model.proofs.ClassTails.{class_tails}
-use Rattle.net_model.proofs.Simulation.{walks_as, reaches_more, reaches_no_fewer}
-use Rattle.net_model.proofs.laws.simulation.Goals as goal
+use Rattle.walk_laws.proofs.WalksAlike.ClassTails.{class_tails}
+use Rattle.walk_laws.proofs.WalksAlike.QueryWalks.{walks_as, reaches_more, reaches_no_fewer}
+use Rattle.walk_laws.proofs.laws.simulation.Goals as goal
 
 pub returns-clause-walks : goal.returns-clause-walks
 returns-clause-walks c = λ setting above own other tails rtype. walks_as setting above own other tails rtype

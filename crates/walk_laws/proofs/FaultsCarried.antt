@@ -28,8 +28,9 @@ use Rattle.net_model.specs.Shown.{FaultSetting, with_sets, Refers, EndsBehind, L
 use Rattle.net_model.specs.Step.{following}
 use Rattle.net_model.specs.Tails.{AreTails, is_overlong}
 use Rattle.net_model.specs.Walk.{IsWalk}
-use Rattle.net_model.proofs.ClassTails.{named_everywhere, tails_in_class, one_class}
-use Rattle.net_model.proofs.Simulation.{walks_kept, front_kept}
+use Rattle.net_model.proofs.OneClass.{one_class}
+use Rattle.walk_laws.proofs.WalksAlike.ClassTails.{named_everywhere, tails_in_class}
+use Rattle.walk_laws.proofs.WalksAlike.QueryWalks.{walks_kept, front_kept}
 use Rattle.net_model.proofs.TrialOrder.{one_representative}
 
 -- ---- what a walk with the tail replaced shows
@@ -120,29 +121,16 @@ module _ (setting : FaultSetting) (above own other : Labels) (tails : AreTails s
   )
   shown (walk ∷ []) (faults.Differs cut) never are show =
       let whole = refers_kept walk cut are.0 show.refers in
-      (whole.0 ∷ [], (whole.1, tt), record { refers = whole.2; sides = show.sides; differ = show.differ })
+      (whole.0 ∷ [], (whole.1, tt), record { refers = whole.2; zones = show.zones })
   shown (walk ∷ []) (faults.NoGlue cut) never are show =
       let whole = refers_kept walk cut are.0 show.refers in
-      (whole.0 ∷ [], (whole.1, tt), record { refers = whole.2; inside = show.inside; no_glue = show.no_glue })
+      (whole.0 ∷ [], (whole.1, tt), record { refers = whole.2; wants = show.wants })
   shown (walk ∷ []) (faults.GlueDiffers cut) never are show =
-      let whole = refers_kept walk cut are.0 show.refers in (
-        whole.0 ∷ [],
-        (whole.1, tt),
-        record { refers = whole.2; inside = show.inside; sides = show.sides; above = show.above; below = show.below; differ = show.differ },
-      )
+      let whole = refers_kept walk cut are.0 show.refers in
+      (whole.0 ∷ [], (whole.1, tt), record { refers = whole.2; glue = show.glue })
   shown (walk ∷ []) (faults.Cyclic cut) never are show =
-      let whole = refers_kept walk cut are.0 show.refers in (
-        whole.0 ∷ [],
-        (whole.1, tt),
-        record {
-          refers = whole.2;
-          configured = show.configured;
-          no_top = show.no_top;
-          no_glue = show.no_glue;
-          learnt_at_most = show.learnt_at_most;
-          not_at_least = show.not_at_least;
-        },
-      )
+      let whole = refers_kept walk cut are.0 show.refers in
+      (whole.0 ∷ [], (whole.1, tt), record { refers = whole.2; depends = show.depends })
   shown (walk ∷ []) (faults.Limit place) never are show = (changed walk ∷ [], (kept walk are.0 (ap is_overlong show), tt), show)
   shown (walk ∷ []) (faults.Blackhole place) never are show = (
     changed walk ∷ [],
@@ -271,7 +259,13 @@ overlong_itself config rewrites class query representative of_class stands rtype
     (subst (λ (c : Class). IsRepresentative (ground_of config) c representative) same stands) in
     subst (λ (q : Labels). ShowsIn config rewrites q rtype (faults.Overlong place)) one shows
 
--- each fault that a query shows, the representative of its class shows
+-- each fault that a query shows, the representative of its class shows. A named name is alone in its class. Of a class below
+-- a name, a member and the representative have unnamed tails (ClassTails.tails_in_class), so each walk of the member that
+-- doesn't end overlong is, with the tail replaced, one of the representative (QueryWalks.walks_kept), and a front of one where
+-- a referral on it is all that counts (front_kept). With the tail replaced the walks show what they showed: the cuts, the
+-- places and the ends that no name enters stay (refers_kept, rewrite_stays, shown). Answers are shown of one class, and both
+-- are in the same (class_kept). An overlong fault is told of the representative alone, which is one (OneClass.one_class,
+-- TrialOrder.one_representative), so the query is it.
 pub carried : (config : Config) (rewrites : ℕ) (class : Class) (query representative : Labels) → IsName query
     → IsClassOf (ground_of config) query class → IsRepresentative (ground_of config) class representative
     → (rtype : RrType) (fault : Fault) → ShowsIn config rewrites query rtype fault → ShowsIn config rewrites representative rtype fault

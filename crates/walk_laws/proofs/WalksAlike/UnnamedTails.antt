@@ -1,17 +1,15 @@
 -- Below a name with an unnamed tail a configuration has nothing: no origin and no owner stands there, so each server looks
 -- the name up in the zone of the name above. And a redirection keeps the tail unnamed.
-use Rattle.std.proofs.Common.{◌≡◌, ℕ, Bool, true, false, List, [], ◌∷◌, ◌++◌, map, reverse, length, flat_map, Contains, Option, Some, None, is_some, option_and_then, nat_lt, if◌then◌else◌, sym, refl, ap, ◌∙◌, subst, append_assoc, append-nil, drop_at}
+use Rattle.std.proofs.Common.{◌≡◌, ℕ, Bool, true, false, List, [], ◌∷◌, ◌++◌, length, flat_map, Contains, Option, Some, None, is_some, option_and_then, nat_lt, if◌then◌else◌, sym, refl, ap, ◌∙◌, subst, append_assoc, append-nil, drop_at}
 use Rattle.std.specs.List.{list_any, filter}
 use Rattle.std.proofs.lemmas.Bool.{and_parts, or_from, and_right}
-use Rattle.std.proofs.lemmas.List.Sorted.{IsPermutation-reverse, IsPermutation-sym, Contains-permutation}
-use Rattle.std.proofs.lemmas.List.Elements.{Contains-append_left, Contains-append_right}
 use Rattle.dns_data.specs.Name.{Labels, name_eq, is_prefix, swap}
 use Rattle.dns_data.specs.Rdata.{has_type}
 use Rattle.dns_data.specs.declared.rdata.Rdata.{Rdata}
 use Rattle.dns_data.specs.declared.rdata.Rdata.TheVariants.{Dname}
 use Rattle.dns_data.specs.declared.rdata.Rr.{Rr}
 use Rattle.dns_data.specs.declared.rr_type.RrType.TheVariants as types
-use Rattle.dns_data.proofs.Membership.{has_first, has_later, map_has, from_map, flat_map_has, from_filter}
+use Rattle.dns_data.proofs.Membership.{has_first, has_later, from_map, flat_map_has, from_filter}
 use Rattle.dns_data.proofs.NameFronts.{Begins, is_prefix_tells, is_prefix_told}
 use Rattle.dns_data.proofs.Names.{name_eq_decides}
 use Rattle.dns_data.proofs.Searches.{any_none, find_none, from_filter_map, found_there}
@@ -21,67 +19,13 @@ use Rattle.net_model.specs.declared.config.Zone.{Zone}
 use Rattle.net_model.specs.Lookup.{Deciding, ByCut, ByRedirection, ByRecords, ByNothing, by_dname, synthesized, shorter_decides, closest_encloser, zone_cut, source_of_synthesis, first_name}
 use Rattle.net_model.specs.Nearest.{server_named, zone_with_origin, nearest, nearest_of}
 use Rattle.net_model.specs.OpenTail.{IsOpenTail, redirecting, open_decided, open_deciding}
-use Rattle.net_model.specs.Prefix.{prefixes, longest}
+use Rattle.net_model.specs.Prefix.{prefixes}
 use Rattle.net_model.specs.Reading.{IsNamed, zones, records, redirection_of, redirections_of, origins_and_owners, ground_of}
 use Rattle.net_model.specs.Tails.{IsUnnamedTail}
 use Rattle.net_model.specs.Zone.{is_of, exists_in, target_of, data_at, targets_at}
 use Rattle.net_model.proofs.Naming.{among_named, one_reading_more}
+use Rattle.net_model.proofs.NearestZones.{zone_of_config, origin_of_config, record_of_config, owner_of_config, nearest_tells}
 use Rattle.net_model.proofs.Prefixes.{prefixes_have, from_prefixes, longer, longest_above}
-
--- ---- names of a configuration
-
--- a zone of a configured server is one of the configuration
-zone_of_config : (config : Config) (server : Server) (zone : Zone) → Contains config.servers server → Contains server.zones zone → Contains (zones config) zone
-zone_of_config config server zone has inside = flat_map_has (λ (s : Server). s.zones) config.servers server zone has inside
-
--- and its origin is an origin of the configuration
-pub origin_of_config : (config : Config) (zone : Zone) → Contains (zones config) zone → Contains (origins_and_owners config) zone.origin
-origin_of_config config zone has =
-    Contains-append_left (map (λ (z : Zone). z.origin) (zones config)) (map (λ (rr : Rr). rr.owner) (records config)) zone.origin
-    (map_has (λ (z : Zone). z.origin) (zones config) zone has)
-
--- a zone's record is one of the configuration
-record_of_config : (config : Config) (zone : Zone) (rr : Rr) → Contains (zones config) zone → Contains zone.rrs rr → Contains (records config) rr
-record_of_config config zone rr has inside = flat_map_has (λ (z : Zone). z.rrs) (zones config) zone rr has inside
-
--- and its owner is an owner of the configuration
-pub owner_of_config : (config : Config) (zone : Zone) (rr : Rr) → Contains (zones config) zone → Contains zone.rrs rr → Contains (origins_and_owners config) rr.owner
-owner_of_config config zone rr has inside =
-    Contains-append_right (map (λ (z : Zone). z.origin) (zones config)) (map (λ (rr : Rr). rr.owner) (records config)) rr.owner
-    (map_has (λ (rr : Rr). rr.owner) (records config) rr (record_of_config config zone rr has inside))
-
--- ---- the zone in which a server looks a name up
-
--- the origin that a server's zone is found by is its own
-holds_origin : (server : Server) (origin : Labels) (zone : Zone) → zone_with_origin server origin ≡ Some zone → Contains server.zones zone × (zone.origin ≡ origin)
-holds_origin server origin zone e =
-    let there = found_there (λ (z : Zone). name_eq z.origin origin) server.zones zone e in
-    (there.0, (name_eq_decides zone.origin origin).0 there.1)
-
--- a server's nearest zone is one of its zones, at or above the name
-nearest_holds : (server : Server) (name : Labels) (zone : Zone) → nearest server name ≡ Some zone → Contains server.zones zone × Begins zone.origin name
-nearest_holds server name zone e = by (longest (λ above. is_some (zone_with_origin server above)) name) refl e where
-  by : (found : Option Labels) → longest (λ above. is_some (zone_with_origin server above)) name ≡ found
-      → option_and_then (zone_with_origin server) found ≡ Some zone → Contains server.zones zone × Begins zone.origin name
-  by None is e = cc
-  by (Some origin) is e =
-      let there = found_there (λ above. is_some (zone_with_origin server above)) (reverse (prefixes name)) origin is in
-      let prefix : Contains (prefixes name) origin =
-      Contains-permutation (reverse (prefixes name)) (prefixes name) origin
-      (IsPermutation-sym (prefixes name) (reverse (prefixes name)) (IsPermutation-reverse (prefixes name))) there.0 in
-      let holds = holds_origin server origin zone e in
-      (holds.0, subst (λ (o : Labels). Begins o name) (sym holds.1) (from_prefixes name origin prefix))
-
--- so is that of a server by its name, which is one of the configuration
-pub nearest_tells : (config : Config) (server name : Labels) (zone : Zone) → nearest_of config server name ≡ Some zone → Contains (zones config) zone × Begins zone.origin name
-nearest_tells config server name zone e = by (server_named config server) refl e where
-  by : (holder : Option Server) → server_named config server ≡ holder → option_and_then (λ holder. nearest holder name) holder ≡ Some zone
-      → Contains (zones config) zone × Begins zone.origin name
-  by None is e = cc
-  by (Some holder) is e =
-      let there = found_there (λ (s : Server). name_eq s.name server) config.servers holder is in
-      let holds = nearest_holds holder name zone e in
-      (zone_of_config config holder zone there.0 holds.0, holds.1)
 
 -- ---- nothing stands below an unnamed name
 

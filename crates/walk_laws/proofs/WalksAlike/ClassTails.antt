@@ -1,6 +1,6 @@
 -- Below a class's name, the labels of a member and the label of the representative are unnamed tails, and the
 -- representative isn't longer.
-use Rattle.std.proofs.Common.{◌≡◌, ℕ, ◌+◌, ◌≤◌, List, [], ◌∷◌, ◌++◌, length, flat_map, Contains, sym, refl, ◌∙◌, subst, inl, inr, arith, append_assoc, append-nil, length-append, take, take_at, ap}
+use Rattle.std.proofs.Common.{◌≡◌, ℕ, ◌+◌, ◌≤◌, List, [], ◌∷◌, ◌++◌, length, flat_map, Contains, sym, refl, ◌∙◌, subst, inl, inr, arith, append_assoc, append-nil, length-append}
 use Rattle.std.specs.List.{AllByRecursion}
 use Rattle.std.proofs.lemmas.Bool.{cases_lt}
 use Rattle.std.proofs.lemmas.List.Sums.{sum_by-cons}
@@ -8,14 +8,13 @@ use Rattle.dns_data.specs.Label.{IsLabel}
 use Rattle.dns_data.specs.Name.{Labels, IsName, wire_octets}
 use Rattle.dns_data.proofs.Membership.{first_or_later, from_flat_map}
 use Rattle.dns_data.proofs.NameFronts.{octets_below, octets_with_label}
-use Rattle.net_model.specs.declared.class.Class.{Class}
-use Rattle.net_model.specs.declared.class.Class.TheVariants.{Exact, Below}
+use Rattle.net_model.specs.declared.class.Class.TheVariants.{Below}
 use Rattle.net_model.specs.declared.config.Config.{Config}
 use Rattle.net_model.specs.Class.{IsClassOf, IsRepresentative}
 use Rattle.net_model.specs.Prefix.{prefixes}
 use Rattle.net_model.specs.Reading.{Redirection, ReadsAlong, Ground, IsNamed, Covers, redirections_of, origins_and_owners, ground_of}
 use Rattle.net_model.specs.Tails.{AreTails}
-use Rattle.net_model.proofs.FirstLabel.{shorter_first}
+use Rattle.net_model.proofs.FirstLabel.{label_of_name, shorter_first}
 use Rattle.net_model.proofs.Prefixes.{from_prefixes}
 
 -- readings by some redirections are readings by more
@@ -51,11 +50,6 @@ named_everywhere config ground covers name named =
               let begins = from_prefixes of.0 base of.2 in
               covers.prefixes base begins.0 (subst (Contains ground.names) (sym begins.1) (covers.named_in_config of.0 of.1)))
         ]
-
--- a label of a name
-pub label_of_name : (above : Labels) (label : List ℕ) (rest : Labels) → AllByRecursion IsLabel (above ++ label ∷ rest) → IsLabel label
-label_of_name [] label rest each = each.0
-label_of_name (x ∷ above) label rest each = label_of_name above label rest each.1
 
 -- the labels below the name of a class of a member and of the representative, under a ground that names what the
 -- configuration names
@@ -104,23 +98,11 @@ tails_in_class config ground told above query representative is (unnamed, member
     },
   )
 
--- and so under every ground that covers it
+-- and so under every ground that covers it. What follows a class's name in a member is unnamed, since the class's name is
+-- the longest named one; so is the representative's label, by its definition. It isn't longer than the member's rest, since
+-- shorter labels are tried first (FirstLabel.shorter_first). What a configuration names, a ground that covers it names too
+-- (named_everywhere).
 pub class_tails : (config : Config) (ground : Ground) → Covers ground config → (above query representative : Labels) → IsName query
     → IsClassOf ground query (Below above) → IsRepresentative ground (Below above) representative
     → (own other : Labels) × (query ≡ above ++ own) × (representative ≡ above ++ other) × AreTails config above own other
 class_tails config ground covers = tails_in_class config ground (named_everywhere config ground covers)
-
--- ---- the class of a name
-
--- a name has one class
-pub one_class : (ground : Ground) (name : Labels) (a b : Class) → IsClassOf ground name a → IsClassOf ground name b → b ≡ a
-one_class ground name (Exact a) (Exact b) one other = ap (λ (n : Labels). Exact n) (other.0 ∙ sym one.0)
-one_class ground name (Exact a) (Below b) one other = absurd (other.0 one.1)
-one_class ground name (Below a) (Exact b) one other = absurd (one.0 other.1)
-one_class ground name (Below a) (Below b) (unnamed, one) (also, other) =
-    let first : length b ≤ length a = one.longest b other.below other.prefix other.named in
-    let second : length a ≤ length b = other.longest a one.below one.prefix one.named in
-    let size : length b ≡ length a = omega arith in
-    let same : b ≡ a =
-    sym (take_at b other.below (length a) size) ∙ ap (take (length a)) (sym other.prefix ∙ one.prefix) ∙ take_at a one.below (length a) refl in
-    ap (λ (n : Labels). Below n) same

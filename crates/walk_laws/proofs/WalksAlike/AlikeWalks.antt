@@ -16,7 +16,7 @@ use Rattle.net_model.specs.Retail.{retailed_state, retailed_hop, retailed_hops, 
 use Rattle.net_model.specs.Step.{Setting, Branch, Go, End, next}
 use Rattle.net_model.specs.Tails.{is_overlong, IsFrontOf}
 use Rattle.net_model.specs.Walk.{led_on, branched, walk_from}
-use Rattle.net_model.proofs.AlikeSteps.{retailed_branch, Alike, Follows, alike, follows_on}
+use Rattle.walk_laws.proofs.WalksAlike.AlikeSteps.{retailed_branch, Alike, Follows, alike, follows_on}
 use Rattle.net_model.proofs.Leads.{GoesOn, EndsBy, branch_taken, first_state}
 
 -- a walk from a state by a branch that goes on, and then along the numbers
@@ -96,6 +96,7 @@ module _ (setting : Setting) (rtype : RrType) (own other : Labels) where
     abbrev pub NoneOverlong : State → Type 0
     NoneOverlong state = (numbers : List ℕ) (walk : Walk) → walk_from setting rtype numbers state ≡ Some walk → is_overlong walk.leaf ≡ false
 
+    -- then by the same numbers the other name has the same walk with the tail replaced, or neither has one
     pub along_from : (numbers : List ℕ) (state : State) → Follows setting.config own other state → NoneOverlong state
         → walk_from setting rtype numbers (changed_state state) ≡ option_map changed (walk_from setting rtype numbers state)
     along_from [] state follows none = refl
@@ -115,6 +116,7 @@ module _ (setting : Setting) (rtype : RrType) (own other : Labels) where
 
     -- ---- a walk of the query that doesn't end overlong
 
+    -- with the tail replaced it is a walk of the other name
     pub walk_kept : (numbers : List ℕ) (state : State) (walk : Walk) → Follows setting.config own other state
         → walk_from setting rtype numbers state ≡ Some walk → is_overlong walk.leaf ≡ false
         → walk_from setting rtype numbers (changed_state state) ≡ Some (changed walk)
@@ -198,6 +200,7 @@ module _ (setting : Setting) (rtype : RrType) (own other : Labels) where
       record { states = []; states_are = refl; hops = []; hops_are = hops_stay state hop },
     )
 
+    -- so is each walk of the query, if a walk goes on from each state
     pub overlong_front : ((state : State) → (numbers : List ℕ) × (walk : Walk) × (walk_from setting rtype numbers state ≡ Some walk))
         → (numbers : List ℕ) (state : State) (walk : Walk) → Follows setting.config own other state
         → walk_from setting rtype numbers state ≡ Some walk → FrontFrom state walk
@@ -233,6 +236,7 @@ module _ (setting : Setting) (rtype : RrType) (own other : Labels) where
         (hop : Hop) (to : State) (later : Walk) → slice_get (next setting rtype state) number ≡ Some (Go hop to)
         → walk_from setting rtype numbers (changed_state to) ≡ Some later → is_overlong later.leaf ≡ true → MeetsOverlong to
 
+    -- then some walk of the query from there ends overlong too
     pub overlong_back : (numbers : List ℕ) (state : State) (walk : Walk) → Follows setting.config own other state
         → walk_from setting rtype numbers (changed_state state) ≡ Some walk → is_overlong walk.leaf ≡ true → MeetsOverlong state
     overlong_back [] state walk follows e long = cc

@@ -25,13 +25,13 @@ use Rattle.net_model.specs.Step.{Setting, Go, following, arrived, start, next}
 use Rattle.net_model.specs.Tails.{AreTails, is_overlong, IsFrontOf, WalksAs}
 use Rattle.net_model.specs.Tree.{IsReached, AreReached, HasMoreThan}
 use Rattle.net_model.specs.Walk.{walk_from, walk_along, IsWalk, AreWalks, IsBoundedWith}
-use Rattle.net_model.proofs.AlikeSteps.{retailed_tail, map_same, Follows, follows_on}
-use Rattle.net_model.proofs.AlikeWalks.{along_from, walk_kept, overlong_front, overlong_back}
+use Rattle.walk_laws.proofs.WalksAlike.AlikeSteps.{retailed_tail, map_same, Follows, follows_on}
+use Rattle.walk_laws.proofs.WalksAlike.AlikeWalks.{along_from, walk_kept, overlong_front, overlong_back}
 use Rattle.net_model.proofs.Counting.{more_images, no_more_than}
 use Rattle.net_model.proofs.EndsSomewhere.{ends_somewhere}
 use Rattle.net_model.proofs.WalkEnds.{item}
 use Rattle.net_model.proofs.Leads.{GoesOn, EndsBy, branch_taken}
-use Rattle.net_model.proofs.UnnamedTails.{nearest_with_tail}
+use Rattle.walk_laws.proofs.WalksAlike.UnnamedTails.{nearest_with_tail}
 
 -- a walk of a query begins at one of its start states
 pub record BeginsAt (setting : Setting) (query : Labels) (rtype : RrType) (numbers : List ℕ) (walk : Walk) : Type 0 where
@@ -185,7 +185,13 @@ module _ (setting : Setting) (above own other : Labels) (tails : AreTails settin
           front.3,
         )
 
-    -- with the other tail the name walks as the query does
+    -- with the other tail the name walks as the query does. Below an unnamed name no zone has an origin and no record an
+    -- owner (UnnamedTails.far_names), so at each step both names are looked up in one zone (nearest_with_tail) and one value
+    -- decides for both (OpenTails.open_tail); a redirection keeps both tails unnamed (UnnamedTails.redirected_tail). So
+    -- the branches of a step are the same with the tail replaced, unless the query's end overlong, as those of the other
+    -- name, which isn't longer, need not (AlikeSteps.alike); and the states behind them have the tails again (follows_on).
+    -- Number by number this makes walks (AlikeWalks.along_from, walk_kept), and the front of a walk where the query's ends
+    -- overlong (overlong_front), which some walk continues, since each state has a walk (EndsSomewhere.ends_somewhere).
     pub walks_as : WalksAs setting rtype above own other
     walks_as =
         record {
@@ -195,7 +201,9 @@ module _ (setting : Setting) (above own other : Labels) (tails : AreTails settin
           overlong = λ walk is long. front_kept walk is;
         }
 
-    -- where the name with the other tail meets an overlong rewrite, so does the query
+    -- where the name with the other tail meets an overlong rewrite, so does the query. It goes along the same numbers: where
+    -- its step isn't alike (AlikeSteps.alike) it has met one, and at the end its name, which is no shorter, meets one too
+    -- (AlikeWalks.overlong_back).
     pub overlong_too : (walk : Walk) → IsWalk setting (above ++ other) rtype walk → is_overlong walk.leaf ≡ true
         → (of_own : Walk) × IsWalk setting (above ++ own) rtype of_own × (is_overlong of_own.leaf ≡ true)
     overlong_too walk (numbers, e) long =
@@ -303,7 +311,9 @@ module _ (config : Config) (rewrites : ℕ) (above own other : Labels) (tails : 
   reaches_more most =
       more_images (IsReached config rewrites (above ++ own)) (IsReached config rewrites (above ++ other)) most changed_pair reached_kept reached_apart
 
-  -- so it reaches no fewer
+  -- so it reaches no fewer. Each pair of the query is, with the tail replaced, one of the other name (reached_kept, by
+  -- front_kept), and no two pairs become one (reached_apart), since the name of each state ends in the query's tail
+  -- (states_follow); and as many images as there are pairs differ (Counting.more_images).
   pub reaches_no_fewer : (of_own of_other : List (State × RrType)) → AreReached config rewrites (above ++ own) of_own → AreReached config rewrites (above ++ other) of_other
       → length of_own ≤ length of_other
   reaches_no_fewer of_own of_other own_are other_are =

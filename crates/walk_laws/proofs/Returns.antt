@@ -30,7 +30,7 @@ use Rattle.net_model.proofs.Branches.{cut_at, place_in}
 use Rattle.net_model.proofs.EndsSomewhere.{origin_labels, GoesDown, goes_down}
 use Rattle.net_model.proofs.WalkEnds.{item}
 use Rattle.net_model.proofs.Leads.{Leads, walk_leads, leads_walk}
-use Rattle.net_model.proofs.Simulation.{begins_at, begun_walk}
+use Rattle.walk_laws.proofs.WalksAlike.QueryWalks.{begins_at, begun_walk}
 
 -- the states ask the same server for the same name
 pub record StandAlike (one two : State) : Type 0 where
@@ -431,7 +431,12 @@ module _ (setting : Setting) (query : Labels) (rtype : RrType) where
           (some_rewrite setting rtype (n ∷ numbers) hop round back.first back.again goes like) setting.rewrites back.first
           (record { server = refl; name = refl }) (omega arith))
 
--- and so it shows the limit, with the set in force
+-- and so it shows the limit, with the set in force. The way between the two states rewrites somewhere (some_rewrite): by
+-- referrals alone the name stays and the origin grows (EndsSomewhere.goes_down). A step asks the server and the name alone, so
+-- from a state that stands alike the same numbers lead to one that stands alike, unless no rewrite is left at one of the hops
+-- (same_step, around). Each round uses up a rewrite, so after as many rounds as there are rewrites none is left at a hop of
+-- the round (round_and_round); the way there, gone branch by branch (Leads.leads_walk), is a walk that ends at the limit
+-- (limit_walk).
 pub limit_shown : (config : Config) (rewrites : ℕ) (followed : List Labels) → IsInForce config rewrites followed
     → (query : Labels) (rtype : RrType) (walk : Walk) → IsWalk (following config rewrites followed) query rtype walk
     → (back : ComesBack walk) → (place : Place) × RewritesAt (hops_round walk back) place × ShowsIn config rewrites query rtype (faults.Limit place)

@@ -1,5 +1,5 @@
-use Rattle.net_model.proofs.Carrying.{carried, carried_under}
-use Rattle.net_model.proofs.laws.carrying.Goals as goal
+use Rattle.walk_laws.proofs.FaultsCarried.{carried, carried_under}
+use Rattle.walk_laws.proofs.laws.carrying.Goals as goal
 
 pub returns-clause-own : goal.returns-clause-own
 returns-clause-own c =

@@ -1,0 +1,5 @@
+pub mod FaultsCarried
+pub mod GivenSets
+pub mod JoinedGround
+pub mod Returns
+pub mod WalksAlike

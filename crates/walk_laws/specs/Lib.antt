@@ -1,0 +1,9 @@
+pub use Rattle.net_model.specs.Class
+pub use Rattle.net_model.specs.Learnt
+pub use Rattle.net_model.specs.Reading
+pub use Rattle.net_model.specs.Returns
+pub use Rattle.net_model.specs.Shown
+pub use Rattle.net_model.specs.Step
+pub use Rattle.net_model.specs.Tails
+pub use Rattle.net_model.specs.Tree
+pub use Rattle.net_model.specs.Walk
