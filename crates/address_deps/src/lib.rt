@@ -9,6 +9,7 @@
 #![tactic(auto)]
 
 mod dependents;
+mod direction;
 mod giving;
 mod server_set;
 mod sets;

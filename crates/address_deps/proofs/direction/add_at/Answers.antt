@@ -6,13 +6,13 @@ use Rattle.net_model.specs.Learnt.{Learns}
 use Rattle.net_model.specs.Step.{following}
 use Rattle.address_deps.specs.Sets.{is_in}
 use Rattle.address_deps.proofs.Growing.{grown, grown_less, same_server, item_named, one_answer}
-use Rattle.address_deps.proofs.sets.learn_at.Goals as goal
+use Rattle.address_deps.proofs.direction.add_at.Goals as goal
 
 pub returns-then-not-branch-clause-closed : goal.returns-then-not-branch-clause-closed
 returns-then-not-branch-clause-closed c = λ e rewrites server are there learns.
     let config = c.args.hosts.now in
     let graphs = c.args.graphs.now in
-    let names = c.args.learnt.now in
+    let names = c.args.names.now in
     let item = c.index-items-place.result in
     let servers : c.items.result.now ≡ config.servers = c.items.ensures ∙ ap (λ (x : Config). x.servers) c.config.ensures in
     let within : c.args.place < length config.servers = omega (arith, c.requires.within, c.requires.many) in
@@ -25,7 +25,7 @@ pub returns-clause-growing : goal.returns-clause-growing
 returns-clause-growing c =
     let config = c.args.hosts.now in
     let graphs = c.args.graphs.now in
-    let names = c.args.learnt.now in
+    let names = c.args.names.now in
     let item = c.index-items-place.result in
     let servers : c.items.result.now ≡ config.servers = c.items.ensures ∙ ap (λ (x : Config). x.servers) c.config.ensures in
     let within : c.args.place < length config.servers = omega (arith, c.requires.within, c.requires.many) in
@@ -40,7 +40,7 @@ pub returns-clause-fewer : goal.returns-clause-fewer
 returns-clause-fewer c = λ e.
     let config = c.args.hosts.now in
     let graphs = c.args.graphs.now in
-    let names = c.args.learnt.now in
+    let names = c.args.names.now in
     let item = c.index-items-place.result in
     let servers : c.items.result.now ≡ config.servers = c.items.ensures ∙ ap (λ (x : Config). x.servers) c.config.ensures in
     let within : c.args.place < length config.servers = omega (arith, c.requires.within, c.requires.many) in
@@ -54,7 +54,7 @@ pub returns-clause-put : goal.returns-clause-put
 returns-clause-put c = λ e server there name.
     let config = c.args.hosts.now in
     let graphs = c.args.graphs.now in
-    let names = c.args.learnt.now in
+    let names = c.args.names.now in
     let item = c.index-items-place.result in
     let servers : c.items.result.now ≡ config.servers = c.items.ensures ∙ ap (λ (x : Config). x.servers) c.config.ensures in
     let within : c.args.place < length config.servers = omega (arith, c.requires.within, c.requires.many) in

@@ -4,7 +4,7 @@ use Rattle.net_model.specs.declared.config.Config.{Config}
 use Rattle.net_model.specs.declared.config.Server.{Server}
 use Rattle.address_deps.specs.Dependents.{places_of}
 use Rattle.address_deps.proofs.Growing.{same_server}
-use Rattle.address_deps.proofs.sets.wake.Goals as goal
+use Rattle.address_deps.proofs.direction.wake.Goals as goal
 
 pub returns : goal.returns
 returns c = λ server there.

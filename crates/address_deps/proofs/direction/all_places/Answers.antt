@@ -1,7 +1,7 @@
 use Rattle.std.proofs.Common.{◌≡◌, ◌+◌, ℕ, length, subst, sym, arith}
 use Rattle.address_deps.specs.Dependents.{AreAllPlaces}
 use Rattle.address_deps.proofs.Listing.{one_place_more}
-use Rattle.address_deps.proofs.sets.all_places.Goals as goal
+use Rattle.address_deps.proofs.direction.all_places.Goals as goal
 
 pub loop-place-preserved : goal.loop-place-preserved
 loop-place-preserved c =

@@ -6,13 +6,13 @@ use Rattle.net_model.specs.Learnt.{Learns}
 use Rattle.net_model.specs.Step.{following}
 use Rattle.address_deps.specs.Sets.{is_in}
 use Rattle.address_deps.proofs.Growing.{shrunk, shrunk_less, same_server, item_named, one_answer}
-use Rattle.address_deps.proofs.sets.drop_at.Goals as goal
+use Rattle.address_deps.proofs.direction.drop_at.Goals as goal
 
 pub returns-then-branch-clause-learnt : goal.returns-then-branch-clause-learnt
 returns-then-branch-clause-learnt c = λ e rewrites server are there has.
     let config = c.args.hosts.now in
     let graphs = c.args.graphs.now in
-    let names = c.args.known.now in
+    let names = c.args.names.now in
     let item = c.index-items-place.result in
     let servers : c.items.result.now ≡ config.servers = c.items.ensures ∙ ap (λ (x : Config). x.servers) c.config.ensures in
     let within : c.args.place < length config.servers = omega (arith, c.requires.within, c.requires.many) in
@@ -24,7 +24,7 @@ pub returns-clause-shrinking : goal.returns-clause-shrinking
 returns-clause-shrinking c =
     let config = c.args.hosts.now in
     let graphs = c.args.graphs.now in
-    let names = c.args.known.now in
+    let names = c.args.names.now in
     let item = c.index-items-place.result in
     let servers : c.items.result.now ≡ config.servers = c.items.ensures ∙ ap (λ (x : Config). x.servers) c.config.ensures in
     let within : c.args.place < length config.servers = omega (arith, c.requires.within, c.requires.many) in
@@ -41,7 +41,7 @@ pub returns-clause-fewer : goal.returns-clause-fewer
 returns-clause-fewer c = λ e.
     let config = c.args.hosts.now in
     let graphs = c.args.graphs.now in
-    let names = c.args.known.now in
+    let names = c.args.names.now in
     let item = c.index-items-place.result in
     let servers : c.items.result.now ≡ config.servers = c.items.ensures ∙ ap (λ (x : Config). x.servers) c.config.ensures in
     let within : c.args.place < length config.servers = omega (arith, c.requires.within, c.requires.many) in
@@ -55,7 +55,7 @@ pub returns-clause-gone : goal.returns-clause-gone
 returns-clause-gone c = λ e server there name.
     let config = c.args.hosts.now in
     let graphs = c.args.graphs.now in
-    let names = c.args.known.now in
+    let names = c.args.names.now in
     let item = c.index-items-place.result in
     let servers : c.items.result.now ≡ config.servers = c.items.ensures ∙ ap (λ (x : Config). x.servers) c.config.ensures in
     let within : c.args.place < length config.servers = omega (arith, c.requires.within, c.requires.many) in

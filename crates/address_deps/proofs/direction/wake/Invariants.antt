@@ -1,5 +1,5 @@
 use Rattle.std.proofs.Common.{◌≡◌, ◌++◌, take}
-use Rattle.address_deps.proofs.sets.wake.Given as goal
+use Rattle.address_deps.proofs.direction.wake.Given as goal
 
 -- those so far
 abbrev pub invariant-loop-other : goal.invariant-loop-other
