@@ -2,38 +2,28 @@
 use Rattle.std.proofs.Common.{◌≡◌, ℕ, Bool, true, false, ◌&&◌, ◌||◌, List, [], ◌∷◌, length, Contains, Option, Some, None, refl, sym, ap, ◌∙◌, subst, inl, inr, ◌==◌}
 use Rattle.std.specs.Prelude.{slice_get, if◌then◌else◌}
 use Rattle.std.specs.List.{list_any}
-use Rattle.std.specs.Option.{option_map_or}
 use Rattle.dns_data.specs.Name.{Labels, name_eq}
-use Rattle.dns_data.specs.TypeSet.{has_bit}
 use Rattle.dns_data.specs.declared.rr_type.RrType.{RrType}
 use Rattle.dns_data.specs.declared.rr_type.RrType.TheVariants as types
-use Rattle.dns_data.proofs.Membership.{flat_map_has, has_first, none_in_nil}
+use Rattle.dns_data.proofs.Membership.{flat_map_has, has_first}
 use Rattle.dns_data.proofs.Names.{name_eq_decides}
-use Rattle.dns_data.proofs.Searches.{found_there}
 use Rattle.net_model.specs.declared.config.Config.{Config}
 use Rattle.net_model.specs.declared.walk.Hop.{Hop}
 use Rattle.net_model.specs.declared.walk.Hop.TheVariants.{Refer, Rewrite}
 use Rattle.net_model.specs.Learnt.{Learns, LearnsBy}
 use Rattle.net_model.specs.Nearest.{is_top, server_names}
 use Rattle.net_model.specs.Step.{following, has_glue}
-use Rattle.graph_form.specs.Graph.{PlainGraph, arm_of, branches_of}
+use Rattle.graph_form.specs.Branches.{PlainBranch, plain, typed_branches}
+use Rattle.graph_form.specs.Graph.{HasBranch, PlainGraph, branches_of}
 use Rattle.graph_form.specs.GraphOf.{IsGraphOf}
-use Rattle.graph_form.specs.declared.node.Arm.{Arm}
 use Rattle.graph_form.specs.declared.node.Branch.{Branch}
 use Rattle.graph_form.specs.declared.node.Branch.TheVariants.{Go, End}
 use Rattle.graph_form.specs.declared.node.Node.{Node}
-use Rattle.graph_form.proofs.Places.{item_there}
-use Rattle.address_deps.specs.Dependents.{arm_awaits, branch_awaits, graph_awaits, hop_awaits, node_awaits}
-use Rattle.address_deps.specs.Giving.{gives_by, gives_from, is_open, node_gives}
+use Rattle.graph_form.proofs.TypedBranches.{typed_for}
+use Rattle.address_deps.specs.Dependents.{branch_awaits, graph_awaits}
+use Rattle.address_deps.specs.Giving.{gives_by, gives_from, may_take, node_gives}
 use Rattle.address_deps.specs.Sets.{AreServers, is_in}
 use Rattle.address_deps.proofs.GivingNodes.{learns_path, path_learns}
-
--- the branches of a node for a type are those of one of its arms
-in_arm : (node : Node) (rtype : RrType) (branch : Branch) → Contains (branches_of node rtype) branch → (arm : Arm) × Contains node.arms arm × Contains arm.branches branch
-in_arm node rtype branch has = by (arm_of node rtype) refl has where
-  by : (arm : Option Arm) → arm_of node rtype ≡ arm → Contains (option_map_or (λ a. a.branches) arm []) branch → (arm : Arm) × Contains node.arms arm × Contains arm.branches branch
-  by None is has = absurd (none_in_nil branch has)
-  by (Some arm) is has = (arm, (found_there (λ (a : Arm). has_bit a.types rtype) node.arms arm is).0, has)
 
 -- two sets of servers that are one but for this name, for which the graph doesn't wait
 pub record AreAlike (config : Config) (graph : PlainGraph) (one other : List Labels) : Type 0 where
@@ -46,19 +36,18 @@ pub alike_back : (config : Config) (graph : PlainGraph) (one other : List Labels
 alike_back config graph one other alike =
     record { name = alike.name; apart = λ server differs. sym (alike.apart server differs); not_awaited = alike.not_awaited }
 
-module _ (config : Config) (graph : PlainGraph) (one other : List Labels) (alike : AreAlike config graph one other) where
-  -- a hop of the graph is open for both
-  same_open : (node : Node) (rtype : RrType) (hop : Hop) (to : ℕ) → Contains graph.nodes node → Contains (branches_of node rtype) (Go hop to)
-      → is_open config one hop ≡ is_open config other hop
-  same_open node rtype (Rewrite place by_dname name) to has among = refl
-  same_open node rtype (Refer cut) to has among = by (is_top config cut.ns || has_glue config cut) refl where
+module _ (rewrites : ℕ) (config : Config) (query : Labels) (graph : PlainGraph) (is : IsGraphOf (following config rewrites (server_names config)) query graph)
+    (one other : List Labels) (alike : AreAlike config graph one other) where
+  -- a hop of the graph may be taken in both
+  same_taken : (rtype : RrType) (at number : ℕ) (node : Node) (hop : Hop) (to : ℕ) → HasBranch graph rtype at number node (Go hop to)
+      → may_take config one hop ≡ may_take config other hop
+  same_taken rtype at number node (Rewrite place by_dname name) to has = refl
+  same_taken rtype at number node (Refer cut) to has = by (is_top config cut.ns || has_glue config cut) refl where
     awaited : (is_top config cut.ns || has_glue config cut) ≡ false → Contains (graph_awaits config graph) cut.ns
     awaited closed =
-        let arm = in_arm node rtype (Go (Refer cut) to) among in
-        let here : Contains (hop_awaits config (Refer cut)) cut.ns =
-        subst (λ (b : Bool). Contains (if b || false then [] else cut.ns ∷ []) cut.ns) (sym closed) (has_first cut.ns []) in
-        flat_map_has (node_awaits config) graph.nodes node cut.ns has
-        (flat_map_has (arm_awaits config) node.arms arm.0 cut.ns arm.1 (flat_map_has (branch_awaits config) arm.0.branches (Go (Refer cut) to) cut.ns arm.2 here))
+        let typed = typed_for (following config rewrites (server_names config)) query graph is rtype at number node (Go (Refer cut) to) has in
+        flat_map_has (λ (b : PlainBranch). branch_awaits config b.branch) (typed_branches graph) (plain node.state typed.first (Go (Refer cut) to)) cut.ns typed.has
+        (subst (λ (b : Bool). Contains (if b || false then [] else cut.ns ∷ []) cut.ns) (sym closed) (has_first cut.ns []))
 
     differs : (is_top config cut.ns || has_glue config cut) ≡ false → (b : Bool) → name_eq alike.name cut.ns ≡ b → b ≡ false
     differs closed false e = refl
@@ -73,16 +62,16 @@ module _ (config : Config) (graph : PlainGraph) (one other : List Labels) (alike
   same_path : (rtype : RrType) (numbers : List ℕ) (at : ℕ) → gives_from config one graph rtype numbers at ≡ gives_from config other graph rtype numbers at
   same_path rtype [] at = refl
   same_path rtype (number ∷ numbers) at = by_node (slice_get graph.nodes at) refl (same_path rtype numbers) where
-    by_branch : (node : Node) → Contains graph.nodes node → (branch : Option Branch) → slice_get (branches_of node rtype) number ≡ branch
+    by_branch : (node : Node) → slice_get graph.nodes at ≡ Some node → (branch : Option Branch) → slice_get (branches_of node rtype) number ≡ branch
         → ((to : ℕ) → gives_from config one graph rtype numbers to ≡ gives_from config other graph rtype numbers to)
         → gives_by config one graph rtype (gives_from config one graph rtype numbers) (length numbers == 0) branch
         ≡ gives_by config other graph rtype (gives_from config other graph rtype numbers) (length numbers == 0) branch
-    by_branch node has None there rest = refl
-    by_branch node has (Some (Go hop to)) there rest =
+    by_branch node here None there rest = refl
+    by_branch node here (Some (Go hop to)) there rest =
         ap (λ (b : Bool). b && gives_from config one graph rtype numbers to)
-        (same_open node rtype hop to has (item_there (branches_of node rtype) number (Go hop to) there))
-        ∙ ap (λ (b : Bool). is_open config other hop && b) (rest to)
-    by_branch node has (Some (End hop leaf)) there rest = refl
+        (same_taken rtype at number node hop to (record { here = here; there = there }))
+        ∙ ap (λ (b : Bool). may_take config other hop && b) (rest to)
+    by_branch node here (Some (End hop leaf)) there rest = refl
 
     by_node : (node : Option Node) → slice_get graph.nodes at ≡ node
         → ((to : ℕ) → gives_from config one graph rtype numbers to ≡ gives_from config other graph rtype numbers to)
@@ -90,10 +79,9 @@ module _ (config : Config) (graph : PlainGraph) (one other : List Labels) (alike
         ≡ node_gives config other graph rtype (gives_from config other graph rtype numbers) number (length numbers == 0) node
     by_node None here rest = refl
     by_node (Some node) here rest =
-        by_branch node (item_there graph.nodes at node here) (slice_get (branches_of node rtype) number) refl rest
+        by_branch node here (slice_get (branches_of node rtype) number) refl rest
 
-  module _ (rewrites : ℕ) (query : Labels) (is : IsGraphOf (following config rewrites (server_names config)) query graph)
-      (of_one : AreServers config one) (of_other : AreServers config other) where
+  module _ (of_one : AreServers config one) (of_other : AreServers config other) where
     same_learnt_by : (rtype : RrType) → LearnsBy (following config rewrites one) query rtype → LearnsBy (following config rewrites other) query rtype
     same_learnt_by rtype learns =
         let path = learns_path config rewrites one of_one query graph rtype is learns in

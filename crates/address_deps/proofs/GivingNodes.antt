@@ -27,7 +27,7 @@ use Rattle.graph_form.specs.declared.node.Branch.TheVariants.{Go, End}
 use Rattle.graph_form.specs.declared.node.Node.{Node}
 use Rattle.graph_form.proofs.Paths.{same_item}
 use Rattle.graph_form.proofs.Places.{PairAt, pair_at, item_there, place_of_item}
-use Rattle.address_deps.specs.Giving.{is_open, is_marked, branch_gives, gives_by, node_gives, gives_from, AreGiving, AreComplete}
+use Rattle.address_deps.specs.Giving.{may_take, is_marked, branch_gives, gives_by, node_gives, gives_from, AreGiving, AreComplete}
 use Rattle.address_deps.proofs.MoreFollowed.{Narrowed, next_narrowed, walk_gives, from_giving, gives_led, ended_gives}
 
 module _ (config : Config) (followed : List Labels) (graph : PlainGraph) (rtype : RrType) where
@@ -51,7 +51,7 @@ module _ (config : Config) (followed : List Labels) (graph : PlainGraph) (rtype 
       by : (number : ℕ) (branch : Branch) → slice_get (branches_of node rtype) number ≡ Some branch → branch_gives config followed marks branch ≡ true
           → (numbers : List ℕ) × (from_node numbers at ≡ true)
       by number (Go hop to) there gives =
-          let both = and_parts (is_open config followed hop) (is_marked marks to) gives in
+          let both = and_parts (may_take config followed hop) (is_marked marks to) gives in
           let later = giving to both.1 in (
             number ∷ later.0,
             ap (by_node (from_node later.0) number (length later.0 == 0)) here
@@ -81,7 +81,7 @@ module _ (config : Config) (followed : List Labels) (graph : PlainGraph) (rtype 
             let no : true ≡ false = sym (any_has (branch_gives config followed marks) (branches_of node rtype) b has e) ∙ none in cc
 
       one : (b : Branch) → branch_gives config followed marks b ≡ false → by_branch (from_node numbers) (length numbers == 0) (Some b) ≡ false
-      one (Go hop to) fail = split (is_open config followed hop) (is_marked marks to) refl fail where
+      one (Go hop to) fail = split (may_take config followed hop) (is_marked marks to) refl fail where
         split : (free mark : Bool) → is_marked marks to ≡ mark → (free && mark) ≡ false → (free && from_node numbers to) ≡ false
         split false mark m e = refl
         split true false m e = rest to m
@@ -127,7 +127,7 @@ module _ (config : Config) (rewrites : ℕ) (followed : List Labels)
       by later (subst (λ (b : step.Branch). Narrowed config followed b narrow) tells narrowed)
     where
       by : from_here numbers to ≡ walk_gives (few numbers next_state) → Narrowed config followed (step.Go hop next_state) narrow
-          → (is_open config followed hop && from_here numbers to) ≡ walk_gives (branched state (length numbers == 0) (few numbers) (Some narrow))
+          → (may_take config followed hop && from_here numbers to) ≡ walk_gives (branched state (length numbers == 0) (few numbers) (Some narrow))
       by later (inl (free, made)) =
           ap (λ (b : Bool). b && from_here numbers to) free ∙ later ∙ sym (gives_led state hop (few numbers next_state))
           ∙ sym (ap (λ (b : step.Branch). walk_gives (branched state (length numbers == 0) (few numbers) (Some b))) made)

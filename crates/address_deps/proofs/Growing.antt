@@ -21,7 +21,7 @@ use Rattle.graph_form.specs.Graph.{PlainGraph}
 use Rattle.graph_form.specs.GraphOf.{IsGraphOf}
 use Rattle.graph_form.proofs.Places.{place_of_item}
 use Rattle.address_deps.specs.Giving.{unset}
-use Rattle.address_deps.specs.Sets.{AreServerGraphs, is_in, absent, present, AreServers, IsGrowing, IsClosed, IsShrinking, AreLearnt, IsClosedAt, IsLearntAt}
+use Rattle.address_deps.specs.Sets.{AreServerGraphs, is_in, absent, present, AreServers, IsGrowing, NoneMoreLearnt, IsShrinking, AreLearnt, NoneMoreLearntAt, IsLearntAt}
 use Rattle.address_deps.proofs.TwoSets.{none_below, one_below, is_least, all_above, one_above, is_greatest}
 
 -- the test of being in a list, as what it says
@@ -126,7 +126,7 @@ module _ (config : Config) (graphs : List PlainGraph) where
               );
         }
 
-  pub least_told : (learnt : List Labels) → IsGrowing config graphs learnt → IsClosed config graphs learnt → (rewrites : ℕ) → AreServerGraphs config rewrites graphs
+  pub least_told : (learnt : List Labels) → IsGrowing config graphs learnt → NoneMoreLearnt config graphs learnt → (rewrites : ℕ) → AreServerGraphs config rewrites graphs
       → IsLeast config rewrites (filter (is_in learnt) (server_names config))
   least_told learnt growing closed rewrites are =
       let below = growing.below rewrites are in
@@ -199,8 +199,8 @@ module _ (config : Config) (graphs : List PlainGraph) where
 
 module _ (config : Config) (graphs : List PlainGraph) (names : List Labels) where
   -- where it is so of each server, it is so of all
-  pub all_closed : ((place : ℕ) → place < length config.servers → IsClosedAt config graphs names place) → IsClosed config graphs names
-  all_closed each = λ rewrites are name among learns.
+  pub none_more_in_all : ((place : ℕ) → place < length config.servers → NoneMoreLearntAt config graphs names place) → NoneMoreLearnt config graphs names
+  none_more_in_all each = λ rewrites are name among learns.
       let found = from_map (λ (s : Server). s.name) config.servers name among in
       let place = place_of_item config.servers found.0 found.1 in
       subst (λ (n : Labels). is_in names n ≡ true) found.2

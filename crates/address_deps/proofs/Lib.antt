@@ -4,6 +4,7 @@ pub mod Growing
 pub mod Listing
 pub mod Marks
 pub mod MoreFollowed
+pub mod Moves
 pub mod Rounds
 pub mod ServerSets
 pub mod TwoSets

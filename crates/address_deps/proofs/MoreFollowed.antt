@@ -7,7 +7,7 @@ use Rattle.dns_data.specs.Name.{Labels, name_eq, is_prefix}
 use Rattle.dns_data.specs.declared.rr_type.RrType.{RrType}
 use Rattle.dns_data.specs.declared.rr_type.RrType.TheVariants as types
 use Rattle.graph_form.proofs.Places.{PairAt, pair_at}
-use Rattle.address_deps.specs.Giving.{is_open}
+use Rattle.address_deps.specs.Giving.{may_take}
 use Rattle.net_model.specs.declared.config.Config.{Config}
 use Rattle.net_model.specs.declared.config.Zone.{Zone}
 use Rattle.net_model.specs.declared.found.Found.{Found}
@@ -58,8 +58,8 @@ module _ (state : State) where
 -- where it goes on by a referral that isn't open, or ends otherwise and gives none
 abbrev pub Narrowed : Config → List Labels → Branch → Branch → Type 0
 Narrowed config few (Go hop to) branch =
-    ((is_open config few hop ≡ true) × (branch ≡ Go hop to))
-    ⊎ ((is_open config few hop ≡ false) × ((ns : Labels) × (branch ≡ End (Some hop) (NoAddress ns))))
+    ((may_take config few hop ≡ true) × (branch ≡ Go hop to))
+    ⊎ ((may_take config few hop ≡ false) × ((ns : Labels) × (branch ≡ End (Some hop) (NoAddress ns))))
 Narrowed config few (End hop leaf) branch =
     (branch ≡ End hop leaf) ⊎ ((gives_address leaf ≡ false) × ((ns : Labels) × (branch ≡ End hop (NoAddress ns))))
 

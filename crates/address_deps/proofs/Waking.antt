@@ -13,8 +13,8 @@ use Rattle.graph_form.specs.Graph.{PlainGraph}
 use Rattle.graph_form.specs.GraphOf.{IsGraphOf}
 use Rattle.graph_form.proofs.Paths.{same_item}
 use Rattle.graph_form.proofs.Places.{PairAt, pair_at}
-use Rattle.address_deps.specs.Dependents.{AreDependents, AreWithin, places_of}
-use Rattle.address_deps.specs.Sets.{AreServerGraphs, AreServers, IsClosedAt, IsLearntAt, is_in}
+use Rattle.address_deps.specs.Dependents.{AreDependents, places_of}
+use Rattle.address_deps.specs.Sets.{AreServerGraphs, AreServers, NoneMoreLearntAt, IsLearntAt, is_in}
 use Rattle.address_deps.proofs.Awaited.{AreAlike, alike_back, same_learnt}
 use Rattle.address_deps.proofs.Rounds.{there_or_not}
 
@@ -51,16 +51,16 @@ module _ (config : Config) (graphs : List PlainGraph) (places : map.BTreeMap Lab
       record { name = name; apart = apart; not_awaited = λ awaited. not_listed (dependents.listed place graph within here name awaited) }
 
   -- where the other has more, who can't be learnt still can't be
-  pub still_closed : ((server : Labels) → is_in one server ≡ true → is_in other server ≡ true) → (place : ℕ) → place < length graphs
-      → IsClosedAt config graphs one place → Contains (places_of places name) place ⊎ IsClosedAt config graphs other place
-  still_closed more place within closed =
+  pub still_none_more : ((server : Labels) → is_in one server ≡ true → is_in other server ≡ true) → (place : ℕ) → place < length graphs
+      → NoneMoreLearntAt config graphs one place → Contains (places_of places name) place ⊎ NoneMoreLearntAt config graphs other place
+  still_none_more more place within closed =
       elim (there_or_not (places_of places name) place) [
         | inl listed ↦ inl listed
         | inr not_listed ↦ inr (λ rewrites server are here learns.
             let at = graph_at config rewrites graphs place server are here in
             more server.name
             (closed rewrites server are here
-            (same_learnt config at.graph other one (alike_back config at.graph one other (alike place within not_listed at.graph at.here)) rewrites server.name at.is_graph of_other of_one learns)))
+            (same_learnt rewrites config server.name at.graph at.is_graph other one (alike_back config at.graph one other (alike place within not_listed at.graph at.here)) of_other of_one learns)))
       ]
 
   -- where the other has fewer, who can be learnt still can
@@ -71,12 +71,9 @@ module _ (config : Config) (graphs : List PlainGraph) (places : map.BTreeMap Lab
         | inl listed ↦ inl listed
         | inr not_listed ↦ inr (λ rewrites server are here has.
             let at = graph_at config rewrites graphs place server are here in
-            same_learnt config at.graph one other (alike place within not_listed at.graph at.here) rewrites server.name at.is_graph of_one of_other
+            same_learnt rewrites config server.name at.graph at.is_graph one other (alike place within not_listed at.graph at.here) of_one of_other
             (learnt rewrites server are here (fewer server.name has)))
       ]
-
-  pub woken_within : AreWithin graphs (places_of places name)
-  woken_within = λ place has. dependents.within name place has
 
 -- the server at a place
 pub server_at : (config : Config) (place : ℕ) → place < length config.servers → (server : Server) × (slice_get config.servers place ≡ Some server)

@@ -8,32 +8,24 @@ use Rattle.net_model.specs.Step.{may_follow}
 use Rattle.net_model.specs.declared.config.Config.{Config}
 use Rattle.net_model.specs.declared.walk.Hop.{Hop}
 use Rattle.net_model.specs.declared.walk.Hop.TheVariants.{Refer, Rewrite}
+use Rattle.graph_form.specs.Branches.{typed_branches}
 use Rattle.graph_form.specs.Graph.{PlainGraph}
-use Rattle.graph_form.specs.declared.node.Arm.{Arm}
 use Rattle.graph_form.specs.declared.node.Branch.{Branch}
 use Rattle.graph_form.specs.declared.node.Branch.TheVariants.{Go, End}
-use Rattle.graph_form.specs.declared.node.Node.{Node}
-use Rattle.address_deps.specs.Sets.{IsClosedAt, IsGrowing, IsLearntAt, IsShrinking}
 
 -- the name server of a hop that is followed only where its address is learnt
 abbrev pub hop_awaits : Config → Hop → List Labels
 hop_awaits config (Refer cut) = if may_follow config cut [] then [] else cut.ns ∷ []
 hop_awaits config (Rewrite place by_dname to) = []
 
--- and that of a branch that goes on
+-- the name server of a branch that goes on, if its hop is followed only where its address is learnt
 abbrev pub branch_awaits : Config → Branch → List Labels
 branch_awaits config (Go hop to) = hop_awaits config hop
 branch_awaits config (End hop leaf) = []
 
-abbrev pub arm_awaits : Config → Arm → List Labels
-arm_awaits config arm = flat_map (branch_awaits config) arm.branches
-
-abbrev pub node_awaits : Config → Node → List Labels
-node_awaits config node = flat_map (arm_awaits config) node.arms
-
--- those of a graph
+-- the name servers for whose addresses a graph waits
 abbrev pub graph_awaits : Config → PlainGraph → List Labels
-graph_awaits config graph = flat_map (node_awaits config) graph.nodes
+graph_awaits config graph = flat_map (λ one. branch_awaits config one.branch) (typed_branches graph)
 
 -- the places that are listed for a name
 abbrev pub places_of : map.BTreeMap Labels (List ℕ) → Labels → List ℕ
@@ -64,11 +56,3 @@ pub record IsRound (Good : List Labels → Type 0) (At : List Labels → ℕ →
   pub good : Good names
   pub others : (place : ℕ) → place < length graphs → Contains waiting place ⊎ At names place
   pub within : AreWithin graphs waiting
-
--- of the search for the least set: each server that doesn't wait is learnt, or can't be
-abbrev pub IsLearning : Config → List PlainGraph → List Labels → List ℕ → Type 0
-IsLearning config graphs learnt waiting = IsRound (IsGrowing config graphs) (IsClosedAt config graphs) graphs learnt waiting
-
--- of the search for the greatest set: each server that doesn't wait is taken away, or can be learnt
-abbrev pub IsDropping : Config → List PlainGraph → List Labels → List ℕ → Type 0
-IsDropping config graphs known waiting = IsRound (IsShrinking config graphs) (IsLearntAt config graphs) graphs known waiting

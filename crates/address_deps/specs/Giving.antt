@@ -15,9 +15,9 @@ use Rattle.graph_form.specs.declared.node.Branch.TheVariants.{Go, End}
 use Rattle.graph_form.specs.declared.node.Node.{Node}
 
 -- the name server of a hop may be followed; a rewrite is always taken
-abbrev pub is_open : Config → List Labels → Hop → Bool
-is_open config followed (Refer cut) = may_follow config cut followed
-is_open config followed (Rewrite place by_dname to) = true
+abbrev pub may_take : Config → List Labels → Hop → Bool
+may_take config followed (Refer cut) = may_follow config cut followed
+may_take config followed (Rewrite place by_dname to) = true
 
 -- the node with this number is marked
 abbrev pub is_marked : List Bool → ℕ → Bool
@@ -25,7 +25,7 @@ is_marked marks at = option_map_or (λ mark. mark) (slice_get marks at) false
 
 -- a branch gives an address, or leads by an open hop to a marked node
 abbrev pub branch_gives : Config → List Labels → List Bool → Branch → Bool
-branch_gives config followed marks (Go hop to) = is_open config followed hop && is_marked marks to
+branch_gives config followed marks (Go hop to) = may_take config followed hop && is_marked marks to
 branch_gives config followed marks (End hop leaf) = gives_address leaf
 
 -- one for each mark that isn't set
@@ -41,7 +41,7 @@ module _ (config : Config) (followed : List Labels) (graph : PlainGraph) (rtype 
   -- whether the path from a node with these numbers takes open hops alone and gives an address
   abbrev pub gives_by : (ℕ → Bool) → Bool → Option Branch → Bool
   gives_by on is_last None = false
-  gives_by on is_last (Some (Go hop to)) = is_open config followed hop && on to
+  gives_by on is_last (Some (Go hop to)) = may_take config followed hop && on to
   gives_by on is_last (Some (End hop leaf)) = is_last && gives_address leaf
 
   abbrev pub node_gives : (ℕ → Bool) → ℕ → Bool → Option Node → Bool

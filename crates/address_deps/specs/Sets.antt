@@ -52,8 +52,8 @@ pub record IsGrowing (config : Config) (graphs : List PlainGraph) (learnt : List
       → (rounds : ℕ) × (rounds + absent config.servers learnt ≤ length config.servers) × AreBelow config rewrites rounds learnt
 
 -- no server more can be learnt
-abbrev pub IsClosed : Config → List PlainGraph → List Labels → Type 0
-IsClosed config graphs learnt =
+abbrev pub NoneMoreLearnt : Config → List PlainGraph → List Labels → Type 0
+NoneMoreLearnt config graphs learnt =
     (rewrites : ℕ) → AreServerGraphs config rewrites graphs → (name : Labels) → Contains (server_names config) name
     → Learns (following config rewrites learnt) name → is_in learnt name ≡ true
 
@@ -70,8 +70,8 @@ AreLearnt config graphs known =
     → is_in known name ≡ true → Learns (following config rewrites known) name
 
 -- the server at the place is in the list, or can't be learnt
-abbrev pub IsClosedAt : Config → List PlainGraph → List Labels → ℕ → Type 0
-IsClosedAt config graphs names place =
+abbrev pub NoneMoreLearntAt : Config → List PlainGraph → List Labels → ℕ → Type 0
+NoneMoreLearntAt config graphs names place =
     (rewrites : ℕ) (server : Server) → AreServerGraphs config rewrites graphs → slice_get config.servers place ≡ Some server
     → Learns (following config rewrites names) server.name → is_in names server.name ≡ true
 

@@ -5,16 +5,14 @@ ghost use Rattle.dns_data.specs.Name.{Labels, name_eq};
 ghost use Rattle.address_deps.specs.Dependents.{
   AreDependents,
   IsListed,
-  arm_awaits,
   branch_awaits,
   graph_awaits,
   hop_awaits,
-  node_awaits,
   places_of,
 };
 
 use dns_data::{List, Name, NoMemory};
-use graph_form::{Arm, Branch, Graph, Node};
+use graph_form::{Branch, Graph, typed_branches};
 use net_model::Hop;
 use std::alloc::Global;
 use std::collections::BTreeMap;
@@ -28,7 +26,7 @@ pub(crate) struct Dependents {
 }
 
 impl Dependents {
-    /// Those of the graphs of the servers' names. Each branch is passed over once.
+    /// Who waits for each name server's address, by the graphs of the servers' names. Each branch is passed over once.
     pub fn of(alloc: Global, hosts: &Hosts<'_>, graphs: &[Graph]) -> Result<Dependents, NoMemory>
         ensures { IfOk result (λ dependents. AreDependents hosts.now graphs.now (length graphs.now) dependents.places) }
     {
@@ -114,39 +112,16 @@ fn names_awaited<'g>(
 ) -> Result<Vec<&'g Name>, NoMemory>
     ensures { IfOk result (λ names. map (λ name. name.now) names.items ≡ graph_awaits hosts.now graph.now) }
 {
+    let all = typed_branches(alloc, graph)?;
     let mut names = Vec::new(alloc);
-    for i in 0..graph.nodes() {
-        put_node(hosts, graph.node(i), &mut names)?;
+    for one in all.as_slice() {
+        put_awaited(hosts, one.branch, &mut names)?;
     }
     Ok(names)
 }
 
-/// Puts those of a node behind the others.
-fn put_node<'g>(
-    hosts: &Hosts<'_>,
-    node: &'g Node,
-    names: &mut Vec<&'g Name>,
-) -> Result<(), NoMemory>
-    ensures { OnOk result (map (λ name. name.now) names.new.items ≡ map (λ name. name.now) names.old.items ++ node_awaits hosts.now node.now) }
-{
-    for arm in node.arms.items() {
-        put_arm(hosts, arm, names)?;
-    }
-    Ok(())
-}
-
-/// Those of an arm.
-fn put_arm<'g>(hosts: &Hosts<'_>, arm: &'g Arm, names: &mut Vec<&'g Name>) -> Result<(), NoMemory>
-    ensures { OnOk result (map (λ name. name.now) names.new.items ≡ map (λ name. name.now) names.old.items ++ arm_awaits hosts.now arm.now) }
-{
-    for branch in arm.branches.items() {
-        put_branch(hosts, branch, names)?;
-    }
-    Ok(())
-}
-
-/// That of a branch, if it has one.
-fn put_branch<'g>(
+/// Puts the name of the name server for whose address a branch waits behind the others, if it waits for one.
+fn put_awaited<'g>(
     hosts: &Hosts<'_>,
     branch: &'g Branch,
     names: &mut Vec<&'g Name>,
@@ -159,7 +134,7 @@ fn put_branch<'g>(
     }
 }
 
-/// That of a hop, if it has one.
+/// Puts the name of the name server for whose address a hop waits behind the others, if it waits for one.
 fn put_hop<'g>(hosts: &Hosts<'_>, hop: &'g Hop, names: &mut Vec<&'g Name>) -> Result<(), NoMemory>
     ensures { OnOk result (map (λ name. name.now) names.new.items ≡ map (λ name. name.now) names.old.items ++ hop_awaits hosts.now hop.now) }
 {

@@ -9,7 +9,7 @@ ghost use Rattle.net_model.specs.Step.{following};
 ghost use Rattle.graph_form.specs.Graph.{branches_of};
 ghost use Rattle.graph_form.specs.GraphOf.{IsGraphOf};
 ghost use Rattle.graph_form.specs.declared.node.Node.{Node};
-ghost use Rattle.address_deps.specs.Giving.{is_open, is_marked, branch_gives, unmarked, AreGiving, AreComplete};
+ghost use Rattle.address_deps.specs.Giving.{may_take, is_marked, branch_gives, unmarked, AreGiving, AreComplete};
 
 use crate::server_set::ServerSet;
 use dns_data::{NoMemory, RrType};
@@ -50,7 +50,7 @@ fn learns_by(
 {
     let mut marks = vec![in alloc; false; graph.nodes() as usize]?;
     let giving = marks.as_mut_slice();
-    'marking: while mark_more(hosts, graph, followed, rtype, giving) {}
+    while mark_more(hosts, graph, followed, rtype, giving) {}
     Ok(some_marked(giving, graph.starts()))
 }
 
@@ -128,14 +128,14 @@ fn branch_gives(hosts: &Hosts<'_>, followed: &ServerSet, marks: &[bool], branch:
     ensures { result ≡ branch_gives hosts.now followed.now marks.now branch.now }
 {
     match branch {
-        Branch::Go { hop, to } => is_open(hosts, followed, hop) && is_marked(marks, *to),
+        Branch::Go { hop, to } => may_take(hosts, followed, hop) && is_marked(marks, *to),
         Branch::End { leaf, .. } => gives_address(leaf),
     }
 }
 
 /// Whether the name server of a hop may be followed. A rewrite is always taken.
-fn is_open(hosts: &Hosts<'_>, followed: &ServerSet, hop: &Hop) -> bool
-    ensures { result ≡ is_open hosts.now followed.now hop.now }
+fn may_take(hosts: &Hosts<'_>, followed: &ServerSet, hop: &Hop) -> bool
+    ensures { result ≡ may_take hosts.now followed.now hop.now }
 {
     match hop {
         Hop::Refer(cut) => hosts.may_follow(cut, &[]) || followed.has(&cut.ns),

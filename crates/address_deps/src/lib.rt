@@ -1,6 +1,6 @@
 //! The least and the greatest set of learnt addresses, from one graph of each server's name.
 //!
-//! The layer above may rest on this: `dependencies` gives the two sets of the definitions, which take as many rounds as
+//! The layer above may rest on this: `dependencies_among` gives the two sets of the definitions, which take as many rounds as
 //! there are servers, where the graphs are those of the servers' names.
 //!
 //! Costs: a server is added to the least set, or taken from the greatest, as soon as it is found. A server is looked at once,
@@ -9,8 +9,9 @@
 #![tactic(auto)]
 
 mod dependents;
+mod direction;
 mod giving;
 mod server_set;
 mod sets;
 
-pub use sets::dependencies;
+pub use sets::{dependencies, dependencies_among};

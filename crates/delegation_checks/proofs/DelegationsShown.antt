@@ -1,18 +1,15 @@
 -- The branches of a graph of a query show their faults, and each fault of a delegation is shown by one.
 use Rattle.std.proofs.Common.{◌≡◌, ℕ, Bool, true, false, ◌&&◌, not, List, [], ◌∷◌, ◌++◌, refl, sym, ap, ◌∙◌, subst, inl, inr, Some, None, true≢false, arith}
 use Rattle.std.specs.Prelude.{Contains, Option, if◌then◌else◌}
-use Rattle.std.specs.List.{AllByRecursion, find, flat_map}
+use Rattle.std.specs.List.{AllByRecursion, flat_map}
 use Rattle.std.specs.Option.{option_to_list}
 use Rattle.std.proofs.lemmas.Bool.{and_from, and_parts, not-true, not_from_false, false_from_ne_true}
 use Rattle.std.proofs.lemmas.List.Elements.{Contains-append_cases, Contains-append_left, Contains-append_right}
 use Rattle.dns_data.specs.Name.{Labels, name_eq, is_prefix}
-use Rattle.dns_data.specs.RrType.{types}
-use Rattle.dns_data.specs.TypeSet.{has_bit}
 use Rattle.dns_data.specs.declared.rr_type.RrType.{RrType}
 use Rattle.dns_data.proofs.Membership.{none_in_nil, has_first, first_or_later}
 use Rattle.dns_data.proofs.Names.{name_eq_decides}
-use Rattle.dns_data.proofs.Searches.{found_there}
-use Rattle.dns_data.proofs.Sets.{first_least, first_none}
+use Rattle.graph_form.specs.Branches.{plain, typed_branches}
 use Rattle.graph_form.specs.Graph.{HasBranch, PlainGraph}
 use Rattle.graph_form.specs.GraphOf.{IsExactIn, IsGraphOf, TellsStep}
 use Rattle.graph_form.specs.Verdict.{AreFirstTypes, AreShownOf, IsCovered}
@@ -22,12 +19,12 @@ use Rattle.graph_form.specs.declared.node.Branch.TheVariants.{Go, End}
 use Rattle.graph_form.specs.declared.node.Node.{Node}
 use Rattle.graph_form.specs.declared.report.Seen.{Seen}
 use Rattle.graph_form.proofs.EndHops.{is_stopped}
-use Rattle.graph_form.proofs.NoCircle.{OfArm, at_place, of_arm, told_step}
-use Rattle.graph_form.proofs.Places.{item_there}
+use Rattle.graph_form.proofs.NoCircle.{at_place, told_step}
 use Rattle.graph_form.proofs.ReachedHops.{HasHop, HopAt, WalkWith, hop_of_walk, walk_with}
 use Rattle.graph_form.proofs.ReachedNodes.{EndOf, WalkBy, end_of_walk, walk_by}
 use Rattle.graph_form.proofs.ShownKinds.{stopped_behind}
-use Rattle.graph_form.proofs.Verdicts.{all_shown_of, branch_for, one_arm, one_last}
+use Rattle.graph_form.proofs.TypedBranches.{branch_there, typed_for}
+use Rattle.graph_form.proofs.Verdicts.{all_shown_of, one_last}
 use Rattle.net_model.specs.Shown.{Shows, WalksShow, with_lists}
 use Rattle.net_model.specs.Step.{Setting, next}
 use Rattle.net_model.specs.Step as step
@@ -43,7 +40,7 @@ use Rattle.net_model.specs.declared.walk.Leaf.TheVariants as leaves
 use Rattle.net_model.specs.declared.walk.Walk.{Walk}
 use Rattle.delegation_checks.specs.Delegations.{IsGraphIn, is_of_delegations}
 use Rattle.delegation_checks.specs.Met.{AreOfReferrals}
-use Rattle.delegation_checks.specs.Referrals.{addresses_differ, depends_on_itself, if_shown, is_among, leaf_faults, node_referrals, referral_faults, wants_glue, zones_differ}
+use Rattle.delegation_checks.specs.Referrals.{addresses_differ, depends_on_itself, if_shown, is_among, leaf_faults, referral_faults, typed_referrals, wants_glue, zones_differ}
 use Rattle.delegation_checks.proofs.Candidates.{behind_faults, branch_faults, candidate, hop_faults, referral_met}
 use Rattle.delegation_checks.proofs.ZonesTell.{among_has, cyclic_told, differ_told, glue_told, has_among, other_addresses, told_addresses, told_cyclic, told_differ, told_glue}
 use Rattle.delegation_checks.proofs.InsideZones.{BranchInside, HopInside, next_inside}
@@ -58,7 +55,7 @@ one_shown true fault e = has_first fault []
 one_shown false fault e = cc
 
 module _ (setting : Setting) (query : Labels) (deps : Deps) (graph : PlainGraph) (is : IsGraphOf setting query graph) (exact : IsExactIn setting query graph)
-    (seen : List Seen) (are : AreOfReferrals setting.config deps (flat_map node_referrals graph.nodes) seen) where
+    (seen : List Seen) (are : AreOfReferrals setting.config deps (flat_map typed_referrals (typed_branches graph)) seen) where
   -- the query shows the fault with the type
   abbrev Shown : RrType → Fault → Type 0
   Shown rtype fault = Shows (with_lists setting deps.least deps.greatest) query rtype fault
@@ -210,10 +207,8 @@ module _ (setting : Setting) (query : Labels) (deps : Deps) (graph : PlainGraph)
   candidate_shown : (one : Seen) → Contains seen one → Shown one.rtype one.fault
   candidate_shown one has =
       let of = candidate setting.config deps graph one (are.from one has) in
-      let typed : has_bit of.arm.types one.rtype ≡ true = (found_there (has_bit of.arm.types) types one.rtype of.first).1 in
-      let arm = one_arm of.node of.arm one.rtype (is.apart of.at of.node of.here) of.has_arm typed in
-      let branch = branch_for graph of.at of.node of.arm of.branch one.rtype of.here arm of.has_branch in
-      by_branch one.rtype of.at branch.0 of.node of.branch one.fault branch.1 of.has_fault
+      let branch = branch_there setting query graph is of.one of.has in
+      subst (λ rtype. Shown rtype one.fault) of.type_is (by_branch of.one.rtype branch.at branch.number branch.node of.one.branch one.fault branch.has of.has_fault)
 
   -- ---- its kind
 
@@ -252,7 +247,7 @@ module _ (setting : Setting) (query : Labels) (deps : Deps) (graph : PlainGraph)
   candidate_kind : (one : Seen) → Contains seen one → is_of_delegations one.fault ≡ true
   candidate_kind one has =
       let of = candidate setting.config deps graph one (are.from one has) in
-      of_branch_kind of.branch one.fault of.has_fault
+      of_branch_kind of.one.branch one.fault of.has_fault
 
   -- ---- what is shown is the fault of a branch
 
@@ -261,15 +256,11 @@ module _ (setting : Setting) (query : Labels) (deps : Deps) (graph : PlainGraph)
 
   collected : (rtype : RrType) (fault : Fault) (at number : ℕ) (node : Node) (branch : Branch) → HasBranch graph rtype at number node branch
       → Contains (branch_faults setting.config deps branch) fault → Covered rtype fault
-  collected rtype fault at number node branch has among = by (of_arm setting query graph rtype is at number node branch has) (find (has_bit (of_arm setting query graph rtype is at number node branch has).arm.types) types) refl where
-    by : (of : OfArm setting query graph rtype is at node number branch) (first : Option RrType) → find (has_bit of.arm.types) types ≡ first → Covered rtype fault
-    by of None none = absurd (true≢false (sym of.typed ∙ (first_none (has_bit of.arm.types) None (sym none)).0 refl rtype))
-    by of (Some first) found =
-        let met = referral_met setting.config deps graph at node of.arm branch first fault of.in_graph.is_node of.in_graph.has_arm found
-        (item_there of.arm.branches number branch of.there) among in
-        let one = are.covers met.at first fault met.has met.has_fault in
-        let least = first_least (has_bit of.arm.types) (Some first) (sym found) rtype of.typed in
-        record { by = one.by; has = one.has; fault_is = one.fault_is; not_later = omega (arith, one.not_later, least) }
+  collected rtype fault at number node branch has among =
+      let typed = typed_for setting query graph is rtype at number node branch has in
+      let met = referral_met setting.config deps graph (plain node.state typed.first branch) fault typed.has among in
+      let one = are.covers met.at typed.first fault met.has met.has_fault in
+      record { by = one.by; has = one.has; fault_is = one.fault_is; not_later = omega (arith, one.not_later, typed.not_later) }
 
   -- a referral of the graph stands in a zone above its cut
   inside : (rtype : RrType) (cut : Cut) (at : HopAt graph rtype (Refer cut)) → is_prefix cut.zone cut.cut ≡ true
@@ -370,9 +361,9 @@ module _ (setting : Setting) (query : Labels) (deps : Deps) (graph : PlainGraph)
       all_shown_of (with_lists setting deps.least deps.greatest) query is_of_delegations seen shown firsts candidate_kind candidate_shown shown_collected
 
 -- in the configuration of the graph
-pub wholly : (config : Config) (deps : Deps) (graph : PlainGraph) (seen shown : List Seen) → AreOfReferrals config deps (flat_map node_referrals graph.nodes) seen
+pub wholly : (config : Config) (deps : Deps) (graph : PlainGraph) (seen shown : List Seen) → AreOfReferrals config deps (flat_map typed_referrals (typed_branches graph)) seen
     → AreFirstTypes seen shown → (setting : Setting) (query : Labels) → IsGraphIn config setting query graph
     → AreShownOf (with_lists setting deps.least deps.greatest) query is_of_delegations shown
 wholly config deps graph seen shown are firsts setting query for =
     all_shown setting query deps graph for.is_graph for.exact seen
-    (subst (λ (c : Config). AreOfReferrals c deps (flat_map node_referrals graph.nodes) seen) (sym for.config_is) are) shown firsts
+    (subst (λ (c : Config). AreOfReferrals c deps (flat_map typed_referrals (typed_branches graph)) seen) (sym for.config_is) are) shown firsts

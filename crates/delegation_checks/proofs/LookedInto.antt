@@ -17,8 +17,9 @@ use Rattle.net_model.specs.declared.config.Config.{Config}
 use Rattle.net_model.specs.declared.fault.Fault.{Fault}
 use Rattle.net_model.specs.declared.place.Cut.{Cut}
 use Rattle.net_model.specs.declared.walk.Leaf.{Leaf}
+use Rattle.graph_form.specs.Branches.{with_type}
 use Rattle.delegation_checks.specs.Met.{AreOfReferrals, IsAgain, IsOfReferral, is_met}
-use Rattle.delegation_checks.specs.Referrals.{cut_faults, end_faults, faults_at, with_type}
+use Rattle.delegation_checks.specs.Referrals.{cut_faults, end_faults, faults_at}
 use Rattle.delegation_checks.specs.declared.referrals.Met.{Met}
 
 -- an item of a longer list covers as well

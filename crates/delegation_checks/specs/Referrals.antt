@@ -1,20 +1,15 @@
 -- The faults of a referral to a name server and of an end behind it.
 use Rattle.std.specs.Prelude.{Bool, false, ◌&&◌, not, List, [], ◌∷◌, ◌++◌, ◌==◌, map, length, Option, Some, None, if◌then◌else◌}
-use Rattle.std.specs.List.{find, flat_map, list_any}
-use Rattle.std.specs.Option.{option_map_or}
+use Rattle.std.specs.List.{list_any}
 use lib.Pointwise.{pointwise}
 use Rattle.dns_data.specs.Name.{Labels, name_eq, is_prefix}
 use Rattle.dns_data.specs.Rdata.{data_eq}
-use Rattle.dns_data.specs.RrType.{types}
-use Rattle.dns_data.specs.TypeSet.{has_bit}
 use Rattle.dns_data.specs.declared.rdata.Rdata.{Rdata}
 use Rattle.dns_data.specs.declared.rr_type.RrType.{RrType}
+use Rattle.graph_form.specs.Branches.{PlainBranch}
 use Rattle.net_model.specs.declared.deps.Deps.{Deps}
-use Rattle.graph_form.specs.declared.node.Arm.{Arm}
 use Rattle.graph_form.specs.declared.node.Branch.{Branch}
 use Rattle.graph_form.specs.declared.node.Branch.TheVariants.{Go, End}
-use Rattle.graph_form.specs.declared.node.Node.{Node}
-use Rattle.graph_form.specs.declared.report.Seen.{Seen}
 use Rattle.net_model.specs.Nearest.{held_zone, is_configured, is_top}
 use Rattle.net_model.specs.Step.{has_glue}
 use Rattle.net_model.specs.Zone.{addresses, ns_names}
@@ -85,7 +80,7 @@ referral_faults config deps cut =
 abbrev pub cut_faults : Config → Deps → Cut → List Fault
 cut_faults config deps cut = if is_prefix cut.zone cut.cut then referral_faults config deps cut else []
 
--- those of an end behind a referral
+-- the faults of an end behind a referral
 abbrev pub leaf_faults : Deps → Cut → Leaf → List Fault
 leaf_faults deps cut (leaves.Lame ns) = if_shown (name_eq cut.ns ns) (faults.Lame cut)
 leaf_faults deps cut (leaves.NoAddress ns) = if_shown (name_eq cut.ns ns && not (is_among deps.greatest cut.ns)) (faults.NoAddress cut)
@@ -114,14 +109,6 @@ faults_at config deps at = cut_faults config deps at.0 ++ end_faults deps at.0 a
 abbrev pub typed : {X : Type 0} → RrType → List X → List (X × RrType)
 typed rtype all = map (λ one. (one, rtype)) all
 
-abbrev pub with_type : RrType → List Fault → List Seen
-with_type rtype all = map (λ fault. record { fault = fault; rtype = rtype }) all
-
--- those of an arm, with its first type
-abbrev pub arm_referrals : Arm → List ((Cut × Option Leaf) × RrType)
-arm_referrals arm =
-    option_map_or (λ rtype. flat_map (λ branch. typed rtype (branch_referrals branch)) arm.branches) (find (has_bit arm.types) types) []
-
--- those of a node
-abbrev pub node_referrals : Node → List ((Cut × Option Leaf) × RrType)
-node_referrals node = flat_map arm_referrals node.arms
+-- the referral on a branch of a graph, with the branch's type
+abbrev pub typed_referrals : PlainBranch → List ((Cut × Option Leaf) × RrType)
+typed_referrals one = typed one.rtype (branch_referrals one.branch)

@@ -13,9 +13,9 @@ ghost use Rattle.delegation_checks.specs.Referrals.{
   leaf_faults,
   referral_faults,
   wants_glue,
-  with_type,
   zones_differ,
 };
+ghost use Rattle.graph_form.specs.Branches.{with_type};
 ghost use Rattle.net_model.specs.declared.fault.Fault.TheVariants as faults;
 
 use crate::cuts::{addresses_differ, depends_on_itself, wants_glue, zones_differ};
@@ -86,7 +86,7 @@ fn comes_again(met: &[Met<'_>], place: usize) -> bool
 }
 
 /// Puts the faults of a referral, whatever comes behind it, behind those seen, if its zone cut is at or below its zone's
-/// origin, as that of every referral on a walk is.
+/// origin, as the zone cut of every referral on a walk is.
 fn put_cut(
     alloc: Global,
     hosts: &Hosts<'_>,
@@ -104,7 +104,7 @@ fn put_cut(
     }
 }
 
-/// Those of a referral to a name server, whatever comes behind it.
+/// Puts the faults of a referral to a name server, whatever comes behind it, behind those seen.
 fn put_referral(
     alloc: Global,
     hosts: &Hosts<'_>,
@@ -122,7 +122,7 @@ fn put_referral(
     put_cyclic(alloc, hosts, sets, cut, rtype, seen)
 }
 
-/// That the zones of a referral list other name servers, where they do.
+/// Puts behind the faults seen that the zones of a referral list other name servers, where they do.
 fn put_differs(
     alloc: Global,
     hosts: &Hosts<'_>,
@@ -140,7 +140,7 @@ fn put_differs(
     Ok(())
 }
 
-/// That the name server has no glue where it needs it.
+/// Puts behind the faults seen that the name server has no glue, where it needs glue and has none.
 fn put_no_glue(
     alloc: Global,
     hosts: &Hosts<'_>,
@@ -158,7 +158,7 @@ fn put_no_glue(
     Ok(())
 }
 
-/// That the zones of a referral hold other addresses of the name server, where they do.
+/// Puts behind the faults seen that the zones of a referral hold other addresses of the name server, where they do.
 fn put_glue_differs(
     alloc: Global,
     hosts: &Hosts<'_>,
@@ -176,7 +176,7 @@ fn put_glue_differs(
     Ok(())
 }
 
-/// That the name server's address depends on itself, where it does.
+/// Puts behind the faults seen that the name server's address depends on itself, where it does.
 fn put_cyclic(
     alloc: Global,
     hosts: &Hosts<'_>,
@@ -195,7 +195,7 @@ fn put_cyclic(
     Ok(())
 }
 
-/// Those of the end behind a referral, if there is one.
+/// Puts the faults of the end behind a referral behind those seen, if there is an end.
 fn put_end(
     alloc: Global,
     sets: &LearntSets,
@@ -210,7 +210,7 @@ fn put_end(
     }
 }
 
-/// Those of an end behind a referral: a lame name server, or one of which no address is learnt.
+/// Puts the fault of an end behind a referral behind those seen: a lame name server, or one of which no address is learnt.
 fn put_leaf(
     alloc: Global,
     sets: &LearntSets,

@@ -6,7 +6,7 @@ pub mod Reached
 pub mod FirstPaths
 pub mod NoCircle
 pub mod EqualAnswers
-pub mod OpenBranches
+pub mod PassedBranches
 pub mod SearchStates
 pub mod TakenPaths
 pub mod EndHops
@@ -16,5 +16,7 @@ pub mod WalksLed
 pub mod TwiceEqual
 pub mod ReachedNodes
 pub mod FirstTypes
+pub mod FirstFaults
 pub mod ReachedHops
 pub mod Verdicts
+pub mod TypedBranches

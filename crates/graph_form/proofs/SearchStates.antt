@@ -11,7 +11,7 @@ use Rattle.dns_data.specs.declared.rr_type.RrType.{RrType}
 use Rattle.dns_data.proofs.Membership.{has_first, has_later, first_or_later}
 use Rattle.net_model.specs.Step.{Setting}
 use Rattle.net_model.specs.declared.walk.State.{State}
-use Rattle.graph_form.specs.FirstPath.{AreBarren, AreClosed, IsBarren, IsBefore, IsFirstFrom, IsOpenAt, is_open, mark_of, node_behind, node_takes, takes_from}
+use Rattle.graph_form.specs.FirstPath.{AreBarren, ArePassed, IsBarren, IsBefore, IsFirstFrom, IsToFollowAt, is_to_follow, mark_of, node_behind, node_takes, takes_from}
 use Rattle.graph_form.specs.Graph.{HasBranch, PlainGraph}
 use Rattle.graph_form.specs.GraphOf.{IsGraphOf}
 use Rattle.graph_form.specs.declared.first_path.Onward.{Onward}
@@ -121,13 +121,13 @@ module _ (shows : State → Branch → Bool) (graph : PlainGraph) (rtype : RrTyp
       ap (node_takes (takes_from shows graph rtype numbers) shows rtype number (length numbers == 0) taken) none
 
   module _ (setting : Setting) (query : Labels) (is : IsGraphOf setting query graph) (begin : ℕ) (begins : Contains graph.starts begin) where
-    -- what is closed leads nowhere
-    closed_nowhere : (turn : Turn) (below : List Turn) (met : List Bool) → IsSearch begin (turn ∷ below) met
+    -- what is not to be followed leads nowhere
+    passed_nowhere : (turn : Turn) (below : List Turn) (met : List Bool) → IsSearch begin (turn ∷ below) met
         → (number : ℕ) (node : Node) (branch : Branch) → HasBranch graph rtype turn.node number node branch
-        → is_open met (turn.taken || shows node.state branch) branch ≡ false
+        → is_to_follow met (turn.taken || shows node.state branch) branch ≡ false
         → LeadsNowhere shows graph rtype (turn.taken || shows node.state branch) branch
-    closed_nowhere turn below met search number node (End hop leaf) has closed = closed
-    closed_nowhere turn below met search number node (Go hop to) has closed =
+    passed_nowhere turn below met search number node (End hop leaf) has closed = closed
+    passed_nowhere turn below met search number node (Go hop to) has closed =
         by (slice_get met (mark_of to (turn.taken || shows node.state (Go hop to)))) refl closed
       where
         stood : Stands (turn ∷ below) (turn.taken || shows node.state (Go hop to)) to → (to ≡ turn.node) ⊎ ((other : Turn) × Contains below other × (other.node ≡ to))
@@ -139,11 +139,11 @@ module _ (shows : State → Branch → Bool) (graph : PlainGraph) (rtype : RrTyp
 
         by : (mark : Option Bool) → slice_get met (mark_of to (turn.taken || shows node.state (Go hop to))) ≡ mark
             → option_map_or not mark false ≡ false → IsBarren shows graph rtype (turn.taken || shows node.state (Go hop to)) to
-        by None e not_open =
+        by None e passed =
             no_node_barren (turn.taken || shows node.state (Go hop to)) to
             (slice_get_past graph.nodes to (mark_past to (length graph.nodes) (turn.taken || shows node.state (Go hop to)) met search.room e))
-        by (Some false) e not_open = cc
-        by (Some true) e not_open =
+        by (Some false) e passed = cc
+        by (Some true) e passed =
             elim (search.marked to (turn.taken || shows node.state (Go hop to)) e) [
               | inl stands ↦ absurd (no_circle setting query graph rtype is shows begin begins below turn.taken turn.node number to hop node search.turns.1 has (stood stands))
               | inr barren ↦ barren
@@ -151,23 +151,23 @@ module _ (shows : State → Branch → Bool) (graph : PlainGraph) (rtype : RrTyp
 
     -- no path takes a branch that shows by those before the one that is found
     passed : (turn : Turn) (below : List Turn) (met : List Bool) (found : Option Onward) → IsSearch begin (turn ∷ below) met
-        → AreClosed shows graph rtype met turn found → (number : ℕ) → IsBefore number found → Passes shows graph rtype turn.taken turn.node number
+        → ArePassed shows graph rtype met turn found → (number : ℕ) → IsBefore number found → Passes shows graph rtype turn.taken turn.node number
     passed turn below met found search closed number before =
         elim (cases_lt number turn.number) [
           | inl less ↦ search.turns.0 number less
           | inr more ↦ passes shows graph rtype turn.taken turn.node number
-              (λ node branch has. closed_nowhere turn below met search number node branch has (closed number node branch more before has))
+              (λ node branch has. passed_nowhere turn below met search number node branch has (closed number node branch more before has))
         ]
 
-    -- where none is open, the last node is barren
+    -- where none is to be followed, the last node is barren
     left_barren : (turn : Turn) (below : List Turn) (met : List Bool) → IsSearch begin (turn ∷ below) met
-        → AreClosed shows graph rtype met turn None → IsBarren shows graph rtype turn.taken turn.node
+        → ArePassed shows graph rtype met turn None → IsBarren shows graph rtype turn.taken turn.node
     left_barren turn below met search closed =
         barren_by shows graph rtype turn.taken turn.node (λ number. passed turn below met None search closed number tt)
 
     -- and the search goes back
     pub goes_back : (turn : Turn) (below : List Turn) (met : List Bool) → IsSearch begin (turn ∷ below) met
-        → AreClosed shows graph rtype met turn None → IsSearch begin below met
+        → ArePassed shows graph rtype met turn None → IsSearch begin below met
     goes_back turn below met search closed =
         record {
           turns = turns_below shows graph rtype begin below turn.taken turn.node search.turns.1;
@@ -191,16 +191,16 @@ module _ (shows : State → Branch → Bool) (graph : PlainGraph) (rtype : RrTyp
               | inr later ↦ inl (record { turn = stands.turn; has = later; node_is = stands.node_is; taken_is = stands.taken_is })
             ]
 
-    -- where the open branch goes to a node, that one wasn't met
-    pub wasnt_met : (turn : Turn) (met : List Bool) (onward : Onward) (to : ℕ) → IsOpenAt shows graph rtype met turn onward → onward.to ≡ Some to
+    -- where the branch to follow goes to a node, that one wasn't met
+    pub wasnt_met : (turn : Turn) (met : List Bool) (onward : Onward) (to : ℕ) → IsToFollowAt shows graph rtype met turn onward → onward.to ≡ Some to
         → slice_get met (mark_of to onward.taken) ≡ Some false
-    wasnt_met turn met onward to at to_is = by at.branch (sym at.leads ∙ to_is) at.is_open where
+    wasnt_met turn met onward to at to_is = by at.branch (sym at.leads ∙ to_is) at.is_to_follow where
       of_mark : (mark : Option Bool) → option_map_or not mark false ≡ true → mark ≡ Some false
       of_mark None e = cc
       of_mark (Some true) e = cc
       of_mark (Some false) e = refl
 
-      by : (branch : Branch) → node_behind branch ≡ Some to → is_open met onward.taken branch ≡ true → slice_get met (mark_of to onward.taken) ≡ Some false
+      by : (branch : Branch) → node_behind branch ≡ Some to → is_to_follow met onward.taken branch ≡ true → slice_get met (mark_of to onward.taken) ≡ Some false
       by (End hop leaf) behind e = cc
       by (Go hop other) behind e =
           let same : other ≡ to = cc in
@@ -215,7 +215,7 @@ module _ (shows : State → Branch → Bool) (graph : PlainGraph) (rtype : RrTyp
 
     -- and the search goes on there
     pub goes_on : (turn : Turn) (below : List Turn) (met : List Bool) (onward : Onward) (to : ℕ) → IsSearch begin (turn ∷ below) met
-        → AreClosed shows graph rtype met turn (Some onward) → IsOpenAt shows graph rtype met turn onward → onward.to ≡ Some to
+        → ArePassed shows graph rtype met turn (Some onward) → IsToFollowAt shows graph rtype met turn onward → onward.to ≡ Some to
         → IsSearch begin (behind onward to ∷ followed turn onward ∷ below) (set met (mark_of to onward.taken) true)
     goes_on turn below met onward to search closed at to_is = by at.branch at.has at.taken (sym at.leads ∙ to_is) where
       within : mark_of to onward.taken < length met
@@ -283,19 +283,19 @@ module _ (shows : State → Branch → Bool) (graph : PlainGraph) (rtype : RrTyp
             begun = stands_still begin false search.begun;
           }
 
-    -- where the open branch ends, the path is first
+    -- where the branch to follow ends, the path is first
     pub ends_there : (turn : Turn) (below : List Turn) (met : List Bool) (onward : Onward) → IsSearch begin (turn ∷ below) met
-        → AreClosed shows graph rtype met turn (Some onward) → IsOpenAt shows graph rtype met turn onward → onward.to ≡ None
+        → ArePassed shows graph rtype met turn (Some onward) → IsToFollowAt shows graph rtype met turn onward → onward.to ≡ None
         → IsFirstFrom shows graph rtype false begin (map (λ t. t.number) (reverse below) ++ onward.number ∷ [])
-    ends_there turn below met onward search closed at to_is = by at.branch at.has at.taken (sym at.leads ∙ to_is) at.is_open where
+    ends_there turn below met onward search closed at to_is = by at.branch at.has at.taken (sym at.leads ∙ to_is) at.is_to_follow where
       by : (branch : Branch) → HasBranch graph rtype turn.node onward.number at.node branch → onward.taken ≡ (turn.taken || shows at.node.state branch)
-          → node_behind branch ≡ None → is_open met onward.taken branch ≡ true
+          → node_behind branch ≡ None → is_to_follow met onward.taken branch ≡ true
           → IsFirstFrom shows graph rtype false begin (map (λ t. t.number) (reverse below) ++ onward.number ∷ [])
-      by (Go hop to) has taken goes opened = cc
-      by (End hop leaf) has taken goes opened =
+      by (Go hop to) has taken goes follows = cc
+      by (End hop leaf) has taken goes follows =
           first_behind shows graph rtype begin below turn.taken turn.node (onward.number ∷ []) search.turns.1
           (ends_first shows graph rtype turn.taken turn.node onward.number hop leaf at.node has
-          (λ j less. passed turn below met (Some onward) search closed j less) (sym taken ∙ opened))
+          (λ j less. passed turn below met (Some onward) search closed j less) (sym taken ∙ follows))
 
   -- how a search begins
   pub first_state : (begin : ℕ) (met : List Bool) → length met ≡ 2 * length graph.nodes → AreBarren shows graph rtype met

@@ -126,7 +126,7 @@ pub record IsFirstFrom (shows : State → Branch → Bool) (graph : PlainGraph) 
   pub takes : takes_from shows graph rtype numbers taken at ≡ true
   pub first : (others : List ℕ) → takes_from shows graph rtype others taken at ≡ true → path_cmp others numbers ≢ Less
 
--- the same of a path from a start
+-- the path from a start takes such a branch, and no other that does comes before it
 pub record IsFirstAlong (shows : State → Branch → Bool) (graph : PlainGraph) (rtype : RrType) (numbers : List ℕ) : Type 0 where
   pub takes : takes_along shows graph rtype numbers ≡ true
   pub first : (others : List ℕ) → takes_along shows graph rtype others ≡ true → path_cmp others numbers ≢ Less
@@ -138,23 +138,23 @@ abbrev pub mark_of : ℕ → Bool → ℕ
 mark_of at taken = 2 * at + (if taken then 1 else 0)
 
 -- the branch is to be followed: it ends a path that shows, or goes to a node that wasn't met
-abbrev pub is_open : List Bool → Bool → Branch → Bool
-is_open met taken (Go hop to) = option_map_or not (slice_get met (mark_of to taken)) false
-is_open met taken (End hop leaf) = taken
+abbrev pub is_to_follow : List Bool → Bool → Branch → Bool
+is_to_follow met taken (Go hop to) = option_map_or not (slice_get met (mark_of to taken)) false
+is_to_follow met taken (End hop leaf) = taken
 
 -- the node that a branch goes to
 abbrev pub node_behind : Branch → Option ℕ
 node_behind (Go hop to) = Some to
 node_behind (End hop leaf) = None
 
--- the branch with this number is open
-pub record IsOpenAt (shows : State → Branch → Bool) (graph : PlainGraph) (rtype : RrType) (met : List Bool) (turn : Turn) (onward : Onward) : Type 0 where
+-- the branch with this number is to be followed
+pub record IsToFollowAt (shows : State → Branch → Bool) (graph : PlainGraph) (rtype : RrType) (met : List Bool) (turn : Turn) (onward : Onward) : Type 0 where
   pub node : Node
   pub branch : Branch
   pub has : HasBranch graph rtype turn.node onward.number node branch
   pub taken : onward.taken ≡ (turn.taken || shows node.state branch)
   pub leads : onward.to ≡ node_behind branch
-  pub is_open : is_open met onward.taken branch ≡ true
+  pub is_to_follow : is_to_follow met onward.taken branch ≡ true
   pub later : turn.number ≤ onward.number
 
 -- the number is before the branch, if there is one
@@ -162,11 +162,11 @@ abbrev pub IsBefore : ℕ → Option Onward → Type 0
 IsBefore number None = Unit {0}
 IsBefore number (Some onward) = number < onward.number
 
--- the branches from the turn's on are closed before the one that is found
-abbrev pub AreClosed : (State → Branch → Bool) → PlainGraph → RrType → List Bool → Turn → Option Onward → Type 0
-AreClosed shows graph rtype met turn found =
+-- the branches from the turn's on, before the one that is found, are not to be followed
+abbrev pub ArePassed : (State → Branch → Bool) → PlainGraph → RrType → List Bool → Turn → Option Onward → Type 0
+ArePassed shows graph rtype met turn found =
     (number : ℕ) (node : Node) (branch : Branch) → turn.number ≤ number → IsBefore number found
-    → HasBranch graph rtype turn.node number node branch → is_open met (turn.taken || shows node.state branch) branch ≡ false
+    → HasBranch graph rtype turn.node number node branch → is_to_follow met (turn.taken || shows node.state branch) branch ≡ false
 
 -- the nodes that were met are barren
 abbrev pub AreBarren : (State → Branch → Bool) → PlainGraph → RrType → List Bool → Type 0

@@ -1,4 +1,6 @@
 pub use Rattle.net_model.specs.Walk
+pub mod Branches
+pub mod FirstFaults
 pub mod FirstPath
 pub mod Graph
 pub mod GraphOf

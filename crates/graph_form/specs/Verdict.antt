@@ -1,9 +1,6 @@
 -- What is shown of faults, each with its first type.
-use Rattle.std.specs.Prelude.{◌≡◌, ◌≤◌, Bool, true, not, List, Option, map, Contains, AllPairs}
+use Rattle.std.specs.Prelude.{◌≡◌, ◌≤◌, Bool, true, List, map, Contains, AllPairs}
 use Rattle.std.specs.List.{AllByRecursion}
-use Rattle.std.specs.Option.{option_map_or}
-use Rattle.std.specs.Ordering.{is_eq, nat_cmp, ordering_then}
-use Rattle.std.specs.declared.cmp.Ordering.{Ordering}
 use Rattle.std.specs.declared.cmp.Ordering.TheVariants.{Less}
 use Rattle.dns_data.specs.Name.{Labels}
 use Rattle.dns_data.specs.RrType.{number_of}
@@ -21,20 +18,12 @@ pub record AreShownOf (setting : FaultSetting) (query : Labels) (of_kind : Fault
   pub first_type : AllByRecursion (λ seen. (rtype : RrType) → Shows setting query rtype seen.fault → number_of seen.rtype ≤ number_of rtype) shown
   pub all_shown : (fault : Fault) (rtype : RrType) → of_kind fault ≡ true → Shows setting query rtype fault → Contains (map (λ seen. seen.fault) shown) fault
 
--- the order of faults, and of types with one fault
-abbrev pub seen_cmp : Seen → Seen → Ordering
-seen_cmp a b = ordering_then (fault_cmp a.fault b.fault) (nat_cmp (number_of a.rtype) (number_of b.rtype))
-
 -- a fault is in the list, with this type or one with a lower number
 pub record IsCovered (shown : List Seen) (seen : Seen) : Type 0 where
   pub by : Seen
   pub has : Contains shown by
   pub fault_is : by.fault ≡ seen.fault
   pub not_later : number_of by.rtype ≤ number_of seen.rtype
-
--- the next has another fault than the last, if there is one
-abbrev pub is_next : Option Seen → Seen → Bool
-is_next last next = option_map_or (λ seen. not (is_eq (fault_cmp seen.fault next.fault))) last true
 
 -- of each fault of a list the first type, in fault order
 pub record AreFirstTypes (all first : List Seen) : Type 0 where

@@ -5,13 +5,13 @@ ghost use Rattle.dns_data.specs.Name.{Labels};
 ghost use Rattle.net_model.specs.Step.{Setting};
 ghost use Rattle.graph_form.specs.FirstPath.{
   AreBarren,
-  AreClosed,
+  ArePassed,
   IsBarren,
   IsFirstAlong,
   IsFirstFrom,
-  IsOpenAt,
+  IsToFollowAt,
   branch_shows,
-  is_open,
+  is_to_follow,
   mark_of,
   takes_along,
 };
@@ -91,7 +91,7 @@ fn first_rest(
         number: 0,
     })?;
     while let Some(turn) = path.pop() {
-        if let Some(onward) = open_branch(graph, rtype, fault, walks, met, turn) {
+        if let Some(onward) = next_branch(graph, rtype, fault, walks, met, turn) {
             path.push(Turn {
                 number: onward.number,
                 ..turn
@@ -114,7 +114,7 @@ fn first_rest(
 
 /// The first branch of a node, from the turn's number on, that ends a path that shows the fault or goes to a node that
 /// wasn't met.
-fn open_branch(
+fn next_branch(
     graph: &Graph,
     rtype: RrType,
     fault: &Fault,
@@ -122,15 +122,15 @@ fn open_branch(
     met: &[bool],
     turn: Turn,
 ) -> Option<Onward>
-    ensures found { IfSome result (IsOpenAt (branch_shows fault.now walks.now) graph.now rtype met.now turn) }
-    ensures passed { AreClosed (branch_shows fault.now walks.now) graph.now rtype met.now turn result }
+    ensures found { IfSome result (IsToFollowAt (branch_shows fault.now walks.now) graph.now rtype met.now turn) }
+    ensures passed { ArePassed (branch_shows fault.now walks.now) graph.now rtype met.now turn result }
 {
     let node = graph.find_node(turn.node)?;
     let branches = node.branches(rtype);
     for number in turn.number..branches.len() {
         let branch = &branches[number];
         let taken = is_taken(fault, walks, turn.taken, &node.state, branch);
-        if is_open(met, taken, branch) {
+        if is_to_follow(met, taken, branch) {
             return Some(Onward {
                 number,
                 taken,
@@ -149,8 +149,8 @@ fn is_taken(fault: &Fault, walks: &[Walk], taken: bool, state: &State, branch: &
 }
 
 /// Whether the branch ends a path that shows the fault or goes to a node that wasn't met.
-fn is_open(met: &[bool], taken: bool, branch: &Branch) -> bool
-    ensures { result ≡ is_open met.now taken branch.now }
+fn is_to_follow(met: &[bool], taken: bool, branch: &Branch) -> bool
+    ensures { result ≡ is_to_follow met.now taken branch.now }
 {
     match branch {
         Branch::Go { to, .. } => match met.get(mark_of(*to, taken)) {

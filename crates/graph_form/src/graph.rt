@@ -71,6 +71,13 @@ impl Graph {
         &self.nodes.items()[i as usize]
     }
 
+    /// The nodes, in order.
+    pub(crate) fn items(&self) -> &[Node]
+        ensures { result.now ≡ self.now.nodes }
+    {
+        self.nodes.items()
+    }
+
     /// The node with this number, or `None` where there is none.
     pub(crate) fn find_node(&self, i: u32) -> Option<&Node>
         ensures { option_copied result ≡ slice_get self.now.nodes i }

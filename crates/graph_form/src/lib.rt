@@ -8,6 +8,8 @@
 //! for each walk that it gives, and keeps two marks a node.
 #![tactic(auto)]
 
+mod branches;
+mod first_faults;
 mod first_path;
 mod first_walks;
 mod graph;
@@ -18,6 +20,8 @@ mod report;
 mod shows;
 mod verdict;
 
+pub use branches::{TypedBranch, typed_branches};
+pub use first_faults::{OfFault, first_of_each};
 pub use first_walks::trails;
 pub use graph::{Graph, type_count};
 pub use laws::{pairs_are_reached, paths_are_walks, walks_and_zones_show};

@@ -1,22 +1,21 @@
 -- The ends of a graph of a query show their faults, and each fault of an end is shown by one.
-use Rattle.std.proofs.Common.{◌≡◌, ℕ, ◌≤◌, Bool, true, false, List, [], ◌∷◌, refl, sym, ap, ◌∙◌, subst, Some, None, true≢false}
+use Rattle.std.proofs.Common.{◌≡◌, ℕ, Bool, true, false, List, [], ◌∷◌, refl, sym, ap, ◌∙◌, subst, inl, inr, Some, None}
 use Rattle.std.specs.Prelude.{Contains, Option, option_map, if◌then◌else◌}
-use Rattle.std.specs.List.{AllByRecursion, find, flat_map}
+use Rattle.std.specs.List.{AllByRecursion}
+use Rattle.std.specs.Option.{option_to_list}
 use Rattle.dns_data.specs.Name.{Labels}
-use Rattle.dns_data.specs.RrType.{number_of, types}
-use Rattle.dns_data.specs.TypeSet.{has_bit}
 use Rattle.dns_data.specs.declared.rr_type.RrType.{RrType}
-use Rattle.dns_data.proofs.Sets.{first_least, first_none}
-use Rattle.dns_data.proofs.Searches.{found_there}
+use Rattle.dns_data.proofs.Membership.{first_or_later, has_first, none_in_nil}
+use Rattle.graph_form.specs.Branches.{seen_by}
 use Rattle.graph_form.specs.Graph.{HasBranch, PlainGraph}
+use Rattle.graph_form.specs.Verdict.{IsCovered}
 use Rattle.graph_form.specs.declared.node.Branch.{Branch}
 use Rattle.graph_form.specs.declared.node.Branch.TheVariants.{Go, End}
 use Rattle.graph_form.specs.declared.node.Node.{Node}
 use Rattle.graph_form.specs.declared.report.Seen.{Seen}
-use Rattle.graph_form.proofs.NoCircle.{OfArm, of_arm}
-use Rattle.graph_form.proofs.Places.{item_there}
 use Rattle.graph_form.proofs.ReachedNodes.{EndOf, WalkBy, end_of_walk, walk_by}
-use Rattle.graph_form.proofs.Verdicts.{branch_for, one_arm, one_last}
+use Rattle.graph_form.proofs.TypedBranches.{each_seen, seen_there}
+use Rattle.graph_form.proofs.Verdicts.{one_last}
 use Rattle.net_model.specs.Class.{IsRepresentative}
 use Rattle.net_model.specs.Reading.{ground_of}
 use Rattle.net_model.proofs.OneClass.{one_class}
@@ -32,9 +31,8 @@ use Rattle.net_model.specs.declared.walk.Leaf.{Leaf}
 use Rattle.net_model.specs.declared.walk.Leaf.TheVariants as leaves
 use Rattle.net_model.specs.declared.walk.State.{State}
 use Rattle.net_model.specs.declared.walk.Walk.{Walk}
-use Rattle.rewrite_checks.specs.Ends.{end_fault, leaf_fault, node_faults, with_type}
+use Rattle.rewrite_checks.specs.Ends.{end_fault, end_faults, leaf_fault}
 use Rattle.rewrite_checks.specs.Rewrites.{IsGraphFor}
-use Rattle.rewrite_checks.proofs.Candidates.{from_candidates, is_candidate}
 
 -- the fault is told by one end
 abbrev pub OfEnd : Fault → Type 0
@@ -42,6 +40,14 @@ OfEnd (faults.Limit place) = Unit {0}
 OfEnd (faults.Blackhole place) = Unit {0}
 OfEnd (faults.Overlong place) = Unit {0}
 OfEnd fault = ⊥
+
+-- the only fault of a branch
+one_end : (represents : Bool) (state : State) (branch : Branch) (fault : Fault) → Contains (end_faults represents state branch) fault
+    → end_fault represents state branch ≡ Some fault
+one_end represents state branch fault = by (end_fault represents state branch) where
+  by : (found : Option Fault) → Contains (option_to_list found) fault → found ≡ Some fault
+  by None has = absurd (none_in_nil fault has)
+  by (Some one) has = elim (first_or_later one [] fault has) [ inl same ↦ ap (λ f. Some f) same | inr none ↦ absurd (none_in_nil fault none) ]
 
 module _ (setting : Setting) (query : Labels) (class : Class) (represents : Bool) (graph : PlainGraph) (for : IsGraphFor setting query class represents graph) where
   -- the query shows the fault with the type
@@ -82,14 +88,13 @@ module _ (setting : Setting) (query : Labels) (class : Class) (represents : Bool
   by_branch rtype at number node (End hop leaf) fault has is =
       by_leaf rtype node hop leaf fault (walk_by graph rtype setting query for.is_graph for.exact at number node hop leaf has) is
 
+  by_faults : (rtype : RrType) (at number : ℕ) (node : Node) (branch : Branch) (fault : Fault) → HasBranch graph rtype at number node branch
+      → Contains (end_faults represents node.state branch) fault → Shown rtype fault
+  by_faults rtype at number node branch fault has among = by_branch rtype at number node branch fault has (one_end represents node.state branch fault among)
+
   -- a fault that was collected is shown with its type
-  pub candidate_shown : (seen : Seen) → Contains (flat_map (node_faults represents) graph.nodes) seen → Shown seen.rtype seen.fault
-  candidate_shown seen has =
-      let of = from_candidates represents graph seen has in
-      let typed : has_bit of.arm.types seen.rtype ≡ true = (found_there (has_bit of.arm.types) types seen.rtype of.first).1 in
-      let arm = one_arm of.node of.arm seen.rtype (for.is_graph.apart of.at of.node of.here) of.has_arm typed in
-      let branch = branch_for graph of.at of.node of.arm of.branch seen.rtype of.here arm of.has_branch in
-      by_branch seen.rtype of.at branch.0 of.node of.branch seen.fault branch.1 of.fault_is
+  pub candidate_shown : (seen : Seen) → Contains (seen_by (end_faults represents) graph) seen → Shown seen.rtype seen.fault
+  candidate_shown = each_seen setting query graph for.is_graph (end_faults represents) Shown by_faults
 
   -- its kind
   by_kind : (represents : Bool) (last : Option Place) (leaf : Leaf) (fault : Fault) → leaf_fault represents last leaf ≡ Some fault → OfEnd fault
@@ -104,35 +109,22 @@ module _ (setting : Setting) (query : Labels) (class : Class) (represents : Bool
   of_branch state (Go hop to) fault is = cc
   of_branch state (End hop leaf) fault is = by_kind represents state.last leaf fault is
 
-  pub candidate_of_end : (seen : Seen) → Contains (flat_map (node_faults represents) graph.nodes) seen → OfEnd seen.fault
-  candidate_of_end seen has =
-      let of = from_candidates represents graph seen has in
-      of_branch of.node.state of.branch seen.fault of.fault_is
+  pub candidate_of_end : (seen : Seen) → Contains (seen_by (end_faults represents) graph) seen → OfEnd seen.fault
+  candidate_of_end =
+      each_seen setting query graph for.is_graph (end_faults represents) (λ rtype fault. OfEnd fault)
+      (λ rtype at number node branch fault has among. of_branch node.state branch fault (one_end represents node.state branch fault among))
 
   -- ---- what is shown is the fault of an end
 
   -- it was collected, with this type or one with a lower number
-  pub record IsCollected (rtype : RrType) (fault : Fault) : Type 0 where
-    pub first : RrType
-    pub has : Contains (flat_map (node_faults represents) graph.nodes) (with_type first fault)
-    pub not_later : number_of first ≤ number_of rtype
+  abbrev IsCollected : RrType → Fault → Type 0
+  IsCollected rtype fault = IsCovered (seen_by (end_faults represents) graph) (record { fault = fault; rtype = rtype })
 
   by_end : (rtype : RrType) (fault : Fault) (walk : Walk) (end : EndOf graph rtype walk) → leaf_fault represents end.node.state.last end.leaf ≡ Some fault
       → IsCollected rtype fault
   by_end rtype fault walk end is =
-      let of = of_arm setting query graph rtype for.is_graph end.at end.number end.node (End end.hop end.leaf) end.has in
-      by of (find (has_bit of.arm.types) types) refl
-    where
-      by : (of : OfArm setting query graph rtype for.is_graph end.at end.node end.number (End end.hop end.leaf)) (first : Option RrType)
-          → find (has_bit of.arm.types) types ≡ first → IsCollected rtype fault
-      by of None none = absurd (true≢false (sym of.typed ∙ (first_none (has_bit of.arm.types) None (sym none)).0 refl rtype))
-      by of (Some first) found =
-          record {
-            first = first;
-            has = is_candidate represents graph end.at end.node of.arm (End end.hop end.leaf) first fault of.in_graph.is_node of.in_graph.has_arm found
-                (item_there of.arm.branches end.number (End end.hop end.leaf) of.there) is;
-            not_later = first_least (has_bit of.arm.types) (Some first) (sym found) rtype of.typed;
-          }
+      seen_there setting query graph for.is_graph (end_faults represents) rtype end.at end.number end.node (End end.hop end.leaf) fault end.has
+      (subst (λ (f : Option Fault). Contains (option_to_list f) fault) (sym is) (has_first fault []))
 
   no_two : (fault : Fault) (one other : Walk) → OfEnd fault → WalksShow (with_sets setting) (one ∷ other ∷ []) fault → ⊥
   no_two (faults.Answers other_class t) one other of show = of

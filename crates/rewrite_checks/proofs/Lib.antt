@@ -1,4 +1,3 @@
-pub mod Candidates
 pub mod EndsShown
 pub mod AnswersShown
 pub mod Wholly

@@ -1,12 +1,12 @@
 -- What was collected, each with its first type, are the faults that the query shows.
 use Rattle.std.proofs.Common.{◌≡◌, Bool, true, List, [], ◌∷◌, ◌++◌, refl, sym, ap, ◌∙◌, subst, inl, inr, arith}
 use Rattle.std.specs.Prelude.{◌⊎◌, Contains}
-use Rattle.std.specs.List.{flat_map}
 use Rattle.std.proofs.lemmas.List.Elements.{Contains-append_cases, Contains-append_left, Contains-append_right}
 use Rattle.dns_data.specs.Name.{Labels}
 use Rattle.dns_data.specs.RrType.{types}
 use Rattle.dns_data.specs.declared.rr_type.RrType.{RrType}
 use Rattle.dns_data.proofs.Membership.{none_in_nil, has_first, first_or_later}
+use Rattle.graph_form.specs.Branches.{seen_by}
 use Rattle.graph_form.specs.Graph.{PlainGraph}
 use Rattle.graph_form.specs.Verdict.{AreFirstTypes, AreShownOf, IsCovered}
 use Rattle.graph_form.specs.declared.report.Seen.{Seen}
@@ -18,13 +18,13 @@ use Rattle.net_model.specs.declared.class.Class.{Class}
 use Rattle.net_model.specs.declared.fault.Fault.{Fault}
 use Rattle.net_model.specs.declared.fault.Fault.TheVariants as faults
 use Rattle.rewrite_checks.specs.Answers.{Differ, PutsAnswers, answers_of}
-use Rattle.rewrite_checks.specs.Ends.{node_faults, with_type}
+use Rattle.rewrite_checks.specs.Ends.{end_faults}
 use Rattle.rewrite_checks.specs.Rewrites.{IsGraphFor, is_of_rewrites}
 use Rattle.rewrite_checks.proofs.AnswersShown.{differ_shown, shown_differ}
 use Rattle.rewrite_checks.proofs.EndsShown.{OfEnd, candidate_of_end, candidate_shown, shown_collected}
 
 module _ (setting : Setting) (query : Labels) (class : Class) (represents : Bool) (graph : PlainGraph) (for : IsGraphFor setting query class represents graph)
-    (seen shown : List Seen) (puts : PutsAnswers class graph types (flat_map (node_faults represents) graph.nodes) seen) (firsts : AreFirstTypes seen shown) where
+    (seen shown : List Seen) (puts : PutsAnswers class graph types (seen_by (end_faults represents) graph) seen) (firsts : AreFirstTypes seen shown) where
   of_rewrites : (fault : Fault) → OfEnd fault → is_of_rewrites fault ≡ true
   of_rewrites (faults.Limit place) of = refl
   of_rewrites (faults.Blackhole place) of = refl
@@ -38,7 +38,7 @@ module _ (setting : Setting) (query : Labels) (class : Class) (represents : Bool
 
   right : (entry : Seen) → Contains seen entry → IsRight entry
   right entry has = by (puts.from entry has) where
-    by : Contains (flat_map (node_faults represents) graph.nodes) entry ⊎ ((entry ≡ answers_of class entry.rtype) × Differ graph entry.rtype) → IsRight entry
+    by : Contains (seen_by (end_faults represents) graph) entry ⊎ ((entry ≡ answers_of class entry.rtype) × Differ graph entry.rtype) → IsRight entry
     by (inl ends) =
         record {
           kind = of_rewrites entry.fault (candidate_of_end setting query class represents graph for entry ends);
@@ -55,7 +55,7 @@ module _ (setting : Setting) (query : Labels) (class : Class) (represents : Bool
   collected_end : (rtype : RrType) (fault : Fault) → OfEnd fault → Shows (with_sets setting) query rtype fault → IsCovered seen (record { fault = fault; rtype = rtype })
   collected_end rtype fault of shows =
       let is = shown_collected setting query class represents graph for rtype fault of shows in
-      record { by = with_type is.first fault; has = puts.kept (with_type is.first fault) is.has; fault_is = refl; not_later = is.not_later }
+      record { by = is.by; has = puts.kept is.by is.has; fault_is = is.fault_is; not_later = is.not_later }
 
   collected : (rtype : RrType) (fault : Fault) → is_of_rewrites fault ≡ true → Shows (with_sets setting) query rtype fault
       → IsCovered seen (record { fault = fault; rtype = rtype })
@@ -118,9 +118,9 @@ module _ (class : Class) (graph : PlainGraph) where
 
 -- the ends, then the answers, then the first types
 pub wholly : (class : Class) (represents : Bool) (graph : PlainGraph) (none ends seen shown : List Seen) → none ≡ []
-    → ends ≡ none ++ flat_map (node_faults represents) graph.nodes → PutsAnswers class graph types ends seen → AreFirstTypes seen shown
+    → ends ≡ none ++ seen_by (end_faults represents) graph → PutsAnswers class graph types ends seen → AreFirstTypes seen shown
     → (setting : Setting) (query : Labels) → IsGraphFor setting query class represents graph → AreShownOf (with_sets setting) query is_of_rewrites shown
 wholly class represents graph none ends seen shown is_none put puts firsts setting query for =
-    let all : List Seen = flat_map (node_faults represents) graph.nodes in
+    let all : List Seen = seen_by (end_faults represents) graph in
     let first : ends ≡ all = put ∙ ap (λ (xs : List Seen). xs ++ all) is_none in
     are_shown setting query class represents graph for seen shown (subst (λ (xs : List Seen). PutsAnswers class graph types xs seen) first puts) firsts

@@ -25,7 +25,7 @@ pub(crate) fn put_answers(
     Ok(())
 }
 
-/// The same of one type.
+/// Puts a fault behind those seen if answers of the class differ with the type.
 fn put_type(
     alloc: Global,
     class: &Class,
@@ -65,7 +65,7 @@ fn other_answer<'a>(graph: &'a Graph, rtype: RrType, than: &Leaf) -> Option<&'a 
     None
 }
 
-/// The same of one node.
+/// The first authoritative end of a node's branches for the type that tells another thing than the leaf, or `None`.
 fn other_of_node<'a>(node: &'a Node, rtype: RrType, than: &Leaf) -> Option<&'a Leaf>
     ensures { MatchOption result ((leaf : LeafOf) → NodeEndsIn node.now rtype leaf → is_other than.now leaf ≡ false) (λ leaf. NodeEndsIn node.now rtype leaf.now × (is_other than.now leaf.now ≡ true)) }
 {
@@ -77,7 +77,7 @@ fn other_of_node<'a>(node: &'a Node, rtype: RrType, than: &Leaf) -> Option<&'a L
     None
 }
 
-/// The same of one branch.
+/// The leaf of a branch, if it is an authoritative end that tells another thing than this leaf, or `None`.
 fn other_of_branch<'a>(branch: &'a Branch, than: &Leaf) -> Option<&'a Leaf>
     ensures { MatchOption result ((leaf : LeafOf) → BranchEndsIn branch.now leaf → is_other than.now leaf ≡ false) (λ leaf. BranchEndsIn branch.now leaf.now × (is_other than.now leaf.now ≡ true)) }
 {

@@ -1,12 +1,12 @@
 //! Faults that a walk shows by its end: rewrite limits, blackholes and overlong rewrites.
 
 ghost use Rattle.std.specs.Prelude.{◌≡◌, ◌++◌, IfOk, OnOk, option_map};
-ghost use Rattle.std.specs.List.{flat_map};
+ghost use Rattle.graph_form.specs.Branches.{branch_seen, plain_branch, seen_by};
 ghost use Rattle.net_model.specs.declared.fault.Fault.TheVariants.{Blackhole};
-ghost use Rattle.rewrite_checks.specs.Ends.{arm_faults, branch_faults, end_fault, leaf_fault, node_faults, with_type};
+ghost use Rattle.rewrite_checks.specs.Ends.{end_fault, end_faults, leaf_fault};
 
-use dns_data::{List, NoMemory, RrType};
-use graph_form::{Arm, Branch, Graph, Node, Seen};
+use dns_data::{List, NoMemory};
+use graph_form::{Branch, Graph, Seen, TypedBranch, typed_branches};
 use net_model::{Fault, Leaf, Place, State};
 use std::alloc::Global;
 
@@ -17,75 +17,29 @@ pub(crate) fn put_ends(
     graph: &Graph,
     seen: &mut List<Seen>,
 ) -> Result<(), NoMemory>
-    ensures { OnOk result (seen.new ≡ seen.old ++ flat_map (node_faults represents) graph.now.nodes) }
+    ensures { OnOk result (seen.new ≡ seen.old ++ seen_by (end_faults represents) graph.now) }
 {
-    for i in 0..graph.nodes() {
-        put_node(alloc, represents, graph.node(i), seen)?;
+    let all = typed_branches(alloc, graph)?;
+    for one in all.as_slice() {
+        put_end(alloc, represents, one, seen)?;
     }
     Ok(())
 }
 
-/// Those of a node.
-fn put_node(
+/// Puts the fault of a branch by which a state ends behind those seen, if it has one.
+fn put_end(
     alloc: Global,
     represents: bool,
-    node: &Node,
+    one: &TypedBranch<'_>,
     seen: &mut List<Seen>,
 ) -> Result<(), NoMemory>
-    ensures { OnOk result (seen.new ≡ seen.old ++ node_faults represents node.now) }
+    ensures { OnOk result (seen.new ≡ seen.old ++ branch_seen (end_faults represents) (plain_branch one.now)) }
 {
-    for arm in node.arms.items() {
-        put_arm(alloc, represents, &node.state, arm, seen)?;
-    }
-    Ok(())
-}
-
-/// Those of an arm, if it has a type.
-fn put_arm(
-    alloc: Global,
-    represents: bool,
-    state: &State,
-    arm: &Arm,
-    seen: &mut List<Seen>,
-) -> Result<(), NoMemory>
-    ensures { OnOk result (seen.new ≡ seen.old ++ arm_faults represents state.now arm.now) }
-{
-    match arm.types.first() {
-        Some(rtype) => put_branches(alloc, represents, state, arm.branches.items(), rtype, seen),
-        None => Ok(()),
-    }
-}
-
-/// Those of branches, with the type.
-fn put_branches(
-    alloc: Global,
-    represents: bool,
-    state: &State,
-    branches: &[Branch],
-    rtype: RrType,
-    seen: &mut List<Seen>,
-) -> Result<(), NoMemory>
-    ensures { OnOk result (seen.new ≡ seen.old ++ flat_map (branch_faults represents state.now rtype) branches.now) }
-{
-    for branch in branches {
-        put_branch(alloc, represents, state, branch, rtype, seen)?;
-    }
-    Ok(())
-}
-
-/// That of a branch, if it has one.
-fn put_branch(
-    alloc: Global,
-    represents: bool,
-    state: &State,
-    branch: &Branch,
-    rtype: RrType,
-    seen: &mut List<Seen>,
-) -> Result<(), NoMemory>
-    ensures { OnOk result (seen.new ≡ seen.old ++ branch_faults represents state.now rtype branch.now) }
-{
-    match end_fault(alloc, represents, state, branch)? {
-        Some(fault) => seen.push(Seen { fault, rtype }),
+    match end_fault(alloc, represents, one.state, one.branch)? {
+        Some(fault) => seen.push(Seen {
+            fault,
+            rtype: one.rtype,
+        }),
         None => Ok(()),
     }
 }

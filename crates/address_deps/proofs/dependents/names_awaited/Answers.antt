@@ -1,24 +1,22 @@
-use Rattle.std.proofs.Common.{◌<◌, ◌≤◌, List, [], length, sym, ap, ◌∙◌, arith}
-use Rattle.std.specs.Option.{unwrap_or}
+use Rattle.std.proofs.Common.{[], map, ap, ◌∙◌}
 use Rattle.std.proofs.lemmas.List.{take_all}
-use Rattle.std.proofs.lemmas.Option.{unwrap_or-slice_get}
-use Rattle.graph_form.specs.declared.node.Node.{Node}
+use Rattle.graph_form.specs.Branches.{PlainBranch, plain_branch}
+use Rattle.graph_form.specs.declared.branches.TypedBranch.{TypedBranch}
+use Rattle.graph_form.proofs.TypedBranches.{of_plain}
 use Rattle.graph_form.proofs.Verdicts.{put_more, put_all}
-use Rattle.address_deps.specs.Dependents.{node_awaits}
+use Rattle.address_deps.specs.Dependents.{branch_awaits}
 use Rattle.address_deps.proofs.Listing.{names_of}
 use Rattle.address_deps.proofs.dependents.names_awaited.Goals as goal
 
-pub loop-i-preserved : goal.loop-i-preserved
-loop-i-preserved c =
-    let nodes : List Node = c.args.graph.now.nodes in
-    let i = c.loop-i.i in
-    let node : Node = c.node.result.now in
-    let less : i < length nodes = omega (arith, c.nodes-i-end.ensures) in
-    put_more (node_awaits c.args.hosts.now) nodes i [] (names_of c.loop-i.names.items) c.loop-i.invariant node (names_of c.put_node.new.names.items) less
-    (sym (sym (unwrap_or-slice_get nodes i node) ∙ ap (λ found. unwrap_or found node) c.node.ensures)) c.in_ok-put_node.ensures
+pub loop-one-preserved : goal.loop-one-preserved
+loop-one-preserved c =
+    put_more (λ (one : TypedBranch). branch_awaits c.args.hosts.now one.branch.now) c.as_slice-one-items.result.now c.loop-one.one-index [] (names_of c.loop-one.names.items)
+    c.loop-one.invariant c.one-item.result (names_of c.put_awaited.new.names.items) c.loop-one-test.true c.one-item.is c.in_ok-put_awaited.ensures
 
 pub returns : goal.returns
 returns c =
-    let nodes : List Node = c.args.graph.now.nodes in
-    let past : length nodes ≤ c.loop-i.i = omega (arith, c.nodes-i-end.ensures) in
-    put_all (node_awaits c.args.hosts.now) nodes c.loop-i.i [] (names_of c.loop-i.names.items) c.loop-i.invariant (take_all c.loop-i.i nodes past)
+    let items = c.as_slice-one-items.result.now in
+    put_all (λ (one : TypedBranch). branch_awaits c.args.hosts.now one.branch.now) items c.loop-one.one-index [] (names_of c.loop-one.names.items) c.loop-one.invariant
+    (take_all c.loop-one.one-index items c.loop-one-test.false)
+    ∙ of_plain (λ (one : PlainBranch). branch_awaits c.args.hosts.now one.branch) items c.args.graph.now
+    (ap (map plain_branch) c.as_slice-one-items.ensures.value ∙ c.in_ok-all.ensures)

@@ -8,8 +8,8 @@ use Rattle.address_deps.proofs.GivingNodes.{starts_tell}
 use Rattle.address_deps.proofs.Marks.{none_giving, all_clear}
 use Rattle.address_deps.proofs.giving.learns_by.Goals as goal
 
-pub marking-init : goal.marking-init
-marking-init c =
+pub loop-rtype-init : goal.loop-rtype-init
+loop-rtype-init c =
     let size = c.nodes.result in
     let items : c.as_mut_slice-giving.result.now ≡ replicate size false =
     c.as_mut_slice-giving.ensures.value ∙ c.in_ok-marks.ensures.items_if_clones_equal (λ y is. is) in
@@ -25,4 +25,4 @@ returns c = λ rewrites query within is.
     let told = c.some_marked.ensures ∙ ap (list_any (is_marked marks)) c.starts.ensures in
     subst (λ (b : Bool). (b ≡ true) ↔ LearnsBy (following c.args.hosts.now rewrites c.args.followed.now) query c.args.rtype) (sym told)
     (starts_tell c.args.hosts.now rewrites c.args.followed.now within query c.args.graph.now c.args.rtype is marks c.mark_more.ensures.giving
-    (c.mark_more.ensures.complete c.marking-test.false))
+    (c.mark_more.ensures.complete c.loop-rtype-test.false))

@@ -1,9 +1,11 @@
 use Rattle.std.proofs.Common.{◌≡◌, map, take}
 use Rattle.std.specs.List.{flat_map}
 use Rattle.delegation_checks.specs.Met.{is_met}
-use Rattle.delegation_checks.specs.Referrals.{node_referrals}
+use Rattle.delegation_checks.specs.Referrals.{typed_referrals}
+use Rattle.graph_form.specs.Branches.{plain_branch}
+use Rattle.graph_form.specs.declared.branches.TypedBranch.{TypedBranch}
 use Rattle.delegation_checks.proofs.referrals.referrals_of.Given as goal
 
 -- those so far
-abbrev pub invariant-loop-i : goal.invariant-loop-i
-invariant-loop-i l = map is_met l.met.items ≡ flat_map node_referrals (take l.i l.graph.nodes)
+abbrev pub invariant-loop-one : goal.invariant-loop-one
+invariant-loop-one l = map is_met l.met.items ≡ flat_map (λ (one : TypedBranch). typed_referrals (plain_branch one)) (take l.one-index l.one-items)

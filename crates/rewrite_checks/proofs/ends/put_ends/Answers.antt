@@ -1,23 +1,22 @@
-use Rattle.std.proofs.Common.{◌<◌, ◌≤◌, List, length, sym, ap, ◌∙◌, arith}
-use Rattle.std.specs.Option.{unwrap_or}
+use Rattle.std.proofs.Common.{List, map, ap, ◌∙◌, ◌++◌}
 use Rattle.std.proofs.lemmas.List.{take_all}
-use Rattle.std.proofs.lemmas.Option.{unwrap_or-slice_get}
-use Rattle.graph_form.specs.declared.node.Node.{Node}
-use Rattle.rewrite_checks.specs.Ends.{node_faults}
+use Rattle.graph_form.specs.Branches.{branch_seen, plain_branch}
+use Rattle.graph_form.specs.declared.branches.TypedBranch.{TypedBranch}
+use Rattle.graph_form.specs.declared.report.Seen.{Seen}
+use Rattle.graph_form.proofs.TypedBranches.{of_plain}
 use Rattle.graph_form.proofs.Verdicts.{put_more, put_all}
+use Rattle.rewrite_checks.specs.Ends.{end_faults}
 use Rattle.rewrite_checks.proofs.ends.put_ends.Goals as goal
 
-pub loop-i-preserved : goal.loop-i-preserved
-loop-i-preserved c =
-    let nodes : List Node = c.args.graph.now.nodes in
-    let i = c.loop-i.i in
-    let node : Node = c.node.result.now in
-    let less : i < length nodes = omega (arith, c.nodes-i-end.ensures) in
-    put_more (node_faults c.args.represents) nodes i c.args.seen.now c.loop-i.seen c.loop-i.invariant node c.put_node.new.seen less
-    (sym (sym (unwrap_or-slice_get nodes i node) ∙ ap (λ found. unwrap_or found node) c.node.ensures)) c.in_ok-put_node.ensures
+pub loop-one-preserved : goal.loop-one-preserved
+loop-one-preserved c =
+    put_more (λ (one : TypedBranch). branch_seen (end_faults c.args.represents) (plain_branch one)) c.as_slice-one-items.result.now c.loop-one.one-index
+    c.args.seen.now c.loop-one.seen c.loop-one.invariant c.one-item.result c.put_end.new.seen c.loop-one-test.true c.one-item.is c.in_ok-put_end.ensures
 
 pub returns : goal.returns
 returns c =
-    let nodes : List Node = c.args.graph.now.nodes in
-    let past : length nodes ≤ c.loop-i.i = omega (arith, c.nodes-i-end.ensures) in
-    put_all (node_faults c.args.represents) nodes c.loop-i.i c.args.seen.now c.loop-i.seen c.loop-i.invariant (take_all c.loop-i.i nodes past)
+    let items = c.as_slice-one-items.result.now in
+    put_all (λ (one : TypedBranch). branch_seen (end_faults c.args.represents) (plain_branch one)) items c.loop-one.one-index c.args.seen.now c.loop-one.seen
+    c.loop-one.invariant (take_all c.loop-one.one-index items c.loop-one-test.false)
+    ∙ ap (λ (more : List Seen). c.args.seen.now ++ more)
+    (of_plain (branch_seen (end_faults c.args.represents)) items c.args.graph.now (ap (map plain_branch) c.as_slice-one-items.ensures.value ∙ c.in_ok-all.ensures))

@@ -1,6 +1,0 @@
-use Rattle.address_deps.specs.Dependents.{AreAllPlaces}
-use Rattle.address_deps.proofs.sets.all_places.Given as goal
-
--- those so far
-abbrev pub invariant-loop-place : goal.invariant-loop-place
-invariant-loop-place l = AreAllPlaces l.place l.places

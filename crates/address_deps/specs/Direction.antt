@@ -1,0 +1,34 @@
+-- A search among the servers, in either direction. The contracts of inner calls alone cite it.
+use Rattle.std.specs.Prelude.{◌≡◌, ℕ, ◌||◌, ◌&&◌, not, List}
+use Rattle.dns_data.specs.Name.{Labels, name_eq}
+use Rattle.net_model.specs.declared.config.Config.{Config}
+use Rattle.net_model.specs.declared.config.Server.{Server}
+use Rattle.graph_form.specs.Graph.{PlainGraph}
+use Rattle.address_deps.specs.declared.direction.Direction.{Direction}
+use Rattle.address_deps.specs.declared.direction.Direction.TheVariants.{Adding, Dropping}
+use Rattle.address_deps.specs.Dependents.{IsRound}
+use Rattle.address_deps.specs.Sets.{NoneMoreLearntAt, IsGrowing, IsLearntAt, IsShrinking, absent, is_in, present}
+
+-- no server was added or dropped before its time
+abbrev pub IsFair : Direction → Config → List PlainGraph → List Labels → Type 0
+IsFair Adding config graphs names = IsGrowing config graphs names
+IsFair Dropping config graphs names = IsShrinking config graphs names
+
+-- the server at the place isn't to be added or dropped
+abbrev pub IsSettledAt : Direction → Config → List PlainGraph → List Labels → ℕ → Type 0
+IsSettledAt Adding config graphs names place = NoneMoreLearntAt config graphs names place
+IsSettledAt Dropping config graphs names place = IsLearntAt config graphs names place
+
+-- how many servers may still be added or dropped
+abbrev pub unmoved : Direction → List Server → List Labels → ℕ
+unmoved Adding servers names = absent servers names
+unmoved Dropping servers names = present servers names
+
+-- the server was added or dropped
+abbrev pub IsMoved : Direction → Labels → List Labels → List Labels → Type 0
+IsMoved Adding server old new = (name : Labels) → is_in new name ≡ (name_eq server name || is_in old name)
+IsMoved Dropping server old new = (name : Labels) → is_in new name ≡ (not (name_eq server name) && is_in old name)
+
+-- between two rounds each server that doesn't wait is settled
+abbrev pub IsRoundOf : Direction → Config → List PlainGraph → List Labels → List ℕ → Type 0
+IsRoundOf direction config graphs names waiting = IsRound (IsFair direction config graphs) (IsSettledAt direction config graphs) graphs names waiting

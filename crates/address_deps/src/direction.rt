@@ -1,0 +1,192 @@
+//! A search among the servers, in either direction.
+
+ghost use Rattle.std.specs.Prelude.{◌≡◌, ◌<◌, ◌≤◌, ◌==◌, ◌++◌, ◌||◌, ◌&&◌, not, ℕ, Some, true, false, length, slice_get, IfOk, OnOk};
+ghost use Rattle.dns_data.specs.Name.{Labels, name_eq};
+ghost use Rattle.net_model.specs.declared.config.Server.{Server};
+ghost use Rattle.address_deps.specs.Dependents.{AreAllPlaces, AreDependents, places_of};
+ghost use Rattle.address_deps.specs.Direction.{IsFair, IsMoved, IsRoundOf, IsSettledAt, unmoved};
+ghost use Rattle.address_deps.specs.Sets.{is_in, absent, present, IsGrowing, NoneMoreLearntAt, IsShrinking, IsLearntAt};
+
+use crate::dependents::Dependents;
+use crate::giving::learns;
+use crate::server_set::ServerSet;
+use dns_data::{List, NoMemory};
+use graph_form::Graph;
+use std::alloc::Global;
+use zone_lookup::Hosts;
+
+/// What a search does with a server: it adds one of which an address can be learnt, or it drops one of which none can.
+#[derive(Clone, Copy, Debug)]
+pub(crate) enum Direction {
+    Adding,
+    Dropping,
+}
+
+/// The servers that are left when none more is to be added or dropped. Each server is looked at once, and again when one was
+/// added or dropped for whose address it waits.
+pub(crate) fn settled(
+    alloc: Global,
+    hosts: &Hosts<'_>,
+    graphs: &[Graph],
+    dependents: &Dependents,
+    direction: Direction,
+    begun: ServerSet,
+) -> Result<ServerSet, NoMemory>
+    requires many { length graphs.now ≡ length hosts.now.servers }
+    requires dependents { AreDependents hosts.now graphs.now (length graphs.now) dependents.now.places }
+    requires fair { IsFair direction hosts.now graphs.now begun }
+    ensures fair { IfOk result (IsFair direction hosts.now graphs.now) }
+    ensures settled { IfOk result (λ names. (place : ℕ) → place < length graphs.now → IsSettledAt direction hosts.now graphs.now names place) }
+{
+    let mut names = begun;
+    let mut waiting = all_places(alloc, graphs)?;
+    while !waiting.items().is_empty() {
+        waiting = round(
+            alloc,
+            hosts,
+            graphs,
+            dependents,
+            direction,
+            waiting.items(),
+            &mut names,
+        )?;
+    }
+    Ok(names)
+}
+
+/// The places of all servers.
+fn all_places(alloc: Global, graphs: &[Graph]) -> Result<List<usize>, NoMemory>
+    ensures { IfOk result (AreAllPlaces (length graphs.now)) }
+{
+    let mut places = List::new(alloc);
+    for place in 0..graphs.len() {
+        places.push(place)?;
+    }
+    Ok(places)
+}
+
+/// Looks at the servers that wait, and adds or drops those for which it is time; gives those that wait then.
+fn round(
+    alloc: Global,
+    hosts: &Hosts<'_>,
+    graphs: &[Graph],
+    dependents: &Dependents,
+    direction: Direction,
+    waiting: &[usize],
+    names: &mut ServerSet,
+) -> Result<List<usize>, NoMemory>
+    requires many { length graphs.now ≡ length hosts.now.servers }
+    requires dependents { AreDependents hosts.now graphs.now (length graphs.now) dependents.now.places }
+    requires round { IsRoundOf direction hosts.now graphs.now names.old waiting.now }
+    ensures round { IfOk result (IsRoundOf direction hosts.now graphs.now names.new) }
+    ensures fewer { IfOk result (λ next. (length next == 0) ≡ false → unmoved direction hosts.now.servers names.new < unmoved direction hosts.now.servers names.old) }
+    ensures no_more { OnOk result (unmoved direction hosts.now.servers names.new ≤ unmoved direction hosts.now.servers names.old) }
+{
+    let mut next = List::new(alloc);
+    for place in waiting {
+        if move_at(alloc, hosts, graphs, direction, *place, names)? {
+            wake(hosts, dependents, *place, &mut next)?;
+        }
+    }
+    Ok(next)
+}
+
+/// Adds or drops the server at a place, if it is time; gives whether it did.
+fn move_at(
+    alloc: Global,
+    hosts: &Hosts<'_>,
+    graphs: &[Graph],
+    direction: Direction,
+    place: usize,
+    names: &mut ServerSet,
+) -> Result<bool, NoMemory>
+    requires many { length graphs.now ≡ length hosts.now.servers }
+    requires within { place < length graphs.now }
+    requires fair { IsFair direction hosts.now graphs.now names.old }
+    ensures fair { OnOk result (IsFair direction hosts.now graphs.now names.new) }
+    ensures fewer { IfOk result (λ moved. moved ≡ true → unmoved direction hosts.now.servers names.new < unmoved direction hosts.now.servers names.old) }
+    ensures same { IfOk result (λ moved. moved ≡ false → names.new ≡ names.old) }
+    ensures settled { IfOk result (λ moved. moved ≡ false → IsSettledAt direction hosts.now graphs.now names.old place) }
+    ensures moved { IfOk result (λ moved. moved ≡ true → (server : Server) → slice_get hosts.now.servers place ≡ Some server
+        → IsMoved direction server.name names.old names.new) }
+{
+    match direction {
+        Direction::Adding => add_at(alloc, hosts, graphs, place, names),
+        Direction::Dropping => drop_at(alloc, hosts, graphs, place, names),
+    }
+}
+
+/// Adds the server at a place, if an address of it can be learnt; gives whether it was added.
+fn add_at(
+    alloc: Global,
+    hosts: &Hosts<'_>,
+    graphs: &[Graph],
+    place: usize,
+    names: &mut ServerSet,
+) -> Result<bool, NoMemory>
+    requires many { length graphs.now ≡ length hosts.now.servers }
+    requires within { place < length graphs.now }
+    requires growing { IsGrowing hosts.now graphs.now names.old }
+    ensures growing { OnOk result (IsGrowing hosts.now graphs.now names.new) }
+    ensures fewer { IfOk result (λ added. added ≡ true → absent hosts.now.servers names.new < absent hosts.now.servers names.old) }
+    ensures same { IfOk result (λ added. added ≡ false → names.new ≡ names.old) }
+    ensures closed { IfOk result (λ added. added ≡ false → NoneMoreLearntAt hosts.now graphs.now names.old place) }
+    ensures put { IfOk result (λ added. added ≡ true → (server : Server) → slice_get hosts.now.servers place ≡ Some server
+        → (name : Labels) → is_in names.new name ≡ (name_eq server.name name || is_in names.old name)) }
+{
+    let name = &hosts.config().servers.items()[place].name;
+    if names.has(name) {
+        return Ok(false);
+    }
+    if !learns(alloc, hosts, &graphs[place], names)? {
+        return Ok(false);
+    }
+    names.put(alloc, name)?;
+    Ok(true)
+}
+
+/// Drops the server at a place, if no address of it can be learnt; gives whether it was dropped.
+fn drop_at(
+    alloc: Global,
+    hosts: &Hosts<'_>,
+    graphs: &[Graph],
+    place: usize,
+    names: &mut ServerSet,
+) -> Result<bool, NoMemory>
+    requires many { length graphs.now ≡ length hosts.now.servers }
+    requires within { place < length graphs.now }
+    requires shrinking { IsShrinking hosts.now graphs.now names.old }
+    ensures shrinking { OnOk result (IsShrinking hosts.now graphs.now names.new) }
+    ensures fewer { IfOk result (λ dropped. dropped ≡ true → present hosts.now.servers names.new < present hosts.now.servers names.old) }
+    ensures same { IfOk result (λ dropped. dropped ≡ false → names.new ≡ names.old) }
+    ensures learnt { IfOk result (λ dropped. dropped ≡ false → IsLearntAt hosts.now graphs.now names.old place) }
+    ensures gone { IfOk result (λ dropped. dropped ≡ true → (server : Server) → slice_get hosts.now.servers place ≡ Some server
+        → (name : Labels) → is_in names.new name ≡ (not (name_eq server.name name) && is_in names.old name)) }
+{
+    let name = &hosts.config().servers.items()[place].name;
+    if !names.has(name) {
+        return Ok(false);
+    }
+    if learns(alloc, hosts, &graphs[place], names)? {
+        return Ok(false);
+    }
+    names.take(name);
+    Ok(true)
+}
+
+/// Puts those that wait for the address of the server at a place behind the others.
+fn wake(
+    hosts: &Hosts<'_>,
+    dependents: &Dependents,
+    place: usize,
+    next: &mut List<usize>,
+) -> Result<(), NoMemory>
+    requires { place < length hosts.now.servers }
+    ensures { OnOk result ((server : Server) → slice_get hosts.now.servers place ≡ Some server → next.new ≡ next.old ++ places_of dependents.now.places server.name) }
+{
+    let name = &hosts.config().servers.items()[place].name;
+    for other in dependents.on(name) {
+        next.push(*other)?;
+    }
+    Ok(())
+}
