@@ -3,6 +3,9 @@
 //! The layer above may rest on this: each call is the definition `swap`, and `TooLong` comes exactly where the name
 //! that it makes, with its tail, has more than 255 octets.
 //!
+//! Names with an open tail are a promise of the library alone. The program substitutes in whole names: it follows the
+//! representative of each class, and the calls on a `SymName` meet no tail there.
+//!
 //! Costs: a substitution copies the labels once.
 #![tactic(auto)]
 

@@ -30,8 +30,9 @@ pub fn substitute(
     target.join_labels(alloc, &labels_below(name, owner))
 }
 
-/// The same of a name with an open tail, which keeps its tail. It is `TooLong` where the name that it makes would have
-/// more than 255 octets with the tail. The owner may be the known name itself, which lies above a name with a tail.
+/// The name with an open tail with the target's labels in the owner's place, and with its tail. It is `TooLong` where the
+/// name that it makes would have more than 255 octets with the tail. The owner may be the known name itself, which lies above
+/// a name with a tail.
 pub fn substitute_sym(
     alloc: Global,
     name: &SymName,
@@ -95,7 +96,7 @@ fn labels_below<'a>(name: &'a Name, owner: &Name) -> Labels<'a>
 {
     let mut below = name.labels();
     for _ in 0..owner.len() {
-        let _ = below.next();
+        below.next();
     }
     below
 }

@@ -1,14 +1,16 @@
 -- The walks of one state's branches, put behind others one branch after another.
-use Rattle.std.proofs.Common.{◌≡◌, ℕ, zero, suc, ◌+◌, ◌-◌, ◌<◌, ◌≤◌, List, [], ◌∷◌, ◌++◌, map, length, Option, refl, sym, ap, ◌∙◌, arith, length-append, append_assoc}
-use Rattle.std.specs.List.{flat_map}
+use Rattle.std.proofs.Common.{◌≡◌, ℕ, zero, suc, ◌+◌, ◌-◌, ◌<◌, ◌≤◌, List, [], ◌∷◌, ◌++◌, map, true, length, Option, None, refl, sym, ap, ◌∙◌, arith, length-append, append_assoc}
+use Rattle.std.specs.List.{AllByRecursion, flat_map}
 use Rattle.std.specs.Option.{option_to_list}
 use Rattle.std.proofs.lemmas.List.{length-map, map-append}
+use Rattle.dns_data.specs.Name.{Labels}
 use Rattle.dns_data.specs.declared.rr_type.RrType.{RrType}
+use Rattle.net_model.specs.declared.config.Config.{Config}
 use Rattle.net_model.specs.declared.walk.Hop.{Hop}
 use Rattle.net_model.specs.declared.walk.Leaf.{Leaf}
 use Rattle.net_model.specs.declared.walk.State.{State}
 use Rattle.net_model.specs.declared.walk.Walk.{Walk}
-use Rattle.net_model.specs.Step.{Setting, Branch, Go, End, next}
+use Rattle.net_model.specs.Step.{Setting, Branch, Go, End, arrived, next}
 use Rattle.net_model.specs.Walk.{led_on}
 use Rattle.net_model.proofs.AllWalks.{walks_by, walks_within}
 use Rattle.plain_resolver.specs.Begun.{Begun, led_along}
@@ -19,6 +21,15 @@ pub within_more : (depth : ℕ) (setting : Setting) (rtype : RrType) (state : St
 within_more zero setting rtype state deep = absurd (omega arith)
 within_more (suc depth) setting rtype state deep =
     ap (λ (d : ℕ). flat_map (walks_by (walks_within d setting rtype) state) (next setting rtype state)) (let e : suc depth - 1 ≡ depth = omega arith in e)
+
+-- no zone cut led to the state, and no rewrite
+abbrev pub IsFirstState : State → Type 0
+IsFirstState state = (state.cut ≡ 0) × (state.used ≡ 0)
+
+-- so it is of each state in which a query begins
+pub all_first : (config : Config) (query : Labels) (servers : List Labels) → AllByRecursion IsFirstState (map (arrived config query true 0 None) servers)
+all_first config query [] = tt
+all_first config query (server ∷ servers) = ((refl, refl), all_first config query servers)
 
 -- nothing before a walk
 pub along_nothing : (walks : List Walk) → map (led_along (record { states = []; hops = [] })) walks ≡ walks

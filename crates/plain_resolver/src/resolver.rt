@@ -4,27 +4,22 @@ ghost use Rattle.std.specs.Prelude.{◌≡◌};
 ghost use Rattle.net_model.specs.Step.{following};
 
 use dns_data::{Name, RrType};
-use net_model::Config;
 use std::marker::Model;
-use zone_lookup::Hosts;
+use zone_lookup::{Hosts, Walker};
 
-/// The servers of a configuration, how many rewrites a walk may use, which servers are followed, and the type of the
-/// query.
+/// What the steps of a walk depend on, and the type of the query.
 #[derive(Debug, Drop)]
 pub(crate) struct Resolver<'h, 'a> {
-    hosts: &'h Hosts<'a>,
-    rewrites: u32,
-    followed: &'h [Name],
+    walker: Walker<'h, 'a>,
     rtype: RrType,
 }
 
 impl<'h, 'a> Model for Resolver<'h, 'a> {
-    ghost use Rattle.net_model.specs.Step.{following};
     ghost use Rattle.plain_resolver.specs.Asked.{Asked};
 
     ghost Value = { Asked };
 
-    ghost view = { λ resolver. record { setting = following resolver.hosts.now resolver.rewrites resolver.followed.now; rtype = resolver.rtype } };
+    ghost view = { λ resolver. record { setting = resolver.walker; rtype = resolver.rtype } };
 }
 
 impl<'h, 'a> Resolver<'h, 'a> {
@@ -39,39 +34,16 @@ impl<'h, 'a> Resolver<'h, 'a> {
         ensures rtype { result.rtype ≡ rtype }
     {
         Resolver {
-            hosts,
-            rewrites,
-            followed,
+            walker: Walker::following(hosts, rewrites, followed),
             rtype,
         }
     }
 
-    /// The servers of the configuration.
-    pub fn hosts(&self) -> &'h Hosts<'a>
-        ensures { result.now ≡ self.now.setting.config }
+    /// What the steps of a walk depend on.
+    pub fn walker(&self) -> &Walker<'h, 'a>
+        ensures { result.now ≡ self.now.setting }
     {
-        self.hosts
-    }
-
-    /// The configuration.
-    pub fn config(&self) -> &'a Config
-        ensures { result.now ≡ self.now.setting.config }
-    {
-        self.hosts.config()
-    }
-
-    /// The servers that are followed.
-    pub fn followed(&self) -> &'h [Name]
-        ensures { result.now ≡ self.now.setting.followed }
-    {
-        self.followed
-    }
-
-    /// How many rewrites a walk may use.
-    pub fn rewrites(&self) -> u32
-        ensures { result ≡ self.now.setting.rewrites }
-    {
-        self.rewrites
+        &self.walker
     }
 
     /// The type of the query.

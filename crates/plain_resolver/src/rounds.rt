@@ -11,9 +11,9 @@ use crate::fault::{LearntFault, ResolveFault};
 use crate::resolver::Resolver;
 use crate::walks::all_walks;
 use dns_data::{List, Name, NoMemory, RrType};
-use net_model::{Config, Leaf, Walk};
+use net_model::{Config, Walk};
 use std::alloc::Global;
-use zone_lookup::Hosts;
+use zone_lookup::{Hosts, gives_address};
 
 /// The names of the servers whose addresses are learnt after as many rounds as there are servers, begun with these. It
 /// is `WalksPassed` where for one of the sets from which a round starts some server's name has more than `most` walks of
@@ -33,7 +33,9 @@ pub fn learnt(
     learnt_at(alloc, &hosts, rewrites, from, most)
 }
 
-/// The same with the trees of the configuration's zones.
+/// The names of the servers whose addresses are learnt after as many rounds as there are servers, begun with these, by the
+/// trees of the configuration's zones. It is `WalksPassed` where for one of the sets from which a round starts some server's
+/// name has more than `most` walks of type A or of type AAAA, with the first such server of the first such set.
 pub fn learnt_at(
     alloc: Global,
     hosts: &Hosts<'_>,
@@ -150,11 +152,4 @@ fn some_gives(walks: &[Walk]) -> bool
     ensures { result ≡ list_any (λ walk. gives_address walk.leaf) walks.now }
 {
     walks.iter().any(|walk| gives_address(&walk.leaf))
-}
-
-/// Whether the end of a walk gives an address, or leads out of what is configured.
-fn gives_address(leaf: &Leaf) -> bool
-    ensures { result ≡ gives_address leaf.now }
-{
-    matches!(leaf, Leaf::Answer(_) | Leaf::Outside | Leaf::Unhosted(_))
 }

@@ -12,12 +12,12 @@ ghost use Rattle.plain_resolver.specs.Passed.{HasMoreWalks};
 use crate::begun::BegunWalk;
 use crate::fault::ResolveFault;
 use crate::resolver::Resolver;
-use crate::steps::{Step, arrived, next};
+use crate::steps::next;
 use dns_data::{List, Name, RrType};
 use net_model::{Config, Hop, State, Walk};
 use std::alloc::Global;
 use std::collections::VecDeque;
-use zone_lookup::Hosts;
+use zone_lookup::{Hosts, Step, starts};
 
 /// All walks of the query in order, while these servers are followed. It is `WalksPassed` where there are more than
 /// `most`; no more than `most` are made.
@@ -38,7 +38,8 @@ pub fn resolve(
     resolve_at(alloc, &hosts, rewrites, followed, name, t, most)
 }
 
-/// The same with the trees of the configuration's zones.
+/// All walks of the query in order, while these servers are followed, by the trees of the configuration's zones. It is
+/// `WalksPassed` where there are more than `most`; no more than `most` are made.
 pub fn resolve_at(
     alloc: Global,
     hosts: &Hosts<'_>,
@@ -68,7 +69,7 @@ pub(crate) fn all_walks(
     ensures few { OnOk result (HasMoreWalks resolver.now.setting name.now resolver.now.rtype most → ⊥) }
     ensures passed { IsErrOf result ResolveFault.WalksPassed → HasMoreWalks resolver.now.setting name.now resolver.now.rtype most }
 {
-    let depth = (resolver.rewrites() as u64 + 1) * 128;
+    let depth = (resolver.walker().rewrites() as u64 + 1) * 128;
     walks_along(alloc, resolver, name, depth, most as usize)
 }
 
@@ -88,8 +89,8 @@ fn walks_along(
 {
     let mut walks = Vec::new(alloc);
     let mut begun = BegunWalk::new(alloc);
-    for server in resolver.config().tops.items() {
-        let state = arrived(alloc, resolver, name, true, 0, None, server)?;
+    let mut left = VecDeque::from_vec(starts(alloc, resolver.walker().hosts(), name)?.into_vec());
+    while let Some(state) = left.pop_front() {
         put_walks(alloc, resolver, state, &mut begun, &mut walks, depth, most)?;
     }
     Ok(walks)
@@ -116,11 +117,12 @@ fn put_walks(
     ensures settled { OnOk result (Settled depth resolver.now.setting resolver.now.rtype state) }
     ensures passed { IsErrOf result ResolveFault.WalksPassed → most < length walks.old.items + length (walks_within depth resolver.now.setting resolver.now.rtype state) }
 {
-    let mut left = VecDeque::from_vec(next(alloc, resolver, &state)?);
+    let mut left = VecDeque::from_vec(next(alloc, resolver, &state)?.into_vec());
     begun.enter(state)?;
     while let Some(step) = left.pop_front() {
         match step {
             Step::Go(hop, to) => {
+                // The labels of the zone cut are counted, so that it is known here that they are at most 127.
                 let _ = labels_of_cut(&hop);
                 begun.go(hop)?;
                 put_walks(alloc, resolver, to, begun, walks, depth - 1, most)?;

@@ -18,8 +18,7 @@ use dns_data::{JoinFault, List, Name, NoMemory, RrType, TypeSet};
 use name_rules::{SymName, substitute_whole};
 use net_model::Found;
 use std::alloc::Global;
-use zone_lookup::{at_name, referral};
-use zone_tree::{Decider, NodeId, Tree};
+use zone_tree::{Decider, NodeId, Tree, at_name, referral};
 
 /// What that which decides at the name with its tail answers to each type of a set.
 pub(crate) fn answers_of(

@@ -19,7 +19,7 @@ use Rattle.dns_data.specs.Name.{Labels, name_eq, name_cmp}
 use Rattle.dns_data.proofs.NameOrder.{names_total, before_differs, before_later, behind_differs}
 use Rattle.dns_data.proofs.Names.{same_names, name_eq_decides}
 use Rattle.dns_data.proofs.Searches.{find_none}
-use Rattle.zone_lookup.specs.Hosts.{AreFirsts, FindsFirsts}
+use Rattle.zone_lookup.specs.Firsts.{AreFirsts, FindsFirsts}
 
 -- the order of borrowed names
 abbrev pub borrowed_cmp : Bor Labels → Bor Labels → Ordering

@@ -1,5 +1,10 @@
+pub use Rattle.net_model.specs.Learnt
 pub use Rattle.net_model.specs.Lookup
 pub use Rattle.net_model.specs.Nearest
+pub use Rattle.net_model.specs.Step
 pub use Rattle.zone_tree.specs.Tree
+pub mod Firsts
 pub mod Hosts
 pub mod Named
+pub mod Steps
+pub mod Walker

@@ -43,6 +43,13 @@ impl<'a> Hosts<'a> {
     }
 }
 
+/// Whether the name is among these.
+pub fn is_among(names: &[Name], name: &Name) -> bool
+    ensures { result ≡ list_any (name_eq name.now) names.now }
+{
+    names.iter().any(|other| *name == *other)
+}
+
 /// Whether the zone holds an address of the name server of a zone cut, which is at or below the zone's origin. The names that
 /// stand next behind the cut's are looked at first.
 pub fn has_glue_below(tree: &Tree<'_>, cut: NodeId, ns: &Name) -> bool
@@ -54,13 +61,6 @@ pub fn has_glue_below(tree: &Tree<'_>, cut: NodeId, ns: &Name) -> bool
         Some(node) => owns_address(tree, node),
         None => false,
     }
-}
-
-/// Whether the name is among these.
-fn is_among(names: &[Name], name: &Name) -> bool
-    ensures { result ≡ list_any (name_eq name.now) names.now }
-{
-    names.iter().any(|other| *name == *other)
 }
 
 /// Whether the name, which is at or below the origin, owns an address record.

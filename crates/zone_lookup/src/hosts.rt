@@ -1,16 +1,15 @@
 //! Servers with the trees of their zones.
 
-ghost use Rattle.std.specs.Prelude.{◌≡◌, true, map, IfOk, IfSome};
+ghost use Rattle.std.specs.Prelude.{◌≡◌, true, IfOk, IfSome};
 ghost use Rattle.std.specs.Option.{option_map};
 ghost use Rattle.dns_data.specs.Name.{is_prefix};
 ghost use Rattle.net_model.specs.Nearest.{server_named, zone_with_origin, held_zone, nearest, nearest_of};
-ghost use Rattle.zone_lookup.specs.Hosts.{AreTreesOf, FindsTrees, AreHostsOf, FindsHosts};
 
+use crate::firsts::{MadeOf, firsts_in_order};
 use crate::named::{Named, item_named, item_near, near_of, nearest_item};
 use dns_data::{Labels, Name, NoMemory};
 use net_model::{Config, Server, Zone};
 use std::alloc::Global;
-use std::collections::BTreeMap;
 use std::marker::Model;
 use zone_tree::Tree;
 
@@ -37,7 +36,7 @@ impl<'a> Hosts<'a> {
     pub fn build(alloc: Global, config: &'a Config) -> Result<Hosts<'a>, NoMemory>
         ensures { IfOk result (λ hosts. hosts ≡ config.now) }
     {
-        let hosts = hosts_of(alloc, config.servers.items())?;
+        let hosts = firsts_in_order(alloc, config.servers.items())?;
         Ok(Hosts { config, hosts })
     }
 
@@ -138,7 +137,7 @@ impl<'a> Host<'a> {
     pub(crate) fn build(alloc: Global, server: &'a Server) -> Result<Host<'a>, NoMemory>
         ensures { IfOk result (λ host. host ≡ server.now) }
     {
-        let trees = trees_of(alloc, server.zones.items())?;
+        let trees = firsts_in_order(alloc, server.zones.items())?;
         Ok(Host { server, trees })
     }
 
@@ -186,6 +185,22 @@ impl<'a> Host<'a> {
     }
 }
 
+impl<'a> MadeOf<'a, Server> for Host<'a> {
+    ghost tell = { λ host. host };
+
+    fn make(alloc: Global, server: &'a Server) -> Result<Host<'a>, NoMemory> {
+        Host::build(alloc, server)
+    }
+}
+
+impl<'a> MadeOf<'a, Zone> for Tree<'a> {
+    ghost tell = { λ tree. tree.zone };
+
+    fn make(alloc: Global, zone: &'a Zone) -> Result<Tree<'a>, NoMemory> {
+        Tree::build(alloc, zone)
+    }
+}
+
 impl<'a> Named for Host<'a> {
     ghost name_of = { λ server. server.name };
 
@@ -202,78 +217,18 @@ impl<'a> Named for Tree<'a> {
     }
 }
 
-/// The trees of zones in the order of their origins. Of several zones with one origin the first counts.
-fn trees_of<'a>(alloc: Global, zones: &'a [Zone]) -> Result<Vec<Tree<'a>>, NoMemory>
-    ensures { IfOk result (λ trees. AreTreesOf zones.now trees.items) }
-{
-    let trees = trees_by_origin(alloc, zones)?;
-    let _ = trees.len();
-    tree_values(alloc, trees)
-}
+impl Named for Server {
+    ghost name_of = { λ server. server.name };
 
-/// The trees of a map, in its order.
-fn tree_values<'a>(
-    alloc: Global,
-    trees: BTreeMap<&'a Name, Tree<'a>>,
-) -> Result<Vec<Tree<'a>>, NoMemory>
-    ensures { IfOk result (λ values. values.items ≡ map (λ entry. entry.1) trees.entry.entries) }
-{
-    Ok(trees.into_values().collect(alloc)?)
-}
-
-/// The trees of zones by their origins. The last zones are looked at first, and the first of one origin stays.
-fn trees_by_origin<'a>(
-    alloc: Global,
-    zones: &'a [Zone],
-) -> Result<BTreeMap<&'a Name, Tree<'a>>, NoMemory>
-    ensures { IfOk result (λ trees. FindsTrees zones.now trees) }
-{
-    let mut trees = BTreeMap::new(alloc);
-    let mut left = zones.len();
-    while left > 0 {
-        left -= 1;
-        let zone = &zones[left];
-        let tree = Tree::build(alloc, zone)?;
-        trees.insert(&zone.origin, tree)?;
+    fn its_name(&self) -> &Name {
+        &self.name
     }
-    Ok(trees)
 }
 
-/// The servers with the trees of their zones, in the order of their names. Of several servers with one name the first
-/// counts.
-fn hosts_of<'a>(alloc: Global, servers: &'a [Server]) -> Result<Vec<Host<'a>>, NoMemory>
-    ensures { IfOk result (λ hosts. AreHostsOf servers.now hosts.items) }
-{
-    let hosts = hosts_by_name(alloc, servers)?;
-    let _ = hosts.len();
-    host_values(alloc, hosts)
-}
+impl Named for Zone {
+    ghost name_of = { λ zone. zone.origin };
 
-/// The servers of a map, in its order.
-fn host_values<'a>(
-    alloc: Global,
-    hosts: BTreeMap<&'a Name, Host<'a>>,
-) -> Result<Vec<Host<'a>>, NoMemory>
-    ensures { IfOk result (λ values. values.items ≡ map (λ entry. entry.1) hosts.entry.entries) }
-{
-    Ok(hosts.into_values().collect(alloc)?)
-}
-
-/// The servers with the trees of their zones by their names. The last servers are looked at first, and the first of one
-/// name stays.
-fn hosts_by_name<'a>(
-    alloc: Global,
-    servers: &'a [Server],
-) -> Result<BTreeMap<&'a Name, Host<'a>>, NoMemory>
-    ensures { IfOk result (λ hosts. FindsHosts servers.now hosts) }
-{
-    let mut hosts = BTreeMap::new(alloc);
-    let mut left = servers.len();
-    while left > 0 {
-        left -= 1;
-        let server = &servers[left];
-        let host = Host::build(alloc, server)?;
-        hosts.insert(&server.name, host)?;
+    fn its_name(&self) -> &Name {
+        &self.origin
     }
-    Ok(hosts)
 }

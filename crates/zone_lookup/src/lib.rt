@@ -1,7 +1,9 @@
-//! The lookup of a name and a type in a zone, and the servers of a configuration with the trees of their zones.
+//! The lookup of a name and a type in a zone, the servers of a configuration with the trees of their zones, and the steps
+//! of a walk from server to server.
 //!
 //! The layer above may rest on this: `find` answers what the definition `found` says of the zone; `Hosts` finds a server, a
 //! zone by its origin and the nearest zone of a name as the definitions do, and tells which name servers may be followed.
+//! `starts` gives the states in which a query begins, and `after_lookup` the steps of a state, as the definitions do.
 //!
 //! Costs: what decides at a name is found in one search among the zone's names, or in two where a wildcard may answer. No data
 //! are looked at but those that are answered. A server and a zone are found in as many comparisons of names as the logarithm of
@@ -12,14 +14,22 @@
 //! stands right behind its zone cut in the order of names is found in a few comparisons.
 #![tactic(auto)]
 
-mod answers;
+mod ends;
+mod firsts;
 mod follow;
 mod hosts;
 mod lookup;
 mod named;
+mod redirection;
+mod rewrites;
+mod steps;
+mod walker;
 
-pub use answers::{at_name, referral};
-pub use follow::has_glue_below;
+pub use ends::gives_address;
+pub use follow::{has_glue_below, is_among};
 pub use hosts::{Host, Hosts, Near};
 pub use lookup::find;
 pub use named::{Named, nearest_item};
+pub use rewrites::starts;
+pub use steps::{Step, after_lookup, outside};
+pub use walker::Walker;

@@ -4,11 +4,11 @@ ghost use Rattle.std.specs.Prelude.{◌≡◌, true, IfOk};
 ghost use Rattle.dns_data.specs.Name.{is_prefix};
 ghost use Rattle.net_model.specs.Lookup.{found};
 
-use crate::answers::{at_name, redirected, referral};
+use crate::redirection::redirected;
 use dns_data::{Name, NoMemory, RrType};
 use net_model::Found;
 use std::alloc::Global;
-use zone_tree::{Decider, Tree, deciding};
+use zone_tree::{Decider, Tree, at_name, deciding, referral};
 
 /// What the zone of the tree answers to a name at or below its origin and a type (RFC 1034 section 4.3.2, RFC 4592
 /// section 3.3, RFC 6672 section 3.2).

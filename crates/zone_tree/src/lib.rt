@@ -2,7 +2,8 @@
 //!
 //! The layer above may rest on this: a tree has one node for each name that exists in its zone, empty non-terminals
 //! among them, and what a node tells of its name is what the definitions say of it in the zone. So is what decides at a
-//! name, and at a name with an open tail. No condition is put on the zone.
+//! name, and at a name with an open tail, and so are the answers of a zone cut and of the records of a name. No condition
+//! is put on the zone.
 //!
 //! Costs: a tree sorts references to the records of its zone by their owners once, and then passes over them once. It
 //! keeps each name, and of a single record of a type a reference; only data of several records of one name and type are
@@ -13,6 +14,7 @@
 //! names below it. A closest encloser takes one, or a second one where the name before in order isn't the encloser itself.
 #![tactic(auto)]
 
+mod answers;
 mod decider;
 mod enclosers;
 mod few;
@@ -25,6 +27,7 @@ mod places;
 mod records;
 mod tree;
 
+pub use answers::{at_name, referral};
 pub use decider::{Decider, deciding, open_deciding};
 pub use enclosers::{encloser, source};
 pub use node::NodeId;

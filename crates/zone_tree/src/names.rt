@@ -52,6 +52,7 @@ fn push_new(
 fn front_of(alloc: Global, name: &Name, count: usize) -> Result<Name, NoMemory>
     ensures { IfOk result (λ front. front ≡ take count name.now) }
 {
+    // The labels are read, so that it is known here that they have at most 255 octets.
     let _ = name.labels();
     match Name::root().join_labels(alloc, &name.front(count)) {
         Ok(front) => Ok(front),

@@ -33,7 +33,7 @@ pub(crate) fn servers_of<'a>(alloc: Global, own: &[&'a Rr]) -> Result<Few<&'a Na
     }
 }
 
-/// The same of any number of them.
+/// The names of the name servers of any number of records, in the order of names.
 fn servers_in_order<'a>(alloc: Global, own: &[&'a Rr]) -> Result<Few<&'a Name>, NoMemory>
     ensures { IfOk result (λ servers. map (λ server. server.now) servers ≡ in_order name_cmp (targets_of (map (λ rr. rr.now.rdata) own.now) types.Ns)) }
 {
@@ -101,6 +101,7 @@ fn put_by_text(
     ensures keyed { OnOk result (AllByRecursion (λ entry. entry.0 ≡ data_text entry.1) set.new.entries) }
     ensures put { OnOk result (map (λ entry. entry.1) set.new.entries ≡ put_in_order data_cmp rdata.now (map (λ entry. entry.1) set.old.entries)) }
 {
+    // The length is read, so that it is known here that the keys are in order.
     let _ = set.len();
     let text = text_of(alloc, rdata)?;
     if !set.contains_key(&text) {

@@ -83,6 +83,7 @@ impl<'a> Tree<'a> {
         ensures node { IsNode self.now result }
         ensures name { name_of self.now result ≡ self.now.zone.origin }
     {
+        // The length is read, so that it is known here that there is a name.
         let _ = self.names.len();
         NodeId::at(0)
     }
@@ -171,7 +172,8 @@ impl<'a> Tree<'a> {
         self.child_with(node, label.items())
     }
 
-    /// The same of a label's octets.
+    /// The node of the name with the label of these octets directly below a node's name, or `None` where that name doesn't
+    /// exist in the zone.
     pub(crate) fn child_with(&self, node: NodeId, label: &[u8]) -> Option<NodeId>
         requires { IsNode self.now node }
         ensures node { IfSome result (IsNode self.now) }

@@ -4,9 +4,9 @@ use Rattle.net_model.specs.declared.walk.Walk.{Walk}
 use Rattle.net_model.specs.Step.{Branch, Go, End, next}
 use Rattle.net_model.proofs.AllWalks.{walks_by, walks_within, LeadsTo, Settled}
 use Rattle.net_model.proofs.StepBounds.{BranchStepsOn, next_steps}
-use Rattle.plain_resolver.specs.declared.steps.Step.{Step}
+use Rattle.zone_lookup.specs.declared.steps.Step.{Step}
 use Rattle.plain_resolver.specs.Begun.{Begun, led_along}
-use Rattle.plain_resolver.specs.Steps.{branch_of}
+use Rattle.zone_lookup.specs.Steps.{branch_of}
 use Rattle.plain_resolver.proofs.Passing.{within_more, gone, by_branches, going, passed_by_going, passed_by_ending}
 use Rattle.plain_resolver.proofs.walks.+put_walks.Goals as goal
 
@@ -16,7 +16,7 @@ loop-step-init t c =
     let rtype = c.args.resolver.now.rtype in
     let depth = c.args.depth - 1 in
     let steps : map branch_of c.from_vec-left.result.items ≡ next setting rtype c.args.state =
-    ap (map branch_of) c.from_vec-left.ensures.items ∙ c.in_ok-next.ensures in
+    ap (map branch_of) (c.from_vec-left.ensures.items ∙ c.into_vec.ensures) ∙ c.in_ok-next.ensures in
     record {
       begun = c.in_ok-enter.ensures;
       items =

@@ -2,7 +2,7 @@ use Rattle.std.proofs.Common.{◌≡◌, ◌-◌, ◌≤◌, ◌++◌, map, leng
 use Rattle.std.specs.List.{AllByRecursion}
 use Rattle.net_model.specs.Step.{next}
 use Rattle.net_model.proofs.AllWalks.{walks_within, LeadsTo, Settled}
-use Rattle.plain_resolver.specs.Steps.{branch_of}
+use Rattle.zone_lookup.specs.Steps.{branch_of}
 use Rattle.plain_resolver.proofs.Passing.{entered, by_branches}
 use Rattle.net_model.proofs.StepBounds.{BranchStepsOn}
 use Rattle.plain_resolver.proofs.walks.+put_walks.Given as goal

@@ -1,12 +1,12 @@
 use Rattle.std.proofs.Common.{◌≡◌, ◌+◌, ◌&&◌, Some, map, take}
 use Rattle.net_model.specs.declared.walk.Hop.TheVariants.{Rewrite}
 use Rattle.net_model.specs.Step.{Go, arrived}
-use Rattle.plain_resolver.specs.Steps.{branch_of}
-use Rattle.plain_resolver.proofs.steps.rewrites.Given as goal
+use Rattle.zone_lookup.specs.Steps.{branch_of}
+use Rattle.zone_lookup.proofs.rewrites.rewrites.Given as goal
 
 -- the steps at the top servers so far
 abbrev pub invariant-loop-server : goal.invariant-loop-server
 invariant-loop-server l =
-    map branch_of l.steps.items
+    map branch_of l.steps
     ≡ map (λ server. Go (Rewrite l.place l.by_dname l.to)
-    (arrived l.resolver.setting.config l.to (l.state.carried && l.by_dname) (l.state.used + 1) (Some l.place) server)) (take l.server-index l.tops)
+    (arrived l.walker.config l.to (l.state.carried && l.by_dname) (l.state.used + 1) (Some l.place) server)) (take l.server-index l.server-items)

@@ -1,5 +1,5 @@
 use Rattle.std.proofs.Common.{◌≡◌, map, take}
-use Rattle.zone_lookup.proofs.answers.copied_names.Given as goal
+use Rattle.zone_tree.proofs.answers.copied_names.Given as goal
 
 -- copies of the names so far
 abbrev pub invariant-loop-name : goal.invariant-loop-name

@@ -1,19 +1,19 @@
-//! What that which decides answers.
+//! What a zone cut and the records of a name answer.
 
 ghost use Rattle.std.specs.Prelude.{◌≡◌, map, None, IfOk, if◌then◌else◌};
 ghost use Rattle.std.specs.Option.{option_map};
 ghost use Rattle.dns_data.specs.RrType.{type_eq};
 ghost use Rattle.dns_data.specs.declared.rr_type.RrType.TheVariants as rr_type;
 ghost use Rattle.net_model.specs.declared.found.Found.TheVariants as found_as;
-ghost use Rattle.net_model.specs.Lookup.{first_name, answer_of, at_name, redirected};
+ghost use Rattle.net_model.specs.Lookup.{first_name, answer_of, at_name};
 ghost use Rattle.net_model.specs.Zone.{ns_names, targets_at};
 ghost use Rattle.zone_tree.specs.Tree.{IsNode, name_of};
 
-use dns_data::{JoinFault, List, Name, NoMemory, Rdata, RrType, copied_data};
-use name_rules::substitute;
+use crate::node::NodeId;
+use crate::tree::Tree;
+use dns_data::{List, Name, NoMemory, Rdata, RrType, copied_data};
 use net_model::Found;
 use std::alloc::Global;
-use zone_tree::{NodeId, Tree};
 
 /// What a zone cut answers: its name servers (RFC 1034 section 4.3.2, step 3b).
 pub fn referral(alloc: Global, tree: &Tree<'_>, cut: NodeId) -> Result<Found, NoMemory>
@@ -24,33 +24,6 @@ pub fn referral(alloc: Global, tree: &Tree<'_>, cut: NodeId) -> Result<Found, No
         cut: tree.name(cut).copy(alloc)?,
         names: copied_names(alloc, tree.name_servers(cut))?,
     })
-}
-
-/// What the owner of a DNAME record answers for a name below it (RFC 6672 section 2.2).
-pub(crate) fn redirected(
-    alloc: Global,
-    tree: &Tree<'_>,
-    owner: NodeId,
-    name: &Name,
-) -> Result<Found, NoMemory>
-    requires { IsNode tree.now owner }
-    ensures { IfOk result (λ answer. answer ≡ redirected name.now (name_of tree.now owner) (first_name (targets_at tree.now.zone (name_of tree.now owner) rr_type.Dname))) }
-{
-    let Some(target) = tree.redirection(owner) else {
-        return Ok(Found::NxDomain);
-    };
-    let owner = tree.name(owner);
-    match substitute(alloc, name, owner, target) {
-        Ok(to) => Ok(Found::Rewrite {
-            by_dname: true,
-            owner: owner.copy(alloc)?,
-            to,
-        }),
-        Err(JoinFault::TooLong) => Ok(Found::TooLong {
-            owner: owner.copy(alloc)?,
-        }),
-        Err(JoinFault::NoMemory) => Err(NoMemory),
-    }
 }
 
 /// What the records of an existing name answer (RFC 1034 sections 3.6.2 and 4.3.2, step 3a).

@@ -1,0 +1,13 @@
+use Rattle.std.proofs.Common.{◌≤◌, length, drop}
+use Rattle.zone_lookup.specs.Firsts.{FindsFirsts}
+use Rattle.zone_lookup.proofs.firsts.firsts_by_name.Given as goal
+
+-- the values looked at
+abbrev pub invariant-loop-left : goal.invariant-loop-left
+invariant-loop-left g l = record {
+  within : l.left ≤ length l.all;
+  finds : FindsFirsts g.X.MadeOf.tell g.Y.Named.name_of (drop l.left l.all) l.found;
+}
+
+abbrev pub decreases-loop-left : goal.decreases-loop-left
+decreases-loop-left g l = l.left

@@ -1,0 +1,10 @@
+use Rattle.std.proofs.Common.{◌≡◌, map, take}
+use Rattle.net_model.specs.Step.{referred}
+use Rattle.zone_lookup.specs.Steps.{branch_of}
+use Rattle.zone_lookup.proofs.steps.referrals.Given as goal
+
+-- the steps to the name servers so far
+abbrev pub invariant-loop-ns : goal.invariant-loop-ns
+invariant-loop-ns l =
+    map branch_of l.steps
+    ≡ map (λ ns. referred l.walker l.state (record { server = l.state.server; zone = l.origin; cut = l.cut; ns = ns })) (take l.ns-index l.names)

@@ -1,0 +1,100 @@
+//! Rewrites of a name, and the states in which a query begins.
+
+ghost use Rattle.std.specs.Prelude.{◌≡◌, ◌+◌, ◌*◌, ◌^◌, ◌<◌, ◌&&◌, map, Some, IfOk};
+ghost use Rattle.net_model.specs.Step.{Go, arrived, rewritten, start};
+ghost use Rattle.net_model.specs.declared.walk.Hop.TheVariants as hop_as;
+ghost use Rattle.zone_lookup.specs.Steps.{branch_of};
+
+use crate::hosts::Hosts;
+use crate::steps::{Step, one_step};
+use crate::walker::Walker;
+use dns_data::{List, Name, NoMemory};
+use net_model::{Hop, Place, State};
+use std::alloc::Global;
+
+/// The states in which the query begins, one at each top server.
+pub fn starts(alloc: Global, hosts: &Hosts<'_>, query: &Name) -> Result<List<State>, NoMemory>
+    ensures { IfOk result (λ states. states ≡ start hosts.now query.now) }
+{
+    let mut states = List::new(alloc);
+    for server in hosts.config().tops.items() {
+        states.push(arrived(alloc, hosts, query, true, 0, None, server)?)?;
+    }
+    Ok(states)
+}
+
+/// The steps of a rewrite while rewrites are left: at the same server if it has a zone for the new name, else at the top
+/// servers.
+pub(crate) fn rewrites(
+    alloc: Global,
+    walker: &Walker<'_, '_>,
+    state: &State,
+    place: &Place,
+    by_dname: bool,
+    to: &Name,
+) -> Result<List<Step>, NoMemory>
+    requires { state.now.used + 1 < 2 ^ 32 }
+    ensures { IfOk result (λ steps. map branch_of steps ≡ rewritten walker.now.config state.now place.now by_dname to.now) }
+{
+    let hosts = walker.hosts();
+    if hosts.nearest_of(&state.server, to).is_some() {
+        let step = rewrite(alloc, hosts, state, place, by_dname, to, &state.server)?;
+        return one_step(alloc, step);
+    }
+    let mut steps = List::new(alloc);
+    for server in hosts.config().tops.items() {
+        steps.push(rewrite(alloc, hosts, state, place, by_dname, to, server)?)?;
+    }
+    Ok(steps)
+}
+
+/// The step of a rewrite at a server.
+fn rewrite(
+    alloc: Global,
+    hosts: &Hosts<'_>,
+    state: &State,
+    place: &Place,
+    by_dname: bool,
+    to: &Name,
+    server: &Name,
+) -> Result<Step, NoMemory>
+    requires { state.now.used + 1 < 2 ^ 32 }
+    ensures { IfOk result (λ step. branch_of step ≡ Go (hop_as.Rewrite place.now by_dname to.now) (arrived hosts.now to.now (state.now.carried && by_dname) (state.now.used + 1) (Some place.now) server.now)) }
+{
+    let hop = Hop::Rewrite {
+        place: place.copy(alloc)?,
+        by_dname,
+        to: to.copy(alloc)?,
+    };
+    let carried = state.carried && by_dname;
+    let last = Some(place.copy(alloc)?);
+    let to = arrived(alloc, hosts, to, carried, state.used + 1, last, server)?;
+    Ok(Step::Go(hop, to))
+}
+
+/// The state at a server to which no zone cut led.
+fn arrived(
+    alloc: Global,
+    hosts: &Hosts<'_>,
+    name: &Name,
+    carried: bool,
+    used: u32,
+    last: Option<Place>,
+    server: &Name,
+) -> Result<State, NoMemory>
+    ensures { IfOk result (λ state. state ≡ arrived hosts.now name.now carried used last server.now) }
+{
+    let zone = match hosts.nearest_of(server, name) {
+        Some(tree) => Some(tree.zone().origin.copy(alloc)?),
+        None => None,
+    };
+    Ok(State {
+        server: server.copy(alloc)?,
+        name: name.copy(alloc)?,
+        carried,
+        cut: 0,
+        used,
+        last,
+        zone,
+    })
+}

@@ -1,0 +1,154 @@
+//! One step of a walk.
+
+ghost use Rattle.std.specs.Prelude.{◌≡◌, ◌∷◌, [], map, None, Some, IfOk};
+ghost use Rattle.net_model.specs.declared.config.Zone.{Zone};
+ghost use Rattle.net_model.specs.declared.walk.Leaf.TheVariants.{Outside};
+ghost use Rattle.net_model.specs.Step.{End, after_lookup, delegated, referred};
+ghost use Rattle.zone_lookup.specs.Steps.{branch_of};
+
+use crate::rewrites::rewrites;
+use crate::walker::Walker;
+use dns_data::{List, Name, NoMemory};
+use net_model::{Cut, Found, Hop, Leaf, Place, State};
+use std::alloc::Global;
+
+/// What a state leads to: a next state by a hop, or an end.
+#[derive(Debug, Drop)]
+pub enum Step {
+    Go(Hop, State),
+    End(Option<Hop>, Leaf),
+}
+
+/// The steps of a state whose server holds no zone for the name.
+pub fn outside(alloc: Global) -> Result<List<Step>, NoMemory>
+    ensures { IfOk result (λ steps. map branch_of steps ≡ End None Outside ∷ []) }
+{
+    one_step(alloc, Step::End(None, Leaf::Outside))
+}
+
+/// The steps of a state, in order, by what its server finds in the zone with this origin.
+pub fn after_lookup(
+    alloc: Global,
+    walker: &Walker<'_, '_>,
+    state: &State,
+    origin: &Name,
+    found: Found,
+) -> Result<List<Step>, NoMemory>
+    ensures { IfOk result (λ steps. map branch_of steps ≡ after_lookup walker.now state.now origin.now found) }
+{
+    match found {
+        Found::Answer(rdata) => one_step(alloc, Step::End(None, Leaf::Answer(rdata))),
+        Found::NoData => one_step(alloc, Step::End(None, Leaf::NoData)),
+        Found::NxDomain => one_step(alloc, Step::End(None, Leaf::NxDomain)),
+        Found::Referral { cut, names } => {
+            referrals(alloc, walker, state, origin, &cut, names.items())
+        }
+        Found::Rewrite {
+            by_dname,
+            owner,
+            to,
+        } => {
+            let place = place_at(alloc, state, origin, owner)?;
+            if state.used < walker.rewrites() {
+                rewrites(alloc, walker, state, &place, by_dname, &to)
+            } else {
+                one_step(alloc, Step::End(None, Leaf::Limit(place)))
+            }
+        }
+        Found::TooLong { owner } => {
+            let place = place_at(alloc, state, origin, owner)?;
+            if state.used < walker.rewrites() {
+                one_step(alloc, Step::End(None, Leaf::Overlong(place)))
+            } else {
+                one_step(alloc, Step::End(None, Leaf::Limit(place)))
+            }
+        }
+    }
+}
+
+/// One step.
+pub(crate) fn one_step(alloc: Global, step: Step) -> Result<List<Step>, NoMemory>
+    ensures { IfOk result (λ steps. steps ≡ step ∷ []) }
+{
+    let mut steps = List::new(alloc);
+    steps.push(step)?;
+    Ok(steps)
+}
+
+/// The place of a rewrite.
+fn place_at(alloc: Global, state: &State, origin: &Name, owner: Name) -> Result<Place, NoMemory>
+    ensures { IfOk result (λ place. place ≡ record { server = state.now.server; zone = origin.now; owner = owner }) }
+{
+    Ok(Place {
+        server: state.server.copy(alloc)?,
+        zone: origin.copy(alloc)?,
+        owner,
+    })
+}
+
+/// The steps of a referral, one to each name server.
+fn referrals(
+    alloc: Global,
+    walker: &Walker<'_, '_>,
+    state: &State,
+    origin: &Name,
+    cut: &Name,
+    names: &[Name],
+) -> Result<List<Step>, NoMemory>
+    ensures { IfOk result (λ steps. map branch_of steps ≡ map (λ ns. referred walker.now state.now (record { server = state.now.server; zone = origin.now; cut = cut.now; ns = ns })) names.now) }
+{
+    let mut steps = List::new(alloc);
+    for ns in names {
+        let cut = Cut {
+            server: state.server.copy(alloc)?,
+            zone: origin.copy(alloc)?,
+            cut: cut.copy(alloc)?,
+            ns: ns.copy(alloc)?,
+        };
+        steps.push(referred(alloc, walker, state, cut)?)?;
+    }
+    Ok(steps)
+}
+
+/// The step to one name server of a referral.
+fn referred(
+    alloc: Global,
+    walker: &Walker<'_, '_>,
+    state: &State,
+    cut: Cut,
+) -> Result<Step, NoMemory>
+    ensures { IfOk result (λ step. branch_of step ≡ referred walker.now state.now cut) }
+{
+    let ns = cut.ns.copy(alloc)?;
+    let Some(host) = walker.hosts().host(&cut.ns) else {
+        return Ok(Step::End(Some(Hop::Refer(cut)), Leaf::Unhosted(ns)));
+    };
+    if !walker.may_follow(&cut) {
+        return Ok(Step::End(Some(Hop::Refer(cut)), Leaf::NoAddress(ns)));
+    }
+    match host.nearest(&state.name) {
+        Some(tree) => delegated(alloc, state, cut, ns, &tree.zone().origin),
+        None => Ok(Step::End(Some(Hop::Refer(cut)), Leaf::Lame(ns))),
+    }
+}
+
+/// The step to a name server whose nearest zone for the name has this origin.
+fn delegated(
+    alloc: Global,
+    state: &State,
+    cut: Cut,
+    ns: Name,
+    origin: &Name,
+) -> Result<Step, NoMemory>
+    requires { ns ≡ cut.ns }
+    ensures { IfOk result (λ step. (zone : Zone) → zone.origin ≡ origin.now → branch_of step ≡ delegated state.now cut (Some zone)) }
+{
+    if !cut.cut.is_prefix_of(origin) {
+        return Ok(Step::End(Some(Hop::Refer(cut)), Leaf::Lame(ns)));
+    }
+    let mut to = state.copy(alloc)?;
+    to.server = ns;
+    to.cut = cut.cut.len();
+    to.zone = Some(origin.copy(alloc)?);
+    Ok(Step::Go(Hop::Refer(cut), to))
+}
