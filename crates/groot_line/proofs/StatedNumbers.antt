@@ -70,8 +70,7 @@ option_in options.Classes None = (omega arith, omega arith)
 option_in options.Rewrites None = (omega arith, omega arith)
 option_in option (Some value) = if_ok_or (InRange (most_of option)) (number_to (most_of option) value) Usage (number_in_range (most_of option) value)
 
--- those of a job
-abbrev pub IsInRange : Job → Type 0
+abbrev IsInRange : Job → Type 0
 IsInRange (Check meta workers classes rewrites) = InRange 64 workers × InRange 1000000 classes × InRange 64 rewrites
 IsInRange (Ask meta name rtype) = Unit {0}
 IsInRange (Classes meta classes) = InRange 1000000 classes
@@ -111,5 +110,12 @@ in_range (word ∷ words) =
     through IsInRange (ok_or (command_of word) Usage) _
     (λ command. through IsInRange (arguments_of command words) _ (λ arguments. job_by_in command arguments))
 
-pub job_in_range : (words : List (List ℕ)) (job : Job) → job_of words ≡ Ok job → IsInRange job
-job_in_range words job e = subst (λ (said : Result Job LineFault). IfOk said IsInRange) e (in_range words)
+by_job : (words : List (List ℕ)) (job : Job) → job_of words ≡ Ok job → IsInRange job
+by_job words job e = subst (λ (said : Result Job LineFault). IfOk said IsInRange) e (in_range words)
+
+pub check_in_range : (words : List (List ℕ)) (meta : List ℕ) (workers classes rewrites : ℕ) → job_of words ≡ Ok (Check meta workers classes rewrites)
+    → InRange 64 workers × InRange 1000000 classes × InRange 64 rewrites
+check_in_range words meta workers classes rewrites = by_job words (Check meta workers classes rewrites)
+
+pub drill_in_range : (words : List (List ℕ)) (n workers : ℕ) → job_of words ≡ Ok (Drill n workers) → InRange 5000 n × InRange 64 workers
+drill_in_range words n workers = by_job words (Drill n workers)
