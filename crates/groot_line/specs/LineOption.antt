@@ -15,11 +15,18 @@ most_of Workers = 64
 most_of Classes = 1000000
 most_of Rewrites = 64
 
+-- how many names the class tree may have, and how many rewrites a query may use, where nothing else is said
+abbrev pub usual_names : ℕ
+usual_names = 100000
+
+abbrev pub usual_rewrites : ℕ
+usual_rewrites = 12
+
 -- the number where the words don't say it
 abbrev pub default_of : LineOption → ℕ
 default_of Workers = 4
-default_of Classes = 100000
-default_of Rewrites = 12
+default_of Classes = usual_names
+default_of Rewrites = usual_rewrites
 
 -- the options
 abbrev pub line_options : List LineOption

@@ -3,6 +3,12 @@
 ghost use Rattle.std.specs.Prelude.{◌≡◌};
 ghost use Rattle.groot_line.specs.LineOption.{option_name, most_of, default_of};
 
+/// How many names the class tree may have, where the words say no other number.
+pub const USUAL_NAMES: u32 = 100_000;
+
+/// How many rewrites a query may use, where the words say no other number.
+pub const USUAL_REWRITES: u32 = 12;
+
 /// A number that a run may be given.
 #[derive(Clone, Copy, Debug, PartialEq, Eq)]
 pub(crate) enum LineOption {
@@ -43,8 +49,8 @@ impl LineOption {
     {
         match self {
             LineOption::Workers => 4,
-            LineOption::Classes => 100_000,
-            LineOption::Rewrites => 12,
+            LineOption::Classes => USUAL_NAMES,
+            LineOption::Rewrites => USUAL_REWRITES,
         }
     }
 }

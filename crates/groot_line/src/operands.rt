@@ -1,6 +1,6 @@
 //! The words behind a command that are neither options nor their values.
 
-ghost use Rattle.std.specs.Prelude.{map};
+ghost use Rattle.std.specs.Prelude.{◌≡◌, map};
 ghost use Rattle.dns_data.specs.Answers.{AnswersOr};
 ghost use Rattle.groot_line.specs.Operands.{asked_meta, asked_name, asked_type, only_meta, drill_number};
 
@@ -45,7 +45,7 @@ pub(crate) fn asked_name(alloc: Global, word: &str) -> Result<Name, LineFault>
 
 /// The type with this word, in any case.
 pub(crate) fn asked_type(word: &str) -> Result<RrType, LineFault>
-    ensures { AnswersOr LineFault.NoMemory result (asked_type word.now) }
+    ensures { result ≡ asked_type word.now }
 {
     match RrType::from_word(word.as_bytes()) {
         Some(rtype) => Ok(rtype),
@@ -55,7 +55,7 @@ pub(crate) fn asked_type(word: &str) -> Result<RrType, LineFault>
 
 /// Of how many zones a drill makes files, if the word for it is the only operand.
 pub(crate) fn drill_number(operands: &[&str]) -> Result<u32, LineFault>
-    ensures { AnswersOr LineFault.NoMemory result (drill_number (map (λ word. word.now) operands.now)) }
+    ensures { result ≡ drill_number (map (λ word. word.now) operands.now) }
 {
     let [word] = operands else {
         return Err(LineFault::Usage);

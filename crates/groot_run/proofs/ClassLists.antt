@@ -188,18 +188,18 @@ module _ (config : Config) (rows : List ClassRow) (tree : IsClassTree (ground_of
       }
 
 -- an ending with the lines of rows, and no line on err
-with_rows : (rows : List ClassRow) (text line : List ℕ) → text ≡ rows_text rows → line ≡ []
+pub with_rows : (rows : List ClassRow) (text line : List ℕ) → text ≡ rows_text rows → line ≡ []
     → ◌≡◌ {A = Ending} (record { status = Clean; out = text; err = line }) (listed (classes_of_rows rows))
 with_rows rows text line lines none =
     let whole : text ≡ class_list_text (classes_of_rows rows) = lines ∙ text_by_rows rows in
     cc
 
 -- so the rows of the class tree of a graph with the configuration's ground are what `classes` lists
-pub lists_classes : (config : Config) (limit : ℕ) (graph : Ground) (rows viewed : List ClassRow) (text line : List ℕ) → AreSame graph (ground_of config)
+pub lists_classes : (config : Config) (limit : ℕ) (graph : Ground) (rows viewed : List ClassRow) (ending : Ending) → AreSame graph (ground_of config)
     → rows ≡ viewed → IsClassTree graph (tree_names viewed) → All (λ (row : ClassRow). IsBelow graph row.name row.below) viewed
     → AreBelowClasses graph (tree_names viewed) (below_names viewed) → (HasMoreThan (IsInTree graph) limit → ⊥)
-    → text ≡ rows_text rows → line ≡ [] → ListsClasses limit config (record { status = Clean; out = text; err = line })
-lists_classes config limit graph rows viewed text line same is tree represented below few lines none =
+    → ending ≡ listed (classes_of_rows rows) → ListsClasses limit config ending
+lists_classes config limit graph rows viewed ending same is tree represented below few lists =
     inr (
       λ more. few (more_same (ground_of config) graph (same_back graph (ground_of config) same) limit more),
       record {
@@ -210,6 +210,6 @@ lists_classes config limit graph rows viewed text line same is tree represented 
             (λ row has. below_same graph (ground_of config) same row.name row.below
             (All-contains (λ (r : ClassRow). IsBelow graph r.name r.below) viewed row represented has)))
             (below_classes_same graph (ground_of config) same (tree_names viewed) (below_names viewed) below);
-        as_text = with_rows viewed text line (lines ∙ ap rows_text is) none;
+        as_text = lists ∙ ap (λ (rs : List ClassRow). listed (classes_of_rows rs)) is;
       },
     )

@@ -5,8 +5,8 @@ ghost use Rattle.net_model.specs.Reading.{ground_of};
 ghost use Rattle.label_graph.specs.Pairs.{AreSame};
 ghost use Rattle.net_model.specs.declared.class.Class.TheVariants.{Exact, Below};
 ghost use Rattle.groot_run.specs.ClassList.{class_line, class_list_text};
-ghost use Rattle.groot_run.specs.ClassRows.{classes_of_row, rows_text};
-ghost use Rattle.groot_run.specs.Outcome.{ListsClasses, no_memory};
+ghost use Rattle.groot_run.specs.ClassRows.{classes_of_row, classes_of_rows, rows_text};
+ghost use Rattle.groot_run.specs.Outcome.{ListsClasses, listed as ended_list, no_memory};
 
 use crate::ending::Ending;
 use crate::line::Line;
@@ -33,14 +33,22 @@ fn listed(alloc: Global, config: &Config, limit: u32) -> Result<Ending, NoMemory
 {
     let graph = graph_of(alloc, config)?;
     match class_tree(alloc, &graph, limit) {
-        Ok(rows) => Ok(Ending {
-            status: Status::Clean,
-            out: text_of(alloc, rows.items())?,
-            err: Line::fixed(""),
-        }),
+        Ok(rows) => list_of(alloc, rows.items()),
         Err(TreeFault::TooMany) => Ok(Ending::too_many_names(alloc, limit)),
         Err(TreeFault::NoMemory) => Err(NoMemory),
     }
+}
+
+/// The end of a run with a list of the classes of these rows.
+fn list_of(alloc: Global, rows: &[ClassRow]) -> Result<Ending, NoMemory>
+    ensures { IfOk result (λ ending. ending ≡ ended_list (classes_of_rows rows.now)) }
+{
+    let out = text_of(alloc, rows)?;
+    Ok(Ending {
+        status: Status::Clean,
+        out,
+        err: Line::fixed(""),
+    })
 }
 
 /// The graph of the configuration's base names and DNAME records.

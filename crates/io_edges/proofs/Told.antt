@@ -18,18 +18,6 @@ TellsAll-same before after all stays = λ i name. at_name name (stays name) i wh
   at_name name (inl untold) = absurd (all name untold)
   at_name name (inr same) = same
 
-none_told : (told : Told) → first_told told 0 ≡ []
-none_told Untold = refl
-none_told NotHeld = refl
-none_told (Holds octets) = refl
-
--- the octets that were read are told still
-pub first_told-stays : (before after : Told) (at : ℕ) → (before ≡ Untold) ⊎ (after ≡ before) → length (first_told before at) ≡ at → first_told after at ≡ first_told before at
-first_told-stays before after at (inl untold) long =
-    let none : at ≡ 0 = sym long ∙ ap (λ told. length (first_told told at)) untold in
-    ap (first_told after) none ∙ none_told after ∙ sym (none_told before) ∙ ap (first_told before) (sym none)
-first_told-stays before after at (inr same) long = ap (λ told. first_told told at) same
-
 -- what is told is no shorter than what was read of it
 pub first_told-long : (told : Told) (at n : ℕ) → length (first_told told at) ≡ at → n < at → IsToldAnd told (λ octets. n < length octets)
 first_told-long Untold at n long less = absurd (omega arith)

@@ -80,7 +80,8 @@ impl Shelf {
         self.place(name, octets, failures)
     }
 
-    /// The same, of octets that it takes over.
+    /// Puts a file of octets that it takes over under this name, in the place of the one that is there. After an error all
+    /// files are as they were.
     pub fn place(&mut self, name: &str, octets: Octets, failures: u64) -> Result<(), NoMemory>
         ensures ok { OnOk result (self.new ≡ with_octets self.old name.now octets failures) }
         ensures err { OnErr result (self.new ≡ self.old) }

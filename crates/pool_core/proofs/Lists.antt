@@ -36,11 +36,6 @@ stays_at_append f [] n y e k = stays_at_replicate f n y e k
 stays_at_append f (x ∷ xs) n y e zero = refl
 stays_at_append f (x ∷ xs) n y e (suc k) = stays_at_append f xs n y e k
 
-pub slice_get-append_left : {X : Type 0} (xs ys : List X) (k : ℕ) → k < length xs → slice_get (xs ++ ys) k ≡ slice_get xs k
-slice_get-append_left [] ys k h = absurd (omega arith)
-slice_get-append_left (x ∷ xs) ys zero h = refl
-slice_get-append_left (x ∷ xs) ys (suc k) h = slice_get-append_left xs ys k (omega arith)
-
 -- an item of a list with one more at its end is an item before, or the last one
 pub slice_get_push_cases : {X : Type 0} (xs : List X) (y z : X) (k : ℕ) → slice_get (xs ++ y ∷ []) k ≡ Some z → ((k < length xs) × (slice_get xs k ≡ Some z)) ⊎ ((k ≡ length xs) × (y ≡ z))
 slice_get_push_cases [] y z zero h = inr (refl, cc)

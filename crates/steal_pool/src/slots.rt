@@ -104,8 +104,8 @@ fn other_seats(alloc: Global, rows: &[OwnRow], place: usize) -> Result<Vec<Other
     Ok(others)
 }
 
-/// Pushes ticket 0 on the deque of the first slot and runs the workers. Where that push is refused none is
-/// run.
+/// Pushes ticket 0 on the deque of the first slot and runs each slot's worker, in as many threads. Where that push is refused
+/// none is run.
 pub fn run_slots<
     W: Work + Sync,
     A: Capped + Sync,
@@ -126,9 +126,15 @@ pub fn run_slots<
     ensures len { length slots.new ≡ length slots.old }
     ensures settled { All (IsSettledSlot W.first_item W.children_of A.limit) slots.new }
 {
-    if push_first(&mut slots[0]) {
-        run_each(rt, alloc, slots, book, work, gate)
+    if !push_first(&mut slots[0]) {
+        return;
     }
+    let each = |_place: usize, slot: &mut Slot<A, B, C>|
+        requires { IsFresh slot.now }
+        ensures { IsSettledSlot W.first_item W.children_of A.limit slot.exit.now }
+    { run_slot(rt, alloc, slot, book, work, gate) };
+    let threads = slots.len();
+    thread::for_each_mut(rt, slots, threads, &each);
 }
 
 /// Pushes ticket 0 on a slot's deque: whether the deque took it.
@@ -137,35 +143,6 @@ fn push_first<A: Capped, B: Ledger, C: Ledger>(slot: &mut Slot<A, B, C>) -> bool
     ensures { IsFresh slot.new }
 {
     slot.own.push(0).is_ok()
-}
-
-/// Runs each slot's worker, in as many threads.
-fn run_each<
-    W: Work + Sync,
-    A: Capped + Sync,
-    B: Ledger + Sync,
-    C: Ledger + Sync,
-    G: Gate + Sync,
-    R: Threads + Wait + Sync,
->(
-    rt: &R,
-    alloc: Global,
-    slots: &mut [Slot<A, B, C>],
-    book: &Mutex<LockedBook<W, A, B, C>>,
-    work: &W,
-    gate: &G,
-)
-    requires some { 1 ≤ length slots.old }
-    requires fresh { All IsFresh slots.old }
-    ensures len { length slots.new ≡ length slots.old }
-    ensures settled { All (IsSettledSlot W.first_item W.children_of A.limit) slots.new }
-{
-    let each = |_place: usize, slot: &mut Slot<A, B, C>|
-        requires { IsFresh slot.now }
-        ensures { IsSettledSlot W.first_item W.children_of A.limit slot.exit.now }
-    { run_slot(rt, alloc, slot, book, work, gate) };
-    let threads = slots.len();
-    thread::for_each_mut(rt, slots, threads, &each);
 }
 
 /// Runs a slot's worker.

@@ -94,11 +94,6 @@ module _ {X Y : Type 0} (f : X → Y) where
   get_map (y ∷ xs) zero x h = cc
   get_map (y ∷ xs) (suc k) x h = get_map xs k x h
 
-  pub get_map_back : (xs : List X) (k : ℕ) (y : Y) → slice_get (map f xs) k ≡ Some y → (x : X) × (slice_get xs k ≡ Some x) × (f x ≡ y)
-  get_map_back [] k y h = absurd cc
-  get_map_back (x ∷ xs) zero y h = (x, refl, some_same (f x) y h)
-  get_map_back (x ∷ xs) (suc k) y h = get_map_back xs k y h
-
   -- a write that keeps the value of an item keeps the list of values
   pub map_set_same : (xs : List X) (k : ℕ) (x y : X) → slice_get xs k ≡ Some x → f y ≡ f x → map f (set xs k y) ≡ map f xs
   map_set_same [] k x y h e = refl

@@ -294,6 +294,7 @@ impl<W: Work> Book<W> {
         ensures once { EachOnce self.history }
         ensures few { OnOk result (issued_in self.history ≤ self.limit) }
     {
+        // The history's room is given back before the sort takes room.
         drop(self.history);
         let mut rows = self.rows;
         sort_rows(&mut rows)?;

@@ -7,7 +7,6 @@ use crate::row::{Row, State};
 use crate::work::Work;
 use dns_data::{List, NoMemory};
 use std::alloc::Global;
-use std::collections::VecDeque;
 
 /// An item with its verdict.
 #[derive(Drop)]
@@ -26,8 +25,7 @@ pub fn list_rows<W: Work>(
     ensures verdicts { IfOk result (λ list. All (Judges W.verdict_of) list) }
 {
     let mut list = Vec::with_capacity(alloc, rows.len())?;
-    let mut left = VecDeque::from_vec(rows);
-    while let Some(row) = left.pop_front() {
+    for row in rows {
         let Row { item, state } = row;
         if let State::Filed(verdict) = state {
             list.push(Filed { item, verdict })?;

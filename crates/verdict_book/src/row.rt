@@ -2,11 +2,10 @@
 
 ghost use Rattle.std.specs.Prelude.{◌≡◌, ◌+◌, ◌<◌, ◌≤◌, length, IfSome, OnOk, OnErr, slice_get, vec_len, vec_capacity};
 ghost use Rattle.std.specs.List.Sorted.{IsPermutation, IsSortedByKey};
-ghost use Rattle.verdict_book.specs.Keeping.{kept_row, rows_filed};
+ghost use Rattle.verdict_book.specs.Keeping.{kept_row, kept_state, rows_filed};
 
 use crate::claim::Kept;
 use dns_data::{List, NoMemory};
-use std::collections::VecDeque;
 
 /// How far a ticket has come.
 #[derive(Drop)]
@@ -30,12 +29,19 @@ pub fn kept_at<I, V>(rows: &[Row<I, V>], ticket: u32) -> Kept
     ensures { result ≡ kept_row (slice_get rows.now ticket) }
 {
     match rows.get(ticket as usize) {
+        Some(row) => kept_state(&row.state),
         None => Kept::Unknown,
-        Some(row) => match row.state {
-            State::Issued => Kept::Issued,
-            State::Claimed => Kept::Claimed,
-            State::Filed(_) => Kept::Filed,
-        },
+    }
+}
+
+/// What is kept of an issued ticket that has come so far.
+fn kept_state<V>(state: &State<V>) -> Kept
+    ensures { result ≡ kept_state state.now }
+{
+    match state {
+        State::Issued => Kept::Issued,
+        State::Claimed => Kept::Claimed,
+        State::Filed(_) => Kept::Filed,
     }
 }
 
@@ -51,8 +57,7 @@ pub fn file_row<I: Drop, V: Drop>(
     ensures { IfSome (slice_get rows.old.items place) (λ row. rows.new.items ≡ rows_filed rows.old.items place verdict children row) }
 {
     rows[place].state = State::Filed(verdict);
-    let mut left = VecDeque::from_vec(children.into_vec());
-    while let Some(item) = left.pop_front() {
+    for item in children.into_vec() {
         rows.push_reserved(Row {
             item,
             state: State::Issued,

@@ -61,9 +61,7 @@ impl OwnRow {
         ensures same { IsSameDeque self.old self.new }
         ensures both { own_view self.new ≡ seat_view (own_view self.old).pushed ((own_view self.old).taken ++ (other_view other).taken) }
     {
-        let OtherRow { deque, seat } = other;
-        drop(deque);
-        self.deque.absorb::<Seats>(seat)
+        self.deque.absorb::<Seats>(other.seat)
     }
 
     /// How many tickets the deque held at one moment. At that moment they, and what all seats had taken,
