@@ -174,7 +174,6 @@ fn step_of_one(
     requires { place < length base.now }
     ensures { IfOk result (λ next. (other : ℕ) → Contains next other ↔ IsStep base.now label.now other place) }
 {
-    let _ = base.items();
     match base.child(place, label) {
         Some(below) => Ok(LiveSet::one(below)),
         None => LiveSet::listed(alloc, Vec::new(alloc)),
@@ -208,7 +207,6 @@ fn put_step(
     requires { place < length base.now }
     ensures { OnOk result ((other : ℕ) → Contains next.new.items other ↔ (Contains next.old.items other ⊎ IsStep base.now label.now other place)) }
 {
-    let _ = base.items();
     let Some(below) = base.child(place, label) else {
         return Ok(());
     };
@@ -267,7 +265,6 @@ fn put_labels(
     requires { place < length base.now }
     ensures { OnOk result ((more : List (List ℕ)) × (labels.new.items ≡ labels.old.items ++ more) × AreLabelsBelow base.now place more) }
 {
-    let _ = base.items();
     for other in base.below(place) {
         labels.push(Label::with_octets(alloc, base.last_label(place, *other))?)?;
     }

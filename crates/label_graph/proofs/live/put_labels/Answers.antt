@@ -16,5 +16,5 @@ returns c =
       is,
       are_labels_below c.args.base.now c.args.place c.requires row c.below-other-items.ensures.below more
           (omega (arith, count, c.loop-other-test.false, c.loop-other.auto.other-index-end)) (λ k short. each k (omega (arith, short, c.loop-other-test.false)))
-          c.items.ensures.order c.below-other-items.ensures.rising,
+          c.below-other-items.ensures.order c.below-other-items.ensures.rising,
     )

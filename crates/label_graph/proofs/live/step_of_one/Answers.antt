@@ -7,7 +7,7 @@ use Rattle.label_graph.proofs.live.step_of_one.Goals as goal
 
 pub returns-in-Some : goal.returns-in-Some
 returns-in-Some c other =
-    let below = c.in-Some.ensures in
+    let below = c.in-Some.ensures.child in
     subst (λ (live : List ℕ). Contains live other ↔ IsStep c.args.base.now c.args.label.now other c.args.place) (sym c.one.ensures)
     (single_iff c.in-Some.below (λ (o : ℕ). IsStep c.args.base.now c.args.label.now o c.args.place) below
-    (λ o step. one_place c.args.base.now c.items.ensures.order c.in-Some.below o below.0 step.0 (below.1 ∙ sym step.1)) other)
+    (λ o step. one_place c.args.base.now c.in-Some.ensures.order c.in-Some.below o below.0 step.0 (below.1 ∙ sym step.1)) other)

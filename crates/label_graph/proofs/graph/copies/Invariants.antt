@@ -1,5 +1,5 @@
 use Rattle.std.proofs.Common.{◌≡◌, take}
-use Rattle.label_graph.proofs.targets.copies.Given as goal
+use Rattle.label_graph.proofs.graph.copies.Given as goal
 
 -- the names passed
 abbrev pub invariant-loop-name : goal.invariant-loop-name
