@@ -9,7 +9,9 @@ ghost use Rattle.label_graph.specs.LiveSet.{AreInOrder, IsClosed, IsLiveSet};
 ghost use Rattle.label_graph.specs.Pairs.{ground_with, AreSame};
 
 use crate::base::{BaseNames, base_of};
-use crate::live::{LiveSet, close, has_step, step};
+use crate::below::{has_step, step};
+use crate::closing::close;
+use crate::live::LiveSet;
 use crate::next::{NextName, next_names};
 use crate::pair::Pair;
 use crate::rows::Rows;
@@ -61,11 +63,7 @@ impl LabelGraph {
     }
 
     /// The graph of names in order, each once, and of the pairs of DNAME records.
-    fn of_ordered(
-        alloc: Global,
-        names: Vec<Name>,
-        dnames: &[Pair],
-    ) -> Result<LabelGraph, NoMemory>
+    fn of_ordered(alloc: Global, names: Vec<Name>, dnames: &[Pair]) -> Result<LabelGraph, NoMemory>
         requires order { AreInOrder names.items }
         requires closed { IsClosed (ground_with names.items dnames.now) }
         ensures same { IfOk result (λ graph. AreSame graph (ground_with names.items dnames.now)) }

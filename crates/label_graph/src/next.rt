@@ -7,7 +7,9 @@ ghost use Rattle.label_graph.specs.Graphs.{AreLabelsBelow, HasChild, IsLiveBelow
 ghost use Rattle.label_graph.specs.LiveSet.{name_at};
 ghost use Rattle.label_graph.specs.NameTree.{IsNextBelow};
 
-use crate::live::{LiveSet, close, labels_below, step};
+use crate::below::{labels_below, step};
+use crate::closing::close;
+use crate::live::LiveSet;
 use crate::rows::Rows;
 use crate::targets::TargetTable;
 use dns_data::{Label, NoMemory};

@@ -37,11 +37,7 @@ impl Model for TargetTable {
 
 impl TargetTable {
     /// The table of names in order, each once, and of pairs.
-    pub fn build(
-        alloc: Global,
-        names: Vec<Name>,
-        dnames: &[Pair],
-    ) -> Result<TargetTable, NoMemory>
+    pub fn build(alloc: Global, names: Vec<Name>, dnames: &[Pair]) -> Result<TargetTable, NoMemory>
         requires order { AreInOrder names.items }
         requires closed { IsClosed (ground_with names.items dnames.now) }
         ensures same { IfOk result (λ table. AreSame (ground_in table) (ground_with names.items dnames.now)) }

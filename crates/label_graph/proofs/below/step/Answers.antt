@@ -2,7 +2,7 @@ use Rattle.std.proofs.Common.{Contains, arith}
 use Rattle.std.proofs.lemmas.Result.{IfOk-weaker}
 use Rattle.label_graph.specs.Graphs.{IsStep}
 use Rattle.label_graph.proofs.Passing.{one_iff}
-use Rattle.label_graph.proofs.live.step.Goals as goal
+use Rattle.label_graph.proofs.below.step.Goals as goal
 
 pub returns-in-len1 : goal.returns-in-len1
 returns-in-len1 c =

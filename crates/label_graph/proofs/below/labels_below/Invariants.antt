@@ -1,7 +1,7 @@
 use Rattle.std.proofs.Common.{ℕ, List, take, Contains}
 use Rattle.std.specs.Prelude.{◌↔◌}
 use Rattle.label_graph.specs.Graphs.{SomeItem, HasChild}
-use Rattle.label_graph.proofs.live.labels_below.Given as goal
+use Rattle.label_graph.proofs.below.labels_below.Given as goal
 
 -- the labels below the places passed
 abbrev pub invariant-loop-place : goal.invariant-loop-place

@@ -3,7 +3,7 @@ use Rattle.std.specs.Prelude.{◌↔◌}
 use Rattle.label_graph.specs.Graphs.{IsStep}
 use Rattle.label_graph.proofs.NamePlaces.{one_place}
 use Rattle.label_graph.proofs.Passing.{single_iff}
-use Rattle.label_graph.proofs.live.step_of_one.Goals as goal
+use Rattle.label_graph.proofs.below.step_of_one.Goals as goal
 
 pub returns-in-Some : goal.returns-in-Some
 returns-in-Some c other =

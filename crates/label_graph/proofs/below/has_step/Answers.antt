@@ -2,7 +2,7 @@ use Rattle.std.proofs.Common.{◌∙◌, get_or, sym, true≢false, inl, inr}
 use Rattle.std.proofs.lemmas.List.{get_or_default}
 use Rattle.label_graph.specs.Graphs.{HasChild}
 use Rattle.label_graph.proofs.Passing.{from_more, all_some}
-use Rattle.label_graph.proofs.live.has_step.Goals as goal
+use Rattle.label_graph.proofs.below.has_step.Goals as goal
 
 pub loop-place-preserved : goal.loop-place-preserved
 loop-place-preserved c some =

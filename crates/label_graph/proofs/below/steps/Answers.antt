@@ -4,7 +4,7 @@ use Rattle.std.proofs.lemmas.List.{get_or_default}
 use Rattle.std.proofs.lemmas.Result.{IfOk-weaker}
 use Rattle.label_graph.specs.Graphs.{SomeItem, IsStep}
 use Rattle.label_graph.proofs.Passing.{more_some, all_iff}
-use Rattle.label_graph.proofs.live.steps.Goals as goal
+use Rattle.label_graph.proofs.below.steps.Goals as goal
 
 pub loop-place-preserved : goal.loop-place-preserved
 loop-place-preserved c other =

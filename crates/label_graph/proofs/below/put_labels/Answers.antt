@@ -1,7 +1,7 @@
 use Rattle.std.proofs.Common.{get_or, arith}
 use Rattle.std.proofs.lemmas.List.Elements.{Contains-get_or}
 use Rattle.label_graph.proofs.Children.{are_labels_below}
-use Rattle.label_graph.proofs.live.put_labels.Goals as goal
+use Rattle.label_graph.proofs.below.put_labels.Goals as goal
 
 pub last_label-requires : goal.last_label-requires
 last_label-requires c =

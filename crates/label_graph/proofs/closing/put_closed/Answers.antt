@@ -8,7 +8,7 @@ use Rattle.label_graph.specs.Rows.{RowHas}
 use Rattle.label_graph.specs.Targets.{Targets, AreTargets}
 use Rattle.label_graph.proofs.Passing.{more_iff, some_all, all_some, append_iff}
 use Rattle.label_graph.proofs.Saturating.{targets_within}
-use Rattle.label_graph.proofs.live.put_closed.Goals as goal
+use Rattle.label_graph.proofs.closing.put_closed.Goals as goal
 
 -- the place and what comes from all fronts in its row
 closed_iff : (R : ℕ → Type 0) (old middle after row other_row : List ℕ) (place other k : ℕ) → middle ≡ old ++ place ∷ [] → row ≡ other_row → length row ≤ k

@@ -1,7 +1,7 @@
 use Rattle.std.proofs.Common.{ℕ, List, Contains, subst}
 use Rattle.std.specs.Prelude.{◌↔◌, IfOk}
 use Rattle.label_graph.specs.Graphs.{SomeItem, IsFrom}
-use Rattle.label_graph.proofs.live.close.Goals as goal
+use Rattle.label_graph.proofs.closing.close.Goals as goal
 
 pub returns : goal.returns
 returns c =

@@ -2,7 +2,7 @@ use Rattle.std.proofs.Common.{◌∙◌, ℕ, sym}
 use Rattle.label_graph.specs.Graphs.{IsStep}
 use Rattle.label_graph.proofs.NamePlaces.{one_place}
 use Rattle.label_graph.proofs.Passing.{push_iff}
-use Rattle.label_graph.proofs.live.put_step.Goals as goal
+use Rattle.label_graph.proofs.below.put_step.Goals as goal
 
 pub returns : goal.returns
 returns c other =

@@ -7,7 +7,7 @@ use Rattle.std.proofs.lemmas.Result.{IfOk-weaker}
 use Rattle.label_graph.specs.Graphs.{SomeItem, IsFrom}
 use Rattle.label_graph.proofs.InOrder.{in_order_has, from_in_order}
 use Rattle.label_graph.proofs.Passing.{more_some, some_all, all_some}
-use Rattle.label_graph.proofs.live.closed.Goals as goal
+use Rattle.label_graph.proofs.closing.closed.Goals as goal
 
 pub loop-place-preserved : goal.loop-place-preserved
 loop-place-preserved c other =

@@ -1,6 +1,6 @@
 use Rattle.std.proofs.Common.{◌≡◌, ℕ, ◌<◌, List, [], ◌∷◌, ◌++◌, length, get_or}
 use Rattle.label_graph.specs.LiveSet.{name_at}
-use Rattle.label_graph.proofs.live.put_labels.Given as goal
+use Rattle.label_graph.proofs.below.put_labels.Given as goal
 
 -- the last labels of those passed were put
 abbrev pub invariant-loop-other : goal.invariant-loop-other

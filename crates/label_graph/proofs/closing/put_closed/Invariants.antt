@@ -2,7 +2,7 @@ use Rattle.std.proofs.Common.{◌⊎◌, ℕ, take, Contains}
 use Rattle.std.specs.Prelude.{◌↔◌}
 use Rattle.label_graph.specs.Graphs.{SomeItem}
 use Rattle.label_graph.specs.Rows.{RowHas}
-use Rattle.label_graph.proofs.live.put_closed.Given as goal
+use Rattle.label_graph.proofs.closing.put_closed.Given as goal
 
 -- what the fronts passed read on to was put
 abbrev pub invariant-loop-front : goal.invariant-loop-front

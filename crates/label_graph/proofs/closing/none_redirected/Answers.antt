@@ -2,7 +2,7 @@ use Rattle.std.proofs.Common.{◌≡◌, ◌∙◌, ℕ, List, [], ◌∷◌, le
 use Rattle.std.proofs.lemmas.List.{take_all}
 use Rattle.std.proofs.lemmas.List.Elements.{All-more}
 use Rattle.label_graph.specs.Targets.{Targets}
-use Rattle.label_graph.proofs.live.none_redirected.Goals as goal
+use Rattle.label_graph.proofs.closing.none_redirected.Goals as goal
 
 none_left : (row : List ℕ) → length row ≡ 0 → row ≡ []
 none_left [] e = refl

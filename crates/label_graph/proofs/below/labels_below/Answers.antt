@@ -8,7 +8,7 @@ use Rattle.dns_data.proofs.Names.{label_eq_decides}
 use Rattle.label_graph.specs.Graphs.{HasChild}
 use Rattle.label_graph.proofs.InOrder.{once_in_order, in_order_has, from_in_order}
 use Rattle.label_graph.proofs.Passing.{append_iff, more_some, all_iff}
-use Rattle.label_graph.proofs.live.labels_below.Goals as goal
+use Rattle.label_graph.proofs.below.labels_below.Goals as goal
 
 -- labels with more of them behind
 put_iff : (P : Type 0) (old more new : List (List ℕ)) (label : List ℕ) → new ≡ old ++ more → (Contains more label ↔ P) → Contains new label ↔ (Contains old label ⊎ P)

@@ -1,5 +1,5 @@
 use Rattle.std.proofs.Common.{◌≡◌, ℕ, [], take, get_or, All}
-use Rattle.label_graph.proofs.live.none_redirected.Given as goal
+use Rattle.label_graph.proofs.closing.none_redirected.Given as goal
 
 -- none of those passed is redirected
 abbrev pub invariant-loop-place : goal.invariant-loop-place
