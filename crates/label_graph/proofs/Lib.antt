@@ -9,6 +9,7 @@ pub mod LiveNames
 pub mod LiveSets
 pub mod NewFronts
 pub mod NextNames
+pub mod OrderedNames
 pub mod Parents
 pub mod Passing
 pub mod Readings

@@ -12,7 +12,7 @@ use Rattle.label_graph.specs.Targets.{IsPrefixFrom}
 abbrev pub IsInZone : Labels → Zone → Type 0
 IsInZone name zone = IsPrefixFrom 0 zone.origin name ⊎ SomeItem (λ rr. IsPrefixFrom 0 rr.owner name) zone.rrs
 
--- the same of a zone of the server
+-- the name is a front of the origin, or of the owner of a record, of one of the server's zones
 abbrev pub IsInServer : Labels → Server → Type 0
 IsInServer name server = SomeItem (IsInZone name) server.zones
 
@@ -20,6 +20,6 @@ IsInServer name server = SomeItem (IsInZone name) server.zones
 abbrev pub zone_redirections : Zone → List Redirection
 zone_redirections zone = flat_map (λ rr. redirection_of rr.owner rr.rdata) zone.rrs
 
--- those of a server's zones
+-- the redirections of the records of a server's zones
 abbrev pub server_redirections : Server → List Redirection
 server_redirections server = flat_map zone_redirections server.zones

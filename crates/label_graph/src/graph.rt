@@ -4,17 +4,22 @@ ghost use Rattle.std.specs.Prelude.{◌≡◌, ◌↔◌, ℕ, List, [], ◌∷�
 ghost use Rattle.std.specs.declared.cmp.Ordering.TheVariants.{Less};
 ghost use Rattle.dns_data.specs.Label.{label_cmp};
 ghost use Rattle.dns_data.specs.Name.{Labels};
-ghost use Rattle.net_model.specs.Reading.{IsNamed};
+ghost use Rattle.net_model.specs.Reading.{IsNamed, ground_of};
 ghost use Rattle.label_graph.specs.LiveSet.{AreInOrder, IsClosed, IsLiveSet};
 ghost use Rattle.label_graph.specs.Pairs.{ground_with, AreSame};
 
-use crate::live::{LiveSet, close, has_step, step};
+use crate::base::{BaseNames, base_of};
+use crate::below::{has_step, step};
+use crate::closing::close;
+use crate::live::LiveSet;
 use crate::next::{NextName, next_names};
 use crate::pair::Pair;
 use crate::rows::Rows;
 use crate::saturation::reads_of;
+use crate::sorting::in_order;
 use crate::targets::TargetTable;
 use dns_data::{Label, List, Name, NoMemory};
+use net_model::Config;
 use std::alloc::Global;
 use std::marker::Model;
 
@@ -38,10 +43,30 @@ impl Model for LabelGraph {
 }
 
 impl LabelGraph {
-    /// The graph of the names and of the pairs of DNAME records.
+    /// The graph of a configuration: of its base names and of the pairs of its DNAME records.
+    pub fn of_config(alloc: Global, config: &Config) -> Result<LabelGraph, NoMemory>
+        ensures same { IfOk result (λ graph. AreSame graph (ground_of config.now)) }
+        ensures order { IfOk result (λ graph. AreInOrder graph.names) }
+    {
+        let BaseNames { names, dnames } = base_of(alloc, config)?;
+        LabelGraph::of_ordered(alloc, names.into_vec(), dnames.items())
+    }
+
+    /// The graph of the names and of the pairs of DNAME records. The names are copied, and put in order.
     pub fn build(alloc: Global, names: &[Name], dnames: &[Pair]) -> Result<LabelGraph, NoMemory>
         requires { IsClosed (ground_with names.now dnames.now) }
         ensures same { IfOk result (λ graph. AreSame graph (ground_with names.now dnames.now)) }
+        ensures order { IfOk result (λ graph. AreInOrder graph.names) }
+    {
+        let names = in_order(copies(alloc, names)?)?;
+        LabelGraph::of_ordered(alloc, names, dnames)
+    }
+
+    /// The graph of names in order, each once, and of the pairs of DNAME records.
+    fn of_ordered(alloc: Global, names: Vec<Name>, dnames: &[Pair]) -> Result<LabelGraph, NoMemory>
+        requires order { AreInOrder names.items }
+        requires closed { IsClosed (ground_with names.items dnames.now) }
+        ensures same { IfOk result (λ graph. AreSame graph (ground_with names.items dnames.now)) }
         ensures order { IfOk result (λ graph. AreInOrder graph.names) }
     {
         let table = TargetTable::build(alloc, names, dnames)?;
@@ -94,6 +119,7 @@ impl LabelGraph {
     pub(crate) fn is_closed(&self)
         ensures { IsClosed self.now }
     {
+        // The table is read, so that what holds of the graph is known here.
         let _ = &self.table;
     }
 
@@ -101,6 +127,18 @@ impl LabelGraph {
     pub(crate) fn has_live_sets(&self)
         ensures { (name : Labels) → (places : List ℕ) × IsLiveSet self.now name places }
     {
+        // The table is read, so that what holds of the graph is known here.
         let _ = &self.table;
     }
+}
+
+/// Equal names.
+fn copies(alloc: Global, names: &[Name]) -> Result<Vec<Name>, NoMemory>
+    ensures { IfOk result (λ copies. copies.items ≡ names.now) }
+{
+    let mut copies = Vec::with_capacity(alloc, names.len())?;
+    for name in names {
+        copies.push(name.copy(alloc)?)?;
+    }
+    Ok(copies)
 }

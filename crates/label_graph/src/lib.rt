@@ -1,21 +1,24 @@
 //! The label graph of base names and DNAME redirections (RFC 6672 section 2.2): the live set of a name, which has the
 //! base names to which the name reads on, found label by label. A name is named where its live set isn't empty.
 //!
-//! The layer above may rest on this: `start` and `advance` give the live set of a name in a graph, `has_next` tells
-//! whether a label makes a named name below a name with that live set, and `next_names` gives all labels that do, with
-//! the live sets of the names that they make.
+//! The layer above may rest on this: `of_config` makes the graph of a configuration, `start` and `advance` give the live
+//! set of a name in a graph, `has_next` tells whether a label makes a named name below a name with that live set, and
+//! `next_names` gives all labels that do, with the live sets of the names that they make.
 //!
 //! Costs: the base names of a configuration are made once for the records with one owner in a row. Those of each zone
-//! are put in order before the next, zone after zone in the order of their origins: so the sort of all names finds them
-//! nearly in order. Building sorts the names and the fronts of targets, finds the name above each along the one before
-//! it, and looks once at each pair of a front and a base name to which it reads on. Rows of places behind the last that
-//! has something take no memory. A live set has at most one place where no DNAME record plays a part, and one of one
-//! place takes no memory of its own; a label more costs a binary search among the last labels below each place, and no
-//! more where none of the names found is redirected. The labels below one place are listed in order without a search or
-//! a sort, each with its own live set; those below several are sorted, and looked for.
+//! are put in order before the next, zone after zone in the order of their origins: so the sort of all names finds
+//! them nearly in order. They move into the graph as they are; `build` copies and sorts the names that it is given.
+//! Building sorts the fronts of targets, finds the name above each name along the one before it, and looks once at
+//! each pair of a front and a base name to which it reads on. Rows of places behind the last that has something take
+//! no memory. A live set has at most one place where no DNAME record plays a part, and one of one place takes no
+//! memory of its own; a label more costs a binary search among the last labels below each place, and no more where
+//! none of the names found is redirected. The labels below one place are listed in order without a search or a sort,
+//! each with its own live set; those below several are sorted, and looked for.
 #![tactic(auto)]
 
 mod base;
+mod below;
+mod closing;
 mod graph;
 pub mod laws;
 mod links;

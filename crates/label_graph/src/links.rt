@@ -39,6 +39,7 @@ impl Links {
         ensures none { result.list ≡ [] }
         ensures fronts { length result.bases ≡ fronts }
         ensures bases { length result.fronts ≡ bases }
+        ensures kept { AreKept result.list result.bases result.fronts }
     {
         Links {
             list: Vec::new(alloc),
@@ -76,6 +77,7 @@ impl Links {
         ensures added { IfOk result (λ links. AreAdded self.list (one ∷ []) links.list) }
         ensures fronts { IfOk result (λ links. length links.bases ≡ length self.bases) }
         ensures bases { IfOk result (λ links. length links.fronts ≡ length self.fronts) }
+        ensures kept { IfOk result (λ links. AreKept links.list links.bases links.fronts) }
     {
         if self.has(one) {
             return Ok(self);

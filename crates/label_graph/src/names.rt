@@ -39,9 +39,20 @@ impl NameTree {
     /// The tree of names that have the root and the prefixes of each.
     pub fn build(alloc: Global, names: Vec<Name>) -> Result<NameTree, NoMemory>
         requires { HavePrefixes names.items }
-        ensures { IfOk result (λ tree. (name : Labels) → Contains tree name ↔ Contains names.items name) }
+        ensures same { IfOk result (λ tree. (name : Labels) → Contains tree name ↔ Contains names.items name) }
+        ensures order { IfOk result AreInOrder }
+        ensures closed { IfOk result HavePrefixes }
     {
         let names = in_order(names)?;
+        NameTree::of_ordered(alloc, names)
+    }
+
+    /// The tree of names in order, each once, that have the root and the prefixes of each.
+    pub fn of_ordered(alloc: Global, names: Vec<Name>) -> Result<NameTree, NoMemory>
+        requires order { AreInOrder names.items }
+        requires closed { HavePrefixes names.items }
+        ensures { IfOk result (λ tree. tree ≡ names.items) }
+    {
         let below = rows_below(alloc, names.as_slice())?;
         Ok(NameTree { names, below })
     }
@@ -57,7 +68,8 @@ impl NameTree {
 
     /// The place of a name, or `None` where it isn't among the names.
     pub fn place_of(&self, name: &Name) -> Option<usize>
-        ensures { MatchOption result (Contains self.now name.now → ⊥) (λ place. (place < length self.now) × (name_at self.now place ≡ name.now)) }
+        ensures place { MatchOption result (Contains self.now name.now → ⊥) (λ place. (place < length self.now) × (name_at self.now place ≡ name.now)) }
+        ensures order { AreInOrder self.now }
     {
         place_in(self.names.as_slice(), name)
     }
@@ -67,8 +79,7 @@ impl NameTree {
         ensures within { result < length self.now }
         ensures root { name_at self.now result ≡ [] }
     {
-        let _ = self.items();
-        match self.place_of(&Name::root()) {
+        match place_in(self.names.as_slice(), &Name::root()) {
             Some(place) => place,
             None => unreachable!(),
         }
@@ -79,6 +90,7 @@ impl NameTree {
         requires { place < length self.now }
         ensures below { (other : ℕ) → Contains result.now other ↔ IsNextBelow self.now place other }
         ensures rising { AllPairs (λ a b. a < b) result.now }
+        ensures order { AreInOrder self.now }
     {
         self.below.at(place)
     }
@@ -97,8 +109,9 @@ impl NameTree {
     /// The place of the name with this label below the one at this place, or `None` where it isn't among the names.
     pub fn child(&self, place: usize, label: &[u8]) -> Option<usize>
         requires { place < length self.now }
-        ensures { MatchOption result (Contains self.now (name_at self.now place ++ label.now ∷ []) → ⊥)
+        ensures child { MatchOption result (Contains self.now (name_at self.now place ++ label.now ∷ []) → ⊥)
             (λ other. (other < length self.now) × (name_at self.now other ≡ name_at self.now place ++ label.now ∷ [])) }
+        ensures order { AreInOrder self.now }
     {
         let from = behind(&self.names[place]);
         place_with(self.names.as_slice(), self.below(place), from, label)

@@ -7,7 +7,9 @@ ghost use Rattle.label_graph.specs.Graphs.{AreLabelsBelow, HasChild, IsLiveBelow
 ghost use Rattle.label_graph.specs.LiveSet.{name_at};
 ghost use Rattle.label_graph.specs.NameTree.{IsNextBelow};
 
-use crate::live::{LiveSet, close, labels_below, step};
+use crate::below::{labels_below, step};
+use crate::closing::close;
+use crate::live::LiveSet;
 use crate::rows::Rows;
 use crate::targets::TargetTable;
 use dns_data::{Label, NoMemory};
@@ -51,7 +53,6 @@ fn next_of_one(
     ensures labels { IfOk result (λ names. AreLabelsBelow table.now.names place (map (λ next. next.label) names.items)) }
     ensures live { IfOk result (λ names. All (λ next. IsLiveBelow table.now reads.now (place ∷ []) next.label next.live) names.items) }
 {
-    let _ = table.base.items();
     let mut names = Vec::with_capacity(alloc, table.base.below(place).len())?;
     for other in table.base.below(place) {
         names.push(next_at(alloc, table, reads, place, *other)?)?;
@@ -72,7 +73,6 @@ fn next_at(
     ensures label { IfOk result (λ next. name_at table.now.names other ≡ name_at table.now.names place ++ next.label ∷ []) }
     ensures live { IfOk result (λ next. IsLiveBelow table.now reads.now (place ∷ []) next.label next.live) }
 {
-    let _ = table.base.items();
     let label = Label::with_octets(alloc, table.base.last_label(place, other))?;
     let live = close(alloc, table, reads, LiveSet::one(other))?;
     Ok(NextName { label, live })

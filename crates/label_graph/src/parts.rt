@@ -5,16 +5,17 @@ ghost use Rattle.dns_data.specs.Name.{Labels};
 ghost use Rattle.label_graph.specs.LiveSet.{HavePrefixes};
 ghost use Rattle.label_graph.specs.Targets.{IsPrefixFrom};
 
-use dns_data::{Name, NoMemory};
+use dns_data::{JoinFault, Name, NoMemory};
 use std::alloc::Global;
 
 /// The name with the first so many labels of this one, or all where there are fewer.
 pub(crate) fn front_of(alloc: Global, name: &Name, count: usize) -> Result<Name, NoMemory>
     ensures { IfOk result (λ front. front ≡ take count name.now) }
 {
-    match Name::root().join_labels(alloc, &name.front(count)) {
+    match Name::root().join_labels(alloc, &name.labels().front(count)) {
         Ok(front) => Ok(front),
-        Err(_) => Err(NoMemory),
+        Err(JoinFault::NoMemory) => Err(NoMemory),
+        Err(JoinFault::TooLong) => unreachable!(),
     }
 }
 

@@ -4,7 +4,8 @@ ghost use Rattle.std.specs.Prelude.{◌≡◌, ◌↔◌, ◌⊎◌, ◌≤◌, 
 ghost use Rattle.dns_data.specs.Name.{Labels};
 ghost use Rattle.label_graph.specs.declared.links.Link.{Link as LinkValue};
 ghost use Rattle.label_graph.specs.declared.pair.Pair.{Pair as PairValue};
-ghost use Rattle.label_graph.specs.LiveSet.{IsClosed};
+ghost use Rattle.label_graph.specs.LinkRows.{AreKept};
+ghost use Rattle.label_graph.specs.LiveSet.{AreInOrder, IsClosed};
 ghost use Rattle.label_graph.specs.Pairs.{ground_with, AreSame};
 ghost use Rattle.label_graph.specs.Targets.{AreTargets, IsPrefixFrom, IsLinkOf, ground_in};
 
@@ -35,35 +36,22 @@ impl Model for TargetTable {
 }
 
 impl TargetTable {
-    /// The table of the names and pairs.
-    pub fn build(alloc: Global, names: &[Name], dnames: &[Pair]) -> Result<TargetTable, NoMemory>
-        requires { IsClosed (ground_with names.now dnames.now) }
-        ensures same { IfOk result (λ table. AreSame (ground_in table) (ground_with names.now dnames.now)) }
+    /// The table of names in order, each once, and of pairs.
+    pub fn build(alloc: Global, names: Vec<Name>, dnames: &[Pair]) -> Result<TargetTable, NoMemory>
+        requires order { AreInOrder names.items }
+        requires closed { IsClosed (ground_with names.items dnames.now) }
+        ensures same { IfOk result (λ table. AreSame (ground_in table) (ground_with names.items dnames.now)) }
         ensures are { IfOk result (λ table. AreTargets table) }
     {
-        let base = NameTree::build(alloc, copies(alloc, names)?)?;
+        let base = NameTree::of_ordered(alloc, names)?;
         let fronts = NameTree::build(alloc, fronts_of(alloc, dnames)?)?;
         let links = links_of(alloc, &base, &fronts, dnames)?;
-        let _ = base.items();
-        let _ = fronts.items();
-        let _ = links.get(0);
         Ok(TargetTable {
             base,
             fronts,
             links,
         })
     }
-}
-
-/// Equal names.
-fn copies(alloc: Global, names: &[Name]) -> Result<Vec<Name>, NoMemory>
-    ensures { IfOk result (λ copies. copies.items ≡ names.now) }
-{
-    let mut copies = Vec::with_capacity(alloc, names.len())?;
-    for name in names {
-        copies.push(name.copy(alloc)?)?;
-    }
-    Ok(copies)
 }
 
 /// The root and all fronts of the targets.
@@ -90,6 +78,7 @@ fn links_of(
     ensures links { IfOk result (λ links. (one : LinkValue) → Contains links.list one ↔ ((pair : PairValue) × Contains dnames.now pair × IsLinkOf base.now fronts.now pair one)) }
     ensures fronts { IfOk result (λ links. length links.bases ≡ length fronts.now) }
     ensures names { IfOk result (λ links. length links.fronts ≡ length base.now) }
+    ensures kept { IfOk result (λ links. AreKept links.list links.bases links.fronts) }
 {
     let mut links = Links::new(alloc, fronts.items().len(), base.items().len());
     for pair in dnames {
@@ -113,12 +102,14 @@ fn with_pair(
     ensures links { IfOk result (λ after. (one : LinkValue) → Contains after.list one ↔ (Contains links.list one ⊎ IsLinkOf base.now fronts.now pair.now one)) }
     ensures fronts { IfOk result (λ after. length after.bases ≡ length fronts.now) }
     ensures names { IfOk result (λ after. length after.fronts ≡ length base.now) }
+    ensures kept { IfOk result (λ after. AreKept after.list after.bases after.fronts) }
 {
-    let (Some(owner), Some(target)) = (base.place_of(&pair.from), fronts.place_of(&pair.to)) else {
-        return Ok(links);
+    let Some(owner) = base.place_of(&pair.from) else {
+        unreachable!()
     };
-    let _ = base.items();
-    let _ = fronts.items();
+    let Some(target) = fronts.place_of(&pair.to) else {
+        unreachable!()
+    };
     let link = Link {
         front: target,
         base: owner,

@@ -1,5 +1,6 @@
 -- The partition of names into classes, and the names that stand for them.
-use Rattle.std.proofs.Common.{◌≡◌, ◌∙◌, ℕ, ◌<◌, ◌≤◌, List, [], ◌∷◌, ◌++◌, length, Contains, inl, inr, sym, refl, ap, subst, append_assoc, append-nil, arith}
+use Rattle.std.proofs.Common.{◌≡◌, ◌∙◌, ℕ, ◌<◌, ◌≤◌, List, [], ◌∷◌, ◌++◌, Option, Some, None, Result, Ok, Err, length, Contains, inl, inr, sym, refl, ap, subst, append_assoc, append-nil, arith}
+use Rattle.std.specs.Prelude.{IfOk, IfSome, MatchOption}
 use Rattle.std.specs.List.{AllByRecursion}
 use Rattle.std.proofs.lemmas.Bool.{cases_lt}
 use Rattle.std.proofs.lemmas.List.{length-append}
@@ -15,6 +16,7 @@ use Rattle.net_model.proofs.FirstLabel.{label_of_name, shorter_first}
 use Rattle.label_graph.specs.LiveSet.{IsClosed, IsLiveSet, name_at}
 use Rattle.label_graph.proofs.LiveNames.{prefix_is_named}
 use Rattle.label_graph.proofs.TargetLinks.{place_among, among_place}
+use Rattle.query_classes.specs.Children.{IsBelow}
 use Rattle.query_classes.specs.Members.{IsEmptyClass, RepresentsClass}
 
 -- the labels above
@@ -96,6 +98,16 @@ module _ (ground : Ground) (closed : IsClosed ground) where
         let long : length (above ++ own ∷ []) ≤ length above =
         longest.longest (above ++ own ∷ []) rest (sym whole) (full own (label_of_name above own rest (subst (AllByRecursion IsLabel) e is.labels))) in
         omega (arith, length-append above (own ∷ []))
+
+  -- what is made of a name and its first free label stands for the class below the name
+  pub below_made : {E : Type 0} (above : Labels) (label : List ℕ) → IsNamed ground above → IsFirstUnnamed ground above label → (made : Result (Option Labels) E)
+      → IfOk made (λ found. MatchOption found (255 < wire_octets (above ++ label ∷ [])) (λ name. name ≡ above ++ label ∷ []))
+      → IfOk made (λ found. IfSome found IsName) → IfOk made (IsBelow ground above)
+  below_made above label named first (Err fault) is names = tt
+  below_made above label named first (Ok None) long names = empty_long above label first long
+  below_made above label named first (Ok (Some name)) same is =
+      let whole : IsName (above ++ label ∷ []) = subst IsName same is in
+      subst (RepresentsClass ground (Below above)) (sym same) (stands_below above label named (labels_above above (label ∷ []) whole.labels) first whole.short)
 
   -- a named name stands for its own class
   pub stands_exact : (name : Labels) → IsNamed ground name → IsName name → RepresentsClass ground (Exact name) name

@@ -1,16 +1,16 @@
 //! The class of a name, the representative of a class, and the names below a name.
 
-ghost use Rattle.std.specs.Prelude.{◌≡◌, [], ◌∷◌, ◌++◌, MatchOption, IfOk};
+ghost use Rattle.std.specs.Prelude.{◌≡◌, ◌++◌, MatchOption, IfOk};
 ghost use Rattle.dns_data.specs.Name.{IsName, Labels};
 ghost use Rattle.net_model.specs.declared.class.Class.{Class as ClassValue};
 ghost use Rattle.net_model.specs.Class.{class_name, IsClassOf};
 ghost use Rattle.net_model.specs.Reading.{IsNamed};
 ghost use Rattle.query_classes.specs.Members.{IsEmptyClass, RepresentsClass};
 
+use crate::below::name_below;
 use crate::live_name::LiveName;
 use dns_data::{Label, Name, NoMemory};
-use label_graph::LabelGraph;
-use label_graph::laws::graph_is_closed;
+use label_graph::{LabelGraph, laws};
 use net_model::Class;
 use std::alloc::Global;
 
@@ -22,7 +22,7 @@ pub fn class_of(alloc: Global, graph: &LabelGraph, q: &Name) -> Result<Class, No
     ensures represented { IfOk result (λ class. (name : Labels) × RepresentsClass graph.now class name) }
     ensures prefixes { IfOk result (λ _. (above below : Labels) → IsNamed graph.now (above ++ below) → IsNamed graph.now above) }
 {
-    graph_is_closed(graph);
+    laws::graph_is_closed(graph);
     let mut live = graph.start(alloc)?;
     let mut above = Name::root();
     let mut rest = q.labels();
@@ -32,7 +32,10 @@ pub fn class_of(alloc: Global, graph: &LabelGraph, q: &Name) -> Result<Class, No
         if next.is_empty() {
             return Ok(Class::Below(above));
         }
-        above = one_below(alloc, &above, &label)?;
+        let Some(name) = name_below(alloc, &above, &label)? else {
+            unreachable!()
+        };
+        above = name;
         live = next;
     }
     Ok(Class::Exact(q.copy(alloc)?))
@@ -58,17 +61,7 @@ fn alone(alloc: Global, name: &Name) -> Result<Name, NoMemory>
     ensures same { IfOk result (λ copy. copy ≡ name.now) }
     ensures is_name { IsName name.now }
 {
+    // The labels are read, so that it is known here that they are those of a name.
     let _ = name.labels();
     name.copy(alloc)
-}
-
-/// The name with a label below.
-fn one_below(alloc: Global, above: &Name, label: &Label) -> Result<Name, NoMemory>
-    ensures { IfOk result (λ name. name ≡ above.now ++ label.now ∷ []) }
-{
-    let mut name = above.copy(alloc)?;
-    match name.push(alloc, label) {
-        Ok(()) => Ok(name),
-        Err(_) => Err(NoMemory),
-    }
 }

@@ -7,8 +7,7 @@ ghost use Rattle.query_classes.specs.Free.{IsFree};
 
 use crate::trial::next_label;
 use dns_data::{Label, NoMemory};
-use label_graph::laws::graph_is_closed;
-use label_graph::{LabelGraph, LiveSet};
+use label_graph::{LabelGraph, LiveSet, laws};
 use std::alloc::Global;
 
 /// The first label that makes an unnamed name below a name with this live set, or `None` where every label makes a
@@ -21,7 +20,7 @@ pub(crate) fn free_label(
     requires { (name : Labels) × IsLiveSet graph.now name live.now }
     ensures { IfOk result (λ found. (name : Labels) → IsLiveSet graph.now name live.now → IsFree graph.now name found) }
 {
-    graph_is_closed(graph);
+    laws::graph_is_closed(graph);
     let mut label = first_label(alloc)?;
     while graph.has_next(live, &label) {
         let Some(next) = next_label(alloc, &label)? else {

@@ -11,6 +11,7 @@
 //! label below.
 #![tactic(auto)]
 
+mod below;
 mod class;
 mod fault;
 mod free;

@@ -6,10 +6,10 @@ ghost use Rattle.label_graph.specs.LiveSet.{IsLiveSet};
 ghost use Rattle.net_model.specs.Reading.{IsNamed};
 ghost use Rattle.query_classes.specs.Children.{AreChildren, IsBelow, live_below};
 
+use crate::below::name_below;
 use crate::free::free_label;
-use dns_data::{JoinFault, Label, List, Name, NoMemory};
-use label_graph::laws::graph_is_closed;
-use label_graph::{LabelGraph, LiveSet, NextName};
+use dns_data::{Label, List, Name, NoMemory};
+use label_graph::{LabelGraph, LiveSet, NextName, laws};
 use std::alloc::Global;
 use std::collections::VecDeque;
 
@@ -60,19 +60,10 @@ impl LiveName {
         requires named { IsNamed graph.now self.now.name }
         ensures { IfOk result (IsBelow graph.now self.now.name) }
     {
-        graph_is_closed(graph);
-        let _ = self.name.labels();
-        let Some(label) = free_label(alloc, graph, &self.live)? else {
-            return Ok(None);
-        };
-        let mut name = self.name.copy(alloc)?;
-        match name.push(alloc, &label) {
-            Ok(()) => {
-                let _ = name.octets();
-                Ok(Some(name))
-            }
-            Err(JoinFault::TooLong) => Ok(None),
-            Err(JoinFault::NoMemory) => Err(NoMemory),
+        laws::graph_is_closed(graph);
+        match free_label(alloc, graph, &self.live)? {
+            Some(label) => name_below(alloc, &self.name, &label),
+            None => Ok(None),
         }
     }
 
@@ -100,18 +91,15 @@ impl LiveName {
         ensures below { OnOk result (names.new.items ≡ names.old.items ++ live_below self.now.name (next ∷ [])) }
         ensures names { OnOk result (All (λ below. IsName below.name) names.new.items) }
     {
-        let mut name = self.name.copy(alloc)?;
-        match name.push(alloc, &next.label) {
-            Ok(()) => {
-                let _ = name.labels();
+        match name_below(alloc, &self.name, &next.label)? {
+            Some(name) => {
                 names.push(LiveName {
                     name,
                     live: next.live,
                 })?;
                 Ok(())
             }
-            Err(JoinFault::TooLong) => Ok(()),
-            Err(JoinFault::NoMemory) => Err(NoMemory),
+            None => Ok(()),
         }
     }
 }

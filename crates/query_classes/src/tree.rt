@@ -8,8 +8,7 @@ ghost use Rattle.query_classes.specs.Rows.{tree_names, below_names};
 use crate::fault::TreeFault;
 use crate::live_name::LiveName;
 use dns_data::{List, Name, NoMemory};
-use label_graph::LabelGraph;
-use label_graph::laws::graph_is_closed;
+use label_graph::{LabelGraph, laws};
 use std::alloc::Global;
 
 /// A name of the class tree, which is alone in its class, and the representative of the class below it, or `None`
@@ -30,7 +29,7 @@ pub fn class_tree(alloc: Global, graph: &LabelGraph, most: u32) -> Result<List<C
     ensures none_more { OnOk result (HasMoreThan (IsInTree graph.now) most → ⊥) }
     ensures too_many { IsErrOf result TreeFault.TooMany → HasMoreThan (IsInTree graph.now) most }
 {
-    graph_is_closed(graph);
+    laws::graph_is_closed(graph);
     let mut rows = Vec::new(alloc);
     let mut waiting = Vec::new(alloc);
     waiting.push(LiveName::root(alloc, graph)?)?;

@@ -1,12 +1,8 @@
 use Rattle.std.proofs.Common.{◌≡◌, ◌∙◌, List, [], ◌∷◌, ◌++◌, map, Contains, inl, inr, sym, ap, subst}
 use Rattle.std.specs.Prelude.{◌↔◌}
 use Rattle.std.specs.List.{flat_map}
-use Rattle.std.specs.Cmp.Lexicographic.{nat_list_eq_equiv, lists_equiv, lists_ties, texts_ties}
-use Rattle.dns_data.specs.Label.{label_cmp}
-use Rattle.dns_data.specs.Name.{Labels, name_cmp, name_eq}
+use Rattle.dns_data.specs.Name.{Labels}
 use Rattle.dns_data.proofs.Membership.{none_in_nil, has_first, first_or_later}
-use Rattle.dns_data.proofs.NameOrder.{names_total}
-use Rattle.dns_data.proofs.Names.{name_eq_decides}
 use Rattle.net_model.specs.declared.config.Server.{Server}
 use Rattle.net_model.specs.Reading.{Redirection, ground_of}
 use Rattle.label_graph.specs.Base.{IsInServer, server_redirections}
@@ -14,7 +10,7 @@ use Rattle.label_graph.specs.Graphs.{SomeItem}
 use Rattle.label_graph.specs.LiveSet.{HavePrefixes}
 use Rattle.label_graph.specs.Pairs.{redirection}
 use Rattle.label_graph.proofs.BaseGround.{base_closed, base_names, base_redirections, nothing_above}
-use Rattle.label_graph.proofs.InOrder.{once_in_order, in_order_has, from_in_order}
+use Rattle.label_graph.proofs.OrderedNames.{names_ordered, names_same}
 use Rattle.label_graph.proofs.Passing.{more_iff, more_some, some_none, some_all, all_some, all_iff, some_flat, start_iff}
 use Rattle.label_graph.proofs.base.base_of.Goals as goal
 
@@ -55,8 +51,7 @@ loop-server-preserved c =
 
 pub returns-clause-order : goal.returns-clause-order
 returns-clause-order c =
-    rw c.from_vec.ensures
-    (once_in_order name_cmp names_total name_eq (lists_ties label_cmp texts_ties) (lists_equiv nat_list_eq_equiv) (λ x y. (name_eq_decides x y).0) _ _ c.in_ok-names.ensures)
+    rw c.from_vec.ensures (names_ordered _ _ c.in_ok-names.ensures)
 
 pub returns-clause-same : goal.returns-clause-same
 returns-clause-same c =
@@ -81,7 +76,7 @@ returns-clause-same c =
 
     there : (name : Labels) → Contains c.in_ok-names.names.items name → Contains (ground_of c.args.config.now).names name
     there name has =
-        let put = from_in_order name_cmp names_total name_eq (lists_ties label_cmp texts_ties) (lists_equiv nat_list_eq_equiv) (λ x y. (name_eq_decides x y).0) _ _ c.in_ok-names.ensures name has in
+        let put = (names_same _ _ c.in_ok-names.ensures name).0 has in
         (base_names c.args.config.now name).0 (elim ((c.loop-server.invariant.names name).0 put) [
           | inl root ↦ inl root
           | inr some ↦ inr (rw (← servers) (some_all (IsInServer name) c.items-server-items.result.now c.loop-server.server-index c.loop-server-test.false some))
@@ -89,7 +84,7 @@ returns-clause-same c =
 
     back : (name : Labels) → Contains (ground_of c.args.config.now).names name → Contains c.in_ok-names.names.items name
     back name has =
-        in_order_has name_cmp names_total name_eq (lists_ties label_cmp texts_ties) (lists_equiv nat_list_eq_equiv) (λ x y. (name_eq_decides x y).0) _ _ c.in_ok-names.ensures name
+        (names_same _ _ c.in_ok-names.ensures name).1
         ((c.loop-server.invariant.names name).1 (elim ((base_names c.args.config.now name).1 has) [
           | inl root ↦ inl root
           | inr some ↦ inr (all_some (IsInServer name) c.items-server-items.result.now c.loop-server.server-index c.loop-server-test.false (rw servers some))

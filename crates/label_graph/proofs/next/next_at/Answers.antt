@@ -15,7 +15,7 @@ returns-clause-label c =
 pub returns-clause-live : goal.returns-clause-live
 returns-clause-live c =
     live_below_one c.args.table.now c.args.reads.now c.args.place c.args.other c.in_ok-label.label c.in_ok-live.live
-    (subst AreInOrder (ap (λ (t : Targets). t.names) c.table.view_is) c.items.ensures.order) c.requires.below
+    (subst AreInOrder (ap (λ (t : Targets). t.names) c.table.view_is) c.table.invariant.order) c.requires.below
     (subst (λ (names : List Labels). name_at names c.args.other ≡ name_at names c.args.place ++ c.in_ok-label.label ∷ []) (ap (λ (t : Targets). t.names) c.table.view_is)
     (c.last_label.ensures.is ∙ ap (λ (l : List ℕ). name_at c.table.inside.base c.args.place ++ l ∷ []) (sym c.in_ok-label.ensures)))
     (λ o. subst (λ (l : List ℕ). Contains c.in_ok-live.live o ↔ SomeItem (IsFrom c.args.table.now c.args.reads.now o) l) c.one.ensures (c.in_ok-live.ensures o))

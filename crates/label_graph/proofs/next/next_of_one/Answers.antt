@@ -41,5 +41,5 @@ returns-clause-labels c =
     (subst (λ (names : List Labels). (other : ℕ) → Contains c.below-other-items.result.now other ↔ IsNextBelow names c.args.place other)
     (ap (λ (t : Targets). t.names) c.table.view_is) c.below-other-items.ensures.below) (labels_of names)
     (omega (arith, length-map names (λ (n : NextName). n.label), inv.count, c.loop-other-test.false, c.loop-other.auto.other-index-end))
-    (λ k short. inv.each k (omega (arith, short, c.loop-other-test.false))) (subst AreInOrder (ap (λ (t : Targets). t.names) c.table.view_is) c.items.ensures.order)
+    (λ k short. inv.each k (omega (arith, short, c.loop-other-test.false))) (subst AreInOrder (ap (λ (t : Targets). t.names) c.table.view_is) c.table.invariant.order)
     c.below-other-items.ensures.rising

@@ -76,14 +76,14 @@ returns-in_default c =
     none_put c.args.table.now c.args.one c.args.front c.args.links.now.items
     (none_next c.args.table.now c.args.one c.args.front c.args.links.now.items label (name_at c.args.table.now.fronts c.args.one.front)
     (subst (λ (n : List Labels). name_at n c.args.front ≡ name_at n c.args.one.front ++ label ∷ []) fronts c.last_label-label.ensures.is)
-    (subst (λ (n : List Labels). Contains n (name_at n c.args.one.base ++ label ∷ []) → ⊥) names c.in_default.ensures))
+    (subst (λ (n : List Labels). Contains n (name_at n c.args.one.base ++ label ∷ []) → ⊥) names c.in_default.ensures.child))
 
 pub returns : goal.returns
 returns c other =
     let fronts = ap (λ (t : Targets). t.fronts) c.table.view_is in
     let names = ap (λ (t : Targets). t.names) c.table.view_is in
     let label = c.last_label-label.result.now in
-    let child = c.in-Some.ensures in
+    let child = c.in-Some.ensures.child in
     rw c.in_ok-push.ensures.items
     (one_put c.args.table.now c.args.one c.args.front c.args.links.now.items label (name_at c.args.table.now.fronts c.args.one.front)
     (subst (λ (n : List Labels). name_at n c.args.front ≡ name_at n c.args.one.front ++ label ∷ []) fronts c.last_label-label.ensures.is)

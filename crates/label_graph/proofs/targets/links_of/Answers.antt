@@ -32,6 +32,7 @@ loop-pair-preserved c =
       );
       fronts = c.in_ok-links.ensures.fronts;
       names = c.in_ok-links.ensures.names;
+      kept = c.in_ok-links.ensures.kept;
     }
 
 pub returns-clause-links : goal.returns-clause-links

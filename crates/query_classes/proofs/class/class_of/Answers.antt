@@ -1,5 +1,6 @@
-use Rattle.std.proofs.Common.{◌≡◌, ◌∙◌, ℕ, List, [], ◌∷◌, ◌++◌, sym, ap, subst, true≢false}
-use Rattle.dns_data.specs.Name.{Labels, IsName}
+use Rattle.std.proofs.Common.{◌≡◌, ◌∙◌, ℕ, ◌<◌, List, [], ◌∷◌, ◌++◌, sym, ap, subst, true≢false, arith}
+use Rattle.dns_data.specs.Name.{Labels, IsName, wire_octets}
+use Rattle.dns_data.proofs.NameFronts.{octets_of_prefix}
 use Rattle.net_model.specs.declared.class.Class.TheVariants.{Below}
 use Rattle.net_model.specs.Class.{IsClassOf}
 use Rattle.net_model.specs.Reading.{Ground, IsNamed}
@@ -60,19 +61,14 @@ returns-then-is_empty-clause-prefixes c = prefix_is_named c.args.graph.now c.gra
 pub returns-clause-prefixes : goal.returns-clause-prefixes
 returns-clause-prefixes c = prefix_is_named c.args.graph.now c.graph_is_closed.ensures
 
-pub loop-octets-preserved-in_ok-above : goal.loop-octets-preserved-in_ok-above
-loop-octets-preserved-in_ok-above c =
-    let graph : Ground = c.args.graph.now in
+pub unreachable-requires : goal.unreachable-requires
+unreachable-requires c =
     let above : Labels = c.loop-octets.above in
     let own : List ℕ = c.in_ok-label.label in
-    let live = c.in_ok-next.ensures above c.loop-octets.invariant.live in
     let passed = label_more c.args.q.now above c.loop-octets.rest c.next.new.self own c.in-Some.octets.now c.loop-octets.invariant.passed c.in-Some.ensures.first c.in_ok-label.ensures in
-    let named = live_named graph (above ++ own ∷ []) c.in_ok-next.next live (λ none. true≢false (sym (c.is_empty.ensures.1 none) ∙ c.if-is_empty.false)) in
-    record {
-      passed = passed ∙ ap (λ (n : Labels). n ++ c.next.new.self) (sym c.in_ok-above.ensures);
-      live = subst (λ (n : Labels). IsLiveSet graph n c.in_ok-next.next) (sym c.in_ok-above.ensures) live;
-      named = subst (IsNamed graph) (sym c.in_ok-above.ensures) named;
-    }
+    let long : 255 < wire_octets (above ++ own ∷ []) = rw c.in_default-2.is at c.in_ok-name.ensures.name in
+    let short = octets_of_prefix (above ++ own ∷ []) c.args.q.now (c.next.new.self, sym passed) in
+    omega (arith, long, short, c.labels-rest.ensures.name.short)
 
 pub loop-octets-preserved : goal.loop-octets-preserved
 loop-octets-preserved c =
@@ -82,8 +78,24 @@ loop-octets-preserved c =
     let live = c.in_ok-next.ensures above c.loop-octets.invariant.live in
     let passed = label_more c.args.q.now above c.loop-octets.rest c.next.new.self own c.in-Some.octets.now c.loop-octets.invariant.passed c.in-Some.ensures.first c.in_ok-label.ensures in
     let named = live_named graph (above ++ own ∷ []) c.in_ok-next.next live (λ none. true≢false (sym (c.is_empty.ensures.1 none) ∙ c.if-is_empty.false)) in
+    let same : c.in-Some-2.name ≡ above ++ own ∷ [] = rw c.in-Some-2.is at c.in_ok-name.ensures.name in
     record {
-      passed = passed ∙ ap (λ (n : Labels). n ++ c.next.new.self) (sym c.in_ok-above.ensures);
-      live = subst (λ (n : Labels). IsLiveSet graph n c.in_ok-next.next) (sym c.in_ok-above.ensures) live;
-      named = subst (IsNamed graph) (sym c.in_ok-above.ensures) named;
+      passed = passed ∙ ap (λ (n : Labels). n ++ c.next.new.self) (sym same);
+      live = subst (λ (n : Labels). IsLiveSet graph n c.in_ok-next.next) (sym same) live;
+      named = subst (IsNamed graph) (sym same) named;
+    }
+
+pub loop-octets-preserved-in-Some-2 : goal.loop-octets-preserved-in-Some-2
+loop-octets-preserved-in-Some-2 c =
+    let graph : Ground = c.args.graph.now in
+    let above : Labels = c.loop-octets.above in
+    let own : List ℕ = c.in_ok-label.label in
+    let live = c.in_ok-next.ensures above c.loop-octets.invariant.live in
+    let passed = label_more c.args.q.now above c.loop-octets.rest c.next.new.self own c.in-Some.octets.now c.loop-octets.invariant.passed c.in-Some.ensures.first c.in_ok-label.ensures in
+    let named = live_named graph (above ++ own ∷ []) c.in_ok-next.next live (λ none. true≢false (sym (c.is_empty.ensures.1 none) ∙ c.if-is_empty.false)) in
+    let same : c.in-Some-2.name ≡ above ++ own ∷ [] = rw c.in-Some-2.is at c.in_ok-name.ensures.name in
+    record {
+      passed = passed ∙ ap (λ (n : Labels). n ++ c.next.new.self) (sym same);
+      live = subst (λ (n : Labels). IsLiveSet graph n c.in_ok-next.next) (sym same) live;
+      named = subst (IsNamed graph) (sym same) named;
     }

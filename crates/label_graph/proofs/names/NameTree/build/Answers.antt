@@ -1,44 +1,27 @@
-use Rattle.std.proofs.Common.{List, [], ◌++◌, Contains}
-use Rattle.std.specs.Cmp.Lexicographic.{nat_list_eq_equiv, lists_equiv, lists_ties, texts_ties}
-use Rattle.dns_data.specs.Label.{label_cmp}
-use Rattle.dns_data.specs.Name.{Labels, name_cmp, name_eq}
-use Rattle.dns_data.proofs.NameOrder.{names_total}
-use Rattle.dns_data.proofs.Names.{name_eq_decides}
+use Rattle.std.proofs.Common.{List, Contains, sym, subst}
+use Rattle.std.specs.Prelude.{◌↔◌}
+use Rattle.dns_data.specs.Name.{Labels}
 use Rattle.label_graph.specs.LiveSet.{AreInOrder, HavePrefixes}
-use Rattle.label_graph.specs.Sorting.{IsInOrderOf}
-use Rattle.label_graph.proofs.InOrder.{once_in_order, in_order_has, from_in_order}
+use Rattle.std.proofs.lemmas.Result.{IfOk-weaker}
+use Rattle.label_graph.proofs.OrderedNames.{names_ordered, names_same, prefixes_ordered}
 use Rattle.label_graph.proofs.names.NameTree.build.Goals as goal
 
-module _ (items list : List Labels) (is : IsInOrderOf name_cmp name_eq items list) where
-  order : AreInOrder list
-  order = once_in_order name_cmp names_total name_eq (lists_ties label_cmp texts_ties) (lists_equiv nat_list_eq_equiv) (λ x y. (name_eq_decides x y).0) items list is
+pub of_ordered-requires-clause-order : goal.of_ordered-requires-clause-order
+of_ordered-requires-clause-order c = names_ordered _ _ c.in_ok-names.ensures
 
-  there : (name : Labels) → Contains items name → Contains list name
-  there = in_order_has name_cmp names_total name_eq (lists_ties label_cmp texts_ties) (lists_equiv nat_list_eq_equiv) (λ x y. (name_eq_decides x y).0) items list is
+pub of_ordered-requires-clause-closed : goal.of_ordered-requires-clause-closed
+of_ordered-requires-clause-closed c = prefixes_ordered _ _ c.in_ok-names.ensures c.requires
 
-  back : (name : Labels) → Contains list name → Contains items name
-  back = from_in_order name_cmp names_total name_eq (lists_ties label_cmp texts_ties) (lists_equiv nat_list_eq_equiv) (λ x y. (name_eq_decides x y).0) items list is
+pub returns-clause-same : goal.returns-clause-same
+returns-clause-same c =
+    IfOk-weaker c.of_ordered.result _ _
+    (λ tree is name. subst (λ (names : List Labels). Contains names name ↔ Contains c.args.names.items name) (sym is) (names_same _ _ c.in_ok-names.ensures name))
+    c.of_ordered.ensures
 
-  closed : HavePrefixes items → HavePrefixes list
-  closed have =
-      record {
-        root = there [] have.root;
-        prefixes = λ above below has. there above (have.prefixes above below (back (above ++ below) has));
-      }
+pub returns-clause-order : goal.returns-clause-order
+returns-clause-order c =
+    IfOk-weaker c.of_ordered.result _ _ (λ tree is. subst AreInOrder (sym is) (names_ordered _ _ c.in_ok-names.ensures)) c.of_ordered.ensures
 
-pub rows_below-requires-clause-order : goal.rows_below-requires-clause-order
-rows_below-requires-clause-order c = rw c.as_slice.ensures.value (order _ _ c.in_ok-names.ensures)
-
-pub rows_below-requires-clause-closed : goal.rows_below-requires-clause-closed
-rows_below-requires-clause-closed c = rw c.as_slice.ensures.value (closed _ _ c.in_ok-names.ensures c.requires)
-
-pub invariant_of-result : goal.invariant_of-result
-invariant_of-result c =
-    record {
-      order = order _ _ c.in_ok-names.ensures;
-      closed = closed _ _ c.in_ok-names.ensures c.requires;
-      rows_below = rw (← c.as_slice.ensures.value) c.in_ok-below.ensures;
-    }
-
-pub returns : goal.returns
-returns c name = (back _ _ c.in_ok-names.ensures name, there _ _ c.in_ok-names.ensures name)
+pub returns-clause-closed : goal.returns-clause-closed
+returns-clause-closed c =
+    IfOk-weaker c.of_ordered.result _ _ (λ tree is. subst HavePrefixes (sym is) (prefixes_ordered _ _ c.in_ok-names.ensures c.requires)) c.of_ordered.ensures

@@ -29,8 +29,8 @@ place_with-requires c =
     (λ other. read_last c.as_slice.result.now names c.args.place c.behind-from.result other c.index.result.now (c.as_slice.ensures.value ∙ c.self.view_is) at c.behind-from.ensures)
     (lasts_rise names c.args.place c.below.result.now c.below.ensures.below (subst AreInOrder c.self.view_is c.self.invariant.order) c.below.ensures.rising)
 
-pub returns : goal.returns
-returns c =
+pub returns-clause-child : goal.returns-clause-child
+returns-clause-child c =
     let names = c.args.self.now in
     let at = read_at c.self.inside.names.items names c.args.place c.index.result.now c.self.view_is c.index.ensures c.requires in
     let read = λ (other : ℕ). read_last c.as_slice.result.now names c.args.place c.behind-from.result other c.index.result.now (c.as_slice.ensures.value ∙ c.self.view_is) at c.behind-from.ensures in
@@ -38,3 +38,6 @@ returns c =
     (λ none. none_found names c.args.place c.below.result.now c.below.ensures.below c.args.label.now c.requires (λ other has same. none other has (read other ∙ same)))
     (λ other found. child_found names c.args.place c.below.result.now c.below.ensures.below c.args.label.now other found.0 (sym (read other) ∙ found.1))
     c.place_with.ensures
+
+pub returns-clause-order : goal.returns-clause-order
+returns-clause-order c = subst AreInOrder c.self.view_is c.self.invariant.order

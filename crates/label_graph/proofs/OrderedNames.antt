@@ -1,0 +1,60 @@
+-- Names put in order, each once.
+use Rattle.std.proofs.Common.{List, [], ◌++◌, Contains}
+use Rattle.std.specs.Prelude.{◌↔◌}
+use Rattle.std.specs.Cmp.Lexicographic.{nat_list_eq_equiv, lists_equiv, lists_ties, texts_ties}
+use Rattle.dns_data.specs.Label.{label_cmp}
+use Rattle.dns_data.specs.Name.{Labels, name_cmp, name_eq}
+use Rattle.dns_data.proofs.NameOrder.{names_total}
+use Rattle.dns_data.proofs.Names.{name_eq_decides}
+use Rattle.net_model.specs.Reading.{Ground}
+use Rattle.label_graph.specs.declared.pair.Pair.{Pair}
+use Rattle.label_graph.specs.LiveSet.{AreInOrder, HavePrefixes, IsClosed}
+use Rattle.label_graph.specs.Pairs.{ground_with, AreSame}
+use Rattle.label_graph.specs.Sorting.{IsInOrderOf}
+use Rattle.label_graph.proofs.InOrder.{once_in_order, in_order_has, from_in_order}
+
+-- grounds that have what a third one has have the same
+pub same_then : (one between other : Ground) → AreSame one between → AreSame between other → AreSame one other
+same_then one between other left right =
+    record {
+      names = λ name. (
+        λ has. (right.names name).0 ((left.names name).0 has),
+        λ has. (left.names name).1 ((right.names name).1 has),
+      );
+      redirections = λ redirection. (
+        λ has. (right.redirections redirection).0 ((left.redirections redirection).0 has),
+        λ has. (left.redirections redirection).1 ((right.redirections redirection).1 has),
+      );
+    }
+
+module _ (items list : List Labels) (is : IsInOrderOf name_cmp name_eq items list) where
+  -- they are in order
+  pub names_ordered : AreInOrder list
+  names_ordered = once_in_order name_cmp names_total name_eq (lists_ties label_cmp texts_ties) (lists_equiv nat_list_eq_equiv) (λ x y. (name_eq_decides x y).0) items list is
+
+  -- they are the same
+  pub names_same : (name : Labels) → Contains list name ↔ Contains items name
+  names_same name = (
+    from_in_order name_cmp names_total name_eq (lists_ties label_cmp texts_ties) (lists_equiv nat_list_eq_equiv) (λ x y. (name_eq_decides x y).0) items list is name,
+    in_order_has name_cmp names_total name_eq (lists_ties label_cmp texts_ties) (lists_equiv nat_list_eq_equiv) (λ x y. (name_eq_decides x y).0) items list is name,
+  )
+
+  -- they have their prefixes, if they had them before
+  pub prefixes_ordered : HavePrefixes items → HavePrefixes list
+  prefixes_ordered have =
+      record {
+        root = (names_same []).1 have.root;
+        prefixes = λ above below has. (names_same above).1 (have.prefixes above below ((names_same (above ++ below)).0 has));
+      }
+
+  -- their ground is closed, if it was so before
+  pub ground_ordered : (pairs : List Pair) → IsClosed (ground_with items pairs) → IsClosed (ground_with list pairs)
+  ground_ordered pairs closed =
+      record {
+        names = prefixes_ordered closed.names;
+        redirected = λ redirection among. (names_same redirection.owner).1 (closed.redirected redirection among);
+      }
+
+  -- and has what it had
+  pub ground_same : (pairs : List Pair) → AreSame (ground_with list pairs) (ground_with items pairs)
+  ground_same pairs = record { names = names_same; redirections = λ redirection. (λ has. has, λ has. has) }
