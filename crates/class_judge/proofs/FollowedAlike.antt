@@ -10,6 +10,7 @@ use Rattle.dns_data.proofs.Membership.{from_map}
 use Rattle.dns_data.proofs.Names.{name_eq_decides}
 use Rattle.dns_data.proofs.Searches.{each_of_all, from_any}
 use Rattle.delegation_checks.specs.LearntSets.{IsSetOf}
+use Rattle.delegation_checks.specs.Referrals.{is_among}
 use Rattle.graph_form.specs.Graph.{PlainGraph}
 use Rattle.graph_form.specs.GraphOf.{IsExactIn, IsGraphOf, TellsStep}
 use Rattle.net_model.specs.declared.deps.Deps.{Deps}
@@ -129,11 +130,11 @@ module _ (config : Config) (rewrites : ℕ) (followed : List Labels) (all : Foll
 
 -- ---- where each configured server is a top server or followed, it may be followed
 
-abbrev pub is_in : tree.BTreeSet Labels → tree.BTreeSet Labels → Server → Bool
-is_in tops learnt server = tree.contains name_cmp tops server.name || tree.contains name_cmp learnt server.name
+abbrev pub is_in : tree.BTreeSet Labels → List Labels → Server → Bool
+is_in tops learnt server = tree.contains name_cmp tops server.name || is_among learnt server.name
 
-module _ (config : Config) (followed : List Labels) (tops learnt : tree.BTreeSet Labels) (are_tops : IsSetOf config.tops tops) (are_learnt : IsSetOf followed learnt) where
-  pub all_in : list_all (is_in tops learnt) config.servers ≡ true → FollowsAll config followed
+module _ (config : Config) (followed : List Labels) (tops : tree.BTreeSet Labels) (are_tops : IsSetOf config.tops tops) where
+  pub all_in : list_all (is_in tops followed) config.servers ≡ true → FollowsAll config followed
   all_in each cut configured =
       by_name (or_cases (is_top config cut.ns || has_glue config cut) (list_any (name_eq cut.ns) (server_names config)) (names_follow_all config 0 cut configured))
     where
@@ -146,9 +147,9 @@ module _ (config : Config) (followed : List Labels) (tops learnt : tree.BTreeSet
       of_server : (server : Server) → Contains config.servers server → server.name ≡ cut.ns
           → (is_top config cut.ns ≡ true) ⊎ (list_any (name_eq cut.ns) followed ≡ true)
       of_server server has same =
-          elim (or_cases (tree.contains name_cmp tops server.name) (tree.contains name_cmp learnt server.name) (each_of_all (is_in tops learnt) config.servers each server has)) [
+          elim (or_cases (tree.contains name_cmp tops server.name) (is_among followed server.name) (each_of_all (is_in tops followed) config.servers each server has)) [
             | inl top ↦ inl (subst (λ (n : Labels). is_top config n ≡ true) same (sym (are_tops server.name) ∙ top))
-            | inr among ↦ inr (subst (λ (n : Labels). list_any (name_eq n) followed ≡ true) same (sym (are_learnt server.name) ∙ among))
+            | inr among ↦ inr (subst (λ (n : Labels). list_any (name_eq n) followed ≡ true) same among)
           ]
 
       by_name : ((is_top config cut.ns || has_glue config cut) ≡ true) ⊎ (list_any (name_eq cut.ns) (server_names config) ≡ true)

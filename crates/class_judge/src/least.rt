@@ -4,6 +4,7 @@ ghost use Rattle.std.specs.Prelude.{◌≡◌, ◌||◌, true, IfOk};
 ghost use Rattle.std.specs.BTreeSet as tree;
 ghost use Rattle.std.specs.List.{list_all};
 ghost use Rattle.class_judge.specs.Setup.{FollowsAll, IsSetup};
+ghost use Rattle.delegation_checks.specs.Referrals.{is_among};
 ghost use Rattle.dns_data.specs.Name.{Labels, name_cmp};
 ghost use Rattle.graph_form.specs.GraphOf.{IsExactIn, IsGraphOf};
 ghost use Rattle.interp_graph.specs.Asked.{IsBuilt};
@@ -11,7 +12,7 @@ ghost use Rattle.net_model.specs.Learnt.{IsLeast};
 ghost use Rattle.net_model.specs.Step.{following};
 
 use crate::setup::Setup;
-use delegation_checks::set_of;
+use delegation_checks::{LearntSets, set_of};
 use dns_data::{Name, NoMemory};
 use graph_form::Graph;
 use interp_graph::restrict;
@@ -40,18 +41,21 @@ pub(crate) fn graph_in_least(
     restrict(setup.alloc, &setup.trees, &graph, least)
 }
 
-/// Whether each configured server is a top server or one of these.
-pub(crate) fn follows_all(alloc: Global, config: &Config, learnt: &[Name]) -> Result<bool, NoMemory>
-    ensures { IfOk result (λ all. all ≡ true → FollowsAll config.now learnt.now) }
+/// Whether each configured server is a top server or in the least set.
+pub(crate) fn follows_all(
+    alloc: Global,
+    config: &Config,
+    sets: &LearntSets,
+) -> Result<bool, NoMemory>
+    ensures { IfOk result (λ all. all ≡ true → FollowsAll config.now sets.now.least) }
 {
     let tops = set_of(alloc, config.tops.items())?;
-    let known = set_of(alloc, learnt)?;
-    Ok(are_in(config.servers.items(), &tops, &known))
+    Ok(are_followed(config.servers.items(), &tops, sets))
 }
 
-/// Whether the name of each server is in one of the two sets.
-fn are_in(servers: &[Server], tops: &BTreeSet<Name>, known: &BTreeSet<Name>) -> bool
-    ensures { result ≡ list_all (λ server. tree.contains name_cmp tops.now server.name || tree.contains name_cmp known.now server.name) servers.now }
+/// Whether each server is one of the top servers or in the least set.
+fn are_followed(servers: &[Server], tops: &BTreeSet<Name>, sets: &LearntSets) -> bool
+    ensures { result ≡ list_all (λ server. tree.contains name_cmp tops.now server.name || is_among sets.now.least server.name) servers.now }
 {
-    servers.iter().all(|server| tops.contains(&server.name) || known.contains(&server.name))
+    servers.iter().all(|server| tops.contains(&server.name) || sets.has_least(&server.name))
 }

@@ -15,7 +15,7 @@ use crate::judge::Judge;
 use crate::least::follows_all;
 use crate::naming::Naming;
 use crate::setup::Setup;
-use address_deps::dependencies;
+use address_deps::dependencies_among;
 use delegation_checks::LearntSets;
 use dns_data::{List, Name, NoMemory};
 use graph_form::Graph;
@@ -96,7 +96,7 @@ fn sets_of(
 {
     match server_graphs(alloc, trees, rewrites, states) {
         Ok(graphs) => {
-            let deps = dependencies(alloc, trees.config(), graphs.items())?;
+            let deps = dependencies_among(alloc, trees.hosts(), graphs.items())?;
             let sets = LearntSets::build(alloc, deps)?;
             Ok(Some(sets))
         }
@@ -131,10 +131,7 @@ fn are_all_followed(
     ensures { IfOk result (λ all. all ≡ true → (deps : Deps) × (sets.now ≡ Some deps) × FollowsAll config.now deps.least) }
 {
     match sets {
-        Some(sets) => {
-            let least = &sets.deps().least;
-            follows_all(alloc, config, least.items())
-        }
+        Some(sets) => follows_all(alloc, config, sets),
         None => Ok(false),
     }
 }
@@ -152,6 +149,7 @@ fn server_graphs(
 {
     let mut graphs = List::new(alloc);
     for server in trees.config().servers.items() {
+        // The labels are read, so that the length of the name is known here.
         let _ = server.name.labels();
         let graph = graph_of(alloc, trees, &server.name, rewrites, states)?;
         graphs.push(graph)?;

@@ -51,7 +51,7 @@ impl LearntSets {
     }
 
     /// Whether the name is in the least set.
-    pub(crate) fn has_least(&self, name: &Name) -> bool
+    pub fn has_least(&self, name: &Name) -> bool
         ensures { result ≡ is_among self.now.least name.now }
     {
         self.least.contains(name)

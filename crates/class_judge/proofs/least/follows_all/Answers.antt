@@ -8,7 +8,6 @@ use Rattle.class_judge.proofs.least.follows_all.Goals as goal
 pub returns : goal.returns
 returns c = λ is.
     let tops = c.in_ok-tops.tops in
-    let known = c.in_ok-known.known in
-    all_in c.args.config.now c.args.learnt.now tops known
-    (subst (λ (names : List Labels). IsSetOf names tops) c.items.ensures c.in_ok-tops.ensures) c.in_ok-known.ensures
-    (sym (c.are_in.ensures ∙ ap (list_all (is_in tops known)) c.items-2.ensures) ∙ is)
+    let least = c.args.sets.now.least in
+    all_in c.args.config.now least tops (subst (λ (names : List Labels). IsSetOf names tops) c.items.ensures c.in_ok-tops.ensures)
+    (sym (c.are_followed.ensures ∙ ap (list_all (is_in tops least)) c.items-2.ensures) ∙ is)
