@@ -93,13 +93,3 @@ children_same config graph same name names children are others =
     })
     others
 
--- grounds that are each the same as the next
-pub same_then : (one via other : Ground) → AreSame one via → AreSame via other → AreSame one other
-same_then one via other first second =
-    record {
-      names = λ name. ((λ has. (second.names name).0 ((first.names name).0 has)), (λ has. (first.names name).1 ((second.names name).1 has)));
-      redirections = λ redirection. (
-        (λ has. (second.redirections redirection).0 ((first.redirections redirection).0 has)),
-        (λ has. (first.redirections redirection).1 ((second.redirections redirection).1 has)),
-      );
-    }

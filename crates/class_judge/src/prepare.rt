@@ -7,9 +7,6 @@ ghost use Rattle.class_judge.specs.Values.{AreValues};
 ghost use Rattle.class_judge.specs.Verdict.{PassesStates, SomeServerPasses};
 ghost use Rattle.net_model.specs.declared.deps.Deps.{Deps};
 ghost use Rattle.interp_graph.specs.Asked.{IsBuilt};
-ghost use Rattle.label_graph.specs.LiveSet.{AreInOrder};
-ghost use Rattle.label_graph.specs.Pairs.{AreSame};
-ghost use Rattle.net_model.specs.Reading.{ground_of};
 
 use crate::judge::Judge;
 use crate::least::follows_all;
@@ -20,7 +17,7 @@ use delegation_checks::LearntSets;
 use dns_data::{List, Name, NoMemory};
 use graph_form::Graph;
 use interp_graph::{GraphFault, Trees, build};
-use label_graph::{LabelGraph, base_of};
+use label_graph::LabelGraph;
 use name_rules::SymName;
 use net_model::Config;
 use std::alloc::Global;
@@ -58,7 +55,7 @@ fn setup_of<'a>(
     ensures rewrites { IfOk result (λ setup. setup.rewrites ≡ rewrites) }
     ensures states { IfOk result (λ setup. setup.states ≡ states) }
 {
-    let graph = name_graph(alloc, config)?;
+    let graph = LabelGraph::of_config(alloc, config)?;
     let trees = Trees::build(alloc, config)?;
     let sets = sets_of(alloc, &trees, rewrites, states)?;
     let regions = regions_of(alloc, &trees, &sets)?;
@@ -73,16 +70,6 @@ fn setup_of<'a>(
         regions,
         all_followed,
     })
-}
-
-/// The graph of a configuration's base names and DNAME records.
-fn name_graph(alloc: Global, config: &Config) -> Result<LabelGraph, NoMemory>
-    ensures same { IfOk result (λ graph. AreSame graph (ground_of config.now)) }
-    ensures order { IfOk result (λ graph. AreInOrder graph.names) }
-{
-    let base = base_of(alloc, config)?;
-    let graph = LabelGraph::build(alloc, base.names.items(), base.dnames.items())?;
-    Ok(graph)
 }
 
 /// The two sets of learnt addresses, or `None` where the name of some server reaches too many pairs of state and type.

@@ -8,4 +8,3 @@ pub mod OneClassList
 pub mod OneEntry
 pub mod OneOutcome
 pub mod OneReport
-pub mod SameGround

@@ -1,8 +1,6 @@
 //! The list of classes of query names.
 
 ghost use Rattle.std.specs.Prelude.{◌≡◌, ◌⊎◌, ◌++◌, IfOk, OnOk};
-ghost use Rattle.net_model.specs.Reading.{ground_of};
-ghost use Rattle.label_graph.specs.Pairs.{AreSame};
 ghost use Rattle.net_model.specs.declared.class.Class.TheVariants.{Exact, Below};
 ghost use Rattle.groot_run.specs.ClassList.{class_line, class_list_text};
 ghost use Rattle.groot_run.specs.ClassRows.{classes_of_row, classes_of_rows, rows_text};
@@ -12,7 +10,7 @@ use crate::ending::Ending;
 use crate::line::Line;
 use crate::status::Status;
 use dns_data::{Name, NoMemory, Octets};
-use label_graph::{LabelGraph, base_of};
+use label_graph::LabelGraph;
 use net_model::Config;
 use query_classes::{ClassRow, TreeFault, class_tree};
 use std::alloc::Global;
@@ -31,7 +29,7 @@ pub(crate) fn list_classes(alloc: Global, config: &Config, limit: u32) -> Ending
 fn listed(alloc: Global, config: &Config, limit: u32) -> Result<Ending, NoMemory>
     ensures { IfOk result (λ ending. ListsClasses limit config.now ending ⊎ (ending ≡ no_memory)) }
 {
-    let graph = graph_of(alloc, config)?;
+    let graph = LabelGraph::of_config(alloc, config)?;
     match class_tree(alloc, &graph, limit) {
         Ok(rows) => list_of(alloc, rows.items()),
         Err(TreeFault::TooMany) => Ok(Ending::too_many_names(alloc, limit)),
@@ -49,14 +47,6 @@ fn list_of(alloc: Global, rows: &[ClassRow]) -> Result<Ending, NoMemory>
         out,
         err: Line::fixed(""),
     })
-}
-
-/// The graph of the configuration's base names and DNAME records.
-fn graph_of(alloc: Global, config: &Config) -> Result<LabelGraph, NoMemory>
-    ensures { IfOk result (λ graph. AreSame graph (ground_of config.now)) }
-{
-    let base = base_of(alloc, config)?;
-    Ok(LabelGraph::build(alloc, base.names.items(), base.dnames.items())?)
 }
 
 /// A line for each class of the rows.

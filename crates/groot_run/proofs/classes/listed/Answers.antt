@@ -14,7 +14,7 @@ use Rattle.groot_run.proofs.classes.listed.Goals as goal
 pub returns-in-Ok : goal.returns-in-Ok
 returns-in-Ok c =
     IfOk-weaker c.list_of.result _ (λ (ending : Ending). ListsClasses c.args.limit c.args.config.now ending ⊎ (ending ≡ no_memory))
-    (λ ending is. inl (lists_classes c.args.config.now c.args.limit c.in_ok-graph.graph c.items.result.now _ ending c.in_ok-graph.ensures c.items.ensures
+    (λ ending is. inl (lists_classes c.args.config.now c.args.limit c.in_ok-graph.graph c.items.result.now _ ending c.in_ok-graph.ensures.same c.items.ensures
     c.in-Ok.ensures.tree c.in-Ok.ensures.below c.in-Ok.ensures.classes c.in-Ok.ensures.none_more is))
     c.list_of.ensures
 
@@ -22,7 +22,7 @@ pub returns-in-Err-TooMany : goal.returns-in-Err-TooMany
 returns-in-Err-TooMany c =
     elim c.too_many_names.ensures [
       | inl ends ↦ inl (inl (
-        more_same c.in_ok-graph.graph (ground_of c.args.config.now) c.in_ok-graph.ensures c.args.limit
+        more_same c.in_ok-graph.graph (ground_of c.args.config.now) c.in_ok-graph.ensures.same c.args.limit
             (c.in-Err-TooMany.ensures.too_many (ap {B = Result (List ClassRow) TreeFault} (λ (fault : TreeFault). Err fault) c.in-Err-TooMany.field-0-is)),
         ends,
       ))
