@@ -1,4 +1,4 @@
--- Where walks lead from a server, by what its zone has for the name.
+-- What a server replies, by what its zone has for the name.
 use Rattle.std.proofs.Common.{◌≡◌, ℕ, Bool, true, false, List, [], ◌∷◌, Option, Some, None, Bor, refl, sym, ap, ◌∙◌}
 use Rattle.std.specs.Prelude.{is_some, option_map, if◌then◌else◌}
 use Rattle.dns_data.specs.Name.{Labels, is_prefix}
@@ -17,8 +17,8 @@ use Rattle.net_model.specs.declared.config.Zone.{Zone}
 use Rattle.net_model.specs.declared.walk.Leaf.TheVariants.{Outside}
 use Rattle.net_model.specs.declared.walk.State.{State}
 use Rattle.zone_tree.specs.Tree.{ZoneTree, IsNode, name_of}
-use Rattle.straight_walks.specs.Leads.{LeadsBy, data_told, leaf_by, leaf_with, state_at, to_servers}
-use Rattle.straight_walks.specs.declared.server.Leads.TheVariants as leads
+use Rattle.straight_walks.specs.Searching.{IsReply, leaf_by, leaf_with, sorted_data, state_at, to_servers}
+use Rattle.straight_walks.specs.declared.server.Reply.TheVariants as reply
 use Rattle.straight_walks.proofs.Unhosted.{nearest_is_held}
 
 -- the records of an owner that is no alias
@@ -46,9 +46,9 @@ module _ (config : Config) (query server : Labels) where
       ap (in_zone setting rtype (state_at config query server above)) (ap (λ (c : Config). nearest_of c server query) same ∙ sym is)
 
   -- a server without a zone for the name
-  pub silent_ends : LeadsBy config query server leads.Silent → (setting : Setting) (rtype : RrType) (above : ℕ) → setting.config ≡ config
+  pub outside_ends : IsReply config query server reply.Outside → (setting : Setting) (rtype : RrType) (above : ℕ) → setting.config ≡ config
       → next setting rtype (state_at config query server above) ≡ End None Outside ∷ []
-  silent_ends none = in_nearest None (sym none)
+  outside_ends none = in_nearest None (sym none)
 
   module _ (tree : Bor ZoneTree) (is : Some tree.now.zone ≡ nearest_of config server query) (inside : is_prefix tree.now.zone.origin query ≡ true) where
     decided_by : (what : Deciding) → deciding tree.now.zone query ≡ what → (setting : Setting) (rtype : RrType) (above : ℕ) → setting.config ≡ config
@@ -57,7 +57,7 @@ module _ (config : Config) (query server : Labels) where
         in_nearest (Some tree.now.zone) is setting rtype above same
         ∙ ap (λ (d : Deciding). after_lookup setting (state_at config query server above) tree.now.zone.origin (answered tree.now.zone query rtype d)) decides
 
-    pub cut_decides : (cut : ℕ) → IsNode tree.now cut → deciding tree.now.zone query ≡ ByCut (name_of tree.now cut) → LeadsBy config query server (leads.Refers tree cut)
+    pub cut_decides : (cut : ℕ) → IsNode tree.now cut → deciding tree.now.zone query ≡ ByCut (name_of tree.now cut) → IsReply config query server (reply.Refers tree cut)
     cut_decides cut node decides = (
       node,
       cut_is_inside tree.now.zone query (name_of tree.now cut) inside decides,
@@ -67,18 +67,18 @@ module _ (config : Config) (query server : Labels) where
     )
 
     pub records_decide : (owner : Labels) → deciding tree.now.zone query ≡ ByRecords owner → first_name (targets_at tree.now.zone owner types.Cname) ≡ None
-        → LeadsBy config query server (leads.Tells tree)
+        → IsReply config query server (reply.Answers tree)
     records_decide owner decides none = (
       inside,
       λ setting rtype above same.
           decided_by (ByRecords owner) decides setting rtype above same
           ∙ ap (λ (alias : Option Labels). after_lookup setting (state_at config query server above) tree.now.zone.origin (aliased tree.now.zone owner rtype alias))
           (no_alias (type_eq rtype types.Cname) (first_name (targets_at tree.now.zone owner types.Cname)) none)
-          ∙ answers (data_told tree.now.zone owner rtype) setting (state_at config query server above) tree.now.zone.origin
+          ∙ answers (sorted_data tree.now.zone owner rtype) setting (state_at config query server above) tree.now.zone.origin
           ∙ sym (ap (λ (d : Deciding). End None (leaf_by tree.now.zone rtype d) ∷ []) decides),
     )
 
-    pub nothing_decides : deciding tree.now.zone query ≡ ByNothing → LeadsBy config query server (leads.Tells tree)
+    pub nothing_decides : deciding tree.now.zone query ≡ ByNothing → IsReply config query server (reply.Answers tree)
     nothing_decides decides = (
       inside,
       λ setting rtype above same.
@@ -86,7 +86,7 @@ module _ (config : Config) (query server : Labels) where
     )
 
 -- the branches of a state at a server whose zone refers the name
-pub refers_to : (config : Config) (query server : Labels) (tree : Bor ZoneTree) (cut : ℕ) → LeadsBy config query server (leads.Refers tree cut)
+pub refers_to : (config : Config) (query server : Labels) (tree : Bor ZoneTree) (cut : ℕ) → IsReply config query server (reply.Refers tree cut)
     → (setting : Setting) (rtype : RrType) (above : ℕ) → setting.config ≡ config
     → next setting rtype (state_at config query server above)
     ≡ to_servers tree.now.zone (name_of tree.now cut) (ns_names tree.now.zone (name_of tree.now cut)) setting (state_at config query server above)

@@ -1,20 +1,20 @@
-//! Searches up to a server that refers the name.
+//! Searches up to a server that refers the query.
 
 ghost use Rattle.std.specs.Prelude.{IfSome};
-ghost use Rattle.straight_walks.specs.Leads.{IsInside, MetBy};
+ghost use Rattle.straight_walks.specs.Searching.{IsInside, IsNextReferral};
 
-use crate::asked::Asked;
-use crate::server::{Leads, from_server};
-use crate::told::tells_the_same;
+use crate::answers::answers_alike;
+use crate::queue::Queued;
+use crate::server::{Reply, reply_of};
 use dns_data::Name;
 use zone_lookup::Hosts;
 use zone_tree::{NodeId, Tree};
 
-/// What a search meets that goes over the servers that are asked and that it hasn't passed yet: walks end at all of them, and
-/// all zones that tell something of the name tell the same; or they do so up to the server of this place, whose zone refers the
-/// name by this cut. Of other searches nothing is said.
+/// The next referral of a search over the queued states that it hasn't passed yet: there is none, walks end at all of them, and
+/// all servers that answer answer alike; or they do so up to the state of this place, whose server refers the query by this zone
+/// cut. Of other searches nothing is said.
 #[derive(Clone, Copy)]
-pub(crate) enum Met<'h, 'a> {
+pub(crate) enum NextReferral<'h, 'a> {
     Ends,
     Refers {
         passed: usize,
@@ -24,32 +24,32 @@ pub(crate) enum Met<'h, 'a> {
     Unclear,
 }
 
-/// What the search meets that has passed so many of the servers that are asked. Where no zone has told anything of the name
-/// before, the first one that does is the first from then on. It takes no memory.
+/// The next referral of the search that has passed so many of the queued states. The zone is the one that answered first, if one
+/// did; else it is the first one that answers from here on. It takes no memory.
 pub(crate) fn next_referral<'h, 'a>(
     hosts: &'h Hosts<'a>,
     query: &Name,
-    asked: &[Asked<'a>],
+    queue: &[Queued<'a>],
     passed: usize,
     first: &mut Option<&'h Tree<'a>>,
-) -> Met<'h, 'a>
+) -> NextReferral<'h, 'a>
     requires { IfSome first.old (IsInside query.now) }
-    ensures { MetBy hosts.now query.now asked.now passed first.old first.new result }
+    ensures { IsNextReferral hosts.now query.now queue.now passed first.old first.new result }
 {
     let mut passed = passed;
-    while passed < asked.len() {
-        let one = asked[passed];
-        match from_server(hosts, one.near, query, one.server) {
-            Leads::Silent => {}
-            Leads::Tells(tree) => {
-                if !tells_the_same(first, tree, query) {
-                    return Met::Unclear;
+    while passed < queue.len() {
+        let one = queue[passed];
+        match reply_of(hosts, one.near, query, one.server) {
+            Reply::Outside => {}
+            Reply::Answers(tree) => {
+                if !answers_alike(first, tree, query) {
+                    return NextReferral::Unclear;
                 }
             }
-            Leads::Refers(tree, cut) => return Met::Refers { passed, tree, cut },
-            Leads::Unclear => return Met::Unclear,
+            Reply::Refers(tree, cut) => return NextReferral::Refers { passed, tree, cut },
+            Reply::Unclear => return NextReferral::Unclear,
         }
         passed += 1;
     }
-    Met::Ends
+    NextReferral::Ends
 }

@@ -1,30 +1,30 @@
-//! Searches that have begun.
+//! Searches over the states of walks.
 
 ghost use Rattle.std.specs.Prelude.{IfOk};
 ghost use Rattle.dns_data.specs.Name.{Labels};
 ghost use Rattle.graph_form.specs.declared.deps.Deps.{Deps};
-ghost use Rattle.straight_walks.specs.Leads.{HasBegun};
+ghost use Rattle.straight_walks.specs.Searching.{IsSearch};
 
-use crate::asked::{Asked, top_servers};
+use crate::queue::{Queued, start_states};
 use dns_data::{Name, NoMemory};
 use std::alloc::Global;
 use zone_lookup::Hosts;
 
-/// The servers that are asked for a name, and how many of the first ones are passed over: nothing is told there, or walks go
-/// on to others.
+/// A search over the states to which walks for a name come: the queue of them, and how many of the first ones it has passed.
+/// There no server answers: walks end, or go on to others.
 #[derive(Drop)]
-pub(crate) struct Begun<'a> {
-    pub asked: Vec<Asked<'a>>,
+pub(crate) struct Search<'a> {
+    pub queue: Vec<Queued<'a>>,
     pub passed: usize,
 }
 
-impl<'a> Begun<'a> {
-    /// The search that begins at the top servers, for any name. Their zones are looked for near those in which they look this
-    /// name up.
-    pub fn at_top(alloc: Global, hosts: &Hosts<'a>, name: &Name) -> Result<Begun<'a>, NoMemory>
-        ensures { IfOk result (λ begun. (deps : Deps) (query : Labels) → HasBegun hosts.now deps query begun) }
+impl<'a> Search<'a> {
+    /// The search that begins at the top servers, for any name. Their zones are looked for near those in which the servers look
+    /// this name up.
+    pub fn at_top(alloc: Global, hosts: &Hosts<'a>, name: &Name) -> Result<Search<'a>, NoMemory>
+        ensures { IfOk result (λ searched. (deps : Deps) (query : Labels) → IsSearch hosts.now deps query searched) }
     {
-        let asked = top_servers(alloc, hosts, name)?;
-        Ok(Begun { asked, passed: 0 })
+        let queue = start_states(alloc, hosts, name)?;
+        Ok(Search { queue, passed: 0 })
     }
 }

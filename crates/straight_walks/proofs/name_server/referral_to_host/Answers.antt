@@ -2,7 +2,7 @@ use Rattle.std.proofs.Common.{◌∙◌, ap, sym}
 use Rattle.dns_data.specs.Name.{is_prefix}
 use Rattle.net_model.specs.declared.config.Zone.{Zone}
 use Rattle.straight_walks.proofs.GoingOn.{goes_on_to}
-use Rattle.straight_walks.proofs.name_server.behind_referral.Goals as goal
+use Rattle.straight_walks.proofs.name_server.referral_to_host.Goals as goal
 
 pub returns-in-Some : goal.returns-in-Some
 returns-in-Some c =

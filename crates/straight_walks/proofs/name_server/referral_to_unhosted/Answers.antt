@@ -4,7 +4,7 @@ use Rattle.net_model.specs.Zone.{has_address}
 use Rattle.zone_lookup.proofs.Glue.{further_below}
 use Rattle.zone_tree.specs.Tree.{name_of}
 use Rattle.straight_walks.proofs.Unhosted.{far, glued, unhosted_ends}
-use Rattle.straight_walks.proofs.name_server.behind_unhosted.Goals as goal
+use Rattle.straight_walks.proofs.name_server.referral_to_unhosted.Goals as goal
 
 pub returns-then-not-is_prefix_of : goal.returns-then-not-is_prefix_of
 returns-then-not-is_prefix_of c = λ config deps query server held unhosted.

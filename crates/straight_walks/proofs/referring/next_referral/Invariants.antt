@@ -1,16 +1,16 @@
 use Rattle.std.proofs.Common.{◌-◌, ◌≤◌, length}
 use Rattle.std.specs.Prelude.{IfSome}
 use Rattle.graph_form.specs.declared.deps.Deps.{Deps}
-use Rattle.straight_walks.specs.Leads.{IsInside, Searched}
-use Rattle.straight_walks.proofs.met.next_referral.Given as goal
+use Rattle.straight_walks.specs.Searching.{HasPassed, IsInside}
+use Rattle.straight_walks.proofs.referring.next_referral.Given as goal
 
--- walks go straight from the servers passed over, and what is told there is what was told first
+-- walks go straight from the states passed, and what is answered there is what was answered first
 abbrev pub invariant-loop-passed : goal.invariant-loop-passed
 invariant-loop-passed l = record {
   inside : IfSome l.first (IsInside l.query);
   later : l.initial.passed ≤ l.passed;
-  searched : (deps : Deps) → Searched l.hosts deps l.query l.asked l.initial.passed l.initial.first → Searched l.hosts deps l.query l.asked l.passed l.first;
+  searched : (deps : Deps) → HasPassed l.hosts deps l.query l.queue l.initial.passed l.initial.first → HasPassed l.hosts deps l.query l.queue l.passed l.first;
 }
 
 abbrev pub decreases-loop-passed : goal.decreases-loop-passed
-decreases-loop-passed l = length l.asked - l.passed
+decreases-loop-passed l = length l.queue - l.passed

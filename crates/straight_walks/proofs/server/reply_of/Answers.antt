@@ -1,7 +1,7 @@
 use Rattle.std.proofs.Common.{sym, ◌∙◌}
 use Rattle.zone_tree.specs.Tree.{name_of}
-use Rattle.straight_walks.proofs.ServerLeads.{cut_decides, nothing_decides, records_decide, without}
-use Rattle.straight_walks.proofs.server.from_server.Goals as goal
+use Rattle.straight_walks.proofs.Replies.{cut_decides, nothing_decides, records_decide, without}
+use Rattle.straight_walks.proofs.server.reply_of.Goals as goal
 
 pub returns-in-Cut : goal.returns-in-Cut
 returns-in-Cut c =
