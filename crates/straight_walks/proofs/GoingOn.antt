@@ -1,4 +1,4 @@
--- Where referrals lead.
+-- The branches of referrals.
 use Rattle.std.proofs.Common.{◌≡◌, ℕ, ◌+◌, ◌<◌, Bool, true, false, not, cond, List, [], ◌∷◌, ◌++◌, length, map, take, get_or, Option, Some, Bor, refl, sym, ap, ◌∙◌, subst, inl, inr}
 use Rattle.std.specs.Prelude.{◌⊎◌, ◌||◌, is_some, option_and_then, option_map, Contains}
 use Rattle.std.specs.List.{AllByRecursion, list_any}
@@ -17,10 +17,10 @@ use Rattle.net_model.specs.declared.place.Cut.{Cut}
 use Rattle.net_model.specs.declared.walk.Hop.TheVariants.{Refer}
 use Rattle.net_model.specs.declared.walk.Leaf.TheVariants as leaves
 use Rattle.net_model.specs.declared.walk.State.{State}
-use Rattle.straight_walks.specs.Leads.{Extends, IsSettingOf, LeadsBehind, RefersOn, cut_to, state_at, state_of, to_servers}
-use Rattle.straight_walks.specs.Straight.{EndsSilent, GoesTo}
-use Rattle.straight_walks.specs.declared.asked.Asked.{Asked}
-use Rattle.straight_walks.specs.declared.name_server.Behind.TheVariants as behind
+use Rattle.straight_walks.specs.Searching.{AreReferrals, Extends, IsReferral, IsSettingOf, cut_to, state_at, state_of, to_servers}
+use Rattle.straight_walks.specs.Straight.{EndsUnanswered, GoesTo}
+use Rattle.straight_walks.specs.declared.queue.Queued.{Queued}
+use Rattle.straight_walks.specs.declared.name_server.Referral.TheVariants as referral
 
 -- ---- a referral to one name server
 
@@ -34,7 +34,7 @@ module _ (config : Config) (deps : Deps) (query : Labels) (cut : Cut) where
   -- walks go on to a name server that is known and serves a zone at or below the cut
   pub goes_on_to : (host : Server) (zone : Zone) → referral_faults config deps cut ≡ [] → Some host ≡ server_named config cut.ns
       → may_follow config cut deps.least ≡ true → Some zone ≡ nearest host query → is_prefix cut.cut zone.origin ≡ true
-      → LeadsBehind config deps query cut behind.GoesOn
+      → IsReferral config deps query cut referral.GoesOn
   goes_on_to host zone sound named known serves below setting above of =
       (subst (λ (c : Config). referral_faults c deps cut ≡ []) (sym of.config_is) sound, goes)
     where
@@ -81,13 +81,13 @@ one_name_more items i item within is =
     ap (map (λ (ns : Bor Labels). ns.now)) (take_more items i item within ∙ (λ j. take i items ++ sym is j ∷ []))
     ∙ map-append (λ (ns : Bor Labels). ns.now) (take i items) (item ∷ [])
 
--- those that were asked still are
-pub extends_further : (first second third : List Asked) → Extends first second → Extends second third → Extends first third
+-- states that were queued still are
+pub extends_further : (first second third : List Queued) → Extends first second → Extends second third → Extends first third
 extends_further first second third one two =
-    (one.0 ++ two.0, two.1 ∙ ap (λ (all : List Asked). all ++ two.0) one.1 ∙ append_assoc first one.0 two.0)
+    (one.0 ++ two.0, two.1 ∙ ap (λ (all : List Queued). all ++ two.0) one.1 ∙ append_assoc first one.0 two.0)
 
-pub still_asked : (f : Asked → State) (before after : List Asked) → Extends before after → (state : State) → Contains (map f before) state → Contains (map f after) state
-still_asked f before after more state has =
+pub still_queued : (f : Queued → State) (before after : List Queued) → Extends before after → (state : State) → Contains (map f before) state → Contains (map f after) state
+still_queued f before after more state has =
     subst (λ (all : List State). Contains all state) (sym (ap (map f) more.1 ∙ map-append f before more.0)) (Contains-append_left (map f before) (map f more.0) state has)
 
 pub goes_still : (config : Config) (deps : Deps) (states all : List State) → ((state : State) → Contains states state → Contains all state)
@@ -95,54 +95,54 @@ pub goes_still : (config : Config) (deps : Deps) (states all : List State) → (
 goes_still config deps states all more branch goes = (goes.0, goes.1, goes.2, goes.3, more goes.1 goes.4)
 
 module _ (config : Config) (deps : Deps) (query server : Labels) (zone : Zone) (cut : Labels) where
-  -- where more servers are asked
-  pub refers_still : (names : List Labels) (before after : List Asked) → Extends before after → RefersOn config deps query server zone cut names before
-      → RefersOn config deps query server zone cut names after
+  -- where more states are queued
+  pub refers_still : (names : List Labels) (before after : List Queued) → Extends before after → AreReferrals config deps query server zone cut names before
+      → AreReferrals config deps query server zone cut names after
   refers_still names before after more so setting above of =
-      all_so (λ branch. EndsSilent setting.config deps branch ⊎ GoesTo setting.config deps (map (state_of config query) before) branch)
-      (λ branch. EndsSilent setting.config deps branch ⊎ GoesTo setting.config deps (map (state_of config query) after) branch)
+      all_so (λ branch. EndsUnanswered setting.config deps branch ⊎ GoesTo setting.config deps (map (state_of config query) before) branch)
+      (λ branch. EndsUnanswered setting.config deps branch ⊎ GoesTo setting.config deps (map (state_of config query) after) branch)
       (to_servers zone cut names setting (state_at config query server above)) weaker (so setting above of)
     where
-      weaker : (branch : Branch) → EndsSilent setting.config deps branch ⊎ GoesTo setting.config deps (map (state_of config query) before) branch
-          → EndsSilent setting.config deps branch ⊎ GoesTo setting.config deps (map (state_of config query) after) branch
+      weaker : (branch : Branch) → EndsUnanswered setting.config deps branch ⊎ GoesTo setting.config deps (map (state_of config query) before) branch
+          → EndsUnanswered setting.config deps branch ⊎ GoesTo setting.config deps (map (state_of config query) after) branch
       weaker branch (inl ends) = inl ends
       weaker branch (inr goes) =
-          inr (goes_still setting.config deps (map (state_of config query) before) (map (state_of config query) after) (still_asked (state_of config query) before after more) branch goes)
+          inr (goes_still setting.config deps (map (state_of config query) before) (map (state_of config query) after) (still_queued (state_of config query) before after more) branch goes)
 
-  module _ (names : List Labels) (ns : Labels) (asked : List Asked) (so : RefersOn config deps query server zone cut names asked) where
+  module _ (names : List Labels) (ns : Labels) (queue : List Queued) (so : AreReferrals config deps query server zone cut names queue) where
     abbrev to : Cut
     to = cut_to server zone cut ns
 
     -- one name server more
     one_more : ((setting : Setting) (above : ℕ) → IsSettingOf config deps setting
-        → EndsSilent setting.config deps (referred setting (state_at config query server above) to)
-        ⊎ GoesTo setting.config deps (map (state_of config query) asked) (referred setting (state_at config query server above) to))
-        → RefersOn config deps query server zone cut (names ++ ns ∷ []) asked
+        → EndsUnanswered setting.config deps (referred setting (state_at config query server above) to)
+        ⊎ GoesTo setting.config deps (map (state_of config query) queue) (referred setting (state_at config query server above) to))
+        → AreReferrals config deps query server zone cut (names ++ ns ∷ []) queue
     one_more here setting above of =
-        subst (AllByRecursion (λ branch. EndsSilent setting.config deps branch ⊎ GoesTo setting.config deps (map (state_of config query) asked) branch))
+        subst (AllByRecursion (λ branch. EndsUnanswered setting.config deps branch ⊎ GoesTo setting.config deps (map (state_of config query) queue) branch))
         (sym (map-append (λ name. referred setting (state_at config query server above) (cut_to server zone cut name)) names (ns ∷ [])))
-        (all_push (λ branch. EndsSilent setting.config deps branch ⊎ GoesTo setting.config deps (map (state_of config query) asked) branch)
+        (all_push (λ branch. EndsUnanswered setting.config deps branch ⊎ GoesTo setting.config deps (map (state_of config query) queue) branch)
         (to_servers zone cut names setting (state_at config query server above)) (referred setting (state_at config query server above) to)
         (so setting above of) (here setting above of))
 
-    pub one_that_ends : LeadsBehind config deps query to behind.Ends → RefersOn config deps query server zone cut (names ++ ns ∷ []) asked
+    pub one_that_ends : IsReferral config deps query to referral.Ends → AreReferrals config deps query server zone cut (names ++ ns ∷ []) queue
     one_that_ends ends = one_more (λ setting above of. inl (ends setting (state_at config query server above) of))
 
-    pub one_to_go_to : Contains (map (state_of config query) asked) (state_at config query ns (length cut)) → LeadsBehind config deps query to behind.GoesOn
-        → RefersOn config deps query server zone cut (names ++ ns ∷ []) asked
+    pub one_to_go_to : Contains (map (state_of config query) queue) (state_at config query ns (length cut)) → IsReferral config deps query to referral.GoesOn
+        → AreReferrals config deps query server zone cut (names ++ ns ∷ []) queue
     one_to_go_to there goes =
         one_more (λ setting above of.
         let on = goes setting above of in
         inr (to, state_at config query ns (length cut), on.0, on.1, there))
 
     -- so do those so far, where the referral ends
-    pub so_far_ends : (first : List Asked) → Extends first asked → LeadsBehind config deps query to behind.Ends
-        → Extends first asked × RefersOn config deps query server zone cut (names ++ ns ∷ []) asked
+    pub so_far_ends : (first : List Queued) → Extends first queue → IsReferral config deps query to referral.Ends
+        → Extends first queue × AreReferrals config deps query server zone cut (names ++ ns ∷ []) queue
     so_far_ends first more ends = (more, one_that_ends ends)
 
   -- and where walks go on to it
-  pub so_far_goes_on : (names : List Labels) (ns : Labels) (first before after : List Asked) → Extends first before × RefersOn config deps query server zone cut names before → Extends before after
-      → Contains (map (state_of config query) after) (state_at config query ns (length cut)) → LeadsBehind config deps query (cut_to server zone cut ns) behind.GoesOn
-      → Extends first after × RefersOn config deps query server zone cut (names ++ ns ∷ []) after
+  pub so_far_goes_on : (names : List Labels) (ns : Labels) (first before after : List Queued) → Extends first before × AreReferrals config deps query server zone cut names before → Extends before after
+      → Contains (map (state_of config query) after) (state_at config query ns (length cut)) → IsReferral config deps query (cut_to server zone cut ns) referral.GoesOn
+      → Extends first after × AreReferrals config deps query server zone cut (names ++ ns ∷ []) after
   so_far_goes_on names ns first before after so more there goes =
       (extends_further first before after so.0 more, one_to_go_to names ns after (refers_still names before after more so.1) there goes)

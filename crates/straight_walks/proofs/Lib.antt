@@ -2,11 +2,11 @@ mod Worked
 pub mod FewStates
 pub mod LeastFollowed
 pub mod GoingOn
-pub mod ServerLeads
+pub mod Replies
 pub mod ShowsNothing
 pub mod StraightSearch
 pub mod StraightWalks
-pub mod ToldAlike
+pub mod AnsweredAlike
 pub mod Unhosted
 pub mod BelowOrigins
 pub mod OtherNames

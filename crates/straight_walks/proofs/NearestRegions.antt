@@ -13,7 +13,7 @@ use Rattle.net_model.specs.declared.config.Config.{Config}
 use Rattle.net_model.specs.declared.config.Server.{Server}
 use Rattle.net_model.specs.declared.config.Zone.{Zone}
 use Rattle.zone_lookup.specs.Named.{item_named, IsAtLongest}
-use Rattle.straight_walks.specs.Leads.{HasBegun}
+use Rattle.straight_walks.specs.Searching.{IsSearch}
 use Rattle.straight_walks.specs.Regions.{AreRegions, IsNearestOrigin, IsRegion, region_origins}
 use Rattle.straight_walks.specs.declared.region.Region.{Region}
 
@@ -66,6 +66,6 @@ module _ (config : Config) (deps : Deps) (regions : List Region) (are : AreRegio
         let inner : is_prefix (origin_of from.0) name ≡ true = ap (λ (n : Labels). is_prefix n name) from.2 ∙ inside in
         absurd (none_longer regions name region nearest from.0 from.1 inner (subst (λ (n : Labels). length (origin_of region) < length n) (sym from.2) more))
 
-  -- so the region's search has begun for the name
-  pub begun_for : HasBegun config deps name region.begun
-  begun_for = each_along (IsRegion config deps) regions are.each region (found regions name region nearest).0 name is_nearest
+  -- so the region's search is one for the name
+  pub search_for : IsSearch config deps name region.searched
+  search_for = each_along (IsRegion config deps) regions are.each region (found regions name region nearest).0 name is_nearest

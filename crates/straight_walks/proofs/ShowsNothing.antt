@@ -46,11 +46,11 @@ quiet config deps cut sound =
     none_shown (zones_differ config cut) (wants_glue config cut) (addresses_differ config cut) (depends_on_itself config deps cut)
     (faults.Differs cut) (faults.NoGlue cut) (faults.GlueDiffers cut) (faults.Cyclic cut) sound
 
--- where an end tells something it is this one
-told_end : (told leaf : Leaf) → EndsSo told leaf → is_authoritative leaf ≡ true → leaf ≡ told
-told_end told leaves.Outside ends is = cc
-told_end told (leaves.Unhosted ns) ends is = cc
-told_end told leaf ends is = ends.1
+-- an end with an answer has this one
+answer_end : (answer leaf : Leaf) → EndsSo answer leaf → is_authoritative leaf ≡ true → leaf ≡ answer
+answer_end answer leaves.Outside ends is = cc
+answer_end answer (leaves.Unhosted ns) ends is = cc
+answer_end answer leaf ends is = ends.1
 
 module _ (setting : Setting) (deps : Deps) (most : ℕ) (query : Labels) (straight : GoesStraight setting deps most query) (rtype : RrType) where
   -- faults are read with the two lists
@@ -62,7 +62,7 @@ module _ (setting : Setting) (deps : Deps) (most : ℕ) (query : Labels) (straig
   OfQuery walk = IsWalk setting query rtype walk
 
   -- so it goes
-  so : (walk : Walk) → OfQuery walk → GoesStraightBy setting.config deps (straight.told rtype) straight.states walk
+  so : (walk : Walk) → OfQuery walk → GoesStraightBy setting.config deps (straight.answer rtype) straight.states walk
   so walk is = goes_by setting deps most query straight rtype walk is
 
   -- its referrals show no fault
@@ -70,8 +70,8 @@ module _ (setting : Setting) (deps : Deps) (most : ℕ) (query : Labels) (straig
   sound walk cut is refers = quiet setting.config deps cut (each_along (IsSoundHop setting.config deps) walk.hops (so walk is).hops (Refer cut) refers)
 
   -- it ends so
-  ends_so : (walk : Walk) (leaf : Leaf) → OfQuery walk → walk.leaf ≡ leaf → EndsSo (straight.told rtype) leaf
-  ends_so walk leaf is e = subst (EndsSo (straight.told rtype)) e (so walk is).ends
+  ends_so : (walk : Walk) (leaf : Leaf) → OfQuery walk → walk.leaf ≡ leaf → EndsSo (straight.answer rtype) leaf
+  ends_so walk leaf is e = subst (EndsSo (straight.answer rtype)) e (so walk is).ends
 
   -- it is never rewritten
   unrewritten : (walk : Walk) (place : Place) → OfQuery walk → LastRewriteAt walk place → ⊥
@@ -86,8 +86,8 @@ module _ (setting : Setting) (deps : Deps) (most : ℕ) (query : Labels) (straig
   -- and no two walks end in different answers
   no_two : (one other : Walk) → OfQuery one → OfQuery other → ShowsAnswers one other → ⊥
   no_two one other is also show =
-      let first = told_end (straight.told rtype) one.leaf (so one is).ends show.first in
-      let second = told_end (straight.told rtype) other.leaf (so other also).ends show.second in
+      let first = answer_end (straight.answer rtype) one.leaf (so one is).ends show.first in
+      let second = answer_end (straight.answer rtype) other.leaf (so other also).ends show.second in
       show.differ (first ∙ sym second)
 
   -- no walks show a fault

@@ -20,52 +20,52 @@ use Rattle.net_model.specs.declared.walk.State.{State}
 use Rattle.net_model.specs.declared.walk.Walk.{Walk}
 use Rattle.net_model.proofs.Leads.{GoesOn, EndsBy, branch_taken}
 use Rattle.net_model.proofs.WalkEnds.{item}
-use Rattle.straight_walks.specs.Straight.{IsSound, EndsSilent, Tells, GoesTo, GoesStraight}
+use Rattle.straight_walks.specs.Straight.{Answers, EndsUnanswered, GoesStraight, GoesTo, IsSound}
 
 -- the hop is a referral that shows no fault
 abbrev pub IsSoundHop : Config → Deps → Hop → Type 0
 IsSoundHop config deps (Refer cut) = IsSound config deps cut
 IsSoundHop config deps (Rewrite place by_dname to) = ⊥
 
--- nothing is told there, or what is told is this
+-- nothing is answered there, or this is
 abbrev pub EndsSo : Leaf → Leaf → Type 0
-EndsSo told Outside = Unit {0}
-EndsSo told (Unhosted ns) = Unit {0}
-EndsSo told leaf = (is_authoritative leaf ≡ true) × (leaf ≡ told)
+EndsSo answer Outside = Unit {0}
+EndsSo answer (Unhosted ns) = Unit {0}
+EndsSo answer leaf = (is_authoritative leaf ≡ true) × (leaf ≡ answer)
 
--- the branch goes on by such a hop to one of the states, or ends so behind such a hop or none
+-- the branch goes on by such a hop to one of the states, or ends so after such a hop or none
 abbrev GoesSo : Config → Deps → Leaf → List State → Branch → Type 0
-GoesSo config deps told states (Go hop to) = IsSoundHop config deps hop × Contains states to
-GoesSo config deps told states (End hop leaf) = AllByRecursion (IsSoundHop config deps) (option_to_list hop) × EndsSo told leaf
+GoesSo config deps answer states (Go hop to) = IsSoundHop config deps hop × Contains states to
+GoesSo config deps answer states (End hop leaf) = AllByRecursion (IsSoundHop config deps) (option_to_list hop) × EndsSo answer leaf
 
 -- so the walk goes: it stands in some of the states
-pub record GoesStraightBy (config : Config) (deps : Deps) (told : Leaf) (states : List State) (walk : Walk) : Type 0 where
+pub record GoesStraightBy (config : Config) (deps : Deps) (answer : Leaf) (states : List State) (walk : Walk) : Type 0 where
   pub among : AllByRecursion (Contains states) walk.states
   pub hops : AllByRecursion (IsSoundHop config deps) walk.hops
-  pub ends : EndsSo told walk.leaf
+  pub ends : EndsSo answer walk.leaf
 
--- an end that tells this
-ends_told : (leaf : Leaf) → is_authoritative leaf ≡ true → EndsSo leaf leaf
-ends_told (Answer rdata) is = (is, refl)
-ends_told NoData is = (is, refl)
-ends_told NxDomain is = (is, refl)
-ends_told leaf is = cc
+-- an end with this answer
+ends_answered : (leaf : Leaf) → is_authoritative leaf ≡ true → EndsSo leaf leaf
+ends_answered (Answer rdata) is = (is, refl)
+ends_answered NoData is = (is, refl)
+ends_answered NxDomain is = (is, refl)
+ends_answered leaf is = cc
 
 module _ (setting : Setting) (deps : Deps) (most : ℕ) (query : Labels) (straight : GoesStraight setting deps most query) (rtype : RrType) where
   -- a branch of one of the states
   abbrev BranchSo : Branch → Type 0
-  BranchSo branch = GoesSo setting.config deps (straight.told rtype) straight.states branch
+  BranchSo branch = GoesSo setting.config deps (straight.answer rtype) straight.states branch
 
   -- a walk from one of the states
   abbrev So : Walk → Type 0
-  So walk = GoesStraightBy setting.config deps (straight.told rtype) straight.states walk
+  So walk = GoesStraightBy setting.config deps (straight.answer rtype) straight.states walk
 
   -- where each branch of a state goes straight it goes so
   branch_so : (branch : Branch)
-      → EndsSilent setting.config deps branch ⊎ (Tells (straight.told rtype) branch ⊎ GoesTo setting.config deps straight.states branch) → BranchSo branch
+      → EndsUnanswered setting.config deps branch ⊎ (Answers (straight.answer rtype) branch ⊎ GoesTo setting.config deps straight.states branch) → BranchSo branch
   branch_so branch (inl (inl ends)) = subst BranchSo (sym ends) (tt, tt)
   branch_so branch (inl (inr (cut, sound, ends))) = subst BranchSo (sym ends) ((sound, tt), tt)
-  branch_so branch (inr (inl (is, ends))) = subst BranchSo (sym ends) (tt, ends_told (straight.told rtype) is)
+  branch_so branch (inr (inl (is, ends))) = subst BranchSo (sym ends) (tt, ends_answered (straight.answer rtype) is)
   branch_so branch (inr (inr (cut, to, sound, goes, has))) = subst BranchSo (sym goes) (sound, has)
 
   -- each walk from one of the states goes so

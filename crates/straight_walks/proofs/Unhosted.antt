@@ -20,8 +20,8 @@ use Rattle.net_model.specs.declared.place.Cut.{Cut}
 use Rattle.net_model.specs.declared.walk.Hop.TheVariants.{Refer}
 use Rattle.net_model.specs.declared.walk.Leaf.TheVariants as leaves
 use Rattle.net_model.specs.declared.walk.State.{State}
-use Rattle.straight_walks.specs.Leads.{IsSettingOf, LeadsBehind}
-use Rattle.straight_walks.specs.declared.name_server.Behind.TheVariants as behind
+use Rattle.straight_walks.specs.Searching.{IsReferral, IsSettingOf}
+use Rattle.straight_walks.specs.declared.name_server.Referral.TheVariants as referral
 
 -- ---- the zone in which a server looks a name up is one that it holds
 
@@ -67,7 +67,7 @@ module _ (config : Config) (deps : Deps) (query : Labels) (cut : Cut) where
         ∙ ap (λ (zone : Option Zone). faults_by None zone (is_prefix cut.cut cut.ns)) held
         ∙ none_by (is_prefix cut.cut cut.ns) (has_address zone cut.ns) so
 
-    pub unhosted_ends : HasIfBelow (is_prefix cut.cut cut.ns) (has_address zone cut.ns) → LeadsBehind config deps query cut behind.Ends
+    pub unhosted_ends : HasIfBelow (is_prefix cut.cut cut.ns) (has_address zone cut.ns) → IsReferral config deps query cut referral.Ends
     unhosted_ends so = λ setting state of. inr (cut, subst (λ (c : Config). referral_faults c deps cut ≡ []) (sym of.config_is) (shows_none so), ends setting state of) where
       ends : (setting : Setting) (state : State) → IsSettingOf config deps setting → referred setting state cut ≡ End (Some (Refer cut)) (leaves.Unhosted cut.ns)
       ends setting state of =

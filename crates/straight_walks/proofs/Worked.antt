@@ -1,4 +1,4 @@
--- A worked value: a query whose walks go straight, by a delegation to two name servers that tell the same of the name.
+-- A worked value: a query whose walks go straight, by a delegation to two name servers that answer alike.
 use Rattle.std.proofs.Common.{◌≡◌, true, List, [], ◌∷◌, refl, inl, inr, arith}
 use Rattle.std.specs.Prelude.{codes, Some, None, Contains}
 use Rattle.dns_data.specs.Name.{Labels}
@@ -76,8 +76,8 @@ abbrev states : List State
 states = first ∷ behind nsa ∷ behind nsb ∷ []
 
 -- with each type
-abbrev told : RrType → Leaf
-told rtype = NxDomain
+abbrev answer : RrType → Leaf
+answer rtype = NxDomain
 
 second : Contains states (behind nsa)
 second = has_later first (behind nsa ∷ behind nsb ∷ []) (behind nsa) (has_first (behind nsa) (behind nsb ∷ []))
@@ -88,23 +88,23 @@ third =
     (has_later (behind nsa) (behind nsb ∷ []) (behind nsb) (has_first (behind nsb) []))
 
 -- walks go to either name server
-first_goes : StepsStraight setting deps told states first
+first_goes : StepsStraight setting deps answer states first
 first_goes rtype = (inr (inr (cut nsa, behind nsa, refl, refl, second)), (inr (inr (cut nsb, behind nsb, refl, refl, third)), tt))
 
 -- where the name doesn't exist
-second_tells : StepsStraight setting deps told states (behind nsa)
-second_tells rtype = (inr (inl (refl, refl)), tt)
+second_answers : StepsStraight setting deps answer states (behind nsa)
+second_answers rtype = (inr (inl (refl, refl)), tt)
 
-third_tells : StepsStraight setting deps told states (behind nsb)
-third_tells rtype = (inr (inl (refl, refl)), tt)
+third_answers : StepsStraight setting deps answer states (behind nsb)
+third_answers rtype = (inr (inl (refl, refl)), tt)
 
 www_goes_straight : GoesStraight setting deps 3 www
 www_goes_straight =
     record {
       states = states;
       few = omega arith;
-      told = told;
+      answer = answer;
       begins = λ state has. each_along (Contains states) (first ∷ []) (has_first first (behind nsa ∷ behind nsb ∷ []), tt) state has;
       not_rewritten = λ state has. each_along (λ (one : State). one.last ≡ None) states (refl, (refl, (refl, tt))) state has;
-      steps = λ state has. each_along (StepsStraight setting deps told states) states (first_goes, (second_tells, (third_tells, tt))) state has;
+      steps = λ state has. each_along (StepsStraight setting deps answer states) states (first_goes, (second_answers, (third_answers, tt))) state has;
     }

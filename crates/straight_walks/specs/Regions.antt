@@ -1,5 +1,5 @@
--- Names by the longest origin of a zone at or above them, for all of which walks lead the same way as long as no zone tells
--- anything: for the contracts of inner calls alone.
+-- Names by the longest origin of a zone at or above them, for all of which walks are the same as long as no zone answers: for the
+-- contracts of inner calls alone.
 use Rattle.std.specs.Prelude.{◌≡◌, ◌<◌, ℕ, true, List, [], ◌∷◌, ◌++◌, ◌⊎◌, map, length, None, Contains}
 use Rattle.std.specs.List.{AllByRecursion}
 use Rattle.std.specs.List.Sorted.{IsStrictlySortedBy}
@@ -12,10 +12,10 @@ use Rattle.net_model.specs.declared.config.Config.{Config}
 use Rattle.net_model.specs.declared.config.Server.{Server}
 use Rattle.net_model.specs.declared.config.Zone.{Zone}
 use Rattle.net_model.specs.declared.walk.Leaf.{Leaf}
-use Rattle.straight_walks.specs.Leads.{Extends, HasBegun, IsSettingOf, state_at, state_of}
+use Rattle.straight_walks.specs.Searching.{Extends, IsSearch, IsSettingOf, state_at, state_of}
 use Rattle.straight_walks.specs.Straight.{StepsStraight}
-use Rattle.straight_walks.specs.declared.asked.Asked.{Asked}
-use Rattle.straight_walks.specs.declared.begun.Begun.{Begun}
+use Rattle.straight_walks.specs.declared.queue.Queued.{Queued}
+use Rattle.straight_walks.specs.declared.searching.Search.{Search}
 use Rattle.straight_walks.specs.declared.region.Region.{Region}
 
 -- the origin is at or above the name, and no server has a zone whose origin is and has more labels
@@ -31,27 +31,27 @@ HasOrigins zones origins = (zone : Zone) → Contains zones zone → Contains or
 abbrev pub HasEachOrigin : Config → List Labels → Type 0
 HasEachOrigin config origins = (server : Server) → Contains config.servers server → HasOrigins server.zones origins
 
--- the search has begun so for each name whose nearest origin this is
-abbrev pub HasBegunBelow : Config → Deps → Labels → Begun → Type 0
-HasBegunBelow config deps origin begun = (query : Labels) → IsNearestOrigin config origin query → HasBegun config deps query begun
+-- the search is one for each name whose nearest origin this is
+abbrev pub IsSearchBelow : Config → Deps → Labels → Search → Type 0
+IsSearchBelow config deps origin searched = (query : Labels) → IsNearestOrigin config origin query → IsSearch config deps query searched
 
--- for each name whose nearest origin this is walks go straight from the server, and nothing is told there
-abbrev pub LeadsPast : Config → Deps → Labels → Labels → List Asked → Type 0
-LeadsPast config deps origin server asked =
-    (query : Labels) → IsNearestOrigin config origin query → (setting : Setting) (told : RrType → Leaf) (above : ℕ) → IsSettingOf config deps setting
-    → StepsStraight setting deps told (map (state_of config query) asked) (state_at config query server above)
+-- for each name whose nearest origin this is walks go straight from the server, and it answers none of them
+abbrev pub IsPassed : Config → Deps → Labels → Labels → List Queued → Type 0
+IsPassed config deps origin server queue =
+    (query : Labels) → IsNearestOrigin config origin query → (setting : Setting) (answer : RrType → Leaf) (above : ℕ) → IsSettingOf config deps setting
+    → StepsStraight setting deps answer (map (state_of config query) queue) (state_at config query server above)
 
--- one more server is put behind those that walks lead past, or behind those to be asked again for each of the names
-pub record SortsOut (config : Config) (deps : Deps) (origin : Labels) (one : Asked) (before passed_before again_before after passed_after again_after : List Asked) : Type 0 where
-  pub asks : Extends before after
-  pub sorts : ((passed_after ≡ passed_before ++ one ∷ []) × (again_after ≡ again_before) × LeadsPast config deps origin one.server.now after)
-      ⊎ ((passed_after ≡ passed_before) × (again_after ≡ again_before ++ one ∷ []))
+-- one more state is put at the end of those that are passed for each of the names, or of those whose servers answer
+pub record IsLookedAt (config : Config) (deps : Deps) (origin : Labels) (one : Queued) (before passed_before answering_before after passed_after answering_after : List Queued) : Type 0 where
+  pub extends : Extends before after
+  pub put : ((passed_after ≡ passed_before ++ one ∷ []) × (answering_after ≡ answering_before) × IsPassed config deps origin one.server.now after)
+      ⊎ ((passed_after ≡ passed_before) × (answering_after ≡ answering_before ++ one ∷ []))
 
 -- ---- regions
 
--- the region's search has begun so for each name whose nearest origin is the region's
+-- the region's search is one for each name whose nearest origin is the region's
 abbrev pub IsRegion : Config → Deps → Region → Type 0
-IsRegion config deps region = HasBegunBelow config deps region.origin.now region.begun
+IsRegion config deps region = IsSearchBelow config deps region.origin.now region.searched
 
 abbrev pub region_origins : List Region → List Labels
 region_origins regions = map (λ region. region.origin.now) regions

@@ -1,4 +1,4 @@
--- Queries whose walks go straight: by delegations alone, to ends that show no fault and all tell the same.
+-- Queries whose walks go straight: by delegations alone, to ends that show no fault, where all servers answer alike.
 use Rattle.std.specs.Prelude.{◌≡◌, ◌≤◌, ℕ, true, List, [], ◌⊎◌, length, Some, None, Contains}
 use Rattle.std.specs.List.{AllByRecursion, list_any}
 use Rattle.delegation_checks.specs.Referrals.{referral_faults}
@@ -15,37 +15,37 @@ use Rattle.net_model.specs.declared.walk.Leaf.{Leaf}
 use Rattle.net_model.specs.declared.walk.Leaf.TheVariants.{Outside, Unhosted}
 use Rattle.net_model.specs.declared.walk.State.{State}
 
--- a referral to the name server shows no fault, whatever comes behind it
+-- a referral to the name server shows no fault, whatever comes after it
 abbrev pub IsSound : Config → Deps → Cut → Type 0
 IsSound config deps cut = referral_faults config deps cut ≡ []
 
--- the branch ends where nothing is told of the name: its server holds no zone for it, or the name server isn't configured
-abbrev pub EndsSilent : Config → Deps → Branch → Type 0
-EndsSilent config deps branch =
+-- the branch ends where no zone answers: its server holds none for the name, or the name server isn't configured
+abbrev pub EndsUnanswered : Config → Deps → Branch → Type 0
+EndsUnanswered config deps branch =
     (branch ≡ End None Outside) ⊎ ((cut : Cut) × IsSound config deps cut × (branch ≡ End (Some (Refer cut)) (Unhosted cut.ns)))
 
--- the branch ends where a zone tells this of the name
-abbrev pub Tells : Leaf → Branch → Type 0
-Tells leaf branch = (is_authoritative leaf ≡ true) × (branch ≡ End None leaf)
+-- the branch ends where a zone answers this
+abbrev pub Answers : Leaf → Branch → Type 0
+Answers leaf branch = (is_authoritative leaf ≡ true) × (branch ≡ End None leaf)
 
 -- the branch goes on by a referral to one of these states
 abbrev pub GoesTo : Config → Deps → List State → Branch → Type 0
 GoesTo config deps states branch = (cut : Cut) × (to : State) × IsSound config deps cut × (branch ≡ Go (Refer cut) to) × Contains states to
 
--- with each type each branch of the state ends where nothing is told, ends where this is told, or goes on to one of the states
+-- with each type each branch of the state ends where no zone answers, ends with this answer, or goes on to one of the states
 abbrev pub StepsStraight : Setting → Deps → (RrType → Leaf) → List State → State → Type 0
-StepsStraight setting deps told states state =
-    (rtype : RrType) → AllByRecursion (λ branch. EndsSilent setting.config deps branch ⊎ (Tells (told rtype) branch ⊎ GoesTo setting.config deps states branch)) (next setting rtype state)
+StepsStraight setting deps answer states state =
+    (rtype : RrType) → AllByRecursion (λ branch. EndsUnanswered setting.config deps branch ⊎ (Answers (answer rtype) branch ⊎ GoesTo setting.config deps states branch)) (next setting rtype state)
 
--- the walks of the query go straight: they reach at most so many states, to none of which a rewrite led, and all that zones
--- tell of the name with one type is the same
+-- the walks of the query go straight: they reach at most so many states, to none of which a rewrite led, and with
+-- one type all zones that answer tell the same
 pub record GoesStraight (setting : Setting) (deps : Deps) (most : ℕ) (query : Labels) : Type 0 where
   pub states : List State
   pub few : length states ≤ most
-  pub told : RrType → Leaf
+  pub answer : RrType → Leaf
   pub begins : (state : State) → Contains (start setting.config query) state → Contains states state
   pub not_rewritten : (state : State) → Contains states state → state.last ≡ None
-  pub steps : (state : State) → Contains states state → StepsStraight setting deps told states state
+  pub steps : (state : State) → Contains states state → StepsStraight setting deps answer states state
 
 -- of the configured servers those of the least set are followed
 abbrev pub FollowsLeast : Setting → Deps → Type 0

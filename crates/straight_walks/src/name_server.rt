@@ -1,4 +1,4 @@
-//! Where a referral to one name server leads.
+//! Referrals to one name server.
 
 ghost use Rattle.std.specs.Prelude.{◌≡◌, true, Some, None, IfOk};
 ghost use Rattle.dns_data.specs.Name.{Labels, is_prefix};
@@ -6,7 +6,7 @@ ghost use Rattle.net_model.specs.declared.deps.Deps.{Deps};
 ghost use Rattle.net_model.specs.Nearest.{held_zone, server_named};
 ghost use Rattle.net_model.specs.declared.config.Config.{Config};
 ghost use Rattle.zone_tree.specs.Tree.{IsNode, name_of};
-ghost use Rattle.straight_walks.specs.Leads.{LeadsBehind};
+ghost use Rattle.straight_walks.specs.Searching.{IsReferral};
 
 use delegation_checks::LearntSets;
 use dns_data::{Name, NoMemory};
@@ -15,52 +15,52 @@ use std::alloc::Global;
 use zone_lookup::{Host, Hosts, has_glue_below};
 use zone_tree::{NodeId, Tree};
 
-/// Where a referral leads that shows no fault: it ends at a name server that isn't configured, or walks go on to it. Of
-/// other referrals nothing is said.
+/// A referral to a name server that shows no fault: walks end there, since it isn't configured, or go on to it. Of other
+/// referrals nothing is said.
 #[derive(Clone, Copy)]
-pub(crate) enum Behind {
+pub(crate) enum Referral {
     Ends,
     GoesOn,
     Unclear,
 }
 
-/// Where the referral leads to the cut's name server, which is this host, for the name.
-pub(crate) fn behind_referral(
+/// The referral of the query to the cut's name server, which is this host.
+pub(crate) fn referral_to_host(
     alloc: Global,
     hosts: &Hosts<'_>,
     host: &Host<'_>,
     sets: &LearntSets,
     query: &Name,
     cut: &Cut,
-) -> Result<Behind, NoMemory>
+) -> Result<Referral, NoMemory>
     requires inside { is_prefix cut.now.zone cut.now.cut ≡ true }
     requires host { Some host.now ≡ server_named hosts.now cut.now.ns }
-    ensures { IfOk result (LeadsBehind hosts.now sets.now query.now cut.now) }
+    ensures { IfOk result (IsReferral hosts.now sets.now query.now cut.now) }
 {
     if !sets.is_sound(alloc, hosts, cut)? {
-        return Ok(Behind::Unclear);
+        return Ok(Referral::Unclear);
     }
     if !sets.may_follow(hosts, cut) {
-        return Ok(Behind::Unclear);
+        return Ok(Referral::Unclear);
     }
     match host.nearest(query) {
-        Some(tree) if cut.cut.is_prefix_of(&tree.zone().origin) => Ok(Behind::GoesOn),
-        _ => Ok(Behind::Unclear),
+        Some(tree) if cut.cut.is_prefix_of(&tree.zone().origin) => Ok(Referral::GoesOn),
+        _ => Ok(Referral::Unclear),
     }
 }
 
-/// Where the referral to a name server leads that isn't configured: it ends, and shows no fault unless it wants glue.
-pub(crate) fn behind_unhosted(tree: &Tree<'_>, cut: NodeId, ns: &Name) -> Behind
+/// The referral to a name server that isn't configured: walks end there, and it shows no fault unless it wants glue.
+pub(crate) fn referral_to_unhosted(tree: &Tree<'_>, cut: NodeId, ns: &Name) -> Referral
     requires node { IsNode tree.now cut }
     requires inside { is_prefix tree.now.zone.origin (name_of tree.now cut) ≡ true }
     ensures { (config : Config) (deps : Deps) (query server : Labels) → held_zone config server tree.now.zone.origin ≡ Some tree.now.zone → server_named config ns.now ≡ None
-        → LeadsBehind config deps query (record { server = server; zone = tree.now.zone.origin; cut = name_of tree.now cut; ns = ns.now }) result }
+        → IsReferral config deps query (record { server = server; zone = tree.now.zone.origin; cut = name_of tree.now cut; ns = ns.now }) result }
 {
     if !tree.name(cut).is_prefix_of(ns) {
-        return Behind::Ends;
+        return Referral::Ends;
     }
     if has_glue_below(tree, cut, ns) {
-        return Behind::Ends;
+        return Referral::Ends;
     }
-    Behind::Unclear
+    Referral::Unclear
 }

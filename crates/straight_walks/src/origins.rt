@@ -16,6 +16,7 @@ pub(crate) fn origins_of<'a>(alloc: Global, config: &'a Config) -> Result<Vec<&'
     ensures all { IfOk result (λ origins. HasEachOrigin config.now (map (λ origin. origin.now) origins.items)) }
 {
     let origins = origin_set(alloc, config)?;
+    // The length is read, so that it is known here that the set is in order.
     let _ = origins.len();
     set_names(alloc, origins)
 }

@@ -1,12 +1,12 @@
 //! The search for all names whose nearest origin is the same.
 
 ghost use Rattle.std.specs.Prelude.{◌≡◌, ◌++◌, true, length, IfOk, IfSome};
-ghost use Rattle.straight_walks.specs.Regions.{HasBegunBelow, SortsOut};
+ghost use Rattle.straight_walks.specs.Regions.{IsLookedAt, IsSearchBelow};
 
-use crate::asked::{Asked, top_servers};
-use crate::begun::Begun;
-use crate::referrals::refer_on;
-use crate::server::{Leads, from_server};
+use crate::queue::{Queued, start_states};
+use crate::referrals::queue_referrals;
+use crate::searching::Search;
+use crate::server::{Reply, reply_of};
 use crate::straight::MOST;
 use delegation_checks::LearntSets;
 use dns_data::{Name, NoMemory};
@@ -17,7 +17,7 @@ use zone_lookup::{Hosts, Named};
 #[derive(Drop)]
 pub(crate) struct Region<'a> {
     pub origin: &'a Name,
-    pub begun: Begun<'a>,
+    pub searched: Search<'a>,
 }
 
 impl<'a> Named for Region<'a> {
@@ -28,103 +28,106 @@ impl<'a> Named for Region<'a> {
     }
 }
 
-/// The search for each name whose nearest origin this is. It has begun with all servers up to those whose zones tell something
-/// of the origin; or at the top servers, where walks for the origin aren't seen to go straight.
-pub(crate) fn begun_below<'a>(
+/// The search for each name whose nearest origin this is. It has passed all states up to those whose servers answer for the
+/// origin; or it begins at the top servers, where walks for the origin aren't seen to go straight.
+pub(crate) fn search_below<'a>(
     alloc: Global,
     hosts: &Hosts<'a>,
     sets: &LearntSets,
     origin: &Name,
-) -> Result<Begun<'a>, NoMemory>
-    ensures { IfOk result (HasBegunBelow hosts.now sets.now origin.now) }
+) -> Result<Search<'a>, NoMemory>
+    ensures { IfOk result (IsSearchBelow hosts.now sets.now origin.now) }
 {
-    match sorted_out(alloc, hosts, sets, origin)? {
-        Some(begun) => Ok(begun),
-        None => Begun::at_top(alloc, hosts, origin),
+    match search_of_origin(alloc, hosts, sets, origin)? {
+        Some(searched) => Ok(searched),
+        None => Search::at_top(alloc, hosts, origin),
     }
 }
 
-/// The search that has begun with all servers up to those whose zones tell something of the origin, or `None` where walks for
-/// the origin aren't seen to go straight, or reach too many states.
-fn sorted_out<'a>(
+/// The search that has passed all states up to those whose servers answer for the origin, or `None` where walks for the origin
+/// aren't seen to go straight, or reach too many states.
+fn search_of_origin<'a>(
     alloc: Global,
     hosts: &Hosts<'a>,
     sets: &LearntSets,
     origin: &Name,
-) -> Result<Option<Begun<'a>>, NoMemory>
-    ensures { IfOk result (λ begun. IfSome begun (HasBegunBelow hosts.now sets.now origin.now)) }
+) -> Result<Option<Search<'a>>, NoMemory>
+    ensures { IfOk result (λ searched. IfSome searched (IsSearchBelow hosts.now sets.now origin.now)) }
 {
-    let mut asked = top_servers(alloc, hosts, origin)?;
+    let mut queue = start_states(alloc, hosts, origin)?;
     let mut passed = Vec::new(alloc);
-    let mut again = Vec::new(alloc);
+    let mut answering = Vec::new(alloc);
     let mut at = 0;
-    while at < asked.len() {
-        if asked.len() > MOST as usize {
+    while at < queue.len() {
+        if queue.len() > MOST as usize {
             return Ok(None);
         }
-        let one = asked[at];
-        if !sort_out(
+        let one = queue[at];
+        if !look_at(
             alloc,
             hosts,
             sets,
             origin,
             one,
-            &mut asked,
+            &mut queue,
             &mut passed,
-            &mut again,
+            &mut answering,
         )? {
             return Ok(None);
         }
         at += 1;
     }
-    Ok(Some(passed_then(passed, again.as_slice())?))
+    Ok(Some(passed_then(passed, answering.as_slice())?))
 }
 
-/// The search in which the first servers are passed over, and the others are to be asked.
-fn passed_then<'a>(passed: Vec<Asked<'a>>, again: &[Asked<'a>]) -> Result<Begun<'a>, NoMemory>
-    ensures asked { IfOk result (λ begun. begun.asked.items ≡ passed.entry.items ++ again.now) }
-    ensures passed { IfOk result (λ begun. begun.passed ≡ length passed.entry.items) }
+/// The search that has passed the first states, and not those whose servers answer.
+fn passed_then<'a>(
+    passed: Vec<Queued<'a>>,
+    answering: &[Queued<'a>],
+) -> Result<Search<'a>, NoMemory>
+    ensures queue { IfOk result (λ searched. searched.queue.items ≡ passed.entry.items ++ answering.now) }
+    ensures passed { IfOk result (λ searched. searched.passed ≡ length passed.entry.items) }
 {
     let count = passed.len();
-    let mut asked = passed;
-    asked.extend_from_slice(again)?;
-    Ok(Begun {
-        asked,
+    let mut queue = passed;
+    queue.extend_from_slice(answering)?;
+    Ok(Search {
+        queue,
         passed: count,
     })
 }
 
-/// Whether walks for the origin go straight from the server. It is put behind those that they are led past, with the servers to
-/// which its zone refers them behind those that are asked; or, where its zone tells something, behind those to be asked again.
-fn sort_out<'a>(
+/// Whether walks for the origin go straight from the state. It is put at the end of those that are passed, and the states to which
+/// its server refers the query are queued; or, where its server answers, at the end of those whose servers do.
+fn look_at<'a>(
     alloc: Global,
     hosts: &Hosts<'a>,
     sets: &LearntSets,
     origin: &Name,
-    one: Asked<'a>,
-    asked: &mut Vec<Asked<'a>>,
-    passed: &mut Vec<Asked<'a>>,
-    again: &mut Vec<Asked<'a>>,
+    one: Queued<'a>,
+    queue: &mut Vec<Queued<'a>>,
+    passed: &mut Vec<Queued<'a>>,
+    answering: &mut Vec<Queued<'a>>,
 ) -> Result<bool, NoMemory>
     ensures { IfOk result (λ straight. straight ≡ true
-        → SortsOut hosts.now sets.now origin.now one.entry asked.old.items passed.old.items again.old.items asked.new.items passed.new.items again.new.items) }
+        → IsLookedAt hosts.now sets.now origin.now one.entry queue.old.items passed.old.items answering.old.items queue.new.items passed.new.items answering.new.items) }
 {
-    match from_server(hosts, one.near, origin, one.server) {
-        Leads::Silent => {
+    match reply_of(hosts, one.near, origin, one.server) {
+        Reply::Outside => {
             passed.push(one)?;
             Ok(true)
         }
-        Leads::Tells(_) => {
-            again.push(one)?;
+        Reply::Answers(_) => {
+            answering.push(one)?;
             Ok(true)
         }
-        Leads::Refers(tree, cut) => {
-            if !refer_on(alloc, hosts, sets, origin, one.server, tree, cut, asked)? {
+        Reply::Refers(tree, cut) => {
+            if !queue_referrals(alloc, hosts, sets, origin, one.server, tree, cut, queue)? {
                 return Ok(false);
             }
             passed.push(one)?;
             Ok(true)
         }
-        Leads::Unclear => Ok(false),
+        Reply::Unclear => Ok(false),
     }
 }

@@ -1,14 +1,14 @@
-//! Regions of names for which walks lead the same way as long as no zone tells anything.
+//! Regions of names whose walks are the same up to the servers that answer.
 
 ghost use Rattle.std.specs.Prelude.{◌≡◌, map, IfOk, IfSome};
 ghost use Rattle.std.specs.List.{AllByRecursion};
-ghost use Rattle.straight_walks.specs.Leads.{HasBegun};
+ghost use Rattle.straight_walks.specs.Searching.{IsSearch};
 ghost use Rattle.straight_walks.specs.MadeOf.{regions_for};
 ghost use Rattle.straight_walks.specs.Regions.{IsRegion, region_origins};
 
-use crate::begun::Begun;
 use crate::origins::origins_of;
-use crate::region::{Region, begun_below};
+use crate::region::{Region, search_below};
+use crate::searching::Search;
 use delegation_checks::LearntSets;
 use dns_data::{Name, NoMemory};
 use graph_form::Deps;
@@ -17,8 +17,8 @@ use std::alloc::Global;
 use std::marker::Model;
 use zone_lookup::{Hosts, nearest_item};
 
-/// The origins of a configuration's zones, each with the servers that walks ask for the names below it, as far as this is the
-/// same for all names that have no other origin between. Contracts see the configuration and the two sets of learnt addresses,
+/// The origins of a configuration's zones, each with the states to which walks for the names below it come, as far as these are
+/// the same for all names that have no other origin between. Contracts see the configuration and the two sets of learnt addresses,
 /// which are kept for them alone.
 #[derive(Drop)]
 pub struct Regions<'a> {
@@ -59,14 +59,14 @@ impl<'a> Regions<'a> {
         })
     }
 
-    /// The search for a name, which has begun with all servers up to those whose zones tell something of the nearest origin, or
-    /// `None` where no origin is at or above the name. The region is looked for near a place first, whatever that is, and the
-    /// place is left near which that of the next name may be looked for.
-    pub(crate) fn begun(&self, near: &mut usize, query: &Name) -> Option<&Begun<'a>>
-        ensures { IfSome result (λ begun. HasBegun self.now.config self.now.deps query.now begun.now) }
+    /// The search for a name, which has passed all states up to those whose servers answer for the nearest origin, or `None` where
+    /// no origin is at or above the name. The region is looked for near a place first, whatever that is, and the place is left near
+    /// which that of the next name may be looked for.
+    pub(crate) fn search_for(&self, near: &mut usize, query: &Name) -> Option<&Search<'a>>
+        ensures { IfSome result (λ searched. IsSearch self.now.config self.now.deps query.now searched.now) }
     {
         match nearest_item(self.regions.as_slice(), near, query) {
-            Some(region) => Some(&region.begun),
+            Some(region) => Some(&region.searched),
             None => None,
         }
     }
@@ -93,8 +93,8 @@ fn regions_of<'a>(
 {
     let mut regions = Vec::new(alloc);
     for origin in origins {
-        let begun = begun_below(alloc, hosts, sets, origin)?;
-        regions.push(Region { origin, begun })?;
+        let searched = search_below(alloc, hosts, sets, origin)?;
+        regions.push(Region { origin, searched })?;
     }
     Ok(regions)
 }

@@ -1,39 +1,38 @@
-//! Where walks lead from a server that is asked for a name.
+//! What a server replies to a query.
 
-ghost use Rattle.straight_walks.specs.Leads.{LeadsBy};
+ghost use Rattle.straight_walks.specs.Searching.{IsReply};
 
 use dns_data::Name;
 use zone_lookup::{Hosts, Near};
 use zone_tree::{Decider, NodeId, Tree, deciding};
 
-/// Where walks lead from a server that is asked for a name: they end where nothing is told of it; this zone tells what it
-/// has for it; or a cut of this zone refers them. Of other walks nothing is said.
+/// What a server replies to a query: it holds no zone for the name; it answers from this zone; or it refers the query by a zone
+/// cut of this zone. Of other replies nothing is said.
 #[derive(Clone, Copy)]
-pub(crate) enum Leads<'h, 'a> {
-    Silent,
-    Tells(&'h Tree<'a>),
+pub(crate) enum Reply<'h, 'a> {
+    Outside,
+    Answers(&'h Tree<'a>),
     Refers(&'h Tree<'a>, NodeId),
     Unclear,
 }
 
-/// Where walks lead from the server that is asked for the name. An alias leads elsewhere. The server and its zone are looked for
-/// near a place first.
-pub(crate) fn from_server<'h, 'a>(
+/// What the server replies to the query. Of an alias nothing is said. The server and its zone are looked for near a place first.
+pub(crate) fn reply_of<'h, 'a>(
     hosts: &'h Hosts<'a>,
     near: Near,
     query: &Name,
     server: &Name,
-) -> Leads<'h, 'a>
-    ensures { LeadsBy hosts.now query.now server.now result }
+) -> Reply<'h, 'a>
+    ensures { IsReply hosts.now query.now server.now result }
 {
     let Some(tree) = hosts.nearest_near(near, server, query) else {
-        return Leads::Silent;
+        return Reply::Outside;
     };
     match deciding(tree, query) {
-        Decider::Cut(cut) => Leads::Refers(tree, cut),
-        Decider::Redirection(_) => Leads::Unclear,
-        Decider::Records(owner) if tree.alias(owner).is_some() => Leads::Unclear,
-        Decider::Records(_) => Leads::Tells(tree),
-        Decider::Nothing => Leads::Tells(tree),
+        Decider::Cut(cut) => Reply::Refers(tree, cut),
+        Decider::Redirection(_) => Reply::Unclear,
+        Decider::Records(owner) if tree.alias(owner).is_some() => Reply::Unclear,
+        Decider::Records(_) => Reply::Answers(tree),
+        Decider::Nothing => Reply::Answers(tree),
     }
 }

@@ -6,15 +6,15 @@ ghost use Rattle.net_model.specs.declared.fault.Fault.{Fault as FaultValue};
 ghost use Rattle.net_model.specs.Shown.{Shows, with_lists};
 ghost use Rattle.net_model.specs.Step.{Setting, following};
 ghost use Rattle.net_model.specs.Tree.{HasMoreThan, IsReached};
-ghost use Rattle.straight_walks.specs.Leads.{HasBegun, IsSettingOf, Searched};
+ghost use Rattle.straight_walks.specs.Searching.{HasPassed, IsSearch, IsSettingOf};
 ghost use Rattle.straight_walks.specs.MadeOf.{regions_for};
 ghost use Rattle.straight_walks.specs.Straight.{GoesStraight};
 
-use crate::asked::Asked;
-use crate::begun::Begun;
-use crate::met::{Met, next_referral};
-use crate::referrals::refer_on;
+use crate::queue::Queued;
+use crate::referrals::queue_referrals;
+use crate::referring::{NextReferral, next_referral};
 use crate::regions::Regions;
+use crate::searching::Search;
 use delegation_checks::LearntSets;
 use dns_data::{Name, NoMemory};
 use std::alloc::Global;
@@ -46,8 +46,8 @@ pub fn goes_straight<'a>(
     straight_by_region(alloc, hosts, sets, regions, near, query, most as usize)
 }
 
-/// Whether the walks go straight, over at most so many states, from the servers with which the search for the query has begun in
-/// its region, or from the top servers where it has none.
+/// Whether the walks go straight, over at most so many states, from those of the search of the query's region, or from those at the
+/// top servers where it is in none.
 fn straight_by_region<'a>(
     alloc: Global,
     hosts: &Hosts<'a>,
@@ -60,77 +60,76 @@ fn straight_by_region<'a>(
     requires { regions.now ≡ regions_for hosts.now sets.now }
     ensures { IfOk result (λ straight. straight ≡ true → (setting : Setting) → IsSettingOf hosts.now sets.now setting → GoesStraight setting sets.now most query.now) }
 {
-    match regions.begun(near, query) {
-        Some(begun) => straight_from(alloc, hosts, sets, query, begun, most),
+    match regions.search_for(near, query) {
+        Some(searched) => straight_from(alloc, hosts, sets, query, searched, most),
         None => {
-            let begun = Begun::at_top(alloc, hosts, query)?;
-            straight_from(alloc, hosts, sets, query, &begun, most)
+            let searched = Search::at_top(alloc, hosts, query)?;
+            straight_from(alloc, hosts, sets, query, &searched, most)
         }
     }
 }
 
-/// Whether the walks go straight from all servers of a search that has begun, over at most so many states. They are copied where
-/// one of them refers the query, and the search goes on from there.
+/// Whether the walks go straight from all states of a search that has begun, over at most so many. The states are copied where a
+/// server refers the query, and the search goes on from there.
 fn straight_from<'a>(
     alloc: Global,
     hosts: &Hosts<'a>,
     sets: &LearntSets,
     query: &Name,
-    begun: &Begun<'a>,
+    searched: &Search<'a>,
     most: usize,
 ) -> Result<bool, NoMemory>
-    requires { HasBegun hosts.now sets.now query.now begun.now }
+    requires { IsSearch hosts.now sets.now query.now searched.now }
     ensures { IfOk result (λ straight. straight ≡ true → (setting : Setting) → IsSettingOf hosts.now sets.now setting → GoesStraight setting sets.now most query.now) }
 {
-    let asked = begun.asked.as_slice();
-    if asked.len() > most {
+    let queue = searched.queue.as_slice();
+    if queue.len() > most {
         return Ok(false);
     }
     let mut first = None;
-    match next_referral(hosts, query, asked, begun.passed, &mut first) {
-        Met::Ends => Ok(true),
-        Met::Unclear => Ok(false),
-        Met::Refers { passed, tree, cut } => {
-            let mut asked = Vec::from_slice(alloc, asked)?;
-            let server = asked[passed].server;
-            if !refer_on(alloc, hosts, sets, query, server, tree, cut, &mut asked)? {
+    match next_referral(hosts, query, queue, searched.passed, &mut first) {
+        NextReferral::Ends => Ok(true),
+        NextReferral::Unclear => Ok(false),
+        NextReferral::Refers { passed, tree, cut } => {
+            let mut queue = Vec::from_slice(alloc, queue)?;
+            let server = queue[passed].server;
+            if !queue_referrals(alloc, hosts, sets, query, server, tree, cut, &mut queue)? {
                 return Ok(false);
             }
-            all_straight(alloc, hosts, sets, query, asked, passed + 1, first, most)
+            all_straight(alloc, hosts, sets, query, queue, passed + 1, first, most)
         }
     }
 }
 
-/// Whether the walks go straight from all servers that are asked, and from those to which they refer the query, over at most so
-/// many states. A search has passed the first so many of them. The zone is the first one that told something of the query
-/// there, if one did.
+/// Whether the walks go straight from all queued states, and from those to which their servers refer the query, over at most so
+/// many. A search has passed the first so many of them. The zone is the first one that answered there, if one did.
 fn all_straight<'h, 'a>(
     alloc: Global,
     hosts: &'h Hosts<'a>,
     sets: &LearntSets,
     query: &Name,
-    asked: Vec<Asked<'a>>,
+    queue: Vec<Queued<'a>>,
     passed: usize,
     first: Option<&'h Tree<'a>>,
     most: usize,
 ) -> Result<bool, NoMemory>
-    requires { Searched hosts.now sets.now query.now asked.items passed first }
+    requires { HasPassed hosts.now sets.now query.now queue.items passed first }
     ensures { IfOk result (λ straight. straight ≡ true → (setting : Setting) → IsSettingOf hosts.now sets.now setting → GoesStraight setting sets.now most query.now) }
 {
-    let mut asked = asked;
+    let mut queue = queue;
     let mut passed = passed;
     let mut first = first;
-    while asked.len() <= most {
-        match next_referral(hosts, query, asked.as_slice(), passed, &mut first) {
-            Met::Ends => return Ok(true),
-            Met::Unclear => return Ok(false),
-            Met::Refers {
+    while queue.len() <= most {
+        match next_referral(hosts, query, queue.as_slice(), passed, &mut first) {
+            NextReferral::Ends => return Ok(true),
+            NextReferral::Unclear => return Ok(false),
+            NextReferral::Refers {
                 passed: at,
                 tree,
                 cut,
             } => {
-                let server = asked[at].server;
-                if !refer_on(alloc, hosts, sets, query, server, tree, cut, &mut asked)? {
+                let server = queue[at].server;
+                if !queue_referrals(alloc, hosts, sets, query, server, tree, cut, &mut queue)? {
                     return Ok(false);
                 }
                 passed = at + 1;

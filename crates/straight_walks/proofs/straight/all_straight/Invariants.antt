@@ -1,10 +1,10 @@
 use Rattle.std.proofs.Common.{◌-◌}
-use Rattle.straight_walks.specs.Leads.{Searched}
+use Rattle.straight_walks.specs.Searching.{HasPassed}
 use Rattle.straight_walks.proofs.straight.all_straight.Given as goal
 
--- walks go straight from the servers passed over, and what is told there is what was told first
+-- walks go straight from the states passed, and what is answered there is what was answered first
 abbrev pub invariant-loop-first : goal.invariant-loop-first
-invariant-loop-first l = Searched l.hosts l.sets l.query l.asked.items l.passed l.first
+invariant-loop-first l = HasPassed l.hosts l.sets l.query l.queue.items l.passed l.first
 
 abbrev pub decreases-loop-first : goal.decreases-loop-first
 decreases-loop-first l = l.most - l.passed

@@ -1,5 +1,0 @@
-use Rattle.straight_walks.proofs.asked.is_asked.Given as goal
-
--- one that is it ends the search
-abbrev pub invariant-loop-one : goal.invariant-loop-one
-invariant-loop-one l = Unit {0}

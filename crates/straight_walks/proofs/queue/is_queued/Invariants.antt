@@ -1,0 +1,5 @@
+use Rattle.straight_walks.proofs.queue.is_queued.Given as goal
+
+-- one that is it ends the search
+abbrev pub invariant-loop-one : goal.invariant-loop-one
+invariant-loop-one l = Unit {0}
