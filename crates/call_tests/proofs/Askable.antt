@@ -4,7 +4,7 @@ use Rattle.std.specs.Prelude.{IfSome}
 use Rattle.dns_data.specs.Name.{Labels, wire_octets}
 use Rattle.name_rules.specs.SymName.{whole, tail_labels}
 use Rattle.name_rules.specs.declared.sym_name.SymName.{SymName}
-use Rattle.net_model.specs.Class.{IsClassOf}
+use Rattle.net_model.specs.Class.{IsClassOf, class_name}
 use Rattle.net_model.specs.Reading.{Ground, IsNamed, ground_of}
 use Rattle.net_model.specs.Zone.{exists_in}
 use Rattle.net_model.specs.declared.class.Class.{Class}
@@ -12,7 +12,6 @@ use Rattle.net_model.specs.declared.class.Class.TheVariants.{Exact, Below}
 use Rattle.net_model.specs.declared.config.Config.{Config}
 use Rattle.net_model.specs.declared.config.Zone.{Zone}
 use Rattle.label_graph.specs.Pairs.{AreSame}
-use Rattle.query_classes.specs.Members.{class_name}
 use Rattle.query_classes.proofs.SameGrounds.{unnamed_same}
 use Rattle.interp_graph.specs.Asked.{IsOpenName, AskedWith, IsAsked}
 
