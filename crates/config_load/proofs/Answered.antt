@@ -48,7 +48,7 @@ module _ {A : Type 0} where
   IsReadFault-misses reading file (Err (Rule name line cause)) is a = absurd (refuses_misses (Rule name line cause) file (sym a ∙ is))
   IsReadFault-misses reading file (Err (ZoneTwice row)) is a = absurd (refuses_misses (ZoneTwice row) file (sym a ∙ is))
 
-  -- nor is a file of which nothing is told
+  -- a file of which nothing is told is never read
   pub IsReadFault-unknown : (reading : Reading A) (file : List ℕ) (result : Result A LoadFault) → reading ≡ Unknown file → Gives reading result → IsReadFault result
   IsReadFault-unknown reading file (Ok value) is a = let no : Reads value ≡ Unknown file = sym a ∙ is in absurd cc
   IsReadFault-unknown reading file (Err (Read name)) is a = tt
@@ -65,11 +65,11 @@ TellsNoOther-without told file name =
     elim (pointwise nat_eq name file) as (λ b. (told name ≡ Untold) ⊎ (((if b then Untold else told name) ≡ told name) ⊎ ((if b then Untold else told name) ≡ Untold)))
     [ true ↦ inr (inr refl) | false ↦ inr (inl refl) ]
 
--- and nothing of that file
+-- without a file nothing of it is told
 without-here : (told : FilesTold) (file : List ℕ) → without file told file ≡ Untold
 without-here told file = ap (λ b. if b then Untold else told file) ((label_eq_decides file file).1 refl)
 
--- it alone is told, and not without it
+-- a file alone is told, and not without it
 without-only : (told : FilesTold) (file name : List ℕ) → without file told name ≡ Untold → told name ≢ Untold → name ≡ file
 without-only told file name untold some = by_test (pointwise nat_eq name file) refl untold where
   by_test : (same : Bool) → pointwise nat_eq name file ≡ same → (if same then Untold else told name) ≡ Untold → name ≡ file

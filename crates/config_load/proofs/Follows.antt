@@ -2,7 +2,7 @@
 use Rattle.std.proofs.Common.{◌≡◌, ℕ, ◌<◌, ◌≤◌, ◌⊎◌, List, length, Result, Ok, Err, IsErrAnd, refl, subst, sym, ap, ◌∙◌, inl, inr, arith}
 use Rattle.std.proofs.lemmas.Bool.Decides.{nat_tests}
 use Rattle.io_edges.specs.Files.{FilesTold, Told, Untold, NotHeld, Holds, IsToldAnd, StaysTold}
-use Rattle.config_load.specs.Faults.{IsTooLongOf}
+use Rattle.config_load.specs.Faults.{IsReadOf, IsTooLongOf}
 use Rattle.config_load.specs.Follows.{ByTold, TellsNoOther, StopsEarly, Follows, Reaches, Answers}
 use Rattle.config_load.specs.Reading.{Reading, Reads, Refuses, Unknown, ◌>>=◌, file_octets, told_octets, most_octets}
 use Rattle.config_load.specs.declared.fault.LoadFault.{LoadFault}
@@ -130,3 +130,14 @@ Answers-too_long told name (Meta fault) is long = absurd is
 Answers-too_long told name (Text file line cause) is long = absurd is
 Answers-too_long told name (Rule file line cause) is long = absurd is
 Answers-too_long told name (ZoneTwice row) is long = absurd is
+
+-- the fault of a read that failed
+pub Answers-read_fault : (told : FilesTold) (name : List ℕ) (fault : LoadFault) → IsReadOf name fault → (let answer : Result (List ℕ) LoadFault = Err fault in Answers told (file_octets name) answer)
+Answers-read_fault told name NoMemory is = tt
+Answers-read_fault told name (Read file) is =
+    subst (λ n. Reaches told (file_octets name) n) (sym is) (λ other no_other gone. inl (ap (told_octets name) gone))
+Answers-read_fault told name (TooLong file) is = absurd is
+Answers-read_fault told name (Meta fault) is = absurd is
+Answers-read_fault told name (Text file line cause) is = absurd is
+Answers-read_fault told name (Rule file line cause) is = absurd is
+Answers-read_fault told name (ZoneTwice row) is = absurd is

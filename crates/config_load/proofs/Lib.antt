@@ -6,5 +6,6 @@ pub mod Opens
 pub mod OwnRefusals
 pub mod ReadRows
 pub mod ServerPlaces
+pub mod Sources
 pub mod Steps
 mod Worked

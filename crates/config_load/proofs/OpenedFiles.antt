@@ -1,8 +1,9 @@
 -- The files of a zone, one after the other.
-use Rattle.std.proofs.Common.{◌≡◌, ℕ, zero, suc, ◌+◌, ◌≤◌, true, false, ◌||◌, List, [], ◌∷◌, ◌++◌, length, length-append, unwrap_or, Result, Ok, Err, IsErrAnd, refl, sym, ap, ◌∙◌, inl, inr, arith}
+use Rattle.std.proofs.Common.{◌≡◌, ℕ, zero, suc, ◌+◌, ◌≤◌, true, false, ◌||◌, List, [], ◌∷◌, ◌++◌, length, length-append, unwrap_or, Result, Ok, Err, IsErrAnd, refl, subst, sym, ap, ◌∙◌, inl, inr, arith}
+use Rattle.std.specs.Result.{IfErr}
 use Rattle.dns_data.specs.Answers.{AnswersOr, with_fault}
 use Rattle.dns_data.specs.Name.{Labels}
-use Rattle.io_edges.specs.Files.{FilesTold, SameElsewhere, StaysTold}
+use Rattle.io_edges.specs.Files.{FilesTold, StaysTold}
 use Rattle.master_read.proofs.Counts.{texts_ask}
 use Rattle.master_read.specs.Reader.{Held, IsReaderOf, HasEnded, asked_by, is_over, is_no_memory}
 use Rattle.master_read.specs.ZoneText.{Unread, Faulty, Asks, zone_text}
@@ -13,30 +14,32 @@ use Rattle.master_read.specs.declared.fault.TextFault.TheVariants as text_faults
 use Rattle.master_read.specs.declared.zone_text.ZoneText.{ZoneText}
 use Rattle.meta_read.specs.declared.meta.MetaRow.{MetaRow}
 use Rattle.config_load.specs.Conf.{settled, files_behind, zone_files}
-use Rattle.config_load.specs.Faults.{of_text}
+use Rattle.config_load.specs.Faults.{of_text, FailedAt}
 use Rattle.config_load.specs.Fed.{HasFed, HasEndedFile, FailsToRead}
-use Rattle.config_load.specs.Follows.{ByTold, Follows, Answers, OpensWhereItComes}
+use Rattle.config_load.specs.Follows.{ByTold, Follows, Answers}
 use Rattle.config_load.specs.Joined.{joined}
 use Rattle.config_load.specs.ReadFiles.{read_files}
 use Rattle.config_load.specs.Reading.{Reads, Refuses, Unknown, ◌>>=◌, file_octets}
+use Rattle.config_load.specs.Sources.{ReadsOnly, ReadsFor, HasAnswered}
 use Rattle.config_load.specs.declared.fault.LoadFault.{LoadFault}
 use Rattle.config_load.specs.declared.left.Left.{Left}
 use Rattle.config_load.specs.declared.zone_files.ZoneFiles.{ZoneFiles}
 use Rattle.config_load.proofs.Follows.{Follows-same, Follows-then, Follows-bind, Answers-then, Answers-passed}
-use Rattle.config_load.proofs.Opens.{Opens-file, Opens-then, Opens-bind}
+use Rattle.config_load.proofs.Sources.{FailedAt-then, FailedAt-no_read, FailedAt-passed, ReadsFor-file, ReadsFor-then, ReadsFor-bind}
+use Rattle.config_load.proofs.Steps.{IsNoRead}
 
 -- the reading that goes on with the file of this name, behind those with these names and texts
 abbrev pub next_file : List ℕ → Labels → Left → ℕ → List (List ℕ) → List (List ℕ) → List ℕ → ByTold ZoneFiles
 next_file meta origin left times names texts name told =
     file_octets name told >>= λ text. files_behind meta origin left times (names ++ name ∷ []) (texts ++ text ∷ []) told
 
--- it begins with the row's file
-pub zone_files-first : (meta : List ℕ) (row : MetaRow) (left : Left) (told : FilesTold) → zone_files meta row left told ≡ next_file meta (unwrap_or row.origin []) left left.includes [] [] (joined meta row.file) told
+-- the reading of a row's files begins with the row's file
+zone_files-first : (meta : List ℕ) (row : MetaRow) (left : Left) (told : FilesTold) → zone_files meta row left told ≡ next_file meta (unwrap_or row.origin []) left left.includes [] [] (joined meta row.file) told
 unfolding zone_files
 zone_files-first meta row left told = refl
 
 -- the texts ask for what is asked
-pub asks-asked : (said : Result ZoneText Unread) (file : List ℕ) → Include file ≡ asked_by said → said ≡ Err (Asks file)
+asks-asked : (said : Result ZoneText Unread) (file : List ℕ) → Include file ≡ asked_by said → said ≡ Err (Asks file)
 asks-asked (Ok text) file is = absurd cc
 asks-asked (Err (Faulty fault)) file is = absurd cc
 asks-asked (Err (Asks name)) file is = let same : file ≡ name = cc in ap (λ n. Err (Asks n)) (sym same)
@@ -47,7 +50,7 @@ is_done (Include file) never = absurd (never file refl)
 is_done Done never = refl
 
 -- texts that ask for a file go on with it
-pub files_behind-asks : (meta : List ℕ) (origin : Labels) (left : Left) (times : ℕ) (names texts : List (List ℕ)) (file : List ℕ) (told : FilesTold) → zone_text origin left.records left.includes texts ≡ Err (Asks file) → files_behind meta origin left (suc times) names texts told ≡ next_file meta origin left times names texts (joined meta file) told
+files_behind-asks : (meta : List ℕ) (origin : Labels) (left : Left) (times : ℕ) (names texts : List (List ℕ)) (file : List ℕ) (told : FilesTold) → zone_text origin left.records left.includes texts ≡ Err (Asks file) → files_behind meta origin left (suc times) names texts told ≡ next_file meta origin left times names texts (joined meta file) told
 unfolding files_behind
 files_behind-asks meta origin left times names texts file told asks =
     ap (settled names (λ file. file_octets (joined meta file) told >>= λ text. files_behind meta origin left times (names ++ joined meta file ∷ []) (texts ++ text ∷ []) told)) asks
@@ -64,8 +67,14 @@ files_behind-faulty meta origin left zero names texts fault told faulty = ap (se
 files_behind-faulty meta origin left (suc times) names texts fault told faulty =
     ap (settled names (λ file. file_octets (joined meta file) told >>= λ text. files_behind meta origin left times (names ++ joined meta file ∷ []) (texts ++ text ∷ []) told)) faulty
 
+-- no read fails where texts are told
+read_files-no_read : (names : List (List ℕ)) (given : Result ZoneText TextFault) → IfErr (read_files names given) IsNoRead
+read_files-no_read names (Ok text) = tt
+read_files-no_read names (Err (text_faults.At file line cause)) = tt
+read_files-no_read names (Err text_faults.NoMemory) = tt
+
 -- what texts give that have ended
-pub Answers-ended : (meta : List ℕ) (origin : Labels) (left : Left) (times : ℕ) (names texts : List (List ℕ)) (told : FilesTold) (given : Result ZoneText TextFault) → AnswersOr (Faulty text_faults.NoMemory) (with_fault Faulty given) (zone_text origin left.records left.includes texts) → Answers told (files_behind meta origin left times names texts) (read_files names given)
+Answers-ended : (meta : List ℕ) (origin : Labels) (left : Left) (times : ℕ) (names texts : List (List ℕ)) (told : FilesTold) (given : Result ZoneText TextFault) → AnswersOr (Faulty text_faults.NoMemory) (with_fault Faulty given) (zone_text origin left.records left.includes texts) → Answers told (files_behind meta origin left times names texts) (read_files names given)
 Answers-ended meta origin left times names texts told (Ok text) gives =
     Follows-same told (files_behind meta origin left times names texts) (λ _. Reads (record { names = names; text = text })) (λ other. files_behind-gives meta origin left times names texts text other gives)
 Answers-ended meta origin left times names texts told (Err (text_faults.At file line cause)) (inl none) = absurd cc
@@ -74,7 +83,7 @@ Answers-ended meta origin left times names texts told (Err (text_faults.At file 
 Answers-ended meta origin left times names texts told (Err text_faults.NoMemory) answered = tt
 
 -- a file that was read, behind those before
-pub Follows-read : (first : ByTold ZoneFiles) (old new : FilesTold) (meta : List ℕ) (origin : Labels) (left : Left) (times : ℕ) (names texts : List (List ℕ)) (name octets : List ℕ) → StaysTold old new → Follows old first (next_file meta origin left times names texts name) → Follows new (file_octets name) (λ _. Reads octets) → Follows new first (files_behind meta origin left times (names ++ name ∷ []) (texts ++ octets ∷ []))
+Follows-read : (first : ByTold ZoneFiles) (old new : FilesTold) (meta : List ℕ) (origin : Labels) (left : Left) (times : ℕ) (names texts : List (List ℕ)) (name octets : List ℕ) → StaysTold old new → Follows old first (next_file meta origin left times names texts name) → Follows new (file_octets name) (λ _. Reads octets) → Follows new first (files_behind meta origin left times (names ++ name ∷ []) (texts ++ octets ∷ []))
 Follows-read first old new meta origin left times names texts name octets stays so_far whole =
     Follows-then old new first (next_file meta origin left times names texts name) _ stays so_far
     (Follows-bind new (file_octets name) (λ _. Reads octets) (λ told text. files_behind meta origin left times (names ++ name ∷ []) (texts ++ text ∷ []) told) whole)
@@ -139,7 +148,7 @@ module _ (meta : List ℕ) (row : MetaRow) (left : Left) where
             ∙ ap (λ n. next_file meta (unwrap_or row.origin []) left times (names ++ name ∷ []) (opened.texts ++ octets ∷ []) n other) (sym is)));
       }
 
-    -- which is open
+    -- the included file is open, and nothing of it was fed
     pub HasOpened-open : (file : List ℕ) → HasOpened meta row left old names name reader → HasFed new name reader (Include file) after → (after.ended ≡ false) × (after.fed ≡ 0)
     HasOpened-open file opened fed =
         let goes_on = (fed.ended (unwrap_or row.origin []) left.records left.includes opened.texts opened.stands).1 in
@@ -150,8 +159,8 @@ module _ (meta : List ℕ) (row : MetaRow) (left : Left) where
     HasOpened-over opened fed =
         ap (λ ended. ended || is_no_memory after.fault) (fed.ended (unwrap_or row.origin []) left.records left.includes opened.texts opened.stands).1.0
 
-    -- and what the reader answers is answered
-    pub Answers-finished : (given : Result ZoneText TextFault) → StaysTold old new → HasOpened meta row left old names name reader → HasFed new name reader Done after → ((origin : Labels) (room includes : ℕ) (texts : List (List ℕ)) → HasEnded after origin room includes texts → AnswersOr (Faulty text_faults.NoMemory) (with_fault Faulty given) (zone_text origin room includes texts)) → Answers new (zone_files meta row left) (read_files (names ++ name ∷ []) given)
+    -- what the reader answers behind the last file is answered
+    Answers-finished : (given : Result ZoneText TextFault) → StaysTold old new → HasOpened meta row left old names name reader → HasFed new name reader Done after → ((origin : Labels) (room includes : ℕ) (texts : List (List ℕ)) → HasEnded after origin room includes texts → AnswersOr (Faulty text_faults.NoMemory) (with_fault Faulty given) (zone_text origin room includes texts)) → Answers new (zone_files meta row left) (read_files (names ++ name ∷ []) given)
     Answers-finished given stays opened fed finished =
         let has_ended = (fed.ended (unwrap_or row.origin []) left.records left.includes opened.texts opened.stands).1.1 in
         Answers-then new new (zone_files meta row left) (files_behind meta (unwrap_or row.origin []) left opened.times (names ++ name ∷ []) (opened.texts ++ fed.octets ∷ [])) (read_files (names ++ name ∷ []) given) (λ _. inr refl)
@@ -159,15 +168,25 @@ module _ (meta : List ℕ) (row : MetaRow) (left : Left) where
         (Answers-ended meta (unwrap_or row.origin []) left opened.times (names ++ name ∷ []) (opened.texts ++ fed.octets ∷ []) new given
         (finished (unwrap_or row.origin []) left.records left.includes (opened.texts ++ fed.octets ∷ []) has_ended))
 
-    -- the open file alone is opened behind those before
-    pub HasOpened-opens : (before : FilesTold) → StaysTold old new → HasOpened meta row left old names name reader → SameElsewhere name old new → OpensWhereItComes before old (zone_files meta row left)
-        → OpensWhereItComes before new (zone_files meta row left)
-    HasOpened-opens before stays opened others so_far =
-        Opens-then before old new (zone_files meta row left) (next_file meta (unwrap_or row.origin []) left opened.times names opened.texts name) stays opened.so_far so_far
-        (Opens-bind old new (file_octets name) (λ told text. files_behind meta (unwrap_or row.origin []) left opened.times (names ++ name ∷ []) (opened.texts ++ text ∷ []) told) (Opens-file old new name others))
+    -- the open file alone is read behind those before
+    pub HasOpened-source : {before : FilesTold} {counts counts' counts'' : List ℕ → ℕ} → ReadsFor before old counts counts' (zone_files meta row left) → HasOpened meta row left old names name reader → ReadsOnly name old new counts' counts'' → ReadsFor before new counts counts'' (zone_files meta row left)
+    HasOpened-source source opened only =
+        ReadsFor-then {whole = zone_files meta row left} {rest = next_file meta (unwrap_or row.origin []) left opened.times names opened.texts name} opened.so_far source
+        (ReadsFor-bind (file_octets name) (λ told text. files_behind meta (unwrap_or row.origin []) left opened.times (names ++ name ∷ []) (opened.texts ++ text ∷ []) told) (ReadsFor-file only))
 
     -- a file that isn't read
-    pub Answers-unread : (fault : LoadFault) (result : Result ZoneFiles LoadFault) → StaysTold old new → HasOpened meta row left old names name reader → FailsToRead new name fault → IsErrAnd result (λ passed. passed ≡ fault) → Answers new (zone_files meta row left) result
-    Answers-unread fault result stays opened fails is =
-        Answers-then old new (zone_files meta row left) (next_file meta (unwrap_or row.origin []) left opened.times names opened.texts name) result stays opened.so_far
-        (Answers-passed new (file_octets name) (λ told text. files_behind meta (unwrap_or row.origin []) left opened.times (names ++ name ∷ []) (opened.texts ++ text ∷ []) told) fault result is fails)
+    pub HasAnswered-unread : {before : FilesTold} {counts counts' counts'' : List ℕ → ℕ} (fault : LoadFault) (result : Result ZoneFiles LoadFault) → ReadsFor before old counts counts' (zone_files meta row left) → HasOpened meta row left old names name reader → ReadsOnly name old new counts' counts'' → FailsToRead new name fault → (let answer : Result Asked LoadFault = Err fault in FailedAt counts' counts'' answer) → IsErrAnd result (λ passed. passed ≡ fault) → HasAnswered before new counts counts'' (zone_files meta row left) result
+    HasAnswered-unread {counts = counts} {counts' = counts'} {counts'' = counts''} fault result source opened only fails failed is = record {
+      answers = Answers-then old new (zone_files meta row left) (next_file meta (unwrap_or row.origin []) left opened.times names opened.texts name) result only.stays opened.so_far
+          (Answers-passed new (file_octets name) (λ told text. files_behind meta (unwrap_or row.origin []) left opened.times (names ++ name ∷ []) (opened.texts ++ text ∷ []) told) fault result is fails);
+      cause = FailedAt-then counts counts' counts'' result source.never_fall (FailedAt-passed Asked counts' counts'' fault result is failed);
+      source = HasOpened-source source opened only;
+    }
+
+    -- the last file, and what the reader answers
+    pub HasAnswered-finished : {before : FilesTold} {counts counts' counts'' : List ℕ → ℕ} (given : Result ZoneText TextFault) (result : Result ZoneFiles LoadFault) → ReadsFor before old counts counts' (zone_files meta row left) → HasOpened meta row left old names name reader → ReadsOnly name old new counts' counts'' → HasFed new name reader Done after → ((origin : Labels) (room includes : ℕ) (texts : List (List ℕ)) → HasEnded after origin room includes texts → AnswersOr (Faulty text_faults.NoMemory) (with_fault Faulty given) (zone_text origin room includes texts)) → result ≡ read_files (names ++ name ∷ []) given → HasAnswered before new counts counts'' (zone_files meta row left) result
+    HasAnswered-finished {counts = counts} {counts'' = counts''} given result source opened only fed finished is = record {
+      answers = subst (λ (r : Result ZoneFiles LoadFault). Answers new (zone_files meta row left) r) (sym is) (Answers-finished given only.stays opened fed finished);
+      cause = FailedAt-no_read counts counts'' result (subst (λ (r : Result ZoneFiles LoadFault). IfErr r IsNoRead) (sym is) (read_files-no_read (names ++ name ∷ []) given));
+      source = HasOpened-source source opened only;
+    }

@@ -1,5 +1,5 @@
 -- Files are refused for what they say, never for a failed read or for want of memory.
-use Rattle.std.proofs.Common.{◌≡◌, ◌≢◌, ℕ, zero, suc, ◌+◌, Bool, true, false, cond, nat_le, List, [], ◌∷◌, ◌++◌, length, unwrap_or, Option, Some, None, Result, Ok, Err, refl, subst}
+use Rattle.std.proofs.Common.{◌≢◌, ℕ, zero, suc, ◌+◌, Bool, true, false, cond, nat_le, List, [], ◌∷◌, ◌++◌, length, unwrap_or, Result, Ok, Err, refl, subst}
 use Rattle.std.specs.Result.{IfErr}
 use Rattle.dns_data.proofs.Answers.{if_err_either}
 use Rattle.dns_data.specs.Name.{Labels}
@@ -12,26 +12,23 @@ use Rattle.master_read.proofs.EntryFaults.{IsTextFault, IsUnread, texts_told}
 use Rattle.meta_read.specs.Metadata.{metadata_of}
 use Rattle.meta_read.specs.declared.fault.MetaFault.{MetaFault}
 use Rattle.meta_read.specs.declared.fault.MetaFault.TheVariants as meta_faults
-use Rattle.meta_read.specs.declared.meta.Meta.{Meta as Metadata}
 use Rattle.meta_read.specs.declared.meta.MetaRow.{MetaRow}
 use Rattle.meta_read.proofs.OwnFaults.{IsOwn as IsMetadataFault, metadata_own}
-use Rattle.net_model.specs.declared.config.Config.{Config}
 use Rattle.net_model.specs.declared.config.Server.{Server}
 use Rattle.net_model.specs.declared.config.Zone.{Zone}
 use Rattle.zone_rules.specs.ZoneOf.{zone_of}
 use Rattle.zone_rules.specs.declared.fault.RuleFault.{RuleFault}
 use Rattle.zone_rules.specs.declared.fault.RuleFault.TheVariants as rule_faults
 use Rattle.zone_rules.proofs.OwnFaults.{IsOwn as IsRuleFault, zone_own}
-use Rattle.config_load.specs.Conf.{settled, files_behind, zone_files, left_behind, zone_read, with_row, with_rows, no_rows, metadata, conf}
+use Rattle.config_load.specs.Conf.{settled, files_behind, zone_files, zone_read, with_row, with_rows, no_rows, metadata, conf}
 use Rattle.config_load.specs.Faults.{of_metadata, of_text, of_rule}
 use Rattle.config_load.specs.Joined.{joined}
 use Rattle.config_load.specs.Reading.{Reading, Reads, Refuses, Misses, Unknown, ◌>>=◌, unless_refused, most_octets, told_octets, file_octets}
 use Rattle.config_load.specs.Servers.{given, has_zone}
 use Rattle.config_load.specs.declared.fault.LoadFault.{LoadFault}
-use Rattle.config_load.specs.declared.fault.LoadFault.TheVariants.{Read, TooLong, Meta, Text, Rule, ZoneTwice, NoMemory}
+use Rattle.config_load.specs.declared.fault.LoadFault.TheVariants.{Read, TooLong, NoMemory}
 use Rattle.config_load.specs.declared.left.Left.{Left}
 use Rattle.config_load.specs.declared.rows.Rows.{Rows}
-use Rattle.config_load.specs.declared.zone.ReadZone.{ReadZone}
 use Rattle.config_load.specs.declared.zone_files.ZoneFiles.{ZoneFiles}
 
 -- the refusal says something of the files
@@ -40,7 +37,7 @@ IsOwn (Read file) = ⊥
 IsOwn NoMemory = ⊥
 IsOwn fault = Unit {0}
 
--- so does the refusal of a reading, if it refuses
+-- the refusal of a reading, if it refuses, says something of the files
 abbrev pub RefusesOwn : {A : Type 0} → Reading A → Type 0
 RefusesOwn (Refuses fault) = IsOwn fault
 RefusesOwn reading = Unit {0}
@@ -145,7 +142,7 @@ conf_own meta told =
     own_then (metadata meta told) _ (metadata_read_own meta told)
     (λ found. own_then (with_rows meta 1 found.rows no_rows told) _ (rows_own meta 1 found.rows no_rows told) (λ rows. tt))
 
--- so it isn't a failed read, nor want of memory
+-- a refusal that says something of the files is no failed read, nor want of memory
 pub not-refused : {A : Type 0} (reading : Reading A) (fault : LoadFault) → RefusesOwn reading → (IsOwn fault → ⊥) → reading ≢ Refuses fault
 not-refused {A} reading fault own never e =
     let refuses : Reading A → Type 0 = RefusesOwn in

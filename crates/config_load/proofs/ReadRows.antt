@@ -1,7 +1,9 @@
 -- Zones, rows and the configuration, step by step.
-use Rattle.std.proofs.Common.{◌≡◌, ℕ, ◌+◌, List, ◌∷◌, Result, Ok, Err, IsErrAnd, refl, sym, ap, inr}
+use Rattle.std.proofs.Common.{◌≡◌, ℕ, ◌+◌, List, ◌∷◌, Result, Ok, Err, IsErrAnd, refl, sym, ap}
+use Rattle.dns_data.proofs.Answers.{if_err_answered, if_err_either}
 use Rattle.dns_data.specs.Answers.{AnswersOr, with_fault}
-use Rattle.io_edges.specs.Files.{FilesTold, SameElsewhere, StaysTold}
+use Rattle.dns_data.specs.Name.{Labels}
+use Rattle.io_edges.specs.Files.{FilesTold}
 use Rattle.meta_read.specs.Metadata.{metadata_of}
 use Rattle.meta_read.specs.declared.meta.Meta.{Meta as Metadata}
 use Rattle.meta_read.specs.declared.meta.MetaRow.{MetaRow}
@@ -11,98 +13,113 @@ use Rattle.net_model.specs.declared.config.Zone.{Zone}
 use Rattle.zone_rules.specs.ZoneOf.{zone_of}
 use Rattle.config_load.specs.Conf.{conf, metadata, no_rows, with_row, with_rows, zone_files, zone_read, left_behind}
 use Rattle.config_load.specs.Faults.{of_metadata, of_rule}
-use Rattle.config_load.specs.Follows.{Follows, Answers, OpensWhereItComes}
-use Rattle.config_load.specs.Reading.{Reads, ◌>>=◌, unless_refused, file_octets}
-use Rattle.config_load.specs.Servers.{given}
+use Rattle.config_load.specs.Follows.{Follows}
+use Rattle.config_load.specs.Reading.{Reading, Reads, ◌>>=◌, unless_refused, file_octets}
+use Rattle.config_load.specs.Servers.{given, has_zone}
+use Rattle.config_load.specs.Sources.{ReadsFor, HasAnswered}
 use Rattle.config_load.specs.declared.fault.LoadFault.{LoadFault}
 use Rattle.config_load.specs.declared.fault.LoadFault.TheVariants.{NoMemory}
 use Rattle.config_load.specs.declared.left.Left.{Left}
 use Rattle.config_load.specs.declared.rows.Rows.{Rows}
 use Rattle.config_load.specs.declared.zone.ReadZone.{ReadZone}
 use Rattle.config_load.specs.declared.zone_files.ZoneFiles.{ZoneFiles}
-use Rattle.config_load.proofs.Follows.{Follows-same, Follows-bind, Answers-passed, Answers-next}
-use Rattle.config_load.proofs.Opens.{Opens-file, Opens-then, Opens-bind}
-use Rattle.config_load.proofs.Steps.{IsNoRead-of_rule, Answers-told, Answers-given}
+use Rattle.config_load.proofs.Follows.{Follows-same, Follows-bind}
+use Rattle.config_load.proofs.Sources.{ReadsFor-bind, HasAnswered-looked, HasAnswered-told, HasAnswered-wanting, HasAnswered-passed, HasAnswered-next}
+use Rattle.config_load.proofs.Steps.{IsNoRead, IsNoRead-of_metadata, IsNoRead-of_rule, Answers-given}
 
--- nothing is told meanwhile
-still : (told : FilesTold) → StaysTold told told
-still told name = inr refl
+module _ {A : Type 0} where
+  -- what was read is answered
+  reads : (told : FilesTold) (counts : List ℕ → ℕ) (value : A) → (let answer : Result A LoadFault = Ok value in HasAnswered told told counts counts (λ _. Reads value) answer)
+  reads told counts value =
+      let answer : Result A LoadFault = Ok value in
+      HasAnswered-looked told counts (λ _. Reads value) answer tt (Follows-same told (λ _. Reads value) (λ _. Reads value) (λ other. refl))
 
-module _ (meta : List ℕ) (row : MetaRow) (left : Left) (told : FilesTold) where
+-- a zone's server has its fault, or none
+pub HasAnswered-given : (told : FilesTold) (counts : List ℕ → ℕ) (number : ℕ) (name : Labels) (zone : Zone) (servers : List Server) (result : Result (List Server) LoadFault) → AnswersOr NoMemory result (given number name zone servers) → HasAnswered told told counts counts (λ _. unless_refused (λ fault. fault) (given number name zone servers)) result
+HasAnswered-given told counts number name zone servers result answered =
+    HasAnswered-looked told counts (λ _. unless_refused (λ fault. fault) (given number name zone servers)) result
+    (if_err_answered IsNoRead NoMemory result (given number name zone servers) answered tt (if_err_either IsNoRead (has_zone name zone.origin servers) _ _ tt tt))
+    (Answers-given told number name zone servers result answered)
+
+-- how the reading of a zone goes on behind its files
+abbrev behind_files : MetaRow → Left → FilesTold → ZoneFiles → Reading ReadZone
+behind_files row left told files =
+    unless_refused (of_rule files.names) (zone_of row.origin files.text.rrs) >>= λ zone. Reads (record { zone = zone; left = left_behind left files.text })
+
+module _ (meta : List ℕ) (row : MetaRow) (left : Left) where
   -- a row's files that aren't read
-  pub Answers-no_files : (fault : LoadFault) (result : Result ReadZone LoadFault) → IsErrAnd result (λ passed. passed ≡ fault) → (let answer : Result ZoneFiles LoadFault = Err fault in Answers told (zone_files meta row left) answer) → Answers told (zone_read meta row left) result
+  pub HasAnswered-no_files : {told told' : FilesTold} {counts counts' : List ℕ → ℕ} (fault : LoadFault) (result : Result ReadZone LoadFault) → IsErrAnd result (λ passed. passed ≡ fault) → (let answer : Result ZoneFiles LoadFault = Err fault in HasAnswered told told' counts counts' (zone_files meta row left) answer) → HasAnswered told told' counts counts' (zone_read meta row left) result
   unfolding zone_read
-  Answers-no_files fault result is a =
-      Answers-passed told (zone_files meta row left) (λ _ files. unless_refused (of_rule files.names) (zone_of row.origin files.text.rrs) >>= λ zone. Reads (record { zone = zone; left = left_behind left files.text })) fault result is a
-
-  -- what they open
-  pub Opens-zone : (before : FilesTold) → OpensWhereItComes before told (zone_files meta row left) → OpensWhereItComes before told (zone_read meta row left)
-  unfolding zone_read
-  Opens-zone before opens =
-      Opens-bind before told (zone_files meta row left) (λ _ files. unless_refused (of_rule files.names) (zone_of row.origin files.text.rrs) >>= λ zone. Reads (record { zone = zone; left = left_behind left files.text })) opens
+  HasAnswered-no_files fault result is read = HasAnswered-passed (zone_files meta row left) (behind_files row left) fault result is read
 
   -- records that break a rule
-  pub Answers-no_zone : (read : ZoneFiles) (fault : LoadFault) (result : Result ReadZone LoadFault) → IsErrAnd result (λ passed. passed ≡ fault) → Follows told (zone_files meta row left) (λ _. Reads read) → (let answer : Result Zone LoadFault = Err fault in AnswersOr NoMemory answer (with_fault (of_rule read.names) (zone_of row.origin read.text.rrs))) → Answers told (zone_read meta row left) result
+  pub HasAnswered-no_zone : {told told' : FilesTold} {counts counts' : List ℕ → ℕ} (read : ZoneFiles) (fault : LoadFault) (result : Result ReadZone LoadFault) → IsErrAnd result (λ passed. passed ≡ fault) → (let answer : Result ZoneFiles LoadFault = Ok read in HasAnswered told told' counts counts' (zone_files meta row left) answer) → (let answer : Result Zone LoadFault = Err fault in AnswersOr NoMemory answer (with_fault (of_rule read.names) (zone_of row.origin read.text.rrs))) → HasAnswered told told' counts counts' (zone_read meta row left) result
   unfolding zone_read
-  Answers-no_zone read fault result is whole answered =
-      Answers-next told told (zone_files meta row left) read (λ _ files. unless_refused (of_rule files.names) (zone_of row.origin files.text.rrs) >>= λ zone. Reads (record { zone = zone; left = left_behind left files.text })) result (still told) whole
-      (Answers-passed told (λ _. unless_refused (of_rule read.names) (zone_of row.origin read.text.rrs)) (λ _ zone. Reads (record { zone = zone; left = left_behind left read.text })) fault result is
-      (Answers-told told (of_rule read.names) (zone_of row.origin read.text.rrs) (Err fault) (IsNoRead-of_rule read.names) answered))
+  HasAnswered-no_zone {told' = told'} {counts' = counts'} read fault result is whole answered =
+      let refused : Result Zone LoadFault = Err fault in
+      HasAnswered-next (zone_files meta row left) read (behind_files row left) result whole
+      (HasAnswered-passed (λ _. unless_refused (of_rule read.names) (zone_of row.origin read.text.rrs)) (λ _ zone. Reads (record { zone = zone; left = left_behind left read.text })) fault result is
+      (HasAnswered-told told' counts' (of_rule read.names) (zone_of row.origin read.text.rrs) refused (IsNoRead-of_rule read.names) answered))
 
   -- a zone
-  pub Follows-zone : (read : ZoneFiles) (zone : Zone) (behind : Left) → behind ≡ left_behind left read.text → Follows told (zone_files meta row left) (λ _. Reads read) → (let answer : Result Zone LoadFault = Ok zone in AnswersOr NoMemory answer (with_fault (of_rule read.names) (zone_of row.origin read.text.rrs))) → Follows told (zone_read meta row left) (λ _. Reads (record { zone = zone; left = behind }))
+  pub HasAnswered-zone : {told told' : FilesTold} {counts counts' : List ℕ → ℕ} (read : ZoneFiles) (zone : Zone) (behind : Left) → behind ≡ left_behind left read.text → (let answer : Result ZoneFiles LoadFault = Ok read in HasAnswered told told' counts counts' (zone_files meta row left) answer) → (let answer : Result Zone LoadFault = Ok zone in AnswersOr NoMemory answer (with_fault (of_rule read.names) (zone_of row.origin read.text.rrs))) → (let answer : Result ReadZone LoadFault = Ok (record { zone = zone; left = behind }) in HasAnswered told told' counts counts' (zone_read meta row left) answer)
   unfolding zone_read
-  Follows-zone read zone behind is whole answered =
+  HasAnswered-zone {told' = told'} {counts' = counts'} read zone behind is whole answered =
+      let given : Result Zone LoadFault = Ok zone in
       let answer : Result ReadZone LoadFault = Ok (record { zone = zone; left = behind }) in
-      let said : Result Zone LoadFault = Ok zone in
-      Answers-next told told (zone_files meta row left) read (λ _ files. unless_refused (of_rule files.names) (zone_of row.origin files.text.rrs) >>= λ zone. Reads (record { zone = zone; left = left_behind left files.text })) answer (still told) whole
-      (Answers-next told told (λ _. unless_refused (of_rule read.names) (zone_of row.origin read.text.rrs)) zone (λ _ zone. Reads (record { zone = zone; left = left_behind left read.text })) answer (still told)
-      (Answers-told told (of_rule read.names) (zone_of row.origin read.text.rrs) said (IsNoRead-of_rule read.names) answered)
-      (Follows-same told (λ _. Reads (record { zone = zone; left = left_behind left read.text })) (λ _. Reads (record { zone = zone; left = behind })) (λ other. ap (λ (l : Left). Reads (record { zone = zone; left = l })) (sym is))))
+      HasAnswered-next (zone_files meta row left) read (behind_files row left) answer whole
+      (HasAnswered-next (λ _. unless_refused (of_rule read.names) (zone_of row.origin read.text.rrs)) zone (λ _ zone. Reads (record { zone = zone; left = left_behind left read.text })) answer
+      (HasAnswered-told told' counts' (of_rule read.names) (zone_of row.origin read.text.rrs) given (IsNoRead-of_rule read.names) answered)
+      (HasAnswered-looked told' counts' (λ _. Reads (record { zone = zone; left = left_behind left read.text })) answer tt
+      (Follows-same told' (λ _. Reads (record { zone = zone; left = left_behind left read.text })) (λ _. Reads (record { zone = zone; left = behind })) (λ other. ap (λ (l : Left). Reads (record { zone = zone; left = l })) (sym is)))))
 
-module _ (meta : List ℕ) (number : ℕ) (row : MetaRow) (rows : Rows) (told : FilesTold) where
+-- how the reading of a row goes on behind its zone
+abbrev behind_zone : ℕ → MetaRow → Rows → FilesTold → ReadZone → Reading Rows
+behind_zone number row rows told read =
+    unless_refused (λ fault. fault) (given number row.server read.zone rows.servers) >>= λ servers. Reads (record { left = read.left; servers = servers })
+
+module _ (meta : List ℕ) (number : ℕ) (row : MetaRow) (rows : Rows) where
   -- a row whose zone isn't read
-  pub Answers-no_row : (fault : LoadFault) (result : Result Rows LoadFault) → IsErrAnd result (λ passed. passed ≡ fault) → (let answer : Result ReadZone LoadFault = Err fault in Answers told (zone_read meta row rows.left) answer) → Answers told (with_row meta number row rows) result
+  pub HasAnswered-no_row : {told told' : FilesTold} {counts counts' : List ℕ → ℕ} (fault : LoadFault) (result : Result Rows LoadFault) → IsErrAnd result (λ passed. passed ≡ fault) → (let answer : Result ReadZone LoadFault = Err fault in HasAnswered told told' counts counts' (zone_read meta row rows.left) answer) → HasAnswered told told' counts counts' (with_row meta number row rows) result
   unfolding with_row
-  Answers-no_row fault result is a =
-      Answers-passed told (zone_read meta row rows.left) (λ _ read. unless_refused (λ fault. fault) (given number row.server read.zone rows.servers) >>= λ servers. Reads (record { left = read.left; servers = servers })) fault result is a
+  HasAnswered-no_row fault result is read = HasAnswered-passed (zone_read meta row rows.left) (behind_zone number row rows) fault result is read
 
-  -- what it opens
-  pub Opens-row : (before : FilesTold) → OpensWhereItComes before told (zone_read meta row rows.left) → OpensWhereItComes before told (with_row meta number row rows)
+  -- want of memory behind its zone
+  pub HasAnswered-row_wanting : {told told' : FilesTold} {counts counts' : List ℕ → ℕ} (read : ReadZone) (result : Result Rows LoadFault) → IsErrAnd result (λ fault. fault ≡ NoMemory) → (let answer : Result ReadZone LoadFault = Ok read in HasAnswered told told' counts counts' (zone_read meta row rows.left) answer) → HasAnswered told told' counts counts' (with_row meta number row rows) result
   unfolding with_row
-  Opens-row before opens =
-      Opens-bind before told (zone_read meta row rows.left) (λ _ read. unless_refused (λ fault. fault) (given number row.server read.zone rows.servers) >>= λ servers. Reads (record { left = read.left; servers = servers })) opens
+  HasAnswered-row_wanting read result wants whole =
+      HasAnswered-wanting result (ReadsFor-bind (zone_read meta row rows.left) (behind_zone number row rows) whole.source) wants
 
   -- a zone that its server has
-  pub Answers-not_given : (read : ReadZone) (fault : LoadFault) (result : Result Rows LoadFault) → IsErrAnd result (λ passed. passed ≡ fault) → Follows told (zone_read meta row rows.left) (λ _. Reads read) → (let answer : Result (List Server) LoadFault = Err fault in AnswersOr NoMemory answer (given number row.server read.zone rows.servers)) → Answers told (with_row meta number row rows) result
+  pub HasAnswered-not_given : {told told' : FilesTold} {counts counts' : List ℕ → ℕ} (read : ReadZone) (fault : LoadFault) (result : Result Rows LoadFault) → IsErrAnd result (λ passed. passed ≡ fault) → (let answer : Result ReadZone LoadFault = Ok read in HasAnswered told told' counts counts' (zone_read meta row rows.left) answer) → (let answer : Result (List Server) LoadFault = Err fault in AnswersOr NoMemory answer (given number row.server read.zone rows.servers)) → HasAnswered told told' counts counts' (with_row meta number row rows) result
   unfolding with_row
-  Answers-not_given read fault result is whole answered =
-      Answers-next told told (zone_read meta row rows.left) read (λ _ read. unless_refused (λ fault. fault) (given number row.server read.zone rows.servers) >>= λ servers. Reads (record { left = read.left; servers = servers })) result (still told) whole
-      (Answers-passed told (λ _. unless_refused (λ fault. fault) (given number row.server read.zone rows.servers)) (λ _ servers. Reads (record { left = read.left; servers = servers })) fault result is
-      (Answers-given told number row.server read.zone rows.servers (Err fault) answered))
+  HasAnswered-not_given {told' = told'} {counts' = counts'} read fault result is whole answered =
+      let refused : Result (List Server) LoadFault = Err fault in
+      HasAnswered-next (zone_read meta row rows.left) read (behind_zone number row rows) result whole
+      (HasAnswered-passed (λ _. unless_refused (λ fault. fault) (given number row.server read.zone rows.servers)) (λ _ servers. Reads (record { left = read.left; servers = servers })) fault result is
+      (HasAnswered-given told' counts' number row.server read.zone rows.servers refused answered))
 
   -- a row
-  pub Follows-row : (read : ReadZone) (servers : List Server) → Follows told (zone_read meta row rows.left) (λ _. Reads read) → (let answer : Result (List Server) LoadFault = Ok servers in AnswersOr NoMemory answer (given number row.server read.zone rows.servers)) → Follows told (with_row meta number row rows) (λ _. Reads (record { left = read.left; servers = servers }))
+  pub HasAnswered-row : {told told' : FilesTold} {counts counts' : List ℕ → ℕ} (read : ReadZone) (servers : List Server) → (let answer : Result ReadZone LoadFault = Ok read in HasAnswered told told' counts counts' (zone_read meta row rows.left) answer) → (let answer : Result (List Server) LoadFault = Ok servers in AnswersOr NoMemory answer (given number row.server read.zone rows.servers)) → (let answer : Result Rows LoadFault = Ok (record { left = read.left; servers = servers }) in HasAnswered told told' counts counts' (with_row meta number row rows) answer)
   unfolding with_row
-  Follows-row read servers whole answered =
+  HasAnswered-row {told' = told'} {counts' = counts'} read servers whole answered =
+      let more : Result (List Server) LoadFault = Ok servers in
       let answer : Result Rows LoadFault = Ok (record { left = read.left; servers = servers }) in
-      let said : Result (List Server) LoadFault = Ok servers in
-      Answers-next told told (zone_read meta row rows.left) read (λ _ read. unless_refused (λ fault. fault) (given number row.server read.zone rows.servers) >>= λ servers. Reads (record { left = read.left; servers = servers })) answer (still told) whole
-      (Answers-next told told (λ _. unless_refused (λ fault. fault) (given number row.server read.zone rows.servers)) servers (λ _ servers. Reads (record { left = read.left; servers = servers })) answer (still told)
-      (Answers-given told number row.server read.zone rows.servers said answered)
-      (Follows-same told (λ _. Reads (record { left = read.left; servers = servers })) (λ _. Reads (record { left = read.left; servers = servers })) (λ other. refl)))
+      HasAnswered-next (zone_read meta row rows.left) read (behind_zone number row rows) answer whole
+      (HasAnswered-next (λ _. unless_refused (λ fault. fault) (given number row.server read.zone rows.servers)) servers (λ _ servers. Reads (record { left = read.left; servers = servers })) answer
+      (HasAnswered-given told' counts' number row.server read.zone rows.servers more answered)
+      (reads told' counts' (record { left = read.left; servers = servers })))
 
 module _ (meta : List ℕ) (number : ℕ) (row : MetaRow) (others : List MetaRow) (rows : Rows) where
   -- a row that ends the reading
-  pub Answers-first_row : (told : FilesTold) (fault : LoadFault) (result : Result Rows LoadFault) → IsErrAnd result (λ passed. passed ≡ fault) → (let answer : Result Rows LoadFault = Err fault in Answers told (with_row meta number row rows) answer) → Answers told (with_rows meta number (row ∷ others) rows) result
+  pub HasAnswered-first_row : {told told' : FilesTold} {counts counts' : List ℕ → ℕ} (fault : LoadFault) (result : Result Rows LoadFault) → IsErrAnd result (λ passed. passed ≡ fault) → (let answer : Result Rows LoadFault = Err fault in HasAnswered told told' counts counts' (with_row meta number row rows) answer) → HasAnswered told told' counts counts' (with_rows meta number (row ∷ others) rows) result
   unfolding with_rows
-  Answers-first_row told fault result is a =
-      Answers-passed told (with_row meta number row rows) (λ t rows. with_rows meta (number + 1) others rows t) fault result is a
+  HasAnswered-first_row fault result is read = HasAnswered-passed (with_row meta number row rows) (λ t rows. with_rows meta (number + 1) others rows t) fault result is read
 
-  -- what a row opens
-  pub Opens-first_row : (before told : FilesTold) → OpensWhereItComes before told (with_row meta number row rows) → OpensWhereItComes before told (with_rows meta number (row ∷ others) rows)
+  -- what a row reads
+  pub ReadsFor-first_row : {told told' : FilesTold} {counts counts' : List ℕ → ℕ} → ReadsFor told told' counts counts' (with_row meta number row rows) → ReadsFor told told' counts counts' (with_rows meta number (row ∷ others) rows)
   unfolding with_rows
-  Opens-first_row before told opens = Opens-bind before told (with_row meta number row rows) (λ t rows. with_rows meta (number + 1) others rows t) opens
+  ReadsFor-first_row source = ReadsFor-bind (with_row meta number row rows) (λ t rows. with_rows meta (number + 1) others rows t) source
 
   -- a row, and those behind it
   pub Follows-first_row : (told : FilesTold) (more : Rows) → Follows told (with_row meta number row rows) (λ _. Reads more) → Follows told (with_rows meta number (row ∷ others) rows) (with_rows meta (number + 1) others more)
@@ -110,45 +127,41 @@ module _ (meta : List ℕ) (number : ℕ) (row : MetaRow) (others : List MetaRow
   Follows-first_row told more whole =
       Follows-bind told (with_row meta number row rows) (λ _. Reads more) (λ t rows. with_rows meta (number + 1) others rows t) whole
 
+-- how the reading of a configuration goes on behind the metadata
+abbrev behind_metadata : List ℕ → FilesTold → Metadata → Reading Config
+behind_metadata meta told found =
+    with_rows meta 1 found.rows no_rows told >>= λ rows. Reads (record { tops = found.tops; servers = rows.servers })
+
 module _ (meta : List ℕ) where
-  -- metadata that don't read
-  pub Answers-no_metadata : (told : FilesTold) (fault : LoadFault) (result : Result Config LoadFault) → IsErrAnd result (λ passed. passed ≡ fault) → (let answer : Result Metadata LoadFault = Err fault in Answers told (metadata meta) answer) → Answers told (conf meta) result
-  unfolding conf
-  Answers-no_metadata told fault result is a =
-      Answers-passed told (metadata meta) (λ t found. with_rows meta 1 found.rows no_rows t >>= λ rows. Reads (record { tops = found.tops; servers = rows.servers })) fault result is a
-
-  -- what is opened for the metadata
-  pub Opens-metadata_file : (before told : FilesTold) → SameElsewhere meta before told → OpensWhereItComes before told (metadata meta)
+  -- a metadata file that isn't read
+  pub HasAnswered-no_octets : {told told' : FilesTold} {counts counts' : List ℕ → ℕ} (fault : LoadFault) (result : Result Metadata LoadFault) → IsErrAnd result (λ passed. passed ≡ fault) → (let answer : Result (List ℕ) LoadFault = Err fault in HasAnswered told told' counts counts' (file_octets meta) answer) → HasAnswered told told' counts counts' (metadata meta) result
   unfolding metadata
-  Opens-metadata_file before told others =
-      Opens-bind before told (file_octets meta) (λ _ octets. unless_refused of_metadata (metadata_of octets)) (Opens-file before told meta others)
+  HasAnswered-no_octets fault result is read = HasAnswered-passed (file_octets meta) (λ _ octets. unless_refused of_metadata (metadata_of octets)) fault result is read
 
-  pub Opens-metadata : (before told : FilesTold) → OpensWhereItComes before told (metadata meta) → OpensWhereItComes before told (conf meta)
-  unfolding conf
-  Opens-metadata before told opens =
-      Opens-bind before told (metadata meta) (λ t found. with_rows meta 1 found.rows no_rows t >>= λ rows. Reads (record { tops = found.tops; servers = rows.servers })) opens
+  -- the metadata of its octets
+  pub HasAnswered-octets : {told told' : FilesTold} {counts counts' : List ℕ → ℕ} (octets : List ℕ) (result : Result Metadata LoadFault) → (let answer : Result (List ℕ) LoadFault = Ok octets in HasAnswered told told' counts counts' (file_octets meta) answer) → AnswersOr NoMemory result (with_fault of_metadata (metadata_of octets)) → HasAnswered told told' counts counts' (metadata meta) result
+  unfolding metadata
+  HasAnswered-octets {told' = told'} {counts' = counts'} octets result whole answered =
+      HasAnswered-next (file_octets meta) octets (λ _ octets. unless_refused of_metadata (metadata_of octets)) result whole
+      (HasAnswered-told told' counts' of_metadata (metadata_of octets) result IsNoRead-of_metadata answered)
 
-  -- what is opened for the rows behind them
-  pub Opens-rows : (before between after : FilesTold) (found : Metadata) → StaysTold between after → Follows between (metadata meta) (λ _. Reads found) → OpensWhereItComes before between (conf meta) → OpensWhereItComes between after (with_rows meta 1 found.rows no_rows) → OpensWhereItComes before after (conf meta)
+  -- metadata that don't read
+  pub HasAnswered-no_metadata : {told told' : FilesTold} {counts counts' : List ℕ → ℕ} (fault : LoadFault) (result : Result Config LoadFault) → IsErrAnd result (λ passed. passed ≡ fault) → (let answer : Result Metadata LoadFault = Err fault in HasAnswered told told' counts counts' (metadata meta) answer) → HasAnswered told told' counts counts' (conf meta) result
   unfolding conf
-  Opens-rows before between after found stays whole opened opens =
-      Opens-then before between after (conf meta) (λ t. with_rows meta 1 found.rows no_rows t >>= λ rows. Reads (record { tops = found.tops; servers = rows.servers })) stays
-      (Follows-bind between (metadata meta) (λ _. Reads found) (λ t found. with_rows meta 1 found.rows no_rows t >>= λ rows. Reads (record { tops = found.tops; servers = rows.servers })) whole)
-      opened
-      (Opens-bind between after (with_rows meta 1 found.rows no_rows) (λ _ rows. Reads (record { tops = found.tops; servers = rows.servers })) opens)
+  HasAnswered-no_metadata fault result is read = HasAnswered-passed (metadata meta) (behind_metadata meta) fault result is read
 
   -- rows that don't read
-  pub Answers-no_rows : (old new : FilesTold) (found : Metadata) (fault : LoadFault) (result : Result Config LoadFault) → StaysTold old new → IsErrAnd result (λ passed. passed ≡ fault) → Follows old (metadata meta) (λ _. Reads found) → (let answer : Result Rows LoadFault = Err fault in Answers new (with_rows meta 1 found.rows no_rows) answer) → Answers new (conf meta) result
+  pub HasAnswered-no_rows : {before between after : FilesTold} {counts counts' counts'' : List ℕ → ℕ} (found : Metadata) (fault : LoadFault) (result : Result Config LoadFault) → IsErrAnd result (λ passed. passed ≡ fault) → (let answer : Result Metadata LoadFault = Ok found in HasAnswered before between counts counts' (metadata meta) answer) → (let answer : Result Rows LoadFault = Err fault in HasAnswered between after counts' counts'' (with_rows meta 1 found.rows no_rows) answer) → HasAnswered before after counts counts'' (conf meta) result
   unfolding conf
-  Answers-no_rows old new found fault result stays is whole a =
-      Answers-next old new (metadata meta) found (λ t found. with_rows meta 1 found.rows no_rows t >>= λ rows. Reads (record { tops = found.tops; servers = rows.servers })) result stays whole
-      (Answers-passed new (with_rows meta 1 found.rows no_rows) (λ _ rows. Reads (record { tops = found.tops; servers = rows.servers })) fault result is a)
+  HasAnswered-no_rows found fault result is whole read =
+      HasAnswered-next (metadata meta) found (behind_metadata meta) result whole
+      (HasAnswered-passed (with_rows meta 1 found.rows no_rows) (λ _ rows. Reads (record { tops = found.tops; servers = rows.servers })) fault result is read)
 
   -- the configuration
-  pub Follows-config : (old new : FilesTold) (found : Metadata) (rows : Rows) → StaysTold old new → Follows old (metadata meta) (λ _. Reads found) → Follows new (with_rows meta 1 found.rows no_rows) (λ _. Reads rows) → Follows new (conf meta) (λ _. Reads (record { tops = found.tops; servers = rows.servers }))
+  pub HasAnswered-config : {before between after : FilesTold} {counts counts' counts'' : List ℕ → ℕ} (found : Metadata) (rows : Rows) → (let answer : Result Metadata LoadFault = Ok found in HasAnswered before between counts counts' (metadata meta) answer) → (let answer : Result Rows LoadFault = Ok rows in HasAnswered between after counts' counts'' (with_rows meta 1 found.rows no_rows) answer) → (let answer : Result Config LoadFault = Ok (record { tops = found.tops; servers = rows.servers }) in HasAnswered before after counts counts'' (conf meta) answer)
   unfolding conf
-  Follows-config old new found rows stays whole all =
+  HasAnswered-config {after = after} {counts'' = counts''} found rows whole all =
       let answer : Result Config LoadFault = Ok (record { tops = found.tops; servers = rows.servers }) in
-      Answers-next old new (metadata meta) found (λ t found. with_rows meta 1 found.rows no_rows t >>= λ rows. Reads (record { tops = found.tops; servers = rows.servers })) answer stays whole
-      (Answers-next new new (with_rows meta 1 found.rows no_rows) rows (λ _ rows. Reads (record { tops = found.tops; servers = rows.servers })) answer (still new) all
-      (Follows-same new (λ _. Reads (record { tops = found.tops; servers = rows.servers })) (λ _. Reads (record { tops = found.tops; servers = rows.servers })) (λ other. refl)))
+      HasAnswered-next (metadata meta) found (behind_metadata meta) answer whole
+      (HasAnswered-next (with_rows meta 1 found.rows no_rows) rows (λ _ rows. Reads (record { tops = found.tops; servers = rows.servers })) answer all
+      (reads after counts'' (record { tops = found.tops; servers = rows.servers })))

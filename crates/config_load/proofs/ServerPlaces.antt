@@ -41,7 +41,7 @@ with_zone-at name zone (server ∷ servers) place is =
     by_test false (Some p) same place is = let e : suc p ≡ place = cc in ap (λ ss. server ∷ ss) (same p refl) ∙ ap (λ p. with_zone_at p zone (server ∷ servers)) e
     by_test false None same place is = absurd cc
 
--- no other server has it, where there is none
+-- where no server has the name, the zone goes to a server behind the others
 pub with_zone-new : (name : Labels) (zone : Zone) (servers : List Server) → server_place name servers ≡ None → with_zone name zone servers ≡ servers ++ (record { name = name; zones = zone ∷ [] }) ∷ []
 with_zone-new name zone [] is = refl
 with_zone-new name zone (server ∷ servers) is =
@@ -176,7 +176,7 @@ AreTellers-more old new name zone servers are updates other origin =
     by_tests true false has = refl
     by_tests false b has = refl
 
--- the same of what a call did, where it didn't fail
+-- places after a call that puts a server behind the others, where it didn't fail
 pub ArePlaces-pushed : {T E : Type 0} (r : Result T E) (old new : map.BTreeMap Labels ℕ) (name : Labels) (zone : Zone) (servers after : List Server) → ArePlaces old servers → server_place name servers ≡ None → OnOk r (after ≡ servers ++ (record { name = name; zones = zone ∷ [] }) ∷ []) → OnOk r (map.Updates name_cmp old new name (Some (length servers))) → OnOk r (ArePlaces new after)
 ArePlaces-pushed (Ok _) old new name zone servers after are none put updates =
     subst (λ (others : List Server). ArePlaces new others) (sym put) (ArePlaces-more old new name (zone ∷ []) servers are none updates)
@@ -187,7 +187,7 @@ pub given-twice : (number : ℕ) (name : Labels) (zone : Zone) (servers : List S
 given-twice number name zone servers had =
     ap (λ b. if b then Err (ZoneTwice number) else Ok (with_zone name zone servers)) had
 
--- another one is given
+-- a zone that its server has not is given
 pub given-more : (number : ℕ) (name : Labels) (zone : Zone) (servers : List Server) → has_zone name zone.origin servers ≡ false → given number name zone servers ≡ Ok (with_zone name zone servers)
 given-more number name zone servers new =
     ap (λ b. if b then Err (ZoneTwice number) else Ok (with_zone name zone servers)) new

@@ -56,7 +56,7 @@ module _ {A : Type 0} where
   Answers-free told reading fault free = subst (λ f. let answer : Result A LoadFault = Err f in Answers told reading answer) (sym free) tt
 
 module _ {A : Type 0} where
-  -- the same of a call's fault that is passed on
+  -- a call's want of memory that is passed on answers any reading
   pub Answers-wanting : (told : FilesTold) (reading : ByTold A) (result : Result A LoadFault) → IsErrAnd result (λ fault. fault ≡ NoMemory) → Answers told reading result
   Answers-wanting told reading (Ok value) wants = absurd wants
   Answers-wanting told reading (Err fault) wants = Answers-free told reading fault wants
@@ -105,7 +105,7 @@ Answers-given told number name zone servers (Err fault) (inr is) =
 pub rest-more : (all : List MetaRow) (i : ℕ) (row : MetaRow) → i < length all → row ≡ get_or all i row → drop i all ≡ row ∷ drop (i + 1) all
 rest-more all i row below is = drop-cons all i row below ∙ (λ j. sym is j ∷ drop (sym (add-one i) j) all)
 
--- where there is none
+-- at the end of the rows there is none more to be read
 pub with_rows-end : (meta : List ℕ) (all : List MetaRow) (i : ℕ) (rows : Rows) (told : FilesTold) → length all ≤ i → with_rows meta (i + 1) (drop i all) rows told ≡ Reads rows
 unfolding with_rows
 with_rows-end meta all i rows told past = ap (λ (rest : List MetaRow). with_rows meta (i + 1) rest rows told) (drop_of_length-le all past)

@@ -13,6 +13,7 @@ pub mod Conf
 pub mod Refusal
 pub mod Load
 pub mod Follows
+pub mod Sources
 pub mod Fed
 pub mod ReadFiles
 pub mod Hosted

@@ -19,7 +19,8 @@ with_zone name zone (server ∷ servers) =
     if name_eq name server.name then record server { zones = server.zones ++ zone ∷ [] } ∷ servers
     else server ∷ with_zone name zone servers
 
--- the same, unless the server has a zone of this origin: that is the fault of the row of this number
+-- the servers with one zone more, unless the server of this name has a zone of this origin: that is the fault of the row of
+-- this number
 abbrev pub given : ℕ → Labels → Zone → List Server → Result (List Server) LoadFault
 given number name zone servers =
     if has_zone name zone.origin servers then Err (ZoneTwice number) else Ok (with_zone name zone servers)

@@ -1,12 +1,11 @@
 //! Reading files to their ends.
 
 ghost use Rattle.std.specs.Prelude.{◌≡◌, ◌+◌, ◌<◌, ◌≤◌, ◌++◌, length, take, vec_len, false, IfOk, IfErr, OnOk};
-ghost use Rattle.io_edges.specs.Counts.{NoneFell};
-ghost use Rattle.io_edges.specs.Files.{Holds, SameElsewhere, StaysTold, first_told};
+ghost use Rattle.io_edges.specs.Files.{Holds, first_told};
 ghost use Rattle.config_load.specs.Faults.{FailedAt, IsReadOf};
 ghost use Rattle.config_load.specs.Fed.{HasFed, FailsToRead, IsFed};
-ghost use Rattle.config_load.specs.Follows.{Answers};
 ghost use Rattle.config_load.specs.Reading.{file_octets, most_octets};
+ghost use Rattle.config_load.specs.Sources.{ReadsOnly, HasAnswered};
 
 use crate::fault::LoadFault;
 use dns_data::List;
@@ -26,17 +25,14 @@ pub(crate) fn read_whole<F: Files>(
     files: &mut F,
     name: &str,
 ) -> Result<List<u8>, LoadFault>
-    ensures answers { Answers (F.told files.new) (file_octets name.now) result }
-    ensures cause { FailedAt (F.faults files.old) (F.faults files.new) result }
-    ensures stays { StaysTold (F.told files.old) (F.told files.new) }
-    ensures others { SameElsewhere name.now (F.told files.old) (F.told files.new) }
-    ensures never_fall { NoneFell (F.faults files.old) (F.faults files.new) }
+    ensures { HasAnswered (F.told files.old) (F.told files.new) (F.faults files.old) (F.faults files.new) (file_octets name.now) result }
 {
     let mut octets = Vec::new(alloc);
     let mut piece = [0; PIECE];
     while octets.len() <= MOST_OCTETS {
         let room = PIECE.min(MOST_OCTETS + 1 - octets.len());
-        if read_more(alloc, files, name, &mut octets, &mut piece[..room])? == 0 {
+        let count = read_more(alloc, files, name, &mut octets, &mut piece[..room])?;
+        if count == 0 {
             return Ok(List::from_vec(octets));
         }
     }
@@ -60,9 +56,7 @@ fn read_more<F: Files>(
     ensures end { IfOk result (λ count. count ≡ 0 → F.told files.new name.now ≡ Holds octets.new.items) }
     ensures fault { IfErr result (IsReadOf name.now) }
     ensures cause { FailedAt (F.faults files.old) (F.faults files.new) result }
-    ensures stays { StaysTold (F.told files.old) (F.told files.new) }
-    ensures others { SameElsewhere name.now (F.told files.old) (F.told files.new) }
-    ensures never_fall { NoneFell (F.faults files.old) (F.faults files.new) }
+    ensures only { ReadsOnly name.now (F.told files.old) (F.told files.new) (F.faults files.old) (F.faults files.new) }
 {
     let count = read_at(alloc, files, name, octets.len(), piece)?;
     octets.extend_from_slice(&piece[..count])?;
@@ -88,9 +82,7 @@ fn read_at<F: Files>(
         → F.told files.new name.now ≡ Holds (first_told (F.told files.new name.now) at)) }
     ensures fault { IfErr result (IsReadOf name.now) }
     ensures cause { FailedAt (F.faults files.old) (F.faults files.new) result }
-    ensures stays { StaysTold (F.told files.old) (F.told files.new) }
-    ensures others { SameElsewhere name.now (F.told files.old) (F.told files.new) }
-    ensures never_fall { NoneFell (F.faults files.old) (F.faults files.new) }
+    ensures only { ReadsOnly name.now (F.told files.old) (F.told files.new) (F.faults files.old) (F.faults files.new) }
 {
     match files.read(name, at as u64, piece) {
         Ok(count) => Ok(count),
@@ -111,9 +103,7 @@ pub(crate) fn feed_whole<F: Files>(
     ensures asked { IfOk result (λ asked. HasFed (F.told files.new) name.now reader.old asked reader.new) }
     ensures fault { IfErr result (FailsToRead (F.told files.new) name.now) }
     ensures cause { FailedAt (F.faults files.old) (F.faults files.new) result }
-    ensures stays { StaysTold (F.told files.old) (F.told files.new) }
-    ensures others { SameElsewhere name.now (F.told files.old) (F.told files.new) }
-    ensures never_fall { NoneFell (F.faults files.old) (F.faults files.new) }
+    ensures only { ReadsOnly name.now (F.told files.old) (F.told files.new) (F.faults files.old) (F.faults files.new) }
 {
     let mut at = 0;
     let mut piece = [0; PIECE];
@@ -153,9 +143,7 @@ fn feed_more<F: Files>(
     ensures open { OnOk result (reader.new.ended ≡ false) }
     ensures fault { IfErr result (IsReadOf name.now) }
     ensures cause { FailedAt (F.faults files.old) (F.faults files.new) result }
-    ensures stays { StaysTold (F.told files.old) (F.told files.new) }
-    ensures others { SameElsewhere name.now (F.told files.old) (F.told files.new) }
-    ensures never_fall { NoneFell (F.faults files.old) (F.faults files.new) }
+    ensures only { ReadsOnly name.now (F.told files.old) (F.told files.new) (F.faults files.old) (F.faults files.new) }
 {
     let count = read_at(alloc, files, name, at, piece)?;
     reader.feed(alloc, &piece[..count])?;

@@ -25,7 +25,7 @@ fn push_directory(text: &mut String, name: &str) -> Result<(), NoMemory>
     ensures { OnOk result (string_bytes text.new ≡ string_bytes text.old ++ directory_of name.now) }
 {
     let mut rest = name;
-    'folders: while let Some((folder, after)) = rest.split_once('/') {
+    while let Some((folder, after)) = rest.split_once('/') {
         text.push_str(folder)?;
         text.push('/')?;
         rest = after;

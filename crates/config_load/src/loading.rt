@@ -8,9 +8,9 @@ ghost use Rattle.meta_read.specs.Metadata.{metadata_of};
 ghost use Rattle.meta_read.specs.Rows.{most_rows};
 ghost use Rattle.config_load.specs.Conf.{conf, metadata};
 ghost use Rattle.config_load.specs.Faults.{FailedAt, of_metadata};
-ghost use Rattle.config_load.specs.Follows.{Answers, OpensWhereItComes};
 ghost use Rattle.config_load.specs.Load.{Gives, FailedWhereItCame, IsReadFault, IsWhole, NoReadFailed, OpensNoOther};
 ghost use Rattle.config_load.specs.Reading.{Misses, Unknown};
+ghost use Rattle.config_load.specs.Sources.{HasAnswered};
 
 use crate::fault::LoadFault;
 use crate::file::read_whole;
@@ -51,11 +51,7 @@ pub fn load<F: Files>(alloc: Global, files: &mut F, meta: &str) -> Result<Config
 
 /// What the files give.
 fn read_config<F: Files>(alloc: Global, files: &mut F, meta: &str) -> Result<Config, LoadFault>
-    ensures answers { Answers (F.told files.new) (conf meta.now) result }
-    ensures cause { FailedAt (F.faults files.old) (F.faults files.new) result }
-    ensures stays { StaysTold (F.told files.old) (F.told files.new) }
-    ensures opens { OpensWhereItComes (F.told files.old) (F.told files.new) (conf meta.now) }
-    ensures never_fall { NoneFell (F.faults files.old) (F.faults files.new) }
+    ensures { HasAnswered (F.told files.old) (F.told files.new) (F.faults files.old) (F.faults files.new) (conf meta.now) result }
 {
     let found = read_meta(alloc, files, meta)?;
     let rows = read_rows(alloc, files, meta, found.rows.items())?;
@@ -67,12 +63,8 @@ fn read_config<F: Files>(alloc: Global, files: &mut F, meta: &str) -> Result<Con
 
 /// The metadata of the metadata file.
 fn read_meta<F: Files>(alloc: Global, files: &mut F, meta: &str) -> Result<Meta, LoadFault>
-    ensures answers { Answers (F.told files.new) (metadata meta.now) result }
+    ensures reads { HasAnswered (F.told files.old) (F.told files.new) (F.faults files.old) (F.faults files.new) (metadata meta.now) result }
     ensures few { IfOk result (λ found. length found.rows ≤ most_rows) }
-    ensures cause { FailedAt (F.faults files.old) (F.faults files.new) result }
-    ensures stays { StaysTold (F.told files.old) (F.told files.new) }
-    ensures opens { OpensWhereItComes (F.told files.old) (F.told files.new) (metadata meta.now) }
-    ensures never_fall { NoneFell (F.faults files.old) (F.faults files.new) }
 {
     let octets = read_whole(alloc, files, meta)?;
     meta_in(alloc, octets.items())

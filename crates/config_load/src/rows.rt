@@ -1,12 +1,9 @@
 //! Rows of the metadata.
 
 ghost use Rattle.std.specs.Prelude.{◌≤◌, length};
-ghost use Rattle.io_edges.specs.Counts.{NoneFell};
-ghost use Rattle.io_edges.specs.Files.{StaysTold};
 ghost use Rattle.meta_read.specs.Rows.{most_rows};
 ghost use Rattle.config_load.specs.Conf.{no_rows, with_row, with_rows};
-ghost use Rattle.config_load.specs.Faults.{FailedAt};
-ghost use Rattle.config_load.specs.Follows.{Answers, OpensWhereItComes};
+ghost use Rattle.config_load.specs.Sources.{HasAnswered};
 
 use crate::fault::LoadFault;
 use crate::left::Left;
@@ -33,11 +30,7 @@ pub(crate) fn read_rows<F: Files>(
     all: &[MetaRow],
 ) -> Result<Rows, LoadFault>
     requires { length all.now ≤ most_rows }
-    ensures answers { Answers (F.told files.new) (with_rows meta.now 1 all.now no_rows) result }
-    ensures cause { FailedAt (F.faults files.old) (F.faults files.new) result }
-    ensures stays { StaysTold (F.told files.old) (F.told files.new) }
-    ensures opens { OpensWhereItComes (F.told files.old) (F.told files.new) (with_rows meta.now 1 all.now no_rows) }
-    ensures never_fall { NoneFell (F.faults files.old) (F.faults files.new) }
+    ensures { HasAnswered (F.told files.old) (F.told files.new) (F.faults files.old) (F.faults files.new) (with_rows meta.now 1 all.now no_rows) result }
 {
     let mut rows = Rows {
         left: Left::everything(),
@@ -58,11 +51,7 @@ fn read_row<F: Files>(
     row: &MetaRow,
     rows: Rows,
 ) -> Result<Rows, LoadFault>
-    ensures answers { Answers (F.told files.new) (with_row meta.now number row.now rows) result }
-    ensures cause { FailedAt (F.faults files.old) (F.faults files.new) result }
-    ensures stays { StaysTold (F.told files.old) (F.told files.new) }
-    ensures opens { OpensWhereItComes (F.told files.old) (F.told files.new) (with_row meta.now number row.now rows) }
-    ensures never_fall { NoneFell (F.faults files.old) (F.faults files.new) }
+    ensures { HasAnswered (F.told files.old) (F.told files.new) (F.faults files.old) (F.faults files.new) (with_row meta.now number row.now rows) result }
 {
     let read = read_zone(alloc, files, meta, row, rows.left)?;
     let server = row.server.copy(alloc)?;

@@ -2,12 +2,10 @@
 
 ghost use Rattle.std.specs.Option.{option_map};
 ghost use Rattle.dns_data.specs.Answers.{AnswersOr, with_fault};
-ghost use Rattle.io_edges.specs.Counts.{NoneFell};
-ghost use Rattle.io_edges.specs.Files.{StaysTold};
 ghost use Rattle.zone_rules.specs.ZoneOf.{zone_of};
 ghost use Rattle.config_load.specs.Conf.{zone_read};
-ghost use Rattle.config_load.specs.Faults.{FailedAt, of_rule};
-ghost use Rattle.config_load.specs.Follows.{Answers, OpensWhereItComes};
+ghost use Rattle.config_load.specs.Faults.{of_rule};
+ghost use Rattle.config_load.specs.Sources.{HasAnswered};
 
 use crate::fault::LoadFault;
 use crate::left::Left;
@@ -34,11 +32,7 @@ pub(crate) fn read_zone<F: Files>(
     row: &MetaRow,
     left: Left,
 ) -> Result<ReadZone, LoadFault>
-    ensures answers { Answers (F.told files.new) (zone_read meta.now row.now left) result }
-    ensures cause { FailedAt (F.faults files.old) (F.faults files.new) result }
-    ensures stays { StaysTold (F.told files.old) (F.told files.new) }
-    ensures opens { OpensWhereItComes (F.told files.old) (F.told files.new) (zone_read meta.now row.now left) }
-    ensures never_fall { NoneFell (F.faults files.old) (F.faults files.new) }
+    ensures { HasAnswered (F.told files.old) (F.told files.new) (F.faults files.old) (F.faults files.new) (zone_read meta.now row.now left) result }
 {
     let read = read_zone_files(alloc, files, meta, row, left)?;
     let left = left.behind(read.text.seen, read.text.included);

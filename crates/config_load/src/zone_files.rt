@@ -1,12 +1,10 @@
 //! The files of a zone.
 
 ghost use Rattle.std.specs.Prelude.{◌≡◌, [], IfOk, unwrap_or};
-ghost use Rattle.io_edges.specs.Counts.{NoneFell};
-ghost use Rattle.io_edges.specs.Files.{StaysTold};
 ghost use Rattle.config_load.specs.Conf.{zone_files};
-ghost use Rattle.config_load.specs.Faults.{FailedAt, name_numbered};
-ghost use Rattle.config_load.specs.Follows.{Answers, OpensWhereItComes};
+ghost use Rattle.config_load.specs.Faults.{name_numbered};
 ghost use Rattle.config_load.specs.ReadFiles.{read_files};
+ghost use Rattle.config_load.specs.Sources.{HasAnswered};
 
 use crate::fault::LoadFault;
 use crate::file::feed_whole;
@@ -33,22 +31,13 @@ pub(crate) fn read_zone_files<F: Files>(
     row: &MetaRow,
     left: Left,
 ) -> Result<ZoneFiles, LoadFault>
-    ensures answers { Answers (F.told files.new) (zone_files meta.now row.now left) result }
-    ensures cause { FailedAt (F.faults files.old) (F.faults files.new) result }
-    ensures stays { StaysTold (F.told files.old) (F.told files.new) }
-    ensures opens { OpensWhereItComes (F.told files.old) (F.told files.new) (zone_files meta.now row.now left) }
-    ensures never_fall { NoneFell (F.faults files.old) (F.faults files.new) }
+    ensures { HasAnswered (F.told files.old) (F.told files.new) (F.faults files.old) (F.faults files.new) (zone_files meta.now row.now left) result }
 {
     let origin = origin_of(alloc, row)?;
     let mut reader = ZoneReader::new(alloc, origin, left.records, left.includes);
     let mut names = List::new(alloc);
     let mut name = joined_name(alloc, meta, row.file.as_str())?;
-    'files: while let Asked::Include { file } = feed_whole(
-        alloc,
-        files,
-        name.as_str(),
-        &mut reader,
-    )? {
+    while let Asked::Include { file } = feed_whole(alloc, files, name.as_str(), &mut reader)? {
         let next = joined_name(alloc, meta, file.as_str())?;
         names.push(name)?;
         name = next;

@@ -1,10 +1,11 @@
 use Rattle.std.proofs.Common.{◌≡◌, ◌+◌, List, ℕ, length, subst, sym, ap, ◌∙◌, arith, rules}
 use Rattle.io_edges.specs.Files.{first_told}
-use Rattle.io_edges.proofs.Loops.{NoneFell-then}
-use Rattle.io_edges.proofs.Told.{StaysTold-then, first_told-long}
+use Rattle.io_edges.proofs.Told.{first_told-long}
 use Rattle.master_read.specs.Reader.{IsReaderOf}
+use Rattle.master_read.specs.declared.asked.Asked.{Asked}
 use Rattle.config_load.proofs.Follows.{Follows-whole, Answers-too_long}
-use Rattle.config_load.proofs.Opens.{SameElsewhere-then}
+use Rattle.config_load.proofs.Sources.{FailedAt-then, FailedAt-passed, FailedAt-too_long, FailsToRead-passed, FailsToRead-wanting, ReadsOnly-none, ReadsOnly-then, first_told-none}
+use Rattle.config_load.proofs.Steps.{FailedAt-wanting}
 use Rattle.config_load.proofs.file.feed_whole.Goals as goal
 
 pub returns-then-count-eq0-clause-asked : goal.returns-then-count-eq0-clause-asked
@@ -30,12 +31,58 @@ loop-at-preserved g c = record {
   still_open = c.in_ok-count.ensures.open;
   fed = c.in_ok-count.ensures.fed;
   stands = λ origin room includes ended before. c.in_ok-count.ensures.stands origin room includes ended (c.loop-at.invariant.stands origin room includes ended before);
-  stays = StaysTold-then (g.F.Files.told c.args.files.now) (g.F.Files.told c.loop-at.files) (g.F.Files.told c.feed_more.new.files) c.loop-at.invariant.stays c.in_ok-count.ensures.stays;
-  others = SameElsewhere-then c.args.name.now (g.F.Files.told c.args.files.now) (g.F.Files.told c.loop-at.files) (g.F.Files.told c.feed_more.new.files) c.loop-at.invariant.others c.in_ok-count.ensures.others;
-  never_fall = NoneFell-then (g.F.Files.faults c.args.files.now) (g.F.Files.faults c.loop-at.files) (g.F.Files.faults c.feed_more.new.files) c.loop-at.invariant.never_fall c.in_ok-count.ensures.never_fall;
+  only = ReadsOnly-then c.loop-at.invariant.only c.in_ok-count.ensures.only;
 }
 
 pub returns-clause-fault : goal.returns-clause-fault
 returns-clause-fault g c =
     let told = g.F.Files.told c.loop-at.files in
     Answers-too_long told c.args.name.now c.too_long.result c.too_long.ensures (first_told-long (told c.args.name.now) c.loop-at.at 16777216 c.loop-at.invariant.long (omega (arith, c.loop-at-test.false)))
+
+pub returns-in_err-count-clause-fault : goal.returns-in_err-count-clause-fault
+returns-in_err-count-clause-fault g c =
+    FailsToRead-passed (g.F.Files.told c.feed_more.new.files) c.args.name.now c.in_err-count.field-0.0 c.from_residual.result c.in_err-count.ensures.fault c.from_residual.ensures.1
+
+pub returns-in_err-count-clause-cause : goal.returns-in_err-count-clause-cause
+returns-in_err-count-clause-cause g c =
+    let first = g.F.Files.faults c.args.files.now in
+    let between = g.F.Files.faults c.loop-at.files in
+    let last = g.F.Files.faults c.feed_more.new.files in
+    FailedAt-then first between last c.from_residual.result c.loop-at.invariant.only.never_fall (FailedAt-passed ℕ between last c.in_err-count.field-0.0 c.from_residual.result c.from_residual.ensures.1 c.in_err-count.ensures.cause)
+
+pub returns-in_err-count-clause-only : goal.returns-in_err-count-clause-only
+returns-in_err-count-clause-only g c = ReadsOnly-then c.loop-at.invariant.only c.in_err-count.ensures.only
+
+pub returns-then-count-eq0-clause-only : goal.returns-then-count-eq0-clause-only
+returns-then-count-eq0-clause-only g c = ReadsOnly-then c.loop-at.invariant.only c.in_ok-count.ensures.only
+
+pub returns-clause-cause : goal.returns-clause-cause
+returns-clause-cause g c =
+    FailedAt-too_long Asked (g.F.Files.faults c.args.files.now) (g.F.Files.faults c.loop-at.files) c.args.name.now c.too_long.result c.too_long.ensures
+
+pub returns-clause-only : goal.returns-clause-only
+returns-clause-only g c = c.loop-at.invariant.only
+
+pub loop-at-init : goal.loop-at-init
+loop-at-init g c =
+    let told = g.F.Files.told c.args.files.now in
+    let none = first_told-none (told c.args.name.now) in
+    record {
+      long = ap length none;
+      short = omega arith;
+      still_open = c.requires.open;
+      fed = c.requires.none;
+      stands = λ origin room includes ended so_far. subst (λ (text : List ℕ). IsReaderOf c.args.reader.now origin room includes ended text) (sym none) so_far;
+      only = ReadsOnly-none c.args.name.now told (g.F.Files.faults c.args.files.now);
+    }
+
+pub returns-in_err-end_file-clause-fault : goal.returns-in_err-end_file-clause-fault
+returns-in_err-end_file-clause-fault g c =
+    FailsToRead-wanting (g.F.Files.told c.feed_more.new.files) c.args.name.now c.from_residual-in_err-end_file.result c.from_residual-in_err-end_file.ensures.1
+
+pub returns-in_err-end_file-clause-cause : goal.returns-in_err-end_file-clause-cause
+returns-in_err-end_file-clause-cause g c =
+    FailedAt-wanting (g.F.Files.faults c.args.files.now) (g.F.Files.faults c.feed_more.new.files) c.from_residual-in_err-end_file.result c.from_residual-in_err-end_file.ensures.1
+
+pub returns-in_err-end_file-clause-only : goal.returns-in_err-end_file-clause-only
+returns-in_err-end_file-clause-only g c = ReadsOnly-then c.loop-at.invariant.only c.in_ok-count.ensures.only

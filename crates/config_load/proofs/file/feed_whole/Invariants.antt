@@ -1,7 +1,7 @@
 use Rattle.std.proofs.Common.{◌≡◌, ◌≤◌, ◌-◌, false, length, []}
-use Rattle.io_edges.specs.Counts.{NoneFell}
-use Rattle.io_edges.specs.Files.{SameElsewhere, StaysTold, first_told}
+use Rattle.io_edges.specs.Files.{first_told}
 use Rattle.config_load.specs.Fed.{IsFed}
+use Rattle.config_load.specs.Sources.{ReadsOnly}
 use Rattle.config_load.proofs.file.feed_whole.Given as goal
 
 -- what was fed are the first octets that are told
@@ -12,9 +12,7 @@ invariant-loop-at g l = record {
   still_open : l.reader.ended ≡ false;
   fed : l.reader.fed ≡ l.at;
   stands : IsFed l.fn.reader [] l.reader (first_told (g.F.Files.told l.files l.name) l.at);
-  stays : StaysTold (g.F.Files.told l.fn.files) (g.F.Files.told l.files);
-  others : SameElsewhere l.name (g.F.Files.told l.fn.files) (g.F.Files.told l.files);
-  never_fall : NoneFell (g.F.Files.faults l.fn.files) (g.F.Files.faults l.files);
+  only : ReadsOnly l.name (g.F.Files.told l.fn.files) (g.F.Files.told l.files) (g.F.Files.faults l.fn.files) (g.F.Files.faults l.files);
 }
 
 abbrev pub decreases-loop-at : goal.decreases-loop-at

@@ -6,14 +6,14 @@ use Rattle.config_load.proofs.Directories.{directory_of-folder, directory_of-non
 use Rattle.config_load.proofs.joined.push_directory.Goals as goal
 
 pub split_once-requires-text-self : goal.split_once-requires-text-self
-split_once-requires-text-self c κs = c.folders.invariant.text
+split_once-requires-text-self c κs = c.loop-folder.invariant.text
 
-pub folders-preserved : goal.folders-preserved
-folders-preserved c =
+pub loop-folder-preserved : goal.loop-folder-preserved
+loop-folder-preserved c =
     let folder = c.in-Some.folder.now in
     let after = c.in-Some.after.now in
-    let rest = c.folders.rest.now in
-    let text = string_bytes c.folders.text in
+    let rest = c.loop-folder.rest.now in
+    let text = string_bytes c.loop-folder.text in
     let parts : rest ≡ folder ++ 47 ∷ after = (split_parts 47 rest (Some (c.in-Some.folder, c.in-Some.after)) c.in-Some.ensures.cases (lit< tt)).0 in
     let pushed : string_bytes c.push.new.self ≡ (text ++ folder) ++ 47 ∷ [] = c.in_ok-push.ensures.bytes ∙ (ap (λ l. string_bytes c.push_str.new.self ++ l) (c.in_ok-push.ensures.ascii (lit< tt)) ∙ ap (λ l. l ++ 47 ∷ []) c.in_ok-push_str.ensures.bytes) in
     record {
@@ -22,12 +22,12 @@ folders-preserved c =
           ∙ (append_assoc text folder (47 ∷ directory_of after)
           ∙ (ap (λ l. text ++ l) (sym (directory_of-folder folder after))
           ∙ (ap (λ l. text ++ directory_of l) (sym parts)
-          ∙ c.folders.invariant.whole))));
-      text = IsUtf8-after_slash rest folder after c.folders.invariant.text parts;
+          ∙ c.loop-folder.invariant.whole))));
+      text = IsUtf8-after_slash rest folder after c.loop-folder.invariant.text parts;
     }
 
 pub returns : goal.returns
 returns c =
-    let rest = c.folders.rest.now in
+    let rest = c.loop-folder.rest.now in
     let none : directory_of rest ≡ [] = directory_of-none rest (no_slash rest (split_parts 47 rest None c.in_default.ensures.cases (lit< tt))) in
-    sym (append-nil (string_bytes c.folders.text)) ∙ (ap (λ l. string_bytes c.folders.text ++ l) (sym none) ∙ c.folders.invariant.whole)
+    sym (append-nil (string_bytes c.loop-folder.text)) ∙ (ap (λ l. string_bytes c.loop-folder.text ++ l) (sym none) ∙ c.loop-folder.invariant.whole)

@@ -31,8 +31,17 @@ returns-clause-unknown g c file is =
 
 pub returns-clause-from_the_start : goal.returns-clause-from_the_start
 returns-clause-from_the_start g c all =
-    TellsAll-same (g.F.Files.told c.args.files.now) (g.F.Files.told c.read_config.new.files) all c.read_config.ensures.stays
+    TellsAll-same (g.F.Files.told c.args.files.now) (g.F.Files.told c.read_config.new.files) all c.read_config.ensures.source.stays
 
 pub returns-clause-opens : goal.returns-clause-opens
 returns-clause-opens g c =
-    OpensNoOther-answers c.args.meta.now (g.F.Files.told c.args.files.now) (g.F.Files.told c.read_config.new.files) c.read_config.ensures.opens
+    OpensNoOther-answers c.args.meta.now (g.F.Files.told c.args.files.now) (g.F.Files.told c.read_config.new.files) c.read_config.ensures.source.opens
+
+pub returns-clause-cause : goal.returns-clause-cause
+returns-clause-cause g c = c.read_config.ensures.cause
+
+pub returns-clause-stays : goal.returns-clause-stays
+returns-clause-stays g c = c.read_config.ensures.source.stays
+
+pub returns-clause-never_fall : goal.returns-clause-never_fall
+returns-clause-never_fall g c = c.read_config.ensures.source.never_fall

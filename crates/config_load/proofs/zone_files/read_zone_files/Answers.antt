@@ -1,23 +1,26 @@
-use Rattle.std.proofs.Common.{[], List, ℕ, Result, inl, inr, refl, subst, sym, ap, ◌∙◌, arith}
+use Rattle.std.proofs.Common.{[], List, ℕ, subst, sym, ap, ◌∙◌}
 use Rattle.dns_data.specs.Name.{Labels}
-use Rattle.io_edges.specs.Files.{SameElsewhere}
-use Rattle.io_edges.proofs.Loops.{NoneFell-then}
-use Rattle.io_edges.proofs.Told.{StaysTold-then}
 use Rattle.master_read.specs.Reader.{IsReaderOf}
 use Rattle.master_read.specs.declared.asked.Asked.{Asked}
 use Rattle.config_load.specs.Conf.{zone_files}
 use Rattle.config_load.specs.Fed.{HasFed, FailsToRead}
-use Rattle.config_load.specs.Follows.{Answers}
 use Rattle.config_load.specs.Joined.{joined}
 use Rattle.config_load.specs.ReadFiles.{read_files}
-use Rattle.config_load.specs.declared.fault.LoadFault.{LoadFault}
-use Rattle.config_load.specs.declared.zone_files.ZoneFiles.{ZoneFiles}
-use Rattle.config_load.proofs.OpenedFiles.{is_done, HasOpened, HasOpened-first, HasOpened-more, HasOpened-open, HasOpened-opens, HasOpened-over, Answers-finished, Answers-unread}
-use Rattle.config_load.proofs.Steps.{Answers-wanting, FailedAt-wanting}
+use Rattle.config_load.specs.Sources.{ReadsOnly}
+use Rattle.config_load.proofs.OpenedFiles.{is_done, HasOpened, HasOpened-first, HasOpened-more, HasOpened-open, HasOpened-over, HasOpened-source, HasAnswered-unread, HasAnswered-finished}
+use Rattle.config_load.proofs.Sources.{ReadsFor-none, HasAnswered-wanting}
 use Rattle.config_load.proofs.zone_files.read_zone_files.Goals as goal
 
-pub files-init : goal.files-init
-files-init g c =
+pub returns-in_err-origin : goal.returns-in_err-origin
+returns-in_err-origin g c =
+    HasAnswered-wanting c.from_residual.result (ReadsFor-none (g.F.Files.told c.args.files.now) (g.F.Files.faults c.args.files.now) (zone_files c.args.meta.now c.args.row.now c.args.left)) c.from_residual.ensures.1
+
+pub returns-in_err-name : goal.returns-in_err-name
+returns-in_err-name g c =
+    HasAnswered-wanting c.from_residual-in_err-name.result (ReadsFor-none (g.F.Files.told c.args.files.now) (g.F.Files.faults c.args.files.now) (zone_files c.args.meta.now c.args.row.now c.args.left)) c.from_residual-in_err-name.ensures.1
+
+pub loop-name-init : goal.loop-name-init
+loop-name-init g c =
     let meta = c.args.meta.now in
     let row = c.args.row.now in
     let left = c.args.left in
@@ -28,90 +31,83 @@ files-init g c =
       opened = subst (λ (names : List (List ℕ)). HasOpened meta row left told names c.in_ok-name.name reader) (sym c.new-names.ensures) (HasOpened-first meta row left told c.in_ok-name.name reader (c.in_ok-name.ensures ∙ ap (joined meta) c.as_str.ensures) stands);
       still_open = c.new-reader.ensures.open;
       none = c.new-reader.ensures.fed;
-      stays = λ name. inr refl;
-      opens = λ name. inl refl;
-      never_fall = λ name. omega arith;
+      source = ReadsFor-none told (g.F.Files.faults c.args.files.now) (zone_files meta row left);
     }
 
-pub returns-in_err-file-clause-answers : goal.returns-in_err-file-clause-answers
-returns-in_err-file-clause-answers g c =
+pub returns-in_err-file : goal.returns-in_err-file
+returns-in_err-file g c =
     let told = g.F.Files.told c.feed_whole.new.files in
-    let fails = subst (λ (name : List ℕ). FailsToRead told name c.in_err-file.field-0.0) c.as_str-in-files.ensures c.in_err-file.ensures.fault in
-    Answers-unread c.args.meta.now c.args.row.now c.args.left (g.F.Files.told c.files.files) told c.files.names c.files.name c.files.reader c.feed_whole.new.reader c.in_err-file.field-0.0 c.from_residual-in_err-file.result c.in_err-file.ensures.stays c.files.invariant.opened fails c.from_residual-in_err-file.ensures.1
+    let faults = g.F.Files.faults c.feed_whole.new.files in
+    let only = subst (λ (name : List ℕ). ReadsOnly name (g.F.Files.told c.loop-name.files) told (g.F.Files.faults c.loop-name.files) faults) c.as_str-in-loop-name.ensures c.in_err-file.ensures.only in
+    let fails = subst (λ (name : List ℕ). FailsToRead told name c.in_err-file.field-0.0) c.as_str-in-loop-name.ensures c.in_err-file.ensures.fault in
+    HasAnswered-unread c.args.meta.now c.args.row.now c.args.left (g.F.Files.told c.loop-name.files) told c.loop-name.names c.loop-name.name c.loop-name.reader c.feed_whole.new.reader c.in_err-file.field-0.0 c.from_residual-in_err-file.result c.loop-name.invariant.source c.loop-name.invariant.opened only fails c.in_err-file.ensures.cause c.from_residual-in_err-file.ensures.1
 
-pub returns-in_err-push-clause-answers : goal.returns-in_err-push-clause-answers
-returns-in_err-push-clause-answers g c =
-    Answers-wanting (g.F.Files.told c.feed_whole.new.files) (zone_files c.args.meta.now c.args.row.now c.args.left) c.from_residual-in_err-push.result c.from_residual-in_err-push.ensures.1
+pub returns-in_err-next : goal.returns-in_err-next
+returns-in_err-next g c =
+    let told = g.F.Files.told c.feed_whole.new.files in
+    let faults = g.F.Files.faults c.feed_whole.new.files in
+    let only = subst (λ (name : List ℕ). ReadsOnly name (g.F.Files.told c.loop-name.files) told (g.F.Files.faults c.loop-name.files) faults) c.as_str-in-loop-name.ensures c.in_ok-file.ensures.only in
+    HasAnswered-wanting c.from_residual-in_err-next.result
+    (HasOpened-source c.args.meta.now c.args.row.now c.args.left (g.F.Files.told c.loop-name.files) told c.loop-name.names c.loop-name.name c.loop-name.reader c.feed_whole.new.reader c.loop-name.invariant.source c.loop-name.invariant.opened only)
+    c.from_residual-in_err-next.ensures.1
 
-pub returns-in_err-push-clause-cause : goal.returns-in_err-push-clause-cause
-returns-in_err-push-clause-cause g c =
-    FailedAt-wanting (g.F.Files.faults c.args.files.now) (g.F.Files.faults c.feed_whole.new.files) c.from_residual-in_err-push.result c.from_residual-in_err-push.ensures.1
+pub returns-in_err-push : goal.returns-in_err-push
+returns-in_err-push g c =
+    let told = g.F.Files.told c.feed_whole.new.files in
+    let faults = g.F.Files.faults c.feed_whole.new.files in
+    let only = subst (λ (name : List ℕ). ReadsOnly name (g.F.Files.told c.loop-name.files) told (g.F.Files.faults c.loop-name.files) faults) c.as_str-in-loop-name.ensures c.in_ok-file.ensures.only in
+    HasAnswered-wanting c.from_residual-in_err-push.result
+    (HasOpened-source c.args.meta.now c.args.row.now c.args.left (g.F.Files.told c.loop-name.files) told c.loop-name.names c.loop-name.name c.loop-name.reader c.feed_whole.new.reader c.loop-name.invariant.source c.loop-name.invariant.opened only)
+    c.from_residual-in_err-push.ensures.1
 
-pub files-preserved : goal.files-preserved
-files-preserved g c =
+pub returns-in_err-push-2 : goal.returns-in_err-push-2
+returns-in_err-push-2 g c =
+    let told = g.F.Files.told c.feed_whole.new.files in
+    let faults = g.F.Files.faults c.feed_whole.new.files in
+    let only = subst (λ (name : List ℕ). ReadsOnly name (g.F.Files.told c.loop-name.files) told (g.F.Files.faults c.loop-name.files) faults) c.as_str-in-loop-name.ensures c.in_ok-file.ensures.only in
+    HasAnswered-wanting c.from_residual-in_err-push-2.result
+    (HasOpened-source c.args.meta.now c.args.row.now c.args.left (g.F.Files.told c.loop-name.files) told c.loop-name.names c.loop-name.name c.loop-name.reader c.feed_whole.new.reader c.loop-name.invariant.source c.loop-name.invariant.opened only)
+    c.from_residual-in_err-push-2.ensures.1
+
+pub loop-name-preserved : goal.loop-name-preserved
+loop-name-preserved g c =
     let meta = c.args.meta.now in
     let row = c.args.row.now in
     let left = c.args.left in
-    let before = g.F.Files.told c.files.files in
+    let before = g.F.Files.told c.loop-name.files in
     let told = g.F.Files.told c.feed_whole.new.files in
+    let faults = g.F.Files.faults c.feed_whole.new.files in
     let after = c.feed_whole.new.reader in
-    let named = subst (λ (name : List ℕ). HasFed told name c.files.reader c.in_ok-file.field-0 after) c.as_str-in-files.ensures c.in_ok-file.ensures.asked in
-    let fed = subst (λ (asked : Asked). HasFed told c.files.name c.files.reader asked after) c.in-Include.is named in
+    let only = subst (λ (name : List ℕ). ReadsOnly name (g.F.Files.told c.loop-name.files) told (g.F.Files.faults c.loop-name.files) faults) c.as_str-in-loop-name.ensures c.in_ok-file.ensures.only in
+    let named = subst (λ (name : List ℕ). HasFed told name c.loop-name.reader c.in_ok-file.field-0 after) c.as_str-in-loop-name.ensures c.in_ok-file.ensures.asked in
+    let fed = subst (λ (asked : Asked). HasFed told c.loop-name.name c.loop-name.reader asked after) c.in-Include.is named in
     let next = c.in_ok-next.ensures ∙ ap (joined meta) c.as_str-in-Include.ensures in
-    let opened = HasOpened-more meta row left before told c.files.names c.files.name c.files.reader after c.in-Include.file c.in_ok-next.next c.in_ok-file.ensures.stays c.files.invariant.opened fed next in
-    let goes_on = HasOpened-open meta row left before told c.files.names c.files.name c.files.reader after c.in-Include.file c.files.invariant.opened fed in
+    let opened = HasOpened-more meta row left before told c.loop-name.names c.loop-name.name c.loop-name.reader after c.in-Include.file c.in_ok-next.next only.stays c.loop-name.invariant.opened fed next in
+    let goes_on = HasOpened-open meta row left before told c.loop-name.names c.loop-name.name c.loop-name.reader after c.in-Include.file c.loop-name.invariant.opened fed in
     record {
       opened = subst (λ (names : List (List ℕ)). HasOpened meta row left told names c.in_ok-next.next after) (sym c.in_ok-push.ensures.ok) opened;
       still_open = goes_on.0;
       none = goes_on.1;
-      stays = StaysTold-then (g.F.Files.told c.args.files.now) before told c.files.invariant.stays c.in_ok-file.ensures.stays;
-      opens = HasOpened-opens c.args.meta.now c.args.row.now c.args.left (g.F.Files.told c.files.files) (g.F.Files.told c.feed_whole.new.files) c.files.names c.files.name c.files.reader c.feed_whole.new.reader (g.F.Files.told c.args.files.now) c.in_ok-file.ensures.stays c.files.invariant.opened
-          (subst (λ (name : List ℕ). SameElsewhere name (g.F.Files.told c.files.files) (g.F.Files.told c.feed_whole.new.files)) c.as_str-in-files.ensures c.in_ok-file.ensures.others) c.files.invariant.opens;
-      never_fall = NoneFell-then (g.F.Files.faults c.args.files.now) (g.F.Files.faults c.files.files) (g.F.Files.faults c.feed_whole.new.files) c.files.invariant.never_fall c.in_ok-file.ensures.never_fall;
+      source = HasOpened-source c.args.meta.now c.args.row.now c.args.left (g.F.Files.told c.loop-name.files) told c.loop-name.names c.loop-name.name c.loop-name.reader c.feed_whole.new.reader c.loop-name.invariant.source c.loop-name.invariant.opened only;
     }
 
 pub finish-requires : goal.finish-requires
 finish-requires g c =
     let told = g.F.Files.told c.feed_whole.new.files in
     let after = c.feed_whole.new.reader in
-    let named = subst (λ (name : List ℕ). HasFed told name c.files.reader c.in_ok-file.field-0 after) c.as_str-in-files.ensures c.in_ok-file.ensures.asked in
+    let named = subst (λ (name : List ℕ). HasFed told name c.loop-name.reader c.in_ok-file.field-0 after) c.as_str-in-loop-name.ensures c.in_ok-file.ensures.asked in
     let done = is_done c.in_ok-file.field-0 c.in_default.not-Include in
-    let fed = subst (λ (asked : Asked). HasFed told c.files.name c.files.reader asked after) done named in
-    HasOpened-over c.args.meta.now c.args.row.now c.args.left (g.F.Files.told c.files.files) told c.files.names c.files.name c.files.reader after c.files.invariant.opened fed
+    let fed = subst (λ (asked : Asked). HasFed told c.loop-name.name c.loop-name.reader asked after) done named in
+    HasOpened-over c.args.meta.now c.args.row.now c.args.left (g.F.Files.told c.loop-name.files) told c.loop-name.names c.loop-name.name c.loop-name.reader after c.loop-name.invariant.opened fed
 
-pub returns-clause-answers : goal.returns-clause-answers
-returns-clause-answers g c =
-    let reading = zone_files c.args.meta.now c.args.row.now c.args.left in
+pub returns : goal.returns
+returns g c =
     let told = g.F.Files.told c.feed_whole.new.files in
+    let faults = g.F.Files.faults c.feed_whole.new.files in
     let after = c.feed_whole.new.reader in
-    let named = subst (λ (name : List ℕ). HasFed told name c.files.reader c.in_ok-file.field-0 after) c.as_str-in-files.ensures c.in_ok-file.ensures.asked in
+    let only = subst (λ (name : List ℕ). ReadsOnly name (g.F.Files.told c.loop-name.files) told (g.F.Files.faults c.loop-name.files) faults) c.as_str-in-loop-name.ensures c.in_ok-file.ensures.only in
+    let named = subst (λ (name : List ℕ). HasFed told name c.loop-name.reader c.in_ok-file.field-0 after) c.as_str-in-loop-name.ensures c.in_ok-file.ensures.asked in
     let done = is_done c.in_ok-file.field-0 c.in_default.not-Include in
-    let fed = subst (λ (asked : Asked). HasFed told c.files.name c.files.reader asked after) done named in
-    let given = Answers-finished c.args.meta.now c.args.row.now c.args.left (g.F.Files.told c.files.files) told c.files.names c.files.name c.files.reader after c.finish.result c.in_ok-file.ensures.stays c.files.invariant.opened fed c.finish.ensures.answers in
-    let named_so = subst (λ (names : List (List ℕ)). Answers told reading (read_files names c.finish.result)) (sym c.in_ok-push-2.ensures.ok) given in
-    subst (λ (result : Result ZoneFiles LoadFault). Answers told reading result) (sym c.told.ensures) named_so
-
-pub returns-in_err-file-clause-opens : goal.returns-in_err-file-clause-opens
-returns-in_err-file-clause-opens g c =
-    HasOpened-opens c.args.meta.now c.args.row.now c.args.left (g.F.Files.told c.files.files) (g.F.Files.told c.feed_whole.new.files) c.files.names c.files.name c.files.reader c.feed_whole.new.reader (g.F.Files.told c.args.files.now) c.in_err-file.ensures.stays c.files.invariant.opened
-    (subst (λ (name : List ℕ). SameElsewhere name (g.F.Files.told c.files.files) (g.F.Files.told c.feed_whole.new.files)) c.as_str-in-files.ensures c.in_err-file.ensures.others) c.files.invariant.opens
-
-pub returns-in_err-next-clause-opens : goal.returns-in_err-next-clause-opens
-returns-in_err-next-clause-opens g c =
-    HasOpened-opens c.args.meta.now c.args.row.now c.args.left (g.F.Files.told c.files.files) (g.F.Files.told c.feed_whole.new.files) c.files.names c.files.name c.files.reader c.feed_whole.new.reader (g.F.Files.told c.args.files.now) c.in_ok-file.ensures.stays c.files.invariant.opened
-    (subst (λ (name : List ℕ). SameElsewhere name (g.F.Files.told c.files.files) (g.F.Files.told c.feed_whole.new.files)) c.as_str-in-files.ensures c.in_ok-file.ensures.others) c.files.invariant.opens
-
-pub returns-in_err-push-clause-opens : goal.returns-in_err-push-clause-opens
-returns-in_err-push-clause-opens g c =
-    HasOpened-opens c.args.meta.now c.args.row.now c.args.left (g.F.Files.told c.files.files) (g.F.Files.told c.feed_whole.new.files) c.files.names c.files.name c.files.reader c.feed_whole.new.reader (g.F.Files.told c.args.files.now) c.in_ok-file.ensures.stays c.files.invariant.opened
-    (subst (λ (name : List ℕ). SameElsewhere name (g.F.Files.told c.files.files) (g.F.Files.told c.feed_whole.new.files)) c.as_str-in-files.ensures c.in_ok-file.ensures.others) c.files.invariant.opens
-
-pub returns-in_err-push-2-clause-opens : goal.returns-in_err-push-2-clause-opens
-returns-in_err-push-2-clause-opens g c =
-    HasOpened-opens c.args.meta.now c.args.row.now c.args.left (g.F.Files.told c.files.files) (g.F.Files.told c.feed_whole.new.files) c.files.names c.files.name c.files.reader c.feed_whole.new.reader (g.F.Files.told c.args.files.now) c.in_ok-file.ensures.stays c.files.invariant.opened
-    (subst (λ (name : List ℕ). SameElsewhere name (g.F.Files.told c.files.files) (g.F.Files.told c.feed_whole.new.files)) c.as_str-in-files.ensures c.in_ok-file.ensures.others) c.files.invariant.opens
-
-pub returns-clause-opens : goal.returns-clause-opens
-returns-clause-opens g c =
-    HasOpened-opens c.args.meta.now c.args.row.now c.args.left (g.F.Files.told c.files.files) (g.F.Files.told c.feed_whole.new.files) c.files.names c.files.name c.files.reader c.feed_whole.new.reader (g.F.Files.told c.args.files.now) c.in_ok-file.ensures.stays c.files.invariant.opened
-    (subst (λ (name : List ℕ). SameElsewhere name (g.F.Files.told c.files.files) (g.F.Files.told c.feed_whole.new.files)) c.as_str-in-files.ensures c.in_ok-file.ensures.others) c.files.invariant.opens
+    let fed = subst (λ (asked : Asked). HasFed told c.loop-name.name c.loop-name.reader asked after) done named in
+    HasAnswered-finished c.args.meta.now c.args.row.now c.args.left (g.F.Files.told c.loop-name.files) told c.loop-name.names c.loop-name.name c.loop-name.reader after c.finish.result c.told.result c.loop-name.invariant.source c.loop-name.invariant.opened only fed c.finish.ensures.answers
+    (c.told.ensures ∙ ap (λ (names : List (List ℕ)). read_files names c.finish.result) c.in_ok-push-2.ensures.ok)
