@@ -6,7 +6,6 @@ pub mod ClassesJudged
 pub mod Decided
 pub mod FaultsExist
 pub mod FiledRows
-pub mod FirstClasses
 pub mod FirstFound
 pub mod FirstWalksShow
 pub mod FollowedAlike

@@ -6,6 +6,7 @@ use Rattle.dns_data.specs.Name.{Labels}
 use Rattle.dns_data.specs.declared.rr_type.RrType.{RrType}
 use Rattle.dns_data.proofs.Membership.{none_in_nil, has_first, has_later, first_or_later, map_has, pairs_first, pairs_of_images, pairs_rest}
 use Rattle.interp_graph.proofs.ItemsByNumber.{pairs_from_images}
+use Rattle.graph_form.specs.FirstFaults.{IsRanked}
 use Rattle.graph_form.specs.Report.{ClassShows, IsEntry, IsReport, IsShown, IsTreeSize}
 use Rattle.graph_form.specs.declared.report.Report.{Report}
 use Rattle.graph_form.specs.declared.report.ReportEntry.{ReportEntry}
@@ -18,7 +19,7 @@ use Rattle.net_model.specs.FaultOrder.{fault_cmp}
 use Rattle.net_model.specs.Reading.{ground_of}
 use Rattle.class_judge.specs.Carried.{whole, SomeClassShows}
 use Rattle.class_judge.specs.Entries.{AreEntries, AreEntriesOf, IsFirstClass}
-use Rattle.class_judge.specs.Rows.{AreFirstClasses, IsFoundBy}
+use Rattle.class_judge.specs.Rows.{AreFirstClasses, class_rank, found_fault}
 use Rattle.class_judge.specs.declared.found.Found.{Found}
 use Rattle.class_judge.proofs.Carrying.{whole_by_classes}
 use Rattle.class_judge.proofs.NameVerdicts.{in_class}
@@ -52,7 +53,7 @@ module _ (config : Config) (rewrites : ℕ) (all first : List Found) (firsts : A
   first_class : (one : Found) → Contains first one → IsFirstClass config rewrites one
   first_class one has other query rtype shows =
       let (found, among, (fault_is, class_is)) = complete other query rtype one.seen.fault shows in
-      let by : IsFoundBy first found = firsts.covers found among in
+      let by : IsRanked found_fault class_rank first found = firsts.covers found among in
       let same : by.by ≡ one = one_found first firsts.ordered by.by one by.has has (by.fault_is ∙ fault_is) in
       subst (λ (c : Class). class_cmp c one.class ≢ Less) class_is (subst (λ (f : Found). class_cmp found.class f.class ≢ Less) same by.not_later)
 
@@ -87,7 +88,7 @@ module _ (config : Config) (rewrites : ℕ) (all first : List Found) (firsts : A
     all_shown : (fault : Fault) → SomeClassShows (whole config rewrites) fault → Contains (map fault_of entries) fault
     all_shown fault (class, query, rtype, shows) =
         let (found, among, (fault_is, class_is)) = complete class query rtype fault shows in
-        let by : IsFoundBy first found = firsts.covers found among in
+        let by : IsRanked found_fault class_rank first found = firsts.covers found among in
         subst (λ (l : List Fault). Contains l fault) (sym (faults_are first entries are))
         (subst (Contains (map (λ (f : Found). f.seen.fault) first)) (by.fault_is ∙ fault_is) (map_has (λ (f : Found). f.seen.fault) first by.by by.has))
 

@@ -1,8 +1,6 @@
 -- The names of a class tree with their verdicts, and what is found in them: for the contracts of inner calls alone.
-use Rattle.std.specs.Prelude.{◌≡◌, ◌≢◌, ℕ, Bool, true, false, not, List, [], ◌++◌, map, length, Contains, All, AllPairs, Option, Some, None, is_some, MatchOption}
+use Rattle.std.specs.Prelude.{◌≡◌, ◌≢◌, ℕ, Bool, true, false, List, [], ◌++◌, map, length, All, AllPairs, Option, Some, None, is_some, MatchOption}
 use Rattle.std.specs.List.{filter, flat_map}
-use Rattle.std.specs.Option.{option_map_or}
-use Rattle.std.specs.Ordering.{is_eq, ordering_then}
 use Rattle.std.specs.declared.cmp.Ordering.{Ordering}
 use Rattle.std.specs.declared.cmp.Ordering.TheVariants.{Less}
 use Rattle.class_judge.specs.Passed.{ClassPasses}
@@ -12,12 +10,13 @@ use Rattle.class_judge.specs.declared.rows.Row.{Row}
 use Rattle.class_judge.specs.declared.verdict.ClassVerdict.{ClassVerdict}
 use Rattle.class_judge.specs.declared.verdict.ClassVerdict.TheVariants.{Faults, StatesPassed}
 use Rattle.dns_data.specs.Name.{Labels, name_cmp}
+use Rattle.graph_form.specs.FirstFaults.{AreFirsts}
 use Rattle.graph_form.specs.declared.report.Seen.{Seen}
 use Rattle.net_model.specs.declared.class.Class.{Class}
 use Rattle.net_model.specs.declared.class.Class.TheVariants.{Exact, Below}
 use Rattle.net_model.specs.declared.config.Config.{Config}
+use Rattle.net_model.specs.declared.fault.Fault.{Fault}
 use Rattle.net_model.specs.Class.{class_cmp, class_name}
-use Rattle.net_model.specs.FaultOrder.{fault_cmp}
 use Rattle.net_model.specs.Reading.{ground_of}
 use Rattle.net_model.specs.Tree.{IsClassTree}
 
@@ -85,23 +84,14 @@ found_at row = found_in (Exact row.name) row.verdict.exact ++ found_below row.na
 abbrev pub found_of : List Row → List Found
 found_of rows = flat_map found_at rows
 
--- the fault is in the list, with this class or one before it
-pub record IsFoundBy (found : List Found) (one : Found) : Type 0 where
-  pub by : Found
-  pub has : Contains found by
-  pub fault_is : by.seen.fault ≡ one.seen.fault
-  pub not_later : class_cmp one.class by.class ≢ Less
+-- the fault
+abbrev pub found_fault : Found → Fault
+found_fault found = found.seen.fault
+
+-- the order of the classes that show one fault
+abbrev pub class_rank : Found → Found → Ordering
+class_rank a b = class_cmp a.class b.class
 
 -- of each fault of a list the first class, in fault order
-pub record AreFirstClasses (all first : List Found) : Type 0 where
-  pub ordered : AllPairs (λ a b. fault_cmp a.seen.fault b.seen.fault ≡ Less) first
-  pub from : (found : Found) → Contains first found → Contains all found
-  pub covers : (found : Found) → Contains all found → IsFoundBy first found
-
--- the order of faults, and of classes with one fault
-abbrev pub found_cmp : Found → Found → Ordering
-found_cmp a b = ordering_then (fault_cmp a.seen.fault b.seen.fault) (class_cmp a.class b.class)
-
--- the next has another fault than the last, if there is one
-abbrev pub is_new_fault : Option Found → Found → Bool
-is_new_fault last next = option_map_or (λ found. not (is_eq (fault_cmp found.seen.fault next.seen.fault))) last true
+abbrev pub AreFirstClasses : List Found → List Found → Type 0
+AreFirstClasses all first = AreFirsts found_fault class_rank all first

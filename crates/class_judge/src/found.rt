@@ -1,14 +1,16 @@
 //! The faults that classes show, and of each fault the first class that shows it.
 
-ghost use Rattle.std.specs.Prelude.{◌≡◌, ◌-◌, ◌∷◌, ◌++◌, [], IfOk, OnOk, if◌then◌else◌, length, slice_get};
-ghost use Rattle.class_judge.specs.Rows.{AreFirstClasses, found_at, found_below, found_cmp, found_in, found_of, is_new_fault, with_class};
+ghost use Rattle.std.specs.Prelude.{◌≡◌, ◌++◌, IfOk, OnOk};
+ghost use Rattle.std.proofs.lemmas.Cmp.{on_total};
+ghost use Rattle.class_judge.specs.Rows.{AreFirstClasses, class_rank, found_at, found_below, found_fault, found_in, found_of, with_class};
 ghost use Rattle.net_model.specs.declared.class.Class.TheVariants.{Exact};
+ghost use Rattle.net_model.proofs.FaultOrder.{classes_total};
 
 use crate::rows::Row;
 use crate::verdict::{ClassVerdict, NameVerdict};
 use dns_data::{List, Name, NoMemory};
-use graph_form::Seen;
-use net_model::Class;
+use graph_form::{OfFault, Seen, first_of_each};
+use net_model::{Class, Fault};
 use std::alloc::Global;
 use std::cmp::Ordering;
 use std::collections::VecDeque;
@@ -119,46 +121,26 @@ fn put_all(
     Ok(())
 }
 
-/// Of each fault the first class that shows it, in fault order. The list is sorted and then passed over once.
+impl OfFault for Found {
+    ghost fault_of = { found_fault };
+
+    ghost rank = { class_rank };
+
+    fn its_fault(&self) -> &Fault {
+        &self.seen.fault
+    }
+
+    fn compare_rank(&self, other: &Found) -> Ordering {
+        self.class.compare(&other.class)
+    }
+
+    ghost total = { on_total (λ found. found.class) classes_total };
+}
+
+/// Of each fault the first class that shows it, in fault order.
 pub(crate) fn first_classes(alloc: Global, found: List<Found>) -> Result<List<Found>, NoMemory>
     ensures { IfOk result (AreFirstClasses found) }
 {
-    let mut sorted = found.into_vec();
-    sorted.sort_by(|a, b| compare(a, b))?;
-    let mut left = VecDeque::from_vec(sorted);
-    let mut first = List::new(alloc);
-    while let Some(next) = left.pop_front() {
-        put_next(&mut first, next)?;
-    }
+    let first = first_of_each(alloc, found)?;
     Ok(first)
-}
-
-/// Puts the next one behind the others, unless the last of them has the same fault.
-fn put_next(first: &mut List<Found>, next: Found) -> Result<(), NoMemory>
-    ensures { OnOk result (first.new ≡ (if is_new_fault (slice_get first.old (length first.old - 1)) next then first.old ++ next ∷ [] else first.old)) }
-{
-    if is_new_fault(first.items(), &next) {
-        return first.push(next);
-    }
-    Ok(())
-}
-
-/// How two stand to each other: by fault, then by class.
-fn compare(a: &Found, b: &Found) -> Ordering
-    ensures { result ≡ found_cmp a.now b.now }
-{
-    a.seen
-        .fault
-        .compare(&b.seen.fault)
-        .then_with(|| a.class.compare(&b.class))
-}
-
-/// Whether the next one has another fault than the last of the list.
-fn is_new_fault(first: &[Found], next: &Found) -> bool
-    ensures { result ≡ is_new_fault (slice_get first.now (length first.now - 1)) next.now }
-{
-    match first.last() {
-        Some(last) => last.seen.fault.compare(&next.seen.fault) != Ordering::Equal,
-        None => true,
-    }
 }

@@ -2,7 +2,7 @@ use Rattle.std.proofs.Common.{◌∙◌, List, length, length-drop, sym, ap, sub
 use Rattle.std.proofs.lemmas.List.Elements.{All-contains}
 use Rattle.class_judge.specs.Entries.{IsRightFound}
 use Rattle.class_judge.specs.declared.found.Found.{Found}
-use Rattle.class_judge.proofs.FirstClasses.{none_left}
+use Rattle.graph_form.proofs.FirstFaults.{none_left}
 use Rattle.class_judge.proofs.ReportEntry.{IsListing, listing_step, listing_ends, next_listed}
 use Rattle.class_judge.proofs.entries.entries_of.Goals as goal
 
