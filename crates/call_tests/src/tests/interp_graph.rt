@@ -1,18 +1,19 @@
 //! Each call that takes memory, once with ample.
 
-use crate::{GraphFault, Trees, build, restrict};
+use crate::{GraphFault, build, restrict};
 use dns_data::{List, Name, Rdata, Rr};
 use name_rules::SymName;
 use net_model::{Config, Server, Zone};
 use std::alloc::Global;
 use std::test::Fail;
+use zone_lookup::Hosts;
 
 // On s. a.t. is an alias of b.t.: every type but CNAME goes on to b.t., so there are two nodes, and twelve and eleven pairs.
 #[test]
 fn an_alias_has_twenty_three_pairs(rt: HostRuntime) -> Result<(), Fail> {
     let alloc = rt.alloc();
     let config = alias(alloc)?;
-    let servers = Trees::build(alloc, &config)?;
+    let servers = Hosts::build(alloc, &config)?;
     let query = SymName {
         known: name(alloc, "a.t")?,
         tail: None,
