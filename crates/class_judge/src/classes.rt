@@ -116,7 +116,7 @@ fn shows_nothing(setup: &Setup<'_>, near: &mut usize, query: &Name) -> Result<bo
     match (&setup.sets, &setup.regions) {
         (Some(sets), Some(regions)) => goes_straight(
             setup.alloc,
-            setup.trees.hosts(),
+            &setup.trees,
             sets,
             regions,
             near,

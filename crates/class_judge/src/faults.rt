@@ -58,7 +58,7 @@ fn shown_in(
 {
     let alloc = setup.alloc;
     let of_rewrites = rewrite_faults(alloc, class, true, graph)?;
-    let of_delegations = sets.delegation_faults(alloc, setup.trees.hosts(), graph)?;
+    let of_delegations = sets.delegation_faults(alloc, &setup.trees, graph)?;
     let all = joined(of_rewrites, of_delegations)?;
     let shown = first_types(alloc, all)?;
     Ok(shown)

@@ -16,12 +16,13 @@ use address_deps::dependencies_among;
 use delegation_checks::LearntSets;
 use dns_data::{List, Name, NoMemory};
 use graph_form::Graph;
-use interp_graph::{GraphFault, Trees, build};
+use interp_graph::{GraphFault, build};
 use label_graph::LabelGraph;
 use name_rules::SymName;
 use net_model::Config;
 use std::alloc::Global;
 use straight_walks::Regions;
+use zone_lookup::Hosts;
 
 impl<'a, N: Naming> Judge<'a, N> {
     /// The judge of the class tree of a configuration, whose queries may use so many rewrites, and of each of which no more
@@ -56,7 +57,7 @@ fn setup_of<'a>(
     ensures states { IfOk result (λ setup. setup.states ≡ states) }
 {
     let graph = LabelGraph::of_config(alloc, config)?;
-    let trees = Trees::build(alloc, config)?;
+    let trees = Hosts::build(alloc, config)?;
     let sets = sets_of(alloc, &trees, rewrites, states)?;
     let regions = regions_of(alloc, &trees, &sets)?;
     let all_followed = are_all_followed(alloc, config, &sets)?;
@@ -75,7 +76,7 @@ fn setup_of<'a>(
 /// The two sets of learnt addresses, or `None` where the name of some server reaches too many pairs of state and type.
 fn sets_of(
     alloc: Global,
-    trees: &Trees<'_>,
+    trees: &Hosts<'_>,
     rewrites: u32,
     states: u32,
 ) -> Result<Option<LearntSets>, NoMemory>
@@ -83,7 +84,7 @@ fn sets_of(
 {
     match server_graphs(alloc, trees, rewrites, states) {
         Ok(graphs) => {
-            let deps = dependencies_among(alloc, trees.hosts(), graphs.items())?;
+            let deps = dependencies_among(alloc, trees, graphs.items())?;
             let sets = LearntSets::build(alloc, deps)?;
             Ok(Some(sets))
         }
@@ -95,14 +96,14 @@ fn sets_of(
 /// The regions of names of the servers with the two sets, or `None` where there are no sets.
 fn regions_of<'a>(
     alloc: Global,
-    trees: &Trees<'a>,
+    trees: &Hosts<'a>,
     sets: &Option<LearntSets>,
 ) -> Result<Option<Regions<'a>>, NoMemory>
     ensures { IfOk result (λ regions. AreRegionsOf trees.now sets.now regions) }
 {
     match sets {
         Some(sets) => {
-            let regions = Regions::build(alloc, trees.hosts(), sets)?;
+            let regions = Regions::build(alloc, trees, sets)?;
             Ok(Some(regions))
         }
         None => Ok(None),
@@ -126,7 +127,7 @@ fn are_all_followed(
 /// The graph of the name of each server, in their order.
 fn server_graphs(
     alloc: Global,
-    trees: &Trees<'_>,
+    trees: &Hosts<'_>,
     rewrites: u32,
     states: u32,
 ) -> Result<List<Graph>, GraphFault>
@@ -148,7 +149,7 @@ fn server_graphs(
 /// more pairs of state and type than so many.
 pub(crate) fn graph_of(
     alloc: Global,
-    trees: &Trees<'_>,
+    trees: &Hosts<'_>,
     query: &Name,
     rewrites: u32,
     states: u32,

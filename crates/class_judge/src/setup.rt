@@ -1,10 +1,10 @@
 //! What the classes of a configuration are judged with.
 
 use delegation_checks::LearntSets;
-use interp_graph::Trees;
 use label_graph::LabelGraph;
 use std::alloc::Global;
 use straight_walks::Regions;
+use zone_lookup::Hosts;
 
 /// A configuration's servers with the trees of their zones, the graph of its names, how many rewrites a query may use, how
 /// many pairs of state and type it may reach, and the two sets of learnt addresses with the regions of names by which queries are
@@ -13,7 +13,7 @@ use straight_walks::Regions;
 #[derive(Drop)]
 pub(crate) struct Setup<'a> {
     pub alloc: Global,
-    pub trees: Trees<'a>,
+    pub trees: Hosts<'a>,
     pub graph: LabelGraph,
     pub rewrites: u32,
     pub states: u32,

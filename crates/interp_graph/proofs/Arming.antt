@@ -17,7 +17,7 @@ use Rattle.graph_form.specs.declared.node.Arm.{Arm}
 use Rattle.graph_form.specs.declared.node.Branch.{Branch}
 use Rattle.graph_form.proofs.Places.{place_of_item}
 use Rattle.interp_graph.specs.Drafts.{Awaits, Tells, IsMade, Comes, AreDrafts, Grows, states_of, size_of, pair_count}
-use Rattle.interp_graph.specs.Steps.{branch_of}
+use Rattle.zone_lookup.specs.Steps.{branch_of}
 use Rattle.interp_graph.specs.Work.{IsFresh, IsWithin, IsSound, Waits, StillWaits, Advances, ComesTo, ComeOn, HasMoreComing, IsForkAt, Numbered, Took, TooMany, PutArm}
 use Rattle.interp_graph.specs.declared.draft.Draft.{Draft}
 use Rattle.interp_graph.specs.declared.step.Fork.{Fork}

@@ -97,30 +97,30 @@ still_await before after starts states grows await =
       await = side_by_side (Awaits before await.all) (Awaits after await.all) starts states (λ at state old. awaits_grow before after grows await.all at state old) await.await;
     }
 
-module _ (config : Config) (rewrites : ℕ) (name : Labels) (zones : Setting) (query : Labels) (states : List State)
-    (read_in : zones ≡ following config rewrites (server_names config)) (asked : query ≡ name) (begin : states ≡ start zones.config query) where
+module _ (config : Config) (rewrites : ℕ) (name : Labels) (in_force : Setting) (query : Labels) (states : List State)
+    (read_in : in_force ≡ following config rewrites (server_names config)) (asked : query ≡ name) (begin : states ≡ start config query) where
   pub begins_there : states ≡ start config name
-  begins_there = begin ∙ (ap (λ (setting : Setting). start setting.config query) read_in ∙ ap (start config) asked)
+  begins_there = begin ∙ ap (start config) asked
 
-  pub drafts_there : (drafts : List Draft) → AreDrafts zones states drafts
+  pub drafts_there : (drafts : List Draft) → AreDrafts in_force states drafts
       → AreDrafts (following config rewrites (server_names config)) (start config name) drafts
   drafts_there drafts are =
       subst (λ (setting : Setting). AreDrafts setting (start config name) drafts) read_in
-      (subst (λ (begin : List State). AreDrafts zones begin drafts) begins_there are)
+      (subst (λ (begin : List State). AreDrafts in_force begin drafts) begins_there are)
 
-  pub more_there : (given limit : ℕ) → given ≡ limit → HasMoreComing zones states given → HasMoreThan (IsReached config rewrites name) limit
+  pub more_there : (given limit : ℕ) → given ≡ limit → HasMoreComing in_force states given → HasMoreThan (IsReached config rewrites name) limit
   more_there given limit same more =
       more_stand config rewrites name limit
       (subst (HasMoreComing (following config rewrites (server_names config)) (start config name)) same
       (subst (λ (setting : Setting). HasMoreComing setting (start config name) given) read_in
-      (subst (λ (begin : List State). HasMoreComing zones begin given) begins_there more)))
+      (subst (λ (begin : List State). HasMoreComing in_force begin given) begins_there more)))
 
-  pub graph_there : (drafts : List Draft) (starts : List ℕ) → AreDrafts zones states drafts
+  pub graph_there : (drafts : List Draft) (starts : List ℕ) → AreDrafts in_force states drafts
       → ((at : ℕ) (rtype : RrType) → Waits drafts at rtype → ⊥) → AwaitAll drafts starts states
       → IsGraphOf (following config rewrites (server_names config)) name (record { nodes = map node_of drafts; starts = starts })
   graph_there drafts starts are none await =
       subst (λ (setting : Setting). IsGraphOf setting name (record { nodes = map node_of drafts; starts = starts })) read_in
-      (finished zones states drafts are (λ at draft rtype is. not_waiting at draft rtype is (has_bit draft.waiting rtype) refl) starts name
+      (finished in_force states drafts are (λ at draft rtype is. not_waiting at draft rtype is (has_bit draft.waiting rtype) refl) starts name
       (begins_there ∙ ap (λ (setting : Setting). start setting.config name) (sym read_in)) await.all await.every await.await)
     where
       not_waiting : (at : ℕ) (draft : Draft) (rtype : RrType) → slice_get drafts at ≡ Some draft → (b : Bool) → has_bit draft.waiting rtype ≡ b → has_bit draft.waiting rtype ≡ false

@@ -13,11 +13,12 @@ use Rattle.net_model.specs.Step.{Setting}
 use Rattle.net_model.specs.declared.walk.State.{State}
 use Rattle.graph_form.specs.declared.node.Branch.{Branch}
 use Rattle.interp_graph.specs.Drafts.{Tells, AreDrafts, Grows}
-use Rattle.interp_graph.specs.Steps.{branch_of, IsFork, IsApart, AreSplit}
+use Rattle.zone_lookup.specs.Steps.{branch_of}
+use Rattle.interp_graph.specs.Steps.{IsFork, IsApart, AreSplit}
 use Rattle.interp_graph.specs.Work.{IsSound, Waits, StillWaits, Advances, ComeOn, HasMoreComing, IsForkAt, AreForksAt, SplitWaiting}
 use Rattle.interp_graph.specs.declared.draft.Draft.{Draft}
 use Rattle.interp_graph.specs.declared.step.Fork.{Fork}
-use Rattle.interp_graph.specs.declared.step.Step.{Step}
+use Rattle.zone_lookup.specs.declared.steps.Step.{Step}
 use Rattle.interp_graph.specs.declared.work.Work.{Work}
 use Rattle.interp_graph.proofs.Arming.{advances_not, advances_twice}
 use Rattle.interp_graph.proofs.Drafts.{zip_grows}

@@ -27,9 +27,10 @@ use Rattle.graph_form.specs.declared.node.Node.{Node}
 use Rattle.graph_form.proofs.Places.{found_there, item_there}
 use Rattle.interp_graph.specs.Drafts.{Comes}
 use Rattle.interp_graph.specs.Restricted.{restricted, IsRestriction, Restricts, IsCutOf, AllLeadWithin}
-use Rattle.interp_graph.specs.Steps.{branch_of, IsApart, IsFork, AreSplit}
+use Rattle.zone_lookup.specs.Steps.{branch_of}
+use Rattle.interp_graph.specs.Steps.{IsApart, IsFork, AreSplit}
 use Rattle.interp_graph.specs.declared.step.Fork.{Fork}
-use Rattle.interp_graph.specs.declared.step.Step.{Step}
+use Rattle.zone_lookup.specs.declared.steps.Step.{Step}
 use Rattle.interp_graph.proofs.ItemsByNumber.{from_mapped, beside, beside_other}
 use Rattle.interp_graph.proofs.NextRestricted.{next_restricted}
 use Rattle.interp_graph.proofs.Working.{one_there}

@@ -108,24 +108,3 @@ answers_told setting state types zone name answers near same apart together foun
           (answered rtype (ap (λ (o : Told). has_bit o.0 rtype) from.2 ∙ typed) ∙ ap (λ (n : Labels). found zone n rtype) same)
           ∙ ap (in_zone setting rtype state) near);
     }
-
--- ---- referrals, with all configured servers followed
-
-chosen : {X : Type 0} (p q : Bool) (a b c : X) → p ≡ true → q ≡ true → (if not p then a else (if not q then b else c)) ≡ c
-chosen true true a b c is follow = refl
-chosen true false a b c is follow = absurd (true≢false (sym follow))
-chosen false q a b c is follow = absurd (true≢false (sym is))
-
--- a configured name server is as its nearest zone tells
-pub refers : (setting : Setting) (state : State) (cut : Cut) (host : Server) (zone : Option Zone)
-    → setting.followed ≡ server_names setting.config → Some host ≡ server_named setting.config cut.ns → zone ≡ nearest host state.name
-    → delegated state cut zone ≡ referred setting state cut
-refers setting state cut host zone all is near =
-    ap (delegated state cut) (near ∙ ap (option_and_then (λ (holder : Server). nearest holder state.name)) is)
-    ∙ sym (chosen (is_configured setting.config cut.ns) (may_follow setting.config cut setting.followed)
-    (step.End (Some (Refer cut)) (Unhosted cut.ns)) (step.End (Some (Refer cut)) (NoAddress cut.ns))
-    (delegated state cut (nearest_of setting.config cut.ns state.name)) configured
-    (ap (may_follow setting.config cut) all ∙ names_follow_all setting.config setting.rewrites cut configured))
-  where
-    configured : is_configured setting.config cut.ns ≡ true
-    configured = ap is_some (sym is)

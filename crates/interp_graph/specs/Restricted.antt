@@ -18,9 +18,9 @@ use Rattle.graph_form.specs.declared.node.Branch.{Branch as PlainBranch}
 use Rattle.graph_form.specs.declared.node.Branch.TheVariants as on
 use Rattle.graph_form.specs.declared.node.Node.{Node}
 use Rattle.interp_graph.specs.Asked.{IsBuilt}
-use Rattle.interp_graph.specs.Steps.{branch_of}
+use Rattle.zone_lookup.specs.Steps.{branch_of}
 use Rattle.interp_graph.specs.declared.step.Fork.{Fork}
-use Rattle.interp_graph.specs.declared.step.Step.{Step}
+use Rattle.zone_lookup.specs.declared.steps.Step.{Step}
 
 -- a referral to a name server that may not be followed ends for want of its address, whether it led on or was lame
 abbrev pub restricted : Config → List Labels → Branch → Branch

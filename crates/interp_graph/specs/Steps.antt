@@ -2,20 +2,13 @@
 use Rattle.std.specs.Prelude.{◌≡◌, Bool, true, false, List, map, Contains, AllPairs}
 use Rattle.dns_data.specs.TypeSet.{has_bit}
 use Rattle.dns_data.specs.declared.rr_type.RrType.{RrType}
-use Rattle.net_model.specs.Step as step
-use Rattle.net_model.specs.Step.{Setting, next}
+use Rattle.net_model.specs.Step.{Setting, Branch, next}
 use Rattle.net_model.specs.declared.walk.State.{State}
+use Rattle.zone_lookup.specs.Steps.{branch_of}
 use Rattle.interp_graph.specs.declared.step.Fork.{Fork}
-use Rattle.interp_graph.specs.declared.step.Step.{Step}
-use Rattle.interp_graph.specs.declared.step.Step.TheVariants.{Go, End}
-
--- a step as the definitions say it
-abbrev pub branch_of : Step → step.Branch
-branch_of (Go hop state) = step.Go hop state
-branch_of (End hop leaf) = step.End hop leaf
 
 -- the types of a fork, and its steps
-abbrev pub fork_of : Fork → List Bool × List step.Branch
+abbrev pub fork_of : Fork → List Bool × List Branch
 fork_of fork = (fork.types, map branch_of fork.steps)
 
 -- two sets have no type in common

@@ -17,40 +17,40 @@ ghost use Rattle.interp_graph.specs.Work.{IsSound, IsListed, Waits, Advances, Ha
 use crate::draft::Draft;
 use crate::fault::GraphFault;
 use crate::following::put_forks;
-use crate::trees::Trees;
+use crate::forks::forks;
 use crate::work::Work;
-use crate::zones::Zones;
 use dns_data::{JoinFault, List, Name, NoMemory, TypeSet};
 use graph_form::{Graph, Node};
 use name_rules::SymName;
 use net_model::State;
 use std::alloc::Global;
 use std::collections::VecDeque;
+use zone_lookup::{Hosts, Walker, starts};
 
 /// The graph of the walks of a name with its tail, while every configured server is followed: for all types at once, with
 /// one node for each state. It is `StatesPassed` where the name reaches more than `limit` pairs of state and type.
 pub fn build(
     alloc: Global,
-    servers: &Trees<'_>,
+    hosts: &Hosts<'_>,
     name: &SymName,
     rewrites: u32,
     limit: u32,
 ) -> Result<Graph, GraphFault>
-    requires { IsAsked servers.now name.now }
-    ensures graph { IfOk result (IsGraphOf (following servers.now rewrites (server_names servers.now)) (whole name.now)) }
-    ensures exact { IfOk result (IsExact servers.now rewrites (whole name.now)) }
+    requires { IsAsked hosts.now name.now }
+    ensures graph { IfOk result (IsGraphOf (following hosts.now rewrites (server_names hosts.now)) (whole name.now)) }
+    ensures exact { IfOk result (IsExact hosts.now rewrites (whole name.now)) }
     ensures pairs { IfOk result (λ graph. length (pairs_of graph) ≤ limit) }
-    ensures few { OnOk result (HasMoreThan (IsReached servers.now rewrites (whole name.now)) limit → ⊥) }
-    ensures passed { IsErrOf result GraphFault.StatesPassed → HasMoreThan (IsReached servers.now rewrites (whole name.now)) limit }
-    ensures stands_for { OnOk result (StandsForOthers servers.now name.now name.now.tail) }
-    ensures reaches_most { OnOk result (ReachesMost servers.now rewrites name.now limit name.now.tail) }
+    ensures few { OnOk result (HasMoreThan (IsReached hosts.now rewrites (whole name.now)) limit → ⊥) }
+    ensures passed { IsErrOf result GraphFault.StatesPassed → HasMoreThan (IsReached hosts.now rewrites (whole name.now)) limit }
+    ensures stands_for { OnOk result (StandsForOthers hosts.now name.now name.now.tail) }
+    ensures reaches_most { OnOk result (ReachesMost hosts.now rewrites name.now limit name.now.tail) }
 {
     let query = whole_name(alloc, name)?;
-    let zones = Zones::new(servers, rewrites);
-    let states = zones.starts(alloc, &query)?;
+    let walker = Walker::following_all(hosts, rewrites);
+    let states = starts(alloc, hosts, &query)?;
     let mut work = Work::new(alloc, limit);
     let starts = begin(alloc, &mut work, states)?;
-    follow(alloc, &zones, &mut work)?;
+    follow(alloc, &walker, &mut work)?;
     Ok(graph_of(alloc, work, starts)?)
 }
 
@@ -93,19 +93,19 @@ pub(crate) fn begin(
 }
 
 /// Follows each type that waits at a node, while every configured server is followed.
-fn follow(alloc: Global, zones: &Zones<'_, '_>, work: &mut Work) -> Result<(), GraphFault>
+fn follow(alloc: Global, walker: &Walker<'_, '_>, work: &mut Work) -> Result<(), GraphFault>
     requires sound { IsSound work.old }
     requires listed { IsListed work.old }
     ensures sound { OnOk result (IsSound work.new) }
     ensures limit { OnOk result (work.new.limit ≡ work.old.limit) }
     ensures grows { OnOk result (Grows work.old.drafts.items work.new.drafts.items) }
     ensures none { OnOk result ((at : ℕ) (rtype : RrType) → Waits work.new.drafts.items at rtype → ⊥) }
-    ensures drafts { OnOk result ((begin : List State) → AreDrafts zones.now begin work.old.drafts.items → AreDrafts zones.now begin work.new.drafts.items) }
-    ensures passed { IsErrOf result GraphFault.StatesPassed → (begin : List State) → AreDrafts zones.now begin work.old.drafts.items → HasMoreComing zones.now begin work.old.limit }
+    ensures drafts { OnOk result ((begin : List State) → AreDrafts walker.now begin work.old.drafts.items → AreDrafts walker.now begin work.new.drafts.items) }
+    ensures passed { IsErrOf result GraphFault.StatesPassed → (begin : List State) → AreDrafts walker.now begin work.old.drafts.items → HasMoreComing walker.now begin work.old.limit }
 {
     while let Some(at) = work.take() {
         let draft = &work.drafts[at];
-        let forks = zones.forks(alloc, &draft.state, draft.waiting)?;
+        let forks = forks(alloc, walker, &draft.state, draft.waiting)?;
         put_forks(alloc, work, at, forks)?;
     }
     Ok(())

@@ -6,17 +6,18 @@ ghost use Rattle.dns_data.specs.TypeSet.{has_bit};
 ghost use Rattle.dns_data.specs.declared.rr_type.RrType.{RrType};
 ghost use Rattle.net_model.specs.Step.{Setting};
 ghost use Rattle.net_model.specs.declared.walk.State.{State};
+ghost use Rattle.zone_lookup.specs.Steps.{branch_of};
 ghost use Rattle.interp_graph.specs.Drafts.{Tells, AreDrafts};
-ghost use Rattle.interp_graph.specs.Steps.{branch_of};
 ghost use Rattle.interp_graph.specs.Work.{IsSound, Advances, StillWaits, Waits, ComeOn, HasMoreComing, IsForkAt, AreForksAt, SplitWaiting, IsRid};
 
 use crate::fault::GraphFault;
-use crate::step::{Fork, Step};
+use crate::step::Fork;
 use crate::work::Work;
 use dns_data::{List, TypeSet};
 use graph_form::{Arm, Branch};
 use std::alloc::Global;
 use std::collections::VecDeque;
+use zone_lookup::Step;
 
 /// Gives a node the arms that its state's forks tell. The types of the forks are those that wait at the node, which don't
 /// wait any more.

@@ -18,13 +18,9 @@ mod forks;
 mod key;
 mod limited;
 mod restriction;
-mod rewrites;
 mod step;
-mod trees;
 mod work;
-mod zones;
 
 pub use building::build;
 pub use fault::GraphFault;
 pub use restriction::restrict;
-pub use trees::Trees;

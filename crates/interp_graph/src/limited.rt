@@ -11,18 +11,19 @@ ghost use Rattle.net_model.specs.declared.walk.Leaf.TheVariants as leaf_as;
 ghost use Rattle.net_model.specs.declared.walk.State.{State};
 ghost use Rattle.graph_form.specs.GraphOf.{HasState};
 ghost use Rattle.graph_form.specs.declared.node.Branch.{Branch as PlainBranch};
+ghost use Rattle.zone_lookup.specs.Steps.{branch_of};
 ghost use Rattle.interp_graph.specs.Restricted.{HasTypes, IsNumbered, IsRestriction, LeadsWithin, AllLeadWithin, Restricts, IsCutOf, restricted};
-ghost use Rattle.interp_graph.specs.Steps.{AreSplit, IsFork, branch_of};
+ghost use Rattle.interp_graph.specs.Steps.{AreSplit, IsFork};
 ghost use Rattle.interp_graph.specs.declared.step.Fork.{Fork};
 
 use crate::key::Key;
-use crate::step::{Fork, Step};
+use crate::step::Fork;
 use dns_data::{List, Name, NoMemory, TypeSet};
 use graph_form::{Arm, Branch, Graph, Node};
 use indexmap::IndexSet;
 use net_model::{Cut, Hop, Leaf, State};
 use std::alloc::Global;
-use zone_lookup::Hosts;
+use zone_lookup::{Hosts, Step};
 
 /// A graph that was built for a configuration, the numbers of its nodes by their states, and the servers that are followed.
 #[derive(Drop)]
@@ -49,6 +50,7 @@ impl<'g, 'a> Limited<'g, 'a> {
             → IsRestriction self.now.hosts.now self.now.graph.now self.now.followed.now setting begin
             → (fork : Fork) → Contains forks fork → IsFork setting state.now fork) }
     {
+        // The number of nodes is read, so that it is known here that it is a u32.
         let _ = self.graph.nodes();
         let key = Key::new(state.copy(alloc)?);
         match self.numbers.get_index_of(&key) {

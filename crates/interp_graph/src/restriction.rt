@@ -15,29 +15,29 @@ use crate::building::{begin, graph_of};
 use crate::fault::GraphFault;
 use crate::following::put_forks;
 use crate::limited::{Limited, numbers_of, starts_of};
-use crate::trees::Trees;
 use crate::work::Work;
 use dns_data::{List, Name, NoMemory};
 use graph_form::Graph;
 use net_model::State;
 use std::alloc::Global;
+use zone_lookup::Hosts;
 
-/// Of a graph that was built for the configuration of the trees, the graph of the same query's walks while these servers
+/// Of a graph that was built for the configuration of the hosts, the graph of the same query's walks while these servers
 /// are followed. It has what such a walk reaches, and nothing else.
 pub fn restrict(
     alloc: Global,
-    servers: &Trees<'_>,
+    hosts: &Hosts<'_>,
     graph: &Graph,
     followed: &[Name],
 ) -> Result<Graph, NoMemory>
-    requires { (rewrites : ℕ) × (query : Labels) × IsBuilt servers.now rewrites query graph.now }
-    ensures graph { IfOk result (λ restricted. (rewrites : ℕ) (query : Labels) → IsBuilt servers.now rewrites query graph.now
-        → IsGraphOf (following servers.now rewrites followed.now) query restricted) }
-    ensures exact { IfOk result (λ restricted. (rewrites : ℕ) (query : Labels) → IsBuilt servers.now rewrites query graph.now
-        → IsExactIn (following servers.now rewrites followed.now) query restricted) }
+    requires { (rewrites : ℕ) × (query : Labels) × IsBuilt hosts.now rewrites query graph.now }
+    ensures graph { IfOk result (λ restricted. (rewrites : ℕ) (query : Labels) → IsBuilt hosts.now rewrites query graph.now
+        → IsGraphOf (following hosts.now rewrites followed.now) query restricted) }
+    ensures exact { IfOk result (λ restricted. (rewrites : ℕ) (query : Labels) → IsBuilt hosts.now rewrites query graph.now
+        → IsExactIn (following hosts.now rewrites followed.now) query restricted) }
 {
     let limited = Limited {
-        hosts: servers.hosts(),
+        hosts,
         graph,
         followed,
         numbers: numbers_of(alloc, graph)?,

@@ -6,7 +6,7 @@ ghost use Rattle.name_rules.specs.SymName.{whole};
 
 use super::configs::{alone, name};
 use dns_data::{JoinFault, Label, Name, TypeSet};
-use interp_graph::{Trees, build};
+use interp_graph::build;
 use label_graph::{LabelGraph, base_of};
 use name_rules::{SymName, substitute_sym};
 use net_model::{Class, Config, Found};
@@ -14,6 +14,7 @@ use query_classes::class_of;
 use std::alloc::Global;
 use std::test::Fail;
 use sym_query::find_sym;
+use zone_lookup::Hosts;
 use zone_tree::Tree;
 
 /// A zone in which `d.t.` is redirected.
@@ -112,7 +113,7 @@ fn one_answer_stands_for_all_tails(rt: HostRuntime) -> Result<(), Fail> {
 fn a_graph_is_built_of_a_name_with_an_open_tail(rt: HostRuntime) -> Result<(), Fail> {
     let alloc = rt.alloc();
     let config = alone(alloc, REDIRECTING)?;
-    let trees = Trees::build(alloc, &config)?;
+    let trees = Hosts::build(alloc, &config)?;
     let query = asked(alloc, &config, "d.t.", "x")?;
     let graph = build(alloc, &trees, &query, 12, 24)?;
     assert_eq!(rt; graph.nodes(), 2, "the states");

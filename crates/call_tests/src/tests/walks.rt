@@ -5,13 +5,14 @@ use address_deps::dependencies;
 use delegation_checks::delegation_faults;
 use dns_data::{List, Name, NoMemory, RrType};
 use graph_form::{Branch, Deps, Graph};
-use interp_graph::{Trees, build};
+use interp_graph::build;
 use name_rules::SymName;
 use net_model::{Config, Fault, Walk};
 use plain_resolver::{learnt, resolve};
 use report_json::ask_text;
 use std::alloc::Global;
 use std::test::Fail;
+use zone_lookup::Hosts;
 
 /// Metadata of three servers, of which one begins.
 const THREE_SERVERS: &str =
@@ -45,7 +46,7 @@ fn paths_of_a_graph_are_the_walks_that_are_followed(rt: HostRuntime) -> Result<(
     let text = ask_text(alloc, &query, RrType::A, walks.items())?;
     assert_eq!(rt; text.items(), WALKS.as_bytes(), "the walks");
 
-    let trees = Trees::build(alloc, &config)?;
+    let trees = Hosts::build(alloc, &config)?;
     let graph = graph_of(alloc, &trees, &query)?;
     let mut paths = List::new(alloc);
     for numbers in [[0, 0, 0].as_slice(), &[0, 1], &[0, 2]] {
@@ -62,7 +63,7 @@ fn paths_of_a_graph_are_the_walks_that_are_followed(rt: HostRuntime) -> Result<(
         least: servers(alloc, &config)?,
         greatest: followed,
     };
-    let shown = delegation_faults(alloc, trees.hosts(), &deps, &graph)?;
+    let shown = delegation_faults(alloc, &trees, &deps, &graph)?;
     assert_eq!(rt; shown.items().len(), 1, "the faults");
     assert!(rt;
         matches!(&shown.items()[0].fault, Fault::Lame(_)),
@@ -141,7 +142,7 @@ fn addresses_in_a_circle_are_learnt_from_each_other_alone(rt: HostRuntime) -> Re
     let greatest = learnt(alloc, &config, 12, &all, 10)?;
     assert_eq!(rt; greatest.items(), both.as_slice(), "the greatest set");
 
-    let trees = Trees::build(alloc, &config)?;
+    let trees = Hosts::build(alloc, &config)?;
     let mut graphs = Vec::new(alloc);
     for name in all.items() {
         graphs.push(graph_of(alloc, &trees, name)?)?;
@@ -158,7 +159,7 @@ fn addresses_in_a_circle_are_learnt_from_each_other_alone(rt: HostRuntime) -> Re
 }
 
 /// The graph of a name's walks, while every configured server is followed.
-fn graph_of(alloc: Global, trees: &Trees<'_>, name: &Name) -> Result<Graph, Fail> {
+fn graph_of(alloc: Global, trees: &Hosts<'_>, name: &Name) -> Result<Graph, Fail> {
     let asked = SymName {
         known: name.copy(alloc)?,
         tail: None,

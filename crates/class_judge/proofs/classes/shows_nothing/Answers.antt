@@ -1,9 +1,8 @@
 use Rattle.std.proofs.Common.{Option, subst}
-use Rattle.std.specs.Prelude.{MatchOption, IfOk}
+use Rattle.std.specs.Prelude.{MatchOption}
 use Rattle.net_model.specs.declared.deps.Deps.{Deps}
-use Rattle.net_model.specs.declared.config.Config.{Config}
 use Rattle.class_judge.specs.Setup.{AreSets, SomeNamePasses}
-use Rattle.class_judge.proofs.StraightVerdicts.{IsFew, IsSilent, straight_given}
+use Rattle.class_judge.proofs.StraightVerdicts.{straight_given}
 use Rattle.class_judge.proofs.classes.shows_nothing.Goals as goal
 
 pub returns-in-Some-Some : goal.returns-in-Some-Some
@@ -14,5 +13,4 @@ returns-in-Some-Some c =
     let sets : AreSets setup.trees setup.rewrites setup.states deps =
     subst (λ (o : Option Deps). MatchOption o (SomeNamePasses setup.trees setup.rewrites setup.states) (AreSets setup.trees setup.rewrites setup.states)) c.in-Some-Some.is-0 c.requires.setup.sets in
     straight_given setup.trees setup.rewrites setup.states query deps sets c.goes_straight.result
-    (subst (λ (config : Config). IfOk c.goes_straight.result (IsFew config setup.states query)) c.hosts.ensures c.goes_straight.ensures.few)
-    (subst (λ (config : Config). IfOk c.goes_straight.result (IsSilent config query deps)) c.hosts.ensures c.goes_straight.ensures.shows_nothing)
+    c.goes_straight.ensures.few c.goes_straight.ensures.shows_nothing

@@ -12,33 +12,33 @@ use Rattle.interp_graph.proofs.Working.{one_there}
 use Rattle.interp_graph.proofs.building.follow.Goals as goal
 
 -- the forks of a draft's state are those of the draft with its number
-forks_at : (setting zones : Setting) (drafts : List Draft) (at : _) (draft : Draft) (types : _) (forks : List Fork) → at < length drafts
-    → draft ≡ get_or drafts at draft → setting ≡ zones → AreForks zones draft.state types forks → AreForksAt setting drafts at forks
-forks_at setting zones drafts at draft types forks below is same are fork has other there =
+forks_at : (setting in_force : Setting) (drafts : List Draft) (at : _) (draft : Draft) (types : _) (forks : List Fork) → at < length drafts
+    → draft ≡ get_or drafts at draft → setting ≡ in_force → AreForks in_force draft.state types forks → AreForksAt setting drafts at forks
+forks_at setting in_force drafts at draft types forks below is same are fork has other there =
     subst (λ (s : Setting). IsFork s other.state fork) (sym same)
-    (subst (λ (d : Draft). IsFork zones d.state fork) (one_there drafts at draft other (item_is drafts at draft below is) there) (are.tell fork has))
+    (subst (λ (d : Draft). IsFork in_force d.state fork) (one_there drafts at draft other (item_is drafts at draft below is) there) (are.tell fork has))
 
 pub loop-at-preserved : goal.loop-at-preserved
 loop-at-preserved c =
     let below : c.in-Some.at < length c.take.new.self.drafts.items = omega (arith, c.in-Some.ensures.below, c.take.new.self.drafts.ok.0) in
-    turns_more (λ (setting : Setting) (begin : List State). setting ≡ c.args.zones.now) c.args.work.now c.loop-at.work c.take.new.self c.in-Some.at
+    turns_more (λ (setting : Setting) (begin : List State). setting ≡ c.args.walker.now) c.args.work.now c.loop-at.work c.take.new.self c.in-Some.at
     c.loop-at.invariant c.in-Some.ensures.some c.in-Some.ensures.drafts c.in-Some.ensures.limit c.in-Some.ensures.pairs c.put_forks.new.work
     c.in_ok-put_forks.ensures.sound c.in_ok-put_forks.ensures.advances c.in_ok-put_forks.ensures.rid
     (λ setting begin same are. c.in_ok-put_forks.ensures.drafts setting begin are
-    (forks_at setting c.args.zones.now c.take.new.self.drafts.items c.in-Some.at c.index-draft.result.now _ c.in_ok-forks.forks below c.index-draft.ensures same c.in_ok-forks.ensures))
+    (forks_at setting c.args.walker.now c.take.new.self.drafts.items c.in-Some.at c.index-draft.result.now _ c.in_ok-forks.forks below c.index-draft.ensures same c.in_ok-forks.ensures))
 
 pub returns-in_err-put_forks-clause-passed : goal.returns-in_err-put_forks-clause-passed
 returns-in_err-put_forks-clause-passed c = λ is begin are.
     let below : c.in-Some.at < length c.take.new.self.drafts.items = omega (arith, c.in-Some.ensures.below, c.take.new.self.drafts.ok.0) in
-    turns_passed (λ (setting : Setting) (begin : List State). setting ≡ c.args.zones.now) c.args.work.now c.loop-at.work c.take.new.self c.in-Some.at
+    turns_passed (λ (setting : Setting) (begin : List State). setting ≡ c.args.walker.now) c.args.work.now c.loop-at.work c.take.new.self c.in-Some.at
     c.loop-at.invariant c.in-Some.ensures.some c.in-Some.ensures.drafts c.in-Some.ensures.limit c.in-Some.ensures.pairs
     (λ setting begin same are. c.in_err-put_forks.ensures.passed
     (passed_on c.from_residual-in_err-put_forks.result c.in_err-put_forks.field-0.0 _ c.from_residual-in_err-put_forks.ensures.1 is _ refl) setting begin are
-    (forks_at setting c.args.zones.now c.take.new.self.drafts.items c.in-Some.at c.index-draft.result.now _ c.in_ok-forks.forks below c.index-draft.ensures same c.in_ok-forks.ensures))
-    c.args.zones.now begin refl are
+    (forks_at setting c.args.walker.now c.take.new.self.drafts.items c.in-Some.at c.index-draft.result.now _ c.in_ok-forks.forks below c.index-draft.ensures same c.in_ok-forks.ensures))
+    c.args.walker.now begin refl are
 
 pub returns-clause-none : goal.returns-clause-none
 returns-clause-none c = λ at rtype waits.
-    none_wait (λ (setting : Setting) (begin : List State). setting ≡ c.args.zones.now) c.args.work.now c.loop-at.work c.loop-at.invariant
+    none_wait (λ (setting : Setting) (begin : List State). setting ≡ c.args.walker.now) c.args.work.now c.loop-at.work c.loop-at.invariant
     (where_none c.take.result _ c.take.ensures.none c.in_default.is) at rtype
     (subst (λ (drafts : List Draft). Waits drafts at rtype) c.take.ensures.drafts waits)

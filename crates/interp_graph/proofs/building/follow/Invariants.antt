@@ -6,7 +6,7 @@ use Rattle.interp_graph.proofs.building.follow.Given as goal
 
 -- the nodes followed so far
 abbrev pub invariant-loop-at : goal.invariant-loop-at
-invariant-loop-at l = TurnsSoFar (λ (setting : Setting) (begin : List State). setting ≡ l.zones) l.fn.work l.work
+invariant-loop-at l = TurnsSoFar (λ (setting : Setting) (begin : List State). setting ≡ l.walker) l.fn.work l.work
 
 -- of the pairs that are allowed those that aren't there yet, and what is to be followed
 abbrev pub decreases-loop-at : goal.decreases-loop-at

@@ -3,10 +3,10 @@ use Rattle.dns_data.proofs.Membership.{has_first}
 use Rattle.net_model.specs.Step as step
 use Rattle.net_model.specs.Step.{Setting}
 use Rattle.net_model.specs.declared.walk.State.{State}
-use Rattle.interp_graph.specs.Steps.{branch_of}
+use Rattle.zone_lookup.specs.Steps.{branch_of}
 use Rattle.interp_graph.specs.Work.{ComeOn, ComesTo}
-use Rattle.interp_graph.specs.declared.step.Step.{Step}
-use Rattle.interp_graph.specs.declared.step.Step.TheVariants.{Go}
+use Rattle.zone_lookup.specs.declared.steps.Step.{Step}
+use Rattle.zone_lookup.specs.declared.steps.Step.TheVariants.{Go}
 use Rattle.interp_graph.proofs.Passing.{passed_on}
 use Rattle.interp_graph.proofs.following.branch.Goals as goal
 

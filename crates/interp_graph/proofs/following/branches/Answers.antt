@@ -1,6 +1,6 @@
 use Rattle.interp_graph.proofs.ForkSteps.{BranchesSoFar, branches_passed, branches_more}
 use Rattle.std.proofs.Common.{refl, List, subst, sym}
-use Rattle.interp_graph.specs.declared.step.Step.{Step}
+use Rattle.zone_lookup.specs.declared.steps.Step.{Step}
 use Rattle.interp_graph.proofs.Passing.{passed_on}
 use Rattle.interp_graph.proofs.following.branches.Goals as goal
 

@@ -6,8 +6,8 @@ use Rattle.interp_graph.proofs.forks.all_forks.Given as goal
 -- the forks so far, and those of the answers that are left
 abbrev pub invariant-loop-answer : goal.invariant-loop-answer
 invariant-loop-answer l =
-    map fork_of l.forks ++ map (λ answer. (answer.types, after_lookup l.zones l.state l.origin answer.found)) l.left.items
-    ≡ map (λ answer. (answer.types, after_lookup l.zones l.state l.origin answer.found)) l.fn.answers
+    map fork_of l.forks ++ map (λ answer. (answer.types, after_lookup l.walker l.state l.origin answer.found)) l.left.items
+    ≡ map (λ answer. (answer.types, after_lookup l.walker l.state l.origin answer.found)) l.fn.answers
 
 abbrev pub decreases-loop-answer : goal.decreases-loop-answer
 decreases-loop-answer l = length l.left.items

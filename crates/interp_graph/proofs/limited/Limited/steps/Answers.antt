@@ -2,7 +2,7 @@ use Rattle.std.proofs.Common.{◌+◌, List, sym, subst, take}
 use Rattle.std.specs.List.{AllZip}
 use Rattle.graph_form.proofs.Places.{item_there}
 use Rattle.interp_graph.specs.Restricted.{Restricts}
-use Rattle.interp_graph.specs.declared.step.Step.{Step}
+use Rattle.zone_lookup.specs.declared.steps.Step.{Step}
 use Rattle.interp_graph.proofs.Limiting.{zip_more}
 use Rattle.interp_graph.proofs.Numbering.{item_is}
 use Rattle.interp_graph.proofs.limited.Limited.steps.Goals as goal
