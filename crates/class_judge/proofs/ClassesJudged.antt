@@ -92,4 +92,3 @@ children_same config graph same name names children are others =
       );
     })
     others
-
