@@ -1,22 +1,24 @@
 #!/usr/bin/env python3
-"""Lists the public calls that may answer want of memory and that nothing runs: unrun_calls.py [TOP]
+"""Lists the public calls that can run out of memory and that nothing runs: unrun_calls.py [TOP]
 
 A contract that allows want of memory is met by a body that answers nothing else. So a test, or code to which `main` comes,
-is to make each such call with ample memory. A line `file:line: name` tells of each that none makes, and the status is 1.
+is to make each such call with ample memory. A line `file:line: name` names each that none makes, and the status is 1.
 
 Such a call is a `pub fn`, free or of a type, that a crate's lib.rt names or that stands in one of its public modules, and
 whose result names `NoMemory` or an enum with a variant of that name. Methods of traits aren't asked for.
 
 A function is reached where `main` or a reached one names it. A test reaches what it names itself, and no more.
 - A free function is named by `name(` in its crate, or where it is imported; a function of a type by `Type::name`.
-- A method is named by `.name(`, where the receiver may be of its type. What stands before the point tells that: a field,
-  a call's result, `self`, or a variable by its parameter, its `let`, its `for` or its pattern. Types are told by names
-  alone: a field is of each type that some field of this name has. Where nothing is told, the receiver may be of any type
+- A method is named by `.name(`, where the receiver may be of its type. The text before the point decides that: a field,
+  a call's result, `self`, or a variable by its parameter, its `let`, its `for` or its pattern. Types are known by name
+  only: a field is of each type that some field of this name has. If nothing is known, the receiver may be of any type
   that the function itself names, or that a field of one of those has. So a copy of a record's name is none of the record.
 - The methods of an `impl TRAIT for TYPE` are reached where a reached function names the type.
 
 Where it errs: a call in a branch that no run takes counts as reached, and so does each of several types that a receiver
-may have. Methods of one name in two `impl` blocks of a type are one. A function handed on by its bare name isn't reached.
+may have. One that `main` makes with some values alone counts as reached with all: only the tests of names with an open tail
+show that `find_sym` and `build` are run with such names. Methods of one name in two `impl` blocks of a type are one. A
+function handed on by its bare name isn't reached.
 """
 import glob
 import os
@@ -195,5 +197,5 @@ if __name__ == "__main__":
     unrun = [function for function in asked if function not in reached]
     for function in unrun:
         print(f"{function.file.path}:{function.line}: " + "::".join(filter(None, (function.home[1], function.name))))
-    print(f"{len(asked)} public calls may answer want of memory, and nothing runs {len(unrun)} of them")
+    print(f"{len(asked)} public calls can run out of memory, and nothing runs {len(unrun)} of them")
     sys.exit(1 if unrun else 0)

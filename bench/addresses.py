@@ -12,8 +12,8 @@ import sys
 
 from measure import printed, taken, with_program
 
-CRATES = ("dns_data", "net_model", "zone_tree", "name_rules", "zone_lookup", "sym_query", "graph_form", "interp_graph", "address_deps")
-DEPENDS = "dns_data net_model name_rules graph_form interp_graph address_deps"
+CRATES = ("dns_data", "net_model", "walk_laws", "zone_tree", "name_rules", "zone_lookup", "sym_query", "graph_form", "interp_graph", "address_deps")
+DEPENDS = "dns_data net_model name_rules zone_lookup graph_form interp_graph address_deps"
 KINDS = (("all learnt", "0"), ("a circle", "1"), ("none learnt", "2"))
 
 

@@ -13,8 +13,8 @@ import sys
 
 from measure import MEBIBYTE, allocations, printed, taken, with_program
 
-CRATES = ("dns_data", "net_model", "zone_tree", "name_rules", "zone_lookup", "sym_query", "graph_form", "interp_graph")
-DEPENDS = "dns_data net_model name_rules graph_form interp_graph"
+CRATES = ("dns_data", "net_model", "walk_laws", "zone_tree", "name_rules", "zone_lookup", "sym_query", "graph_form", "interp_graph")
+DEPENDS = "dns_data net_model name_rules zone_lookup graph_form interp_graph"
 REGISTRY, HOSTING, CROSSING = "0", "1", "2"
 INPUTS = (("registry", REGISTRY, "100000", "1000"), ("hosting", HOSTING, "1000", "10"), ("crossing", CROSSING, "1", "1"))
 

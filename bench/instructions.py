@@ -2,7 +2,7 @@
 """Counts the instructions of a check: instructions.py [--program GROOT] [--tenth]
 
 Unlike times, these are the same on every machine and under every load. Each input is made by make_zone.py and checked with
-one worker under valgrind's callgrind; the table is as bench/RESULTS.md has it. --tenth takes inputs of a tenth of the size.
+one worker under valgrind's callgrind, and a table is printed. --tenth takes inputs of a tenth of the size.
 It needs valgrind.
 """
 import argparse

@@ -14,7 +14,7 @@ import sys
 import tempfile
 import time
 
-from measure import HERE, MEBIBYTE, TOP, build, make_scratch, taken, text, write
+from measure import HERE, MEBIBYTE, build, make_scratch, taken, text, write
 
 CRATES = ("dns_data", "io_edges", "pool_core", "verdict_book", "steal_pool")
 DEPENDS = "dns_data io_edges verdict_book steal_pool"
@@ -30,12 +30,13 @@ ghosts-run_shape g a = record { fan = a.fan; size = a.size; seed = a.seed }
 
 def add_proofs(scratch):
     """The proofs of the two programs."""
-    list_from = os.path.join(TOP, "crates", "steal_pool", "proofs", "tests", "list_from")
     for name in PROGRAMS:
-        program = os.path.join(scratch, "crates", name)
-        for file in os.listdir(list_from):
-            proof = text(list_from, file).replace("Rattle.steal_pool.proofs.tests.list_from", f"Rattle.{name}.proofs.list_from")
-            write(os.path.join(program, "proofs", "list_from", file), proof)
+        for file in ("Answers", "Invariants"):
+            proof = text(HERE, "pool", f"list_from_{file.lower()}.txt").replace("Rattle.PROGRAM", f"Rattle.{name}")
+            write(os.path.join(scratch, "crates", name, "proofs", "list_from", f"{file}.antt"), proof)
+    speed = os.path.join(scratch, "crates", "speed")
+    write(os.path.join(speed, "specs", "Lib.antt"), "pub mod Trees\n")
+    write(os.path.join(speed, "specs", "Trees.antt"), text(HERE, "pool", "trees.txt"))
     soak = os.path.join(scratch, "crates", "soak")
     write(os.path.join(soak, "specs", "Lib.antt"), "pub mod Shapes\n")
     write(os.path.join(soak, "specs", "Shapes.antt"), text(HERE, "pool", "shapes.txt"))

@@ -7,7 +7,7 @@ mutants/run.py --fits        only looks whether each mutant can be put in; prove
 A mutant is a file mutants/NAME/the_bug.edit in the form of a must-fail edit (CONTRIBUTING.md). The script copies the
 repository, puts the mutants in the place of the crates' own must-fail edits, and has `rt must-fail` try them there. What
 `rt check` and ./build kept of the crates is used; a crate without it is proved first. The status is 0 if each mutant was
-refused, 1 if one wasn't, couldn't be put in or wasn't tried, and 2 for a faulty command line.
+refused, 1 if one wasn't or couldn't be put in, and 2 for a faulty command line.
 """
 import os
 import pathlib

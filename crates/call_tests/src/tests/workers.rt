@@ -104,6 +104,7 @@ fn workers_end_where_one_of_them_has_no_memory(rt: HostRuntime) -> Result<(), Fa
         match run {
             Ok(list) => {
                 assert!(rt; fails == 7 && is_whole(list.items()), "{workers} workers");
+                assert_eq!(rt; work.calls.load(Ordering::SeqCst), 7, "each item once");
             }
             Err(fault) => {
                 assert_eq!(rt;
@@ -118,6 +119,7 @@ fn workers_end_where_one_of_them_has_no_memory(rt: HostRuntime) -> Result<(), Fa
             work.calls.load(Ordering::SeqCst),
             "the calls"
         );
+        assert_eq!(rt; count.foreign, 0, "no filing is foreign");
     }
     Ok(())
 }
