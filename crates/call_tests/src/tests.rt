@@ -3,6 +3,7 @@
 mod classes;
 mod configs;
 mod entries;
+mod open_graphs;
 mod open_tails;
 mod outputs;
 mod pool_machine;

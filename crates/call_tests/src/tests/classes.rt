@@ -32,9 +32,9 @@ fn names_below_a_wildcards_parent_are_in_one_class(rt: HostRuntime) -> Result<()
             true,
             "the class of {query}"
         );
-        let found = representative(alloc, &graph, &found)?;
+        let standing = representative(alloc, &graph, &found)?;
         assert_eq!(rt;
-            found,
+            standing,
             Some(name(alloc, stands)?),
             "the representative of {query}"
         );
