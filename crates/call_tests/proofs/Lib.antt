@@ -1,1 +1,1 @@
-pub mod Askable
+pub mod NamedClasses

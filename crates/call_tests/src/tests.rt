@@ -3,11 +3,7 @@
 mod classes;
 mod configs;
 mod entries;
-mod open_graphs;
-mod open_tails;
 mod outputs;
 mod pool_machine;
-mod runs;
 mod values;
-mod walks;
 mod workers;
