@@ -4,8 +4,7 @@ ghost use Rattle.std.specs.Prelude.{◌≡◌};
 ghost use Rattle.dns_data.specs.declared.fault.JoinFault.TheVariants as join_fault;
 ghost use Rattle.dns_data.specs.declared.fault.NameFault.TheVariants as name_fault;
 
-use crate::memory::NoMemory;
-use std::alloc::{AllocError, AllocFailed};
+use crate::memory::WantOfMemory;
 use thiserror::Error;
 
 /// Why octets are no label or a text is no name.
@@ -32,50 +31,18 @@ pub enum JoinFault {
     NoMemory,
 }
 
-impl From<AllocError> for NameFault {
+impl<E: WantOfMemory + Drop> From<E> for NameFault {
     ghost from_gives = { λ _ fault. fault ≡ name_fault.NoMemory };
 
-    fn from(_fault: AllocError) -> NameFault {
+    fn from(_fault: E) -> NameFault {
         NameFault::NoMemory
     }
 }
 
-impl<T: Drop> From<AllocFailed<T>> for NameFault {
-    ghost from_gives = { λ _ fault. fault ≡ name_fault.NoMemory };
-
-    fn from(_fault: AllocFailed<T>) -> NameFault {
-        NameFault::NoMemory
-    }
-}
-
-impl From<NoMemory> for NameFault {
-    ghost from_gives = { λ _ fault. fault ≡ name_fault.NoMemory };
-
-    fn from(_fault: NoMemory) -> NameFault {
-        NameFault::NoMemory
-    }
-}
-
-impl From<AllocError> for JoinFault {
+impl<E: WantOfMemory + Drop> From<E> for JoinFault {
     ghost from_gives = { λ _ fault. fault ≡ join_fault.NoMemory };
 
-    fn from(_fault: AllocError) -> JoinFault {
-        JoinFault::NoMemory
-    }
-}
-
-impl<T: Drop> From<AllocFailed<T>> for JoinFault {
-    ghost from_gives = { λ _ fault. fault ≡ join_fault.NoMemory };
-
-    fn from(_fault: AllocFailed<T>) -> JoinFault {
-        JoinFault::NoMemory
-    }
-}
-
-impl From<NoMemory> for JoinFault {
-    ghost from_gives = { λ _ fault. fault ≡ join_fault.NoMemory };
-
-    fn from(_fault: NoMemory) -> JoinFault {
+    fn from(_fault: E) -> JoinFault {
         JoinFault::NoMemory
     }
 }

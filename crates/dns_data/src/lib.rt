@@ -30,7 +30,7 @@ pub use labels::Labels;
 pub use laws::{identical_records, texts_tell_data};
 pub use list::List;
 pub use list_iter::ListIter;
-pub use memory::NoMemory;
+pub use memory::{NoMemory, WantOfMemory};
 pub use name::Name;
 pub use number::{read_number, with_digit};
 pub use octets::Octets;

@@ -3,8 +3,7 @@
 ghost use Rattle.std.specs.Prelude.{◌≡◌};
 ghost use Rattle.groot_line.specs.declared.fault.LineFault.TheVariants as line_fault;
 
-use dns_data::NoMemory;
-use std::alloc::{AllocError, AllocFailed};
+use dns_data::WantOfMemory;
 use thiserror::Error;
 
 /// Why words are no job.
@@ -18,26 +17,10 @@ pub enum LineFault {
     NoMemory,
 }
 
-impl From<NoMemory> for LineFault {
+impl<E: WantOfMemory + Drop> From<E> for LineFault {
     ghost from_gives = { λ _ fault. fault ≡ line_fault.NoMemory };
 
-    fn from(_fault: NoMemory) -> LineFault {
-        LineFault::NoMemory
-    }
-}
-
-impl From<AllocError> for LineFault {
-    ghost from_gives = { λ _ fault. fault ≡ line_fault.NoMemory };
-
-    fn from(_fault: AllocError) -> LineFault {
-        LineFault::NoMemory
-    }
-}
-
-impl<T: Drop> From<AllocFailed<T>> for LineFault {
-    ghost from_gives = { λ _ fault. fault ≡ line_fault.NoMemory };
-
-    fn from(_fault: AllocFailed<T>) -> LineFault {
+    fn from(_fault: E) -> LineFault {
         LineFault::NoMemory
     }
 }

@@ -3,8 +3,7 @@
 ghost use Rattle.std.specs.Prelude.{◌≡◌};
 ghost use Rattle.interp_graph.specs.declared.fault.GraphFault.TheVariants as graph_fault;
 
-use dns_data::NoMemory;
-use std::alloc::{AllocError, AllocFailed};
+use dns_data::WantOfMemory;
 use thiserror::Error;
 
 /// Why the graph of a query isn't given.
@@ -17,26 +16,10 @@ pub enum GraphFault {
     NoMemory,
 }
 
-impl From<AllocError> for GraphFault {
+impl<E: WantOfMemory + Drop> From<E> for GraphFault {
     ghost from_gives = { λ _ fault. fault ≡ graph_fault.NoMemory };
 
-    fn from(_fault: AllocError) -> GraphFault {
-        GraphFault::NoMemory
-    }
-}
-
-impl<T: Drop> From<AllocFailed<T>> for GraphFault {
-    ghost from_gives = { λ _ fault. fault ≡ graph_fault.NoMemory };
-
-    fn from(_fault: AllocFailed<T>) -> GraphFault {
-        GraphFault::NoMemory
-    }
-}
-
-impl From<NoMemory> for GraphFault {
-    ghost from_gives = { λ _ fault. fault ≡ graph_fault.NoMemory };
-
-    fn from(_fault: NoMemory) -> GraphFault {
+    fn from(_fault: E) -> GraphFault {
         GraphFault::NoMemory
     }
 }

@@ -3,8 +3,7 @@
 ghost use Rattle.std.specs.Prelude.{◌≡◌};
 ghost use Rattle.meta_read.specs.declared.fault.MetaFault.TheVariants as meta_fault;
 
-use dns_data::{Name, NoMemory};
-use std::alloc::{AllocError, AllocFailed};
+use dns_data::{Name, WantOfMemory};
 use thiserror::Error;
 
 /// Why octets are no metadata. A row is its number, counted from 1, or 0 where the fault is in none.
@@ -34,26 +33,10 @@ pub enum MetaFault {
     NoMemory,
 }
 
-impl From<NoMemory> for MetaFault {
+impl<E: WantOfMemory + Drop> From<E> for MetaFault {
     ghost from_gives = { λ _ fault. fault ≡ meta_fault.NoMemory };
 
-    fn from(_fault: NoMemory) -> MetaFault {
-        MetaFault::NoMemory
-    }
-}
-
-impl From<AllocError> for MetaFault {
-    ghost from_gives = { λ _ fault. fault ≡ meta_fault.NoMemory };
-
-    fn from(_fault: AllocError) -> MetaFault {
-        MetaFault::NoMemory
-    }
-}
-
-impl<T: Drop> From<AllocFailed<T>> for MetaFault {
-    ghost from_gives = { λ _ fault. fault ≡ meta_fault.NoMemory };
-
-    fn from(_fault: AllocFailed<T>) -> MetaFault {
+    fn from(_fault: E) -> MetaFault {
         MetaFault::NoMemory
     }
 }

@@ -4,8 +4,7 @@ ghost use Rattle.std.specs.Prelude.{◌≡◌};
 ghost use Rattle.plain_resolver.specs.declared.fault.ResolveFault.TheVariants as resolve_fault;
 ghost use Rattle.plain_resolver.specs.declared.fault.LearntFault.TheVariants as learnt_fault;
 
-use dns_data::{Name, NoMemory};
-use std::alloc::{AllocError, AllocFailed};
+use dns_data::{Name, NoMemory, WantOfMemory};
 use thiserror::Error;
 
 /// Why the walks of a query are not given.
@@ -24,26 +23,10 @@ pub enum LearntFault {
     NoMemory,
 }
 
-impl From<AllocError> for ResolveFault {
+impl<E: WantOfMemory + Drop> From<E> for ResolveFault {
     ghost from_gives = { λ _ fault. fault ≡ resolve_fault.NoMemory };
 
-    fn from(_fault: AllocError) -> ResolveFault {
-        ResolveFault::NoMemory
-    }
-}
-
-impl<T: Drop> From<AllocFailed<T>> for ResolveFault {
-    ghost from_gives = { λ _ fault. fault ≡ resolve_fault.NoMemory };
-
-    fn from(_fault: AllocFailed<T>) -> ResolveFault {
-        ResolveFault::NoMemory
-    }
-}
-
-impl From<NoMemory> for ResolveFault {
-    ghost from_gives = { λ _ fault. fault ≡ resolve_fault.NoMemory };
-
-    fn from(_fault: NoMemory) -> ResolveFault {
+    fn from(_fault: E) -> ResolveFault {
         ResolveFault::NoMemory
     }
 }

@@ -3,8 +3,7 @@
 ghost use Rattle.std.specs.Prelude.{◌≡◌};
 ghost use Rattle.query_classes.specs.declared.fault.TreeFault.TheVariants as tree_fault;
 
-use dns_data::NoMemory;
-use std::alloc::{AllocError, AllocFailed};
+use dns_data::WantOfMemory;
 use thiserror::Error;
 
 /// Why there is no class tree.
@@ -16,26 +15,10 @@ pub enum TreeFault {
     NoMemory,
 }
 
-impl From<AllocError> for TreeFault {
+impl<E: WantOfMemory + Drop> From<E> for TreeFault {
     ghost from_gives = { λ _ fault. fault ≡ tree_fault.NoMemory };
 
-    fn from(_fault: AllocError) -> TreeFault {
-        TreeFault::NoMemory
-    }
-}
-
-impl<T: Drop> From<AllocFailed<T>> for TreeFault {
-    ghost from_gives = { λ _ fault. fault ≡ tree_fault.NoMemory };
-
-    fn from(_fault: AllocFailed<T>) -> TreeFault {
-        TreeFault::NoMemory
-    }
-}
-
-impl From<NoMemory> for TreeFault {
-    ghost from_gives = { λ _ fault. fault ≡ tree_fault.NoMemory };
-
-    fn from(_fault: NoMemory) -> TreeFault {
+    fn from(_fault: E) -> TreeFault {
         TreeFault::NoMemory
     }
 }

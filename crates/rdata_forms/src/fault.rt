@@ -3,8 +3,7 @@
 ghost use Rattle.std.specs.Prelude.{◌≡◌};
 ghost use Rattle.rdata_forms.specs.declared.fault.RdataFault.TheVariants as rdata_fault;
 
-use dns_data::{NameFault, NoMemory};
-use std::alloc::{AllocError, AllocFailed};
+use dns_data::{NameFault, WantOfMemory};
 use thiserror::Error;
 
 /// Why tokens are no data of a type.
@@ -28,26 +27,10 @@ pub enum RdataFault {
     NoMemory,
 }
 
-impl From<AllocError> for RdataFault {
+impl<E: WantOfMemory + Drop> From<E> for RdataFault {
     ghost from_gives = { λ _ fault. fault ≡ rdata_fault.NoMemory };
 
-    fn from(_fault: AllocError) -> RdataFault {
-        RdataFault::NoMemory
-    }
-}
-
-impl<T: Drop> From<AllocFailed<T>> for RdataFault {
-    ghost from_gives = { λ _ fault. fault ≡ rdata_fault.NoMemory };
-
-    fn from(_fault: AllocFailed<T>) -> RdataFault {
-        RdataFault::NoMemory
-    }
-}
-
-impl From<NoMemory> for RdataFault {
-    ghost from_gives = { λ _ fault. fault ≡ rdata_fault.NoMemory };
-
-    fn from(_fault: NoMemory) -> RdataFault {
+    fn from(_fault: E) -> RdataFault {
         RdataFault::NoMemory
     }
 }

@@ -3,8 +3,7 @@
 ghost use Rattle.std.specs.Prelude.{◌≡◌};
 ghost use Rattle.zone_rules.specs.declared.fault.RuleFault.TheVariants as rule_fault;
 
-use dns_data::NoMemory;
-use std::alloc::{AllocError, AllocFailed};
+use dns_data::WantOfMemory;
 use thiserror::Error;
 
 /// Which rule of a zone is broken.
@@ -55,26 +54,10 @@ pub enum RuleFault {
     NoMemory,
 }
 
-impl From<NoMemory> for RuleFault {
+impl<E: WantOfMemory + Drop> From<E> for RuleFault {
     ghost from_gives = { λ _ fault. fault ≡ rule_fault.NoMemory };
 
-    fn from(_fault: NoMemory) -> RuleFault {
-        RuleFault::NoMemory
-    }
-}
-
-impl From<AllocError> for RuleFault {
-    ghost from_gives = { λ _ fault. fault ≡ rule_fault.NoMemory };
-
-    fn from(_fault: AllocError) -> RuleFault {
-        RuleFault::NoMemory
-    }
-}
-
-impl<T: Drop> From<AllocFailed<T>> for RuleFault {
-    ghost from_gives = { λ _ fault. fault ≡ rule_fault.NoMemory };
-
-    fn from(_fault: AllocFailed<T>) -> RuleFault {
+    fn from(_fault: E) -> RuleFault {
         RuleFault::NoMemory
     }
 }
