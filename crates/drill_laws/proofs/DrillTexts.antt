@@ -12,42 +12,42 @@ row_line row = line_text (row_words row)
 
 -- ---- each line, whatever its numbers
 
-delegation_by : (d : List ℕ) → codes "z" ++ d ++ codes ". NS ns.z" ++ d ++ codes ".\n" ≡ row_line (delegation_row d)
-delegation_by d = simp append_assoc
+-- a line of two numbers, that of three, and that of four
+glue_two : (z d p m e q f : List ℕ) → z ++ d ++ (p ++ m) ++ e ++ (q ++ f) ≡ (z ++ (d ++ p)) ++ (m ++ ((e ++ q) ++ f))
+glue_two z d p m e q f = simp append_assoc
 
-soa_by : (d : List ℕ) → codes "z" ++ d ++ codes ". SOA ns.z" ++ d ++ (codes ". h.z" ++ d ++ codes ". 1 2 3 4 5\n") ≡ row_line (soa_row d)
-soa_by d = simp append_assoc
+glue_three : (z d p m n f : List ℕ) → z ++ d ++ (p ++ m) ++ d ++ ((p ++ n) ++ d ++ (p ++ f)) ≡ (z ++ (d ++ p)) ++ (m ++ ((d ++ p) ++ (n ++ ((d ++ p) ++ f))))
+glue_three z d p m n f = simp append_assoc
 
-address_by : (host d a b c : List ℕ) → (host ++ codes ".z" ++ d) ++ (codes ". A 10." ++ a ++ codes "." ++ b ++ codes "." ++ c ++ codes "\n")
-    ≡ line_text ((host ++ (46 ∷ 122 ∷ (d ++ 46 ∷ []))) ∷ codes "A" ∷ (codes "10." ++ a ++ codes "." ++ b ++ codes "." ++ c) ∷ [])
-address_by host d a b c = simp append_assoc
-
-alias_by : (host d target e : List ℕ) → host ++ codes ".z" ++ d ++ (codes ". CNAME " ++ target ++ codes ".z") ++ e ++ codes ".\n" ≡ row_line (alias_row host d target e)
-alias_by host d target e = simp append_assoc
+glue_four : (h d p m t a q b r c f : List ℕ) → h ++ d ++ ((p ++ (m ++ t)) ++ a ++ q ++ b ++ r ++ c ++ f) ≡ (h ++ (d ++ p)) ++ (m ++ ((t ++ a ++ q ++ b ++ r ++ c) ++ f))
+glue_four h d p m t a q b r c f = simp append_assoc
 
 delegation_same : (i : ℕ) → delegation_line i ≡ row_line (delegation_row (decimal i))
-delegation_same i = delegation_by (decimal i)
+delegation_same i = glue_two (codes "z") (decimal i) (codes ".") (codes " NS ns.z") (decimal i) (codes ".") (codes "\n")
 
 soa_same : (i : ℕ) → soa_line i ≡ row_line (soa_row (decimal i))
-soa_same i = soa_by (decimal i)
+soa_same i = glue_three (codes "z") (decimal i) (codes ".") (codes " SOA ns.z") (codes " h.z") (codes " 1 2 3 4 5\n")
 
 server_same : (network i : ℕ) → server_line network i ≡ row_line (address_row (codes "ns") network i)
-server_same network i = address_by (codes "ns") (decimal i) (decimal network) (decimal (i / 256)) (decimal (i % 256))
+server_same network i =
+    glue_four (codes "ns.z") (decimal i) (codes ".") (codes " A ") (codes "10.") (decimal network) (codes ".") (decimal (i / 256)) (codes ".") (decimal (i % 256)) (codes "\n")
 
 web_same : (i : ℕ) → web_line i ≡ row_line (address_row (codes "www") 1 i)
-web_same i = address_by (codes "www") (decimal i) (decimal 1) (decimal (i / 256)) (decimal (i % 256))
+web_same i =
+    glue_four (codes "www.z") (decimal i) (codes ".") (codes " A ") (codes "10.") (decimal 1) (codes ".") (decimal (i / 256)) (codes ".") (decimal (i % 256)) (codes "\n")
 
 alias_same : (i to : ℕ) → alias_line i to ≡ row_line (alias_row (codes "alias") (decimal i) (codes "www") (decimal to))
-alias_same i to = alias_by (codes "alias") (decimal i) (codes "www") (decimal to)
+alias_same i to = glue_two (codes "alias.z") (decimal i) (codes ".") (codes " CNAME www.z") (decimal to) (codes ".") (codes "\n")
+
+abbrev gone : ℕ → Row
+gone i = alias_row (codes "gone") (decimal i) (codes "none") (decimal i)
 
 gone_same : (i : ℕ) → gone_line i ≡ flat_map line_text (map row_words (gone_rows i))
 gone_same i = by (i % 10 == 3) where
-  gone : Row
-  gone = alias_row (codes "gone") (decimal i) (codes "none") (decimal i)
-
-  by : (b : Bool) → (if b then codes "gone.z" ++ decimal i ++ codes ". CNAME none.z" ++ decimal i ++ codes ".\n" else []) ≡ flat_map line_text (map row_words (if b then gone ∷ [] else []))
-  unfolding gone
-  by true = alias_by (codes "gone") (decimal i) (codes "none") (decimal i) ∙ sym (append-nil (row_line gone))
+  by : (b : Bool) → (if b then codes "gone.z" ++ decimal i ++ codes ". CNAME none.z" ++ decimal i ++ codes ".\n" else []) ≡ flat_map line_text (map row_words (if b then gone i ∷ [] else []))
+  by true =
+      glue_two (codes "gone.z") (decimal i) (codes ".") (codes " CNAME none.z") (decimal i) (codes ".") (codes "\n")
+      ∙ sym (append-nil (row_line (gone i)))
   by false = refl
 
 -- ---- the root zone

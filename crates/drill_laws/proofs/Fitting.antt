@@ -13,7 +13,6 @@ use Rattle.net_model.specs.declared.config.Zone.{Zone}
 use Rattle.zone_rules.specs.Apex.{apex_of, apex_of_soas, is_type, is_wildcard}
 use Rattle.zone_rules.specs.Rules.{had, had_at, had_other_at, is_soa_elsewhere, is_second_soa, is_star_record, is_second_cname, is_beside_cname, is_second_dname, rule_at, first_fault_behind}
 use Rattle.zone_rules.specs.ZoneOf.{within, unless_faulty, checked, zone_under, zone_of}
-use Rattle.zone_rules.specs.declared.apex.Apex.{Apex}
 use Rattle.zone_rules.specs.declared.fault.RuleCause.{RuleCause}
 use Rattle.zone_rules.specs.declared.fault.RuleCause.TheVariants.{NoSoa, StarOrigin, TwoSoas, SoaElsewhere, CnameAndOther, TwoCnames, TwoDnames, StarRecord}
 use Rattle.zone_rules.specs.declared.fault.RuleFault.{RuleFault}

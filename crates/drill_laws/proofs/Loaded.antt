@@ -24,10 +24,6 @@ use Rattle.config_load.specs.Reading.{Reading, Reads, Refuses, Unknown, ◌>>=�
 use Rattle.config_load.specs.Servers.{given}
 use Rattle.config_load.specs.declared.fault.LoadFault.{LoadFault}
 use Rattle.config_load.specs.declared.fault.LoadFault.TheVariants.{TooLong}
-use Rattle.config_load.specs.declared.left.Left.{Left}
-use Rattle.config_load.specs.declared.rows.Rows.{Rows}
-use Rattle.config_load.specs.declared.zone.ReadZone.{ReadZone}
-use Rattle.config_load.specs.declared.zone_files.ZoneFiles.{ZoneFiles}
 use Rattle.zone_maker.specs.Drill.{zone_numbers, meta_text, root_text, made_zone_text, zone_file}
 use Rattle.zone_maker.specs.Source.{drill_told}
 use Rattle.drill_laws.proofs.Rows.{rows_rrs, text_of_rows}
@@ -46,6 +42,22 @@ use Rattle.drill_laws.proofs.Servers.{IsNewServer, with_server, given_new}
 abbrev meta : List ℕ
 meta = codes "meta.json"
 
+-- Something holds of each value of the type of a sample, or of one. So a statement speaks of values whose types have no
+-- name here.
+abbrev Each : {A : Type 0} → A → (A → Type 0) → Type 0
+Each {A} sample holds = (value : A) → holds value
+
+abbrev Has : {A : Type 0} → A → (A → Type 0) → Type 0
+Has {A} sample holds = (value : A) × holds value
+
+-- ---- steps that give a value
+
+goes_on : {A B : Type 0} (said : Reading A) (value : A) (next : A → Reading B) → said ≡ Reads value → (said >>= next) ≡ next value
+goes_on {A} said value next is = ap (λ (given : Reading A). given >>= next) is
+
+not_refused : {T E B : Type 0} (refusal : E → LoadFault) (said : Result T E) (value : T) (next : T → Reading B) → said ≡ Ok value → (unless_refused refusal said >>= next) ≡ next value
+not_refused {T} {E} refusal said value next is = ap (λ (given : Result T E). unless_refused refusal given >>= next) is
+
 -- ---- a file, and the zone of a row
 
 file_read : (told : FilesTold) (name text : List ℕ) → told name ≡ Holds text → length text ≤ 16777216 → file_octets name told ≡ Reads text
@@ -55,45 +67,47 @@ file_read told name text holds fits =
     ∙ ap (λ (b : Bool). if b then Reads text else Refuses (TooLong name)) short
 
 -- a file that includes none
-one_file : (told : FilesTold) (left : Left) (times : ℕ) (names texts : List (List ℕ)) (text : ZoneText) → zone_text [] left.records left.includes texts ≡ Ok text
-    → files_behind meta [] left times names texts told ≡ Reads (record { names = names; text = text })
+one_file : (told : FilesTold) (times : ℕ) (names texts : List (List ℕ)) (text : ZoneText) → Each everything_left (λ left. zone_text [] left.records left.includes texts ≡ Ok text
+    → files_behind meta [] left times names texts told ≡ Reads (record { names = names; text = text }))
 unfolding files_behind
-one_file told left zero names texts text gives = ap (settled names (λ file. Unknown (joined meta file))) gives
-one_file told left (suc times) names texts text gives =
+one_file told zero names texts text left gives = ap (settled names (λ file. Unknown (joined meta file))) gives
+one_file told (suc times) names texts text left gives =
     ap (settled names (λ file. file_octets (joined meta file) told >>= λ octets. files_behind meta [] left times (names ++ joined meta file ∷ []) (texts ++ octets ∷ []) told)) gives
 
--- What is known of a row's file: its octets, what they give, and the zone of that.
-record IsRead (told : FilesTold) (left : Left) (file : List ℕ) (records : ZoneText) (zone : Zone) : Type 0 where
+-- What is known of a row's file: its octets, what they give where so much may be read, and the zone of that.
+record IsRead (told : FilesTold) (room includes : ℕ) (file : List ℕ) (records : ZoneText) (zone : Zone) : Type 0 where
   octets : List ℕ
   named : joined meta file ≡ file
   holds : told file ≡ Holds octets
   short : length octets ≤ 16777216
-  gives : zone_text [] left.records left.includes (octets ∷ []) ≡ Ok records
+  gives : zone_text [] room includes (octets ∷ []) ≡ Ok records
   keeps : zone_of None records.rrs ≡ Ok zone
 
-module _ (told : FilesTold) (left : Left) (file : List ℕ) (records : ZoneText) (zone : Zone) (is : IsRead told left file records zone) (server : Labels) where
+module _ (told : FilesTold) (file : List ℕ) (records : ZoneText) (zone : Zone) (server : Labels) where
   abbrev row : MetaRow
   row = record { file = file; server = server; origin = None }
 
-  files_read : zone_files meta row left told ≡ Reads (record { names = file ∷ []; text = records })
+  files_read : Each everything_left (λ left. IsRead told left.records left.includes file records zone
+      → zone_files meta row left told ≡ Reads (record { names = file ∷ []; text = records }))
   unfolding zone_files
-  files_read =
+  files_read left is =
       ap (λ (name : List ℕ). file_octets name told >>= (λ text. files_behind meta [] left left.includes (name ∷ []) (text ∷ []) told)) is.named
-      ∙ ap (λ (said : Reading (List ℕ)). said >>= (λ text. files_behind meta [] left left.includes (file ∷ []) (text ∷ []) told)) (file_read told file is.octets is.holds is.short)
-      ∙ one_file told left left.includes (file ∷ []) (is.octets ∷ []) records is.gives
+      ∙ goes_on (file_octets file told) is.octets (λ text. files_behind meta [] left left.includes (file ∷ []) (text ∷ []) told) (file_read told file is.octets is.holds is.short)
+      ∙ one_file told left.includes (file ∷ []) (is.octets ∷ []) records left is.gives
 
-  zone_is_read : zone_read meta row left told ≡ Reads (record { zone = zone; left = left_behind left records })
+  zone_is_read : Each everything_left (λ left. IsRead told left.records left.includes file records zone
+      → zone_read meta row left told ≡ Reads (record { zone = zone; left = left_behind left records }))
   unfolding zone_read
-  zone_is_read =
-      ap (λ (said : Reading ZoneFiles). said >>= (λ files. unless_refused (of_rule files.names) (zone_of None files.text.rrs) >>= (λ zone. Reads (record { zone = zone; left = left_behind left files.text })))) files_read
-      ∙ ap (λ (said : Result Zone RuleFault). unless_refused (of_rule (file ∷ [])) said >>= (λ zone. Reads (record { zone = zone; left = left_behind left records }))) is.keeps
+  zone_is_read left is =
+      goes_on (zone_files meta row left told) (record { names = file ∷ []; text = records }) (λ files. unless_refused (of_rule files.names) (zone_of None files.text.rrs) >>= (λ found. Reads (record { zone = found; left = left_behind left files.text }))) (files_read left is)
+      ∙ not_refused (of_rule (file ∷ [])) (zone_of None records.rrs) zone (λ found. Reads (record { zone = found; left = left_behind left records })) is.keeps
 
-  row_read : (number : ℕ) (servers : List Server) → IsNewServer server servers
-      → with_row meta number row (record { left = left; servers = servers }) told ≡ Reads (record { left = left_behind left records; servers = with_server server zone servers })
+  row_read : (number : ℕ) (servers : List Server) → IsNewServer server servers → Each everything_left (λ left. IsRead told left.records left.includes file records zone
+      → with_row meta number row (record { left = left; servers = servers }) told ≡ Reads (record { left = left_behind left records; servers = with_server server zone servers }))
   unfolding with_row
-  row_read number servers new =
-      ap (λ (said : Reading ReadZone). said >>= (λ read. unless_refused (λ fault. fault) (given number server read.zone servers) >>= (λ servers. Reads (record { left = read.left; servers = servers })))) zone_is_read
-      ∙ ap (λ (said : Result (List Server) LoadFault). unless_refused (λ fault. fault) said >>= (λ servers. Reads (record { left = left_behind left records; servers = servers }))) (given_new number server zone servers new)
+  row_read number servers new left is =
+      goes_on (zone_read meta row left told) (record { zone = zone; left = left_behind left records }) (λ read. unless_refused (λ fault. fault) (given number server read.zone servers) >>= (λ all. Reads (record { left = read.left; servers = all }))) (zone_is_read left is)
+      ∙ not_refused (λ fault. fault) (given number server zone servers) (with_server server zone servers) (λ all. Reads (record { left = left_behind left records; servers = all })) (given_new number server zone servers new)
 
 -- ---- the rows of the zones
 
@@ -109,21 +123,21 @@ module _ (n : ℕ) (few : n ≤ 5000) where
   abbrev zone_of_records : ℕ → Zone
   zone_of_records i = record { origin = zone_name (decimal i); rrs = rows_rrs 2 (zone_rows n i) }
 
-  zone_is : (i : ℕ) (left : Left) → i < n → 6 ≤ left.records → IsRead (drill_told n) left (zone_file i) (zone_records i) (zone_of_records i)
-  zone_is i left within fits = record {
+  zone_is : (i room includes : ℕ) → i < n → 6 ≤ room → IsRead (drill_told n) room includes (zone_file i) (zone_records i) (zone_of_records i)
+  zone_is i room includes within fits = record {
     octets = made_zone_text n i;
     named = refl;
     holds = zone_told n i within few;
     short = zone_size n i (omega arith);
-    gives = text_of_rows left.records left.includes (made_zone_text n i) (zone_rows n i) (zone_same n i) (zone_rows_are n i within few) (omega (arith, zone_rows_few n i));
+    gives = text_of_rows room includes (made_zone_text n i) (zone_rows n i) (zone_same n i) (zone_rows_are n i within few) (omega (arith, zone_rows_few n i));
     keeps = made_zone n i;
   }
 
-  rows_read : (a k number : ℕ) (left : Left) (servers : List Server) → a + k ≡ n → 6 * k ≤ left.records → AllByRecursion (IsEarlier a) servers
-      → (rows : Rows) × (with_rows meta number (map zone_row (range_with_len a k)) (record { left = left; servers = servers }) (drill_told n) ≡ Reads rows)
+  rows_read : (a k number : ℕ) (servers : List Server) → a + k ≡ n → AllByRecursion (IsEarlier a) servers → Each everything_left (λ left. 6 * k ≤ left.records
+      → Has no_rows (λ rows. with_rows meta number (map zone_row (range_with_len a k)) (record { left = left; servers = servers }) (drill_told n) ≡ Reads rows))
   unfolding with_rows
-  rows_read a zero number left servers all fits earlier = (record { left = left; servers = servers }, refl)
-  rows_read a (suc k) number left servers all fits earlier =
+  rows_read a zero number servers all earlier left fits = (record { left = left; servers = servers }, refl)
+  rows_read a (suc k) number servers all earlier left fits =
       let within : a < n = omega arith in
       let name : Labels = host_name (codes "ns") (decimal a) in
       let server : Server = record { name = name; zones = zone_of_records a ∷ [] } in
@@ -132,11 +146,12 @@ module _ (n : ℕ) (few : n ≤ 5000) where
       let before : AllByRecursion (IsEarlier (a + 1)) servers =
         all_weaker (IsEarlier a) (IsEarlier (a + 1)) servers (λ other is j above below. is j (omega arith) below) earlier in
       let here : IsEarlier (a + 1) server = λ j above below. ap (λ (b : Bool). b && true) (labels_apart j a (λ e. omega arith) below (omega arith)) in
-      let left_now : Left = left_behind left (zone_records a) in
-      let more = rows_read (a + 1) k (number + 1) left_now (servers ++ server ∷ []) (omega arith) (omega (arith, zone_rows_few n a)) (all_push (IsEarlier (a + 1)) servers server before here) in (
+      let room : 6 * k ≤ left.records - length (zone_rows n a) = omega (arith, fits, zone_rows_few n a) in
+      let some : 6 ≤ left.records = omega (arith, fits) in
+      let more = rows_read (a + 1) k (number + 1) (servers ++ server ∷ []) (omega arith) (all_push (IsEarlier (a + 1)) servers server before here) (left_behind left (zone_records a)) room in (
         more.0,
-        ap (λ (said : Reading Rows). said >>= (λ rows. with_rows meta (number + 1) (map zone_row (range_with_len (a + 1) k)) rows (drill_told n)))
-        (row_read (drill_told n) left (zone_file a) (zone_records a) (zone_of_records a) (zone_is a left within (omega arith)) name number servers new)
+        goes_on (with_row meta number (zone_row a) (record { left = left; servers = servers }) (drill_told n)) (record { left = left_behind left (zone_records a); servers = servers ++ server ∷ [] }) (λ rows. with_rows meta (number + 1) (map zone_row (range_with_len (a + 1) k)) rows (drill_told n))
+        (row_read (drill_told n) (zone_file a) (zone_records a) (zone_of_records a) name number servers new left (zone_is a left.records left.includes within some))
         ∙ more.1,
       )
 
@@ -145,7 +160,7 @@ module _ (n : ℕ) (few : n ≤ 5000) where
   metadata_read : metadata meta (drill_told n) ≡ Reads (drill_meta n)
   unfolding metadata
   metadata_read =
-      ap (λ (said : Reading (List ℕ)). said >>= (λ octets. unless_refused of_metadata (metadata_of octets))) (file_read (drill_told n) meta (meta_text n) (meta_told n) (meta_size n few))
+      goes_on (file_octets meta (drill_told n)) (meta_text n) (λ octets. unless_refused of_metadata (metadata_of octets)) (file_read (drill_told n) meta (meta_text n) (meta_told n) (meta_size n few))
       ∙ ap (λ (said : Result Metadata MetaFault). unless_refused of_metadata said) (meta_given n few)
 
   abbrev root_records : ZoneText
@@ -154,7 +169,7 @@ module _ (n : ℕ) (few : n ≤ 5000) where
   abbrev root_of_records : Zone
   root_of_records = record { origin = []; rrs = rows_rrs 2 (root_rows n) }
 
-  root_is : IsRead (drill_told n) everything_left (codes "root.zone") root_records root_of_records
+  root_is : IsRead (drill_told n) 1000000 1000 (codes "root.zone") root_records root_of_records
   root_is = record {
     octets = root_text n;
     named = refl;
@@ -167,20 +182,25 @@ module _ (n : ℕ) (few : n ≤ 5000) where
   abbrev root_server : Server
   root_server = record { name = top; zones = root_of_records ∷ [] }
 
-  abbrev left_then : Left
-  left_then = left_behind everything_left root_records
+  all_rows : Has no_rows (λ rows. with_rows meta 1 (root_row ∷ map zone_row (zone_numbers n)) no_rows (drill_told n) ≡ Reads rows)
+  unfolding with_rows
+  all_rows =
+      let room : 6 * n ≤ 1000000 - length (root_rows n) = omega (arith, root_rows_count n) in
+      let rest = rows_read 0 n 2 (root_server ∷ []) (omega arith) (λ j above below. refl, tt) (left_behind everything_left root_records) room in (
+        rest.0,
+        goes_on (with_row meta 1 root_row no_rows (drill_told n)) (record { left = left_behind everything_left root_records; servers = root_server ∷ [] }) (λ rows. with_rows meta 2 (map zone_row (zone_numbers n)) rows (drill_told n))
+        (row_read (drill_told n) (codes "root.zone") root_records root_of_records top 1 [] tt everything_left root_is)
+        ∙ rest.1,
+      )
 
   -- the configuration
   configuration : (config : Config) × (conf meta (drill_told n) ≡ Reads config)
-  unfolding conf with_rows
-  configuration =
-      let rest = rows_read 0 n 2 left_then (root_server ∷ []) (omega arith) (omega (arith, root_rows_count n)) (λ j above below. refl, tt) in (
-        record { tops = top ∷ []; servers = rest.0.servers },
-        ap (λ (said : Reading Metadata). said >>= (λ found. with_rows meta 1 found.rows no_rows (drill_told n) >>= (λ rows. Reads (record { tops = found.tops; servers = rows.servers })))) metadata_read
-        ∙ ap (λ (said : Reading Rows). (said >>= (λ rows. with_rows meta 2 (map zone_row (zone_numbers n)) rows (drill_told n))) >>= (λ rows. Reads (record { tops = top ∷ []; servers = rows.servers })))
-        (row_read (drill_told n) everything_left (codes "root.zone") root_records root_of_records root_is top 1 [] tt)
-        ∙ ap (λ (said : Reading Rows). said >>= (λ rows. Reads (record { tops = top ∷ []; servers = rows.servers }))) rest.1,
-      )
+  unfolding conf
+  configuration = (
+    record { tops = top ∷ []; servers = all_rows.0.servers },
+    goes_on (metadata meta (drill_told n)) (drill_meta n) (λ found. with_rows meta 1 found.rows no_rows (drill_told n) >>= (λ rows. Reads (record { tops = found.tops; servers = rows.servers }))) metadata_read
+    ∙ goes_on (with_rows meta 1 (root_row ∷ map zone_row (zone_numbers n)) no_rows (drill_told n)) all_rows.0 (λ rows. Reads (record { tops = top ∷ []; servers = rows.servers })) all_rows.1,
+  )
 
 -- the files of a drill give a configuration
 pub drill_reads : (zones : ℕ) → 1 ≤ zones → zones ≤ 5000 → (config : Config) × (conf (codes "meta.json") (drill_told zones) ≡ Reads config)

@@ -68,21 +68,15 @@ escaped_server : (i : ℕ) → i < 10000 → escape (server_text i) ≡ server_t
 unfolding escape_byte
 escaped_server i small = ap (λ (rest : List ℕ). codes "ns.z" ++ rest) (escaped_digits (decimal i) (codes ".") (number_of i small).digits)
 
-regroup : (d : List ℕ) → codes ",{\"FileName\":\"" ++ ((codes "z" ++ d ++ codes ".zone") ++ (codes "\",\"NameServer\":\"" ++ ((codes "ns.z" ++ d ++ codes ".") ++ codes "\"}")))
-    ≡ codes ",{\"FileName\":\"z" ++ d ++ codes ".zone\",\"NameServer\":\"ns.z" ++ d ++ codes ".\"}"
-regroup d = simp append_assoc
-
-framed : (a b : List ℕ) → 44 ∷ 123 ∷ (quoted (codes "FileName") ++ 58 ∷ ((34 ∷ (a ++ 34 ∷ [])) ++ (44 ∷ (quoted (codes "NameServer") ++ 58 ∷ ((34 ∷ (b ++ 34 ∷ [])) ++ 125 ∷ [])))))
-    ≡ codes ",{\"FileName\":\"" ++ (a ++ (codes "\",\"NameServer\":\"" ++ (b ++ codes "\"}")))
-unfolding escape_byte
-framed a b = simp append_assoc
+glue : (f d x q m y e : List ℕ) → f ++ d ++ (x ++ (q ++ m)) ++ d ++ (y ++ (q ++ e)) ≡ f ++ (((d ++ x) ++ q) ++ (m ++ (((d ++ y) ++ q) ++ e)))
+glue f d x q m y e = simp append_assoc
 
 -- a row as it is written
 row_text : (i : ℕ) → i < 10000 → 44 ∷ compact_text (row_value i) ≡ meta_row i
+unfolding escape_byte
 row_text i small =
     ap₂ (λ (a b : List ℕ). 44 ∷ 123 ∷ (quoted (codes "FileName") ++ 58 ∷ ((34 ∷ (a ++ 34 ∷ [])) ++ (44 ∷ (quoted (codes "NameServer") ++ 58 ∷ ((34 ∷ (b ++ 34 ∷ [])) ++ 125 ∷ [])))))) (escaped_file i small) (escaped_server i small)
-    ∙ framed (zone_file i) (server_text i)
-    ∙ regroup (decimal i)
+    ∙ sym (glue (codes ",{\"FileName\":\"z") (decimal i) (codes ".zone") (codes "\"") (codes ",\"NameServer\":\"ns.z") (codes ".") (codes "}"))
 
 -- rows, and what stands behind them
 rows_text : (a k : ℕ) (rest : List ℕ) → a + k ≤ 10000 → items_text true (row_items (range_with_len a k)) ++ rest ≡ flat_map meta_row (range_with_len a k) ++ 93 ∷ rest
