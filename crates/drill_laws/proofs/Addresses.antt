@@ -1,5 +1,5 @@
 -- The addresses of drills.
-use Rattle.std.proofs.Common.{◌≡◌, ℕ, ◌+◌, ◌<◌, ◌≤◌, true, ◌&&◌, nat_lt, List, [], ◌∷◌, ◌++◌, length, codes, decimal, Option, Some, Result, Ok, refl, sym, ap, ◌∙◌, arith, append_assoc, append-nil, lt-ltb}
+use Rattle.std.proofs.Common.{◌≡◌, ℕ, ◌<◌, true, ◌&&◌, List, [], ◌∷◌, ◌++◌, codes, decimal, Option, Ok, refl, sym, ap, ◌∙◌, arith, append_assoc, append-nil, lt-ltb}
 use Rattle.std.specs.Fmt.{digits}
 use Rattle.std.specs.List.{list_all}
 use Rattle.std.specs.Option.{ok_or}
@@ -9,7 +9,6 @@ use Rattle.dns_data.specs.declared.rdata.Rdata.TheVariants.{A}
 use Rattle.dns_data.specs.declared.rr_type.RrType.TheVariants as types
 use Rattle.master_lex.specs.Octets.{kind}
 use Rattle.rdata_forms.specs.AddressTexts.{IsIpv4Text, is_octet}
-use Rattle.rdata_forms.specs.Addresses.{ipv4_of}
 use Rattle.rdata_forms.specs.Forms.{rdata_of}
 use Rattle.rdata_forms.specs.declared.fault.RdataFault.TheVariants.{BadAddress}
 use Rattle.rdata_forms.proofs.DottedTexts.{ipv4-complete}
@@ -35,10 +34,10 @@ pub address_reads : (network high low : ℕ) → network < 256 → high < 256 �
     → rdata_of types.A (bare (address_text network high low) ∷ []) [] ≡ Ok (A (address_of network high low))
 address_reads network high low p q r =
     let text : address_text network high low ≡ data_text (A (address_of network high low)) =
-      regroup (decimal network) (decimal high) (decimal low)
-      ∙ ap (λ (front : List ℕ). front ++ ((46 ∷ decimal network) ++ ((46 ∷ decimal high) ++ ((46 ∷ decimal low) ++ [])))) (sym ten) in
+    regroup (decimal network) (decimal high) (decimal low)
+    ∙ ap (λ (front : List ℕ). front ++ ((46 ∷ decimal network) ++ ((46 ∷ decimal high) ++ ((46 ∷ decimal low) ++ [])))) (sym ten) in
     let octets : list_all is_octet (address_of network high low) ≡ true =
-      λ i. lt-ltb network 256 p i && (lt-ltb high 256 q i && (lt-ltb low 256 r i && true)) in
+    λ i. lt-ltb network 256 p i && (lt-ltb high 256 q i && (lt-ltb low 256 r i && true)) in
     let is : IsIpv4Text (address_text network high low) (address_of network high low) = record { four = refl; octets = octets; written = text } in
     ap (λ (said : Option (List ℕ)). ok_or said BadAddress >>= (λ address. Ok (A address))) (ipv4-complete (address_text network high low) (address_of network high low) is)
 

@@ -1,18 +1,16 @@
 -- The records of drills as rows, and that each row reads.
-use Rattle.std.proofs.Common.{◌≡◌, ℕ, zero, suc, ◌+◌, ◌*◌, ◌/◌, ◌%◌, ◌<◌, ◌≤◌, Bool, true, false, List, [], ◌∷◌, ◌++◌, map, length, codes, decimal, flat_map, Result, Ok, if◌then◌else◌, ◌==◌, nat_lt, refl, sym, ap, ap₂, ◌∙◌, arith, length-append}
+use Rattle.std.proofs.Common.{◌≡◌, ℕ, zero, suc, ◌+◌, ◌*◌, ◌/◌, ◌%◌, ◌<◌, ◌≤◌, Bool, true, false, List, [], ◌∷◌, length, codes, decimal, flat_map, Result, Ok, if◌then◌else◌, ◌==◌, nat_lt, refl, ap, ap₂, arith}
 use Rattle.std.specs.List.{AllByRecursion, range_with_len}
 use Rattle.dns_data.specs.Answers.{◌>>=◌, with_fault}
 use Rattle.dns_data.specs.Name.{Labels}
 use Rattle.dns_data.specs.declared.fault.NameFault.{NameFault}
 use Rattle.dns_data.specs.declared.rdata.Rdata.TheVariants.{A, Ns, Cname, Soa}
 use Rattle.dns_data.specs.declared.rr_type.RrType.TheVariants as types
-use Rattle.dns_data.proofs.Names.{all_append}
 use Rattle.master_lex.specs.Octets.{kind}
-use Rattle.rdata_forms.specs.Forms.{rdata_of}
 use Rattle.rdata_forms.specs.declared.fault.RdataFault.TheVariants.{BadName}
 use Rattle.master_read.specs.Words.{class_word, type_word, is_among}
 use Rattle.zone_maker.specs.Drill.{zone_numbers, next_zone, own_network}
-use Rattle.drill_laws.proofs.Lines.{IsWord, bare}
+use Rattle.drill_laws.proofs.Lines.{IsWord}
 use Rattle.drill_laws.proofs.Rows.{Row, IsRow, IsTypeText}
 use Rattle.drill_laws.proofs.Parts.{IsNumber, number_of, word_of}
 use Rattle.drill_laws.proofs.Names.{zone_name, host_name, zone_name_text, host_name_text, zone_named, host_named, zone_name_word, host_name_word, ns_host, www_host, alias_host, gone_host, none_host, mailbox_host}
@@ -296,13 +294,22 @@ gone_few i = by (i % 10 == 3) where
 pub zone_rows_are : (n i : ℕ) → i < n → n ≤ 5000 → AllByRecursion IsRow (zone_rows n i)
 zone_rows_are n i within few =
     let small : i < 10000 = omega arith in
-    let is = number_of i small in
-    (soa_is (decimal i) is,
-    (delegation_is (decimal i) is,
-    (server_is (own_network i) i (own_network_fits i) small,
-    (web_is 1 i (omega arith) small,
-    (alias_is (decimal i) (decimal (next_zone n i)) is (number_of (next_zone n i) (next_fits n i within few)),
-    gone_are i small)))))
+    let is = number_of i small in (
+      soa_is (decimal i) is,
+      (
+        delegation_is (decimal i) is,
+        (
+          server_is (own_network i) i (own_network_fits i) small,
+          (
+            web_is 1 i (omega arith) small,
+            (
+              alias_is (decimal i) (decimal (next_zone n i)) is (number_of (next_zone n i) (next_fits n i within few)),
+              gone_are i small,
+            ),
+          ),
+        ),
+      ),
+    )
 
 pub zone_rows_few : (n i : ℕ) → length (zone_rows n i) ≤ 6
 zone_rows_few n i = let few = gone_few i in omega arith

@@ -1,7 +1,7 @@
 -- The texts of a drill's zones are the lines of their rows.
 use Rattle.std.proofs.Common.{◌≡◌, ℕ, zero, suc, ◌+◌, ◌/◌, ◌%◌, Bool, true, false, List, [], ◌∷◌, ◌++◌, map, codes, decimal, flat_map, if◌then◌else◌, ◌==◌, refl, sym, ap, ◌∙◌, append_assoc, append-nil}
 use Rattle.std.specs.List.{range_with_len}
-use Rattle.zone_maker.specs.Drill.{zone_numbers, next_zone, own_network, delegation_line, server_line, referral_lines, root_text, soa_line, web_line, alias_line, gone_line, made_zone_text}
+use Rattle.zone_maker.specs.Drill.{next_zone, own_network, delegation_line, server_line, referral_lines, root_text, soa_line, web_line, alias_line, gone_line, made_zone_text}
 use Rattle.drill_laws.proofs.Lines.{line_text}
 use Rattle.drill_laws.proofs.Rows.{Row, row_words, ttl_line}
 use Rattle.drill_laws.proofs.DrillRows.{delegation_row, address_row, soa_row, alias_row, referral_rows, root_rows, gone_rows, zone_rows}

@@ -1,14 +1,12 @@
 -- The records of a drill's root zone fit.
-use Rattle.std.proofs.Common.{◌≡◌, ◌≢◌, ℕ, zero, suc, ◌+◌, ◌^◌, ◌<◌, ◌≤◌, Bool, true, false, ◌&&◌, List, [], ◌∷◌, ◌++◌, decimal, codes, flat_map, None, Result, Ok, refl, sym, ap, ◌∙◌, arith}
+use Rattle.std.proofs.Common.{◌≡◌, ◌≢◌, ℕ, zero, suc, ◌+◌, ◌<◌, ◌≤◌, Bool, true, false, ◌&&◌, List, [], ◌∷◌, ◌++◌, decimal, codes, flat_map, None, Ok, refl, ap, arith}
 use Rattle.std.specs.List.{AllByRecursion, range_with_len}
 use Rattle.std.proofs.lemmas.Bool.{false_from_ne_true}
 use Rattle.std.proofs.lemmas.Fmt.{decimal_injective}
 use Rattle.dns_data.specs.Label.{label_eq}
-use Rattle.dns_data.specs.Name.{Labels, name_eq}
+use Rattle.dns_data.specs.Name.{name_eq}
 use Rattle.dns_data.specs.declared.rdata.Rr.{Rr}
-use Rattle.dns_data.specs.declared.rr_type.RrType.TheVariants as types
 use Rattle.dns_data.proofs.Names.{label_eq_decides, all_push}
-use Rattle.zone_rules.specs.Apex.{is_type}
 use Rattle.zone_rules.specs.ZoneOf.{zone_of}
 use Rattle.zone_maker.specs.Drill.{zone_numbers}
 use Rattle.drill_laws.proofs.Rows.{Row, row_rr, rows_rrs}
@@ -54,22 +52,22 @@ referrals_fit a (suc k) line before fits are =
     let delegation : Rr = row_rr line (delegation_row (decimal a)) in
     let server : Rr = row_rr (line + 1) (address_row (codes "ns") 0 a) in
     let zone_new : IsNewOwner (zone_name (decimal a)) before =
-      all_weaker (IsEarlier a) (λ other. name_eq (zone_name (decimal a)) other.owner ≡ false) before (λ other is. is.zone a (omega arith) small) are in
+    all_weaker (IsEarlier a) (λ other. name_eq (zone_name (decimal a)) other.owner ≡ false) before (λ other is. is.zone a (omega arith) small) are in
     let host_new : IsNewOwner (host_name (codes "ns") (decimal a)) before =
-      all_weaker (IsEarlier a) (λ other. name_eq (host_name (codes "ns") (decimal a)) other.owner ≡ false) before (λ other is. is.host a (omega arith) small) are in
+    all_weaker (IsEarlier a) (λ other. name_eq (host_name (codes "ns") (decimal a)) other.owner ≡ false) before (λ other is. is.host a (omega arith) small) are in
     let host_new_behind : IsNewOwner (host_name (codes "ns") (decimal a)) (before ++ delegation ∷ []) =
-      all_push (λ other. name_eq (host_name (codes "ns") (decimal a)) other.owner ≡ false) before delegation host_new (and_false (label_eq (zone_label (decimal a)) (zone_label (decimal a)))) in
+    all_push (λ other. name_eq (host_name (codes "ns") (decimal a)) other.owner ≡ false) before delegation host_new (and_false (label_eq (zone_label (decimal a)) (zone_label (decimal a)))) in
     let earlier : AllByRecursion (IsEarlier (a + 1)) before = all_weaker (IsEarlier a) (IsEarlier (a + 1)) before (λ other is. later a other is) are in
     let all : AllByRecursion (IsEarlier (a + 1)) ((before ++ delegation ∷ []) ++ server ∷ []) =
-      all_push (IsEarlier (a + 1)) (before ++ delegation ∷ []) server
-      (all_push (IsEarlier (a + 1)) before delegation earlier (delegation_earlier a line small))
-      (server_earlier a (line + 1) small) in (
-        new_owner_fits [] before delegation zone_new refl refl refl refl,
-        (
-          new_owner_fits [] (before ++ delegation ∷ []) server host_new_behind refl refl refl refl,
-          referrals_fit (a + 1) k ((line + 1) + 1) ((before ++ delegation ∷ []) ++ server ∷ []) (omega arith) all,
-        ),
-      )
+    all_push (IsEarlier (a + 1)) (before ++ delegation ∷ []) server
+    (all_push (IsEarlier (a + 1)) before delegation earlier (delegation_earlier a line small))
+    (server_earlier a (line + 1) small) in (
+      new_owner_fits [] before delegation zone_new refl refl refl refl,
+      (
+        new_owner_fits [] (before ++ delegation ∷ []) server host_new_behind refl refl refl refl,
+        referrals_fit (a + 1) k ((line + 1) + 1) ((before ++ delegation ∷ []) ++ server ∷ []) (omega arith) all,
+      ),
+    )
 
 referrals_no_soas : (a k line : ℕ) → NoSoas (rows_rrs line (flat_map referral_rows (range_with_len a k)))
 referrals_no_soas a zero line = tt

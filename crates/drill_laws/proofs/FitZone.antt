@@ -1,15 +1,14 @@
 -- The records of a drill's zones fit.
-use Rattle.std.proofs.Common.{◌≡◌, ℕ, ◌%◌, Bool, true, false, ◌&&◌, ◌||◌, not, List, [], ◌∷◌, codes, decimal, Some, None, Result, Ok, if◌then◌else◌, ◌==◌, refl, ap, ◌∙◌}
+use Rattle.std.proofs.Common.{◌≡◌, ℕ, ◌%◌, Bool, true, false, ◌&&◌, ◌||◌, not, List, [], ◌∷◌, codes, decimal, Some, None, Ok, if◌then◌else◌, ◌==◌, refl, ap}
 use Rattle.dns_data.specs.Label.{label_eq}
-use Rattle.dns_data.specs.Name.{Labels, name_eq, is_prefix}
+use Rattle.dns_data.specs.Name.{Labels}
 use Rattle.dns_data.specs.declared.rdata.Rr.{Rr}
-use Rattle.dns_data.specs.declared.rr_type.RrType.TheVariants as types
 use Rattle.dns_data.proofs.Names.{label_eq_decides}
 use Rattle.zone_rules.specs.ZoneOf.{zone_of}
 use Rattle.zone_rules.specs.declared.fault.RuleCause.TheVariants.{SoaElsewhere, CnameAndOther}
 use Rattle.zone_maker.specs.Drill.{next_zone, own_network}
-use Rattle.drill_laws.proofs.Rows.{Row, row_rr, rows_rrs}
-use Rattle.drill_laws.proofs.Names.{zone_label, zone_name, host_name}
+use Rattle.drill_laws.proofs.Rows.{row_rr, rows_rrs}
+use Rattle.drill_laws.proofs.Names.{zone_label, zone_name}
 use Rattle.drill_laws.proofs.DrillRows.{delegation_row, address_row, soa_row, alias_row, gone_rows, zone_rows}
 use Rattle.drill_laws.proofs.Fitting.{Fits, AllFit, NoSoas, and_false, new_owner_fits, zone_fits}
 

@@ -1,15 +1,14 @@
 -- Records that fit: none is identical to one before it, each lies below the origin, and none breaks a rule. They are a zone.
-use Rattle.std.proofs.Common.{◌≡◌, ℕ, ◌+◌, Bool, true, false, cond, not, ◌&&◌, ◌||◌, List, [], ◌∷◌, ◌++◌, Option, Some, None, Result, Ok, Err, if◌then◌else◌, filter, refl, sym, ap, ◌∙◌}
+use Rattle.std.proofs.Common.{◌≡◌, Bool, true, false, cond, not, ◌&&◌, ◌||◌, List, [], ◌∷◌, ◌++◌, Option, Some, None, Ok, Err, if◌then◌else◌, filter, refl, ap, ◌∙◌}
 use Rattle.std.specs.List.{list_any, AllByRecursion}
 use Rattle.std.specs.Option.{option_or, option_map}
 use Rattle.dns_data.specs.Answers.{◌>>=◌}
-use Rattle.dns_data.specs.Distinct.{distinct, distinct_behind}
+use Rattle.dns_data.specs.Distinct.{distinct_behind}
 use Rattle.dns_data.specs.Identical.{is_identical}
 use Rattle.dns_data.specs.Name.{Labels, name_eq, is_prefix}
 use Rattle.dns_data.specs.Rdata.{data_eq}
 use Rattle.dns_data.specs.declared.rdata.Rr.{Rr}
 use Rattle.dns_data.specs.declared.rr_type.RrType.TheVariants as types
-use Rattle.net_model.specs.declared.config.Zone.{Zone}
 use Rattle.zone_rules.specs.Apex.{apex_of, apex_of_soas, is_type, is_wildcard}
 use Rattle.zone_rules.specs.Rules.{had, had_at, had_other_at, is_soa_elsewhere, is_second_soa, is_star_record, is_second_cname, is_beside_cname, is_second_dname, rule_at, first_fault_behind}
 use Rattle.zone_rules.specs.ZoneOf.{within, unless_faulty, checked, zone_under, zone_of}
@@ -72,7 +71,7 @@ new_owner_fits origin before rr new below no_soa no_dname no_star =
     let no_other : had_other_at types.Cname rr.owner before ≡ false = none_at rr.owner (λ other. not (is_type types.Cname other)) before new in
     let second_cname : is_second_cname before rr ≡ false = ap (λ (b : Bool). is_type types.Cname rr && b) no_cname ∙ and_false (is_type types.Cname rr) in
     let beside_cname : is_beside_cname before rr ≡ false =
-      (λ i. cond (is_type types.Cname rr) (no_other i) (no_cname i)) ∙ both_false (is_type types.Cname rr) in
+    (λ i. cond (is_type types.Cname rr) (no_other i) (no_cname i)) ∙ both_false (is_type types.Cname rr) in
     let second_dname : is_second_dname before rr ≡ false = ap (λ (b : Bool). b && had_at types.Dname rr.owner before) no_dname in
     record {
       new = none_at rr.owner (λ other. data_eq rr.rdata other.rdata) before new;
@@ -121,8 +120,8 @@ pub zone_fits : (soa : Rr) (rrs : List Rr) → is_type types.Soa soa ≡ true �
 zone_fits soa rrs is none plain fit =
     let all = soa ∷ rrs in
     let soas : filter (is_type types.Soa) all ≡ soa ∷ [] =
-      ap (λ (b : Bool). if b then soa ∷ filter (is_type types.Soa) rrs else filter (is_type types.Soa) rrs) is
-      ∙ ap (λ (rest : List Rr). soa ∷ rest) (soas_none rrs none) in
+    ap (λ (b : Bool). if b then soa ∷ filter (is_type types.Soa) rrs else filter (is_type types.Soa) rrs) is
+    ∙ ap (λ (rest : List Rr). soa ∷ rest) (soas_none rrs none) in
     let there : had types.Soa all ≡ true = ap (λ (b : Bool). b || had types.Soa rrs) is in
     ap (λ (some : List Rr). apex_of None some >>= zone_under some) (distinct_stay soa.owner [] all fit)
     ∙ ap (λ (some : List Rr). apex_of_soas some >>= zone_under all) soas

@@ -2,8 +2,7 @@
 use Rattle.std.proofs.Common.{◌≡◌, ◌≢◌, ℕ, zero, suc, ◌+◌, ◌<◌, ◌≤◌, Bool, true, false, cond, nat_eq, List, [], ◌∷◌, ◌++◌, map, codes, decimal, Option, Some, inl, inr, refl, sym, ap, ◌∙◌, arith, subst}
 use Rattle.std.specs.List.{AllByRecursion, range_with_len}
 use Rattle.std.specs.Option.{option_map}
-use Rattle.std.specs.Ordering.{nat_cmp, eq_by_cmp}
-use Rattle.std.specs.Cmp.Lexicographic.{slice_cmp, pointwise, nat_list_cmp_total, texts_ties, bytes_decides}
+use Rattle.std.specs.Cmp.Lexicographic.{pointwise, nat_list_cmp_total, texts_ties, bytes_decides}
 use Rattle.std.specs.FinMap as finite
 use Rattle.std.proofs.lemmas.Bool.{cases_eq, false_from_ne_true}
 use Rattle.std.proofs.lemmas.Fmt.{decimal_injective}
@@ -69,7 +68,7 @@ module _ (n : ℕ) where
       elim (cases_eq a i) [
         | inl same ↦ (
             let none : HasNone (zone_file a) (map made (range_with_len (a + 1) k)) =
-              none_made (zone_file a) (a + 1) k (λ j behind before. zone_file_apart a j (λ e. omega arith) (omega arith) (omega arith)) in
+            none_made (zone_file a) (a + 1) k (λ j behind before. zone_file_apart a j (λ e. omega arith) (omega arith) (omega arith)) in
             subst (λ (j : ℕ). octets_at (with_files files (map made (range_with_len a (suc k)))).files (zone_file j) ≡ Some (made_zone_text n j)) same
             (put_last files (zone_file a) (made_zone_text n a) (map made (range_with_len (a + 1) k)) none))
         | inr other ↦ zone_there (with_file files (zone_file a) (made_zone_text n a)) i (a + 1) k (omega arith) (omega arith) (omega arith)

@@ -1,12 +1,11 @@
 -- The files of a drill give a configuration.
-use Rattle.std.proofs.Common.{◌≡◌, ℕ, zero, suc, ◌+◌, ◌-◌, ◌*◌, ◌<◌, ◌≤◌, Bool, true, false, ◌&&◌, List, [], ◌∷◌, ◌++◌, map, length, codes, decimal, None, Result, Ok, Err, if◌then◌else◌, nat_le, refl, sym, ap, ◌∙◌, arith}
+use Rattle.std.proofs.Common.{◌≡◌, ℕ, zero, suc, ◌+◌, ◌-◌, ◌*◌, ◌<◌, ◌≤◌, Bool, true, false, ◌&&◌, List, [], ◌∷◌, ◌++◌, map, length, codes, decimal, None, Result, Ok, if◌then◌else◌, nat_le, refl, ap, ◌∙◌, arith}
 use Rattle.std.specs.List.{AllByRecursion, range_with_len}
 use Rattle.std.proofs.lemmas.Bool.Decides.{nat_tests}
 use Rattle.dns_data.specs.Name.{Labels, name_eq}
-use Rattle.dns_data.specs.declared.rdata.Rr.{Rr}
 use Rattle.dns_data.proofs.Names.{all_push}
-use Rattle.io_edges.specs.Files.{FilesTold, Told, Holds}
-use Rattle.master_read.specs.ZoneText.{Unread, zone_text}
+use Rattle.io_edges.specs.Files.{FilesTold, Holds}
+use Rattle.master_read.specs.ZoneText.{zone_text}
 use Rattle.master_read.specs.declared.zone_text.ZoneText.{ZoneText}
 use Rattle.meta_read.specs.Metadata.{metadata_of}
 use Rattle.meta_read.specs.declared.fault.MetaFault.{MetaFault}
@@ -16,7 +15,6 @@ use Rattle.net_model.specs.declared.config.Config.{Config}
 use Rattle.net_model.specs.declared.config.Server.{Server}
 use Rattle.net_model.specs.declared.config.Zone.{Zone}
 use Rattle.zone_rules.specs.ZoneOf.{zone_of}
-use Rattle.zone_rules.specs.declared.fault.RuleFault.{RuleFault}
 use Rattle.config_load.specs.Conf.{everything_left, left_behind, settled, files_behind, zone_files, zone_read, no_rows, with_row, with_rows, metadata, conf}
 use Rattle.config_load.specs.Faults.{of_metadata, of_rule}
 use Rattle.config_load.specs.Joined.{joined}
@@ -27,7 +25,7 @@ use Rattle.config_load.specs.declared.fault.LoadFault.TheVariants.{TooLong}
 use Rattle.zone_maker.specs.Drill.{zone_numbers, meta_text, root_text, made_zone_text, zone_file}
 use Rattle.zone_maker.specs.Source.{drill_told}
 use Rattle.drill_laws.proofs.Rows.{rows_rrs, text_of_rows}
-use Rattle.drill_laws.proofs.Names.{zone_label, zone_name, host_name}
+use Rattle.drill_laws.proofs.Names.{zone_name, host_name}
 use Rattle.drill_laws.proofs.DrillRows.{root_rows, root_rows_are, root_rows_count, zone_rows, zone_rows_are, zone_rows_few}
 use Rattle.drill_laws.proofs.DrillTexts.{root_same, zone_same}
 use Rattle.drill_laws.proofs.Fitting.{all_weaker}
@@ -142,17 +140,17 @@ module _ (n : ℕ) (few : n ≤ 5000) where
       let name : Labels = host_name (codes "ns") (decimal a) in
       let server : Server = record { name = name; zones = zone_of_records a ∷ [] } in
       let new : IsNewServer name servers =
-        all_weaker (IsEarlier a) (λ other. name_eq name other.name ≡ false) servers (λ other is. is a (omega arith) (omega arith)) earlier in
+      all_weaker (IsEarlier a) (λ other. name_eq name other.name ≡ false) servers (λ other is. is a (omega arith) (omega arith)) earlier in
       let before : AllByRecursion (IsEarlier (a + 1)) servers =
-        all_weaker (IsEarlier a) (IsEarlier (a + 1)) servers (λ other is j above below. is j (omega arith) below) earlier in
+      all_weaker (IsEarlier a) (IsEarlier (a + 1)) servers (λ other is j above below. is j (omega arith) below) earlier in
       let here : IsEarlier (a + 1) server = λ j above below. ap (λ (b : Bool). b && true) (labels_apart j a (λ e. omega arith) below (omega arith)) in
       let room : 6 * k ≤ left.records - length (zone_rows n a) = omega (arith, fits, zone_rows_few n a) in
       let some : 6 ≤ left.records = omega (arith, fits) in
       let more = rows_read (a + 1) k (number + 1) (servers ++ server ∷ []) (omega arith) (all_push (IsEarlier (a + 1)) servers server before here) (left_behind left (zone_records a)) room in (
         more.0,
         goes_on (with_row meta number (zone_row a) (record { left = left; servers = servers }) (drill_told n)) (record { left = left_behind left (zone_records a); servers = servers ++ server ∷ [] }) (λ rows. with_rows meta (number + 1) (map zone_row (range_with_len (a + 1) k)) rows (drill_told n))
-        (row_read (drill_told n) (zone_file a) (zone_records a) (zone_of_records a) name number servers new left (zone_is a left.records left.includes within some))
-        ∙ more.1,
+            (row_read (drill_told n) (zone_file a) (zone_records a) (zone_of_records a) name number servers new left (zone_is a left.records left.includes within some))
+            ∙ more.1,
       )
 
   -- ---- the metadata, and the row of the root zone
@@ -189,8 +187,8 @@ module _ (n : ℕ) (few : n ≤ 5000) where
       let rest = rows_read 0 n 2 (root_server ∷ []) (omega arith) (λ j above below. refl, tt) (left_behind everything_left root_records) room in (
         rest.0,
         goes_on (with_row meta 1 root_row no_rows (drill_told n)) (record { left = left_behind everything_left root_records; servers = root_server ∷ [] }) (λ rows. with_rows meta 2 (map zone_row (zone_numbers n)) rows (drill_told n))
-        (row_read (drill_told n) (codes "root.zone") root_records root_of_records top 1 [] tt everything_left root_is)
-        ∙ rest.1,
+            (row_read (drill_told n) (codes "root.zone") root_records root_of_records top 1 [] tt everything_left root_is)
+            ∙ rest.1,
       )
 
   -- the configuration
@@ -199,7 +197,7 @@ module _ (n : ℕ) (few : n ≤ 5000) where
   configuration = (
     record { tops = top ∷ []; servers = all_rows.0.servers },
     goes_on (metadata meta (drill_told n)) (drill_meta n) (λ found. with_rows meta 1 found.rows no_rows (drill_told n) >>= (λ rows. Reads (record { tops = found.tops; servers = rows.servers }))) metadata_read
-    ∙ goes_on (with_rows meta 1 (root_row ∷ map zone_row (zone_numbers n)) no_rows (drill_told n)) all_rows.0 (λ rows. Reads (record { tops = top ∷ []; servers = rows.servers })) all_rows.1,
+        ∙ goes_on (with_rows meta 1 (root_row ∷ map zone_row (zone_numbers n)) no_rows (drill_told n)) all_rows.0 (λ rows. Reads (record { tops = top ∷ []; servers = rows.servers })) all_rows.1,
   )
 
 -- the files of a drill give a configuration

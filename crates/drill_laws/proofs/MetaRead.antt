@@ -1,5 +1,5 @@
 -- The metadata of a drill read: the top server, and a row for each zone.
-use Rattle.std.proofs.Common.{◌≡◌, ℕ, zero, suc, ◌+◌, ◌<◌, ◌≤◌, Bool, true, false, List, [], ◌∷◌, ◌++◌, map, length, codes, decimal, Option, Some, None, Result, Ok, Err, if◌then◌else◌, ok_or, nat_lt, refl, sym, ap, ◌∙◌, arith}
+use Rattle.std.proofs.Common.{◌≡◌, ℕ, zero, suc, ◌+◌, ◌<◌, ◌≤◌, Bool, false, List, [], ◌∷◌, map, length, codes, decimal, Option, Some, None, Result, Ok, Err, if◌then◌else◌, ok_or, nat_lt, refl, ap, ◌∙◌, arith}
 use Rattle.std.specs.List.{range_with_len}
 use Rattle.std.proofs.lemmas.Bool.Decides.{nat_tests}
 use Rattle.serde_json.specs.Data.{Data}
@@ -8,7 +8,7 @@ use Rattle.dns_data.specs.Name.{Labels}
 use Rattle.dns_data.specs.Spelling.{name_of_text}
 use Rattle.dns_data.specs.declared.fault.NameFault.{NameFault}
 use Rattle.dns_data.proofs.RoundTrip.{not_empty}
-use Rattle.meta_read.specs.Members.{values_of, value_of}
+use Rattle.meta_read.specs.Members.{values_of}
 use Rattle.meta_read.specs.Metadata.{metadata_in, metadata_of, first_unhosted, unless_unhosted}
 use Rattle.meta_read.specs.Names.{each}
 use Rattle.meta_read.specs.Rows.{read_row, most_rows}

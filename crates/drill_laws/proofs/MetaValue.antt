@@ -1,5 +1,5 @@
 -- The value that the metadata of a drill are read as.
-use Rattle.std.proofs.Common.{◌≡◌, ℕ, zero, suc, ◌+◌, ◌<◌, ◌≤◌, Bool, true, false, ◌&&◌, max, List, [], ◌∷◌, ◌++◌, codes, decimal, flat_map, Option, Some, option_map, option_and_then, refl, sym, ap, ap₂, ◌∙◌, arith, append_assoc, append-nil, leb-true, nat_le, nat_lt}
+use Rattle.std.proofs.Common.{◌≡◌, ℕ, zero, suc, ◌+◌, ◌<◌, ◌≤◌, true, ◌&&◌, List, [], ◌∷◌, ◌++◌, codes, decimal, flat_map, Option, Some, option_map, option_and_then, refl, sym, ap, ap₂, ◌∙◌, arith, append_assoc, append-nil, leb-true, nat_le, nat_lt}
 use Rattle.std.specs.List.{list_all, range_with_len}
 use Rattle.std.proofs.lemmas.Bool.{and_parts}
 use Rattle.std.proofs.lemmas.Bool.Decides.{nat_tests}
@@ -12,7 +12,7 @@ use Rattle.json.proofs.Printed.Tokens.{tokens-print}
 use Rattle.json.proofs.Printed.Trees.{value-json_tokens, ArePrintable-json_tokens}
 use Rattle.json.proofs.Printed.Utf8.{are_ascii, IsUtf8-are_ascii}
 use Rattle.serde_json.specs.Data.{Data, string, array, object, Items, no_items, item, no_members, member, put}
-use Rattle.serde_json.specs.Read.{of_json, of_items, of_members, max_depth, read}
+use Rattle.serde_json.specs.Read.{of_json, of_items, max_depth, read}
 use Rattle.serde_json.specs.Written.{outline, items_outline, compact_text, items_text}
 use Rattle.serde_json.proofs.Texts.{print-outline}
 use Rattle.dns_data.specs.Octet.{is_digit}
@@ -120,9 +120,9 @@ meta_reads n few =
     let numbers : HasNumbers whole = ((tt, tt), (((tt, (tt, tt)), rows_have_numbers (zone_numbers n)), tt)) in
     let shallow : depth whole ≤ max_depth = omega (arith, rows_shallow (zone_numbers n)) in
     let same : tokens (meta_text n) ≡ json_tokens whole ++ [] =
-      ap tokens (sym (meta_same n few) ∙ sym (print-outline (meta_value n)))
-      ∙ tokens-print (json_tokens whole) (ArePrintable-json_tokens whole numbers)
-      ∙ sym (append-nil (json_tokens whole)) in
+    ap tokens (sym (meta_same n few) ∙ sym (print-outline (meta_value n)))
+    ∙ tokens-print (json_tokens whole) (ArePrintable-json_tokens whole numbers)
+    ∙ sym (append-nil (json_tokens whole)) in
     ap (λ o. option_and_then of_json (option_and_then (λ p. json.if_last p.0 p.1) o)) (ap (json.value max_depth) same ∙ value-json_tokens whole max_depth [] shallow)
     ∙ value_back n
 

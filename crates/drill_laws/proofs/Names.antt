@@ -1,9 +1,8 @@
 -- The names of a zone and of the hosts in it, by the digits of the zone's number.
-use Rattle.std.proofs.Common.{◌≡◌, ℕ, ◌+◌, ◌<◌, ◌≤◌, true, List, [], ◌∷◌, ◌++◌, length, codes, flat_map, Result, Ok, refl, sym, ap, ◌∙◌, arith, append_assoc, append-nil, length-append}
+use Rattle.std.proofs.Common.{◌≡◌, ℕ, ◌<◌, ◌≤◌, true, List, [], ◌∷◌, ◌++◌, length, codes, flat_map, Ok, refl, sym, ap, ◌∙◌, arith, append_assoc, append-nil, length-append}
 use Rattle.std.specs.List.{list_all}
-use Rattle.dns_data.specs.Octet.{is_digit}
 use Rattle.dns_data.specs.Label.{IsLabel, is_label_octet}
-use Rattle.dns_data.specs.Name.{Labels, IsName, wire_octets}
+use Rattle.dns_data.specs.Name.{Labels, IsName}
 use Rattle.dns_data.specs.Spelling.{octet_text, label_text, name_text, name_of_text}
 use Rattle.dns_data.proofs.RoundTrip.{text_reads_back}
 use Rattle.master_lex.specs.Octets.{kind}
@@ -60,10 +59,10 @@ zone_named number is =
 pub host_named : (host number : List ℕ) → IsHost host → IsNumber number → name_of_text (host_name_text host number) [] ≡ Ok (host_name host number)
 host_named host number host_is is =
     let text : name_text (host_name host number) ≡ host_name_text host number =
-      ap (λ (octets : List ℕ). (octets ++ 46 ∷ []) ++ (label_text (zone_label number) ++ [])) host_is.text
-      ∙ ap (λ (octets : List ℕ). (host ++ 46 ∷ []) ++ (octets ++ [])) (zone_label_text number is)
-      ∙ ap (λ (octets : List ℕ). (host ++ 46 ∷ []) ++ octets) (append-nil (zone_name_text number))
-      ∙ append_assoc host (46 ∷ []) (zone_name_text number) in
+    ap (λ (octets : List ℕ). (octets ++ 46 ∷ []) ++ (label_text (zone_label number) ++ [])) host_is.text
+    ∙ ap (λ (octets : List ℕ). (host ++ 46 ∷ []) ++ (octets ++ [])) (zone_label_text number is)
+    ∙ ap (λ (octets : List ℕ). (host ++ 46 ∷ []) ++ octets) (append-nil (zone_name_text number))
+    ∙ append_assoc host (46 ∷ []) (zone_name_text number) in
     let whole : IsName (host_name host number) = record { labels = (zone_label_is number is, (label_is host host_is, tt)); short = omega (arith, is.short, host_is.short) } in
     ap (λ (octets : List ℕ). name_of_text octets []) (sym text) ∙ text_reads_back (host_name host number) [] whole
 

@@ -1,9 +1,9 @@
 -- Octets of words: those that are written out, and the digits of a zone's number.
-use Rattle.std.proofs.Common.{◌≡◌, ℕ, ◌+◌, ◌<◌, ◌≤◌, ◌^◌, Bool, true, false, ◌&&◌, ◌||◌, not, List, [], ◌∷◌, ◌++◌, length, codes, decimal, flat_map, nat_lt, nat_le, if◌then◌else◌, ◌==◌, refl, sym, ap, ◌∙◌, arith, length-append, ne_eqb, leb-true, rules}
+use Rattle.std.proofs.Common.{◌≡◌, ℕ, ◌+◌, ◌<◌, ◌≤◌, Bool, true, false, ◌&&◌, ◌||◌, List, [], ◌∷◌, ◌++◌, length, codes, decimal, flat_map, nat_le, if◌then◌else◌, ◌==◌, refl, ◌∙◌, arith, length-append, ne_eqb, leb-true, rules}
 use Rattle.std.specs.List.{list_all}
 use Rattle.std.proofs.lemmas.Bool.{and_parts}
 use Rattle.std.proofs.lemmas.Bool.Decides.{nat_tests}
-use Rattle.std.proofs.lemmas.Fmt.{digits_decimal, decimal_nonempty, length-decimal-le}
+use Rattle.std.proofs.lemmas.Fmt.{digits_decimal, length-decimal-le}
 use Rattle.std.proofs.lemmas.List.Folds.{list_all-append}
 use Rattle.std.proofs.lemmas.Str.Parse.{IsNumeralModel, numerals_by_fold}
 use Rattle.dns_data.specs.Octet.{is_digit, digits_after, escaped_as}
@@ -11,7 +11,7 @@ use Rattle.dns_data.specs.Label.{is_label_octet}
 use Rattle.dns_data.specs.Spelling.{is_special, octet_text}
 use Rattle.master_lex.specs.declared.octet.OctetKind.TheVariants.{Plain, Blank, LineFeed, Semicolon, Open, Close, Quote, Backslash}
 use Rattle.master_lex.specs.Octets.{kind, stands}
-use Rattle.drill_laws.proofs.Lines.{is_plain, IsWord, IsLine}
+use Rattle.drill_laws.proofs.Lines.{is_plain, IsWord}
 
 -- ---- digits
 

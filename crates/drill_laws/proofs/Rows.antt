@@ -1,5 +1,5 @@
 -- Lines of records whose owners are absolute and whose TTL is that of the file's first line, read one after another.
-use Rattle.std.proofs.Common.{◌≡◌, ℕ, ◌+◌, ◌<◌, ◌≤◌, Bool, true, false, List, [], ◌∷◌, ◌++◌, map, length, codes, Option, Some, None, Result, Ok, Err, flat_map, nat_eq, nat_le, if◌then◌else◌, ok_or, refl, sym, ap, ap₂, ◌∙◌, arith, append_assoc, append-nil}
+use Rattle.std.proofs.Common.{◌≡◌, ℕ, ◌+◌, ◌<◌, ◌≤◌, Bool, false, List, [], ◌∷◌, ◌++◌, map, length, codes, Option, Some, None, Result, Ok, Err, flat_map, nat_eq, nat_le, if◌then◌else◌, ok_or, refl, sym, ap, ap₂, ◌∙◌, arith, append_assoc, append-nil}
 use Rattle.std.specs.List.{starts_with, AllByRecursion}
 use Rattle.std.proofs.lemmas.Bool.Decides.{nat_tests}
 use Rattle.dns_data.specs.Answers.{◌>>=◌, with_fault}
@@ -122,8 +122,8 @@ row_effect room line seen rrs last row is fits =
     let so_far : Records = records_at rrs seen last in
     let entry : Entry = line_entry line (row_words row) in
     ap (λ (b : Bool). if b
-      then directive_of so_far.context entry.tokens >>= (λ directive. Ok (said_by so_far directive))
-      else record_of 0 so_far.context entry >>= (λ made. with_made room so_far made >>= (λ records. Ok (Leaves records)))) is.no_directive
+    then directive_of so_far.context entry.tokens >>= (λ directive. Ok (said_by so_far directive))
+    else record_of 0 so_far.context entry >>= (λ made. with_made room so_far made >>= (λ records. Ok (Leaves records)))) is.no_directive
     ∙ ap (λ (said : Result Made TextCause). said >>= (λ made. with_made room so_far made >>= (λ records. Ok (Leaves records)))) (record_there line last row is)
     ∙ ap (λ (full : Bool). (if full then Err TooMany else Ok (records_at (rrs ++ row_rr line row ∷ []) (seen + 1) (Some row.owner))) >>= (λ records. Ok (Leaves records))) (has_room room seen fits)
 
@@ -144,8 +144,8 @@ rows_read include room line seen rrs last (row ∷ rows) are fits =
     let count : (seen + 1) + length rows ≡ seen + length (row ∷ rows) = omega arith in (
       more.0,
       ap (λ (said : Result Effect TextCause). (at 0 line said >>= (λ effect. with_effect include 0 line effect (progress_at (records_at rrs seen last)))) >>= (λ progress. with_entries include room 0 (line_entries (line + 1) (map row_words rows)) progress)) (row_effect room line seen rrs last row are.0 (omega (arith, fits)))
-      ∙ more.1
-      ∙ ap₂ (λ (all : List Rr) (seen : ℕ). Ok (progress_at (records_at all seen more.0))) (append_assoc rrs (row_rr line row ∷ []) (rows_rrs (line + 1) rows)) count,
+          ∙ more.1
+          ∙ ap₂ (λ (all : List Rr) (seen : ℕ). Ok (progress_at (records_at all seen more.0))) (append_assoc rrs (row_rr line row ∷ []) (rows_rrs (line + 1) rows)) count,
     )
 
 -- ---- the text of a file

@@ -1,7 +1,7 @@
 -- The files of a drill aren't too long.
-use Rattle.std.proofs.Common.{◌≡◌, ℕ, zero, suc, ◌+◌, ◌*◌, ◌/◌, ◌%◌, ◌<◌, ◌≤◌, Bool, true, false, List, [], ◌∷◌, ◌++◌, length, codes, decimal, flat_map, if◌then◌else◌, ◌==◌, nat_lt, arith, length-append}
+use Rattle.std.proofs.Common.{ℕ, zero, suc, ◌+◌, ◌*◌, ◌/◌, ◌%◌, ◌<◌, ◌≤◌, Bool, true, false, List, [], ◌++◌, length, codes, decimal, flat_map, if◌then◌else◌, ◌==◌, nat_lt, arith, length-append}
 use Rattle.std.specs.List.{range_with_len}
-use Rattle.zone_maker.specs.Drill.{zone_numbers, next_zone, own_network, address_end, meta_row, meta_rows, meta_text, delegation_line, server_line, referral_lines, root_text, soa_end, soa_line, web_line, alias_line, gone_line, made_zone_text}
+use Rattle.zone_maker.specs.Drill.{zone_numbers, next_zone, own_network, meta_row, meta_rows, meta_text, delegation_line, server_line, referral_lines, root_text, soa_line, web_line, alias_line, gone_line, made_zone_text}
 use Rattle.drill_laws.proofs.Parts.{number_of}
 
 short : (n : ℕ) → n < 10000 → length (decimal n) ≤ 4
