@@ -56,6 +56,10 @@ goes_on {A} said value next is = ap (λ (given : Reading A). given >>= next) is
 not_refused : {T E B : Type 0} (refusal : E → LoadFault) (said : Result T E) (value : T) (next : T → Reading B) → said ≡ Ok value → (unless_refused refusal said >>= next) ≡ next value
 not_refused {T} {E} refusal said value next is = ap (λ (given : Result T E). unless_refused refusal given >>= next) is
 
+-- where what follows gives something, the whole gives it
+gives_behind : {A B : Type 0} (said : Reading A) (value : A) (next : A → Reading B) → said ≡ Reads value → (last : B) × (next value ≡ Reads last) → (last : B) × ((said >>= next) ≡ Reads last)
+gives_behind said value next is (last, gives) = (last, goes_on said value next is ∙ gives)
+
 -- ---- a file, and the zone of a row
 
 file_read : (told : FilesTold) (name text : List ℕ) → told name ≡ Holds text → length text ≤ 16777216 → file_octets name told ≡ Reads text
@@ -97,15 +101,18 @@ module _ (told : FilesTold) (file : List ℕ) (records : ZoneText) (zone : Zone)
       → zone_read meta row left told ≡ Reads (record { zone = zone; left = left_behind left records }))
   unfolding zone_read
   zone_is_read left is =
-      goes_on (zone_files meta row left told) (record { names = file ∷ []; text = records }) (λ files. unless_refused (of_rule files.names) (zone_of None files.text.rrs) >>= (λ found. Reads (record { zone = found; left = left_behind left files.text }))) (files_read left is)
+      goes_on (zone_files meta row left told) (record { names = file ∷ []; text = records })
+      (λ files. unless_refused (of_rule files.names) (zone_of None files.text.rrs) >>= (λ found. Reads (record { zone = found; left = left_behind left files.text }))) (files_read left is)
       ∙ not_refused (of_rule (file ∷ [])) (zone_of None records.rrs) zone (λ found. Reads (record { zone = found; left = left_behind left records })) is.keeps
 
   row_read : (number : ℕ) (servers : List Server) → IsNewServer server servers → Each everything_left (λ left. IsRead told left.records left.includes file records zone
       → with_row meta number row (record { left = left; servers = servers }) told ≡ Reads (record { left = left_behind left records; servers = with_server server zone servers }))
   unfolding with_row
   row_read number servers new left is =
-      goes_on (zone_read meta row left told) (record { zone = zone; left = left_behind left records }) (λ read. unless_refused (λ fault. fault) (given number server read.zone servers) >>= (λ all. Reads (record { left = read.left; servers = all }))) (zone_is_read left is)
-      ∙ not_refused (λ fault. fault) (given number server zone servers) (with_server server zone servers) (λ all. Reads (record { left = left_behind left records; servers = all })) (given_new number server zone servers new)
+      goes_on (zone_read meta row left told) (record { zone = zone; left = left_behind left records })
+      (λ read. unless_refused (λ fault. fault) (given number server read.zone servers) >>= (λ all. Reads (record { left = read.left; servers = all }))) (zone_is_read left is)
+      ∙ not_refused (λ fault. fault) (given number server zone servers) (with_server server zone servers)
+      (λ all. Reads (record { left = left_behind left records; servers = all })) (given_new number server zone servers new)
 
 -- ---- the rows of the zones
 
@@ -146,12 +153,12 @@ module _ (n : ℕ) (few : n ≤ 5000) where
       let here : IsEarlier (a + 1) server = λ j above below. ap (λ (b : Bool). b && true) (labels_apart j a (λ e. omega arith) below (omega arith)) in
       let room : 6 * k ≤ left.records - length (zone_rows n a) = omega (arith, fits, zone_rows_few n a) in
       let some : 6 ≤ left.records = omega (arith, fits) in
-      let more = rows_read (a + 1) k (number + 1) (servers ++ server ∷ []) (omega arith) (all_push (IsEarlier (a + 1)) servers server before here) (left_behind left (zone_records a)) room in (
-        more.0,
-        goes_on (with_row meta number (zone_row a) (record { left = left; servers = servers }) (drill_told n)) (record { left = left_behind left (zone_records a); servers = servers ++ server ∷ [] }) (λ rows. with_rows meta (number + 1) (map zone_row (range_with_len (a + 1) k)) rows (drill_told n))
-            (row_read (drill_told n) (zone_file a) (zone_records a) (zone_of_records a) name number servers new left (zone_is a left.records left.includes within some))
-            ∙ more.1,
-      )
+      let left_now = left_behind left (zone_records a) in
+      gives_behind (with_row meta number (zone_row a) (record { left = left; servers = servers }) (drill_told n))
+      (record { left = left_now; servers = servers ++ server ∷ [] })
+      (λ rows. with_rows meta (number + 1) (map zone_row (range_with_len (a + 1) k)) rows (drill_told n))
+      (row_read (drill_told n) (zone_file a) (zone_records a) (zone_of_records a) name number servers new left (zone_is a left.records left.includes within some))
+      (rows_read (a + 1) k (number + 1) (servers ++ server ∷ []) (omega arith) (all_push (IsEarlier (a + 1)) servers server before here) left_now room)
 
   -- ---- the metadata, and the row of the root zone
 
@@ -184,20 +191,24 @@ module _ (n : ℕ) (few : n ≤ 5000) where
   unfolding with_rows
   all_rows =
       let room : 6 * n ≤ 1000000 - length (root_rows n) = omega (arith, root_rows_count n) in
-      let rest = rows_read 0 n 2 (root_server ∷ []) (omega arith) (λ j above below. refl, tt) (left_behind everything_left root_records) room in (
-        rest.0,
-        goes_on (with_row meta 1 root_row no_rows (drill_told n)) (record { left = left_behind everything_left root_records; servers = root_server ∷ [] }) (λ rows. with_rows meta 2 (map zone_row (zone_numbers n)) rows (drill_told n))
-            (row_read (drill_told n) (codes "root.zone") root_records root_of_records top 1 [] tt everything_left root_is)
-            ∙ rest.1,
-      )
+      let left_now = left_behind everything_left root_records in
+      gives_behind (with_row meta 1 root_row no_rows (drill_told n))
+      (record { left = left_now; servers = root_server ∷ [] })
+      (λ rows. with_rows meta 2 (map zone_row (zone_numbers n)) rows (drill_told n))
+      (row_read (drill_told n) (codes "root.zone") root_records root_of_records top 1 [] tt everything_left root_is)
+      (rows_read 0 n 2 (root_server ∷ []) (omega arith) (λ j above below. refl, tt) left_now room)
 
   -- the configuration
   configuration : (config : Config) × (conf meta (drill_told n) ≡ Reads config)
   unfolding conf
   configuration = (
     record { tops = top ∷ []; servers = all_rows.0.servers },
-    goes_on (metadata meta (drill_told n)) (drill_meta n) (λ found. with_rows meta 1 found.rows no_rows (drill_told n) >>= (λ rows. Reads (record { tops = found.tops; servers = rows.servers }))) metadata_read
-        ∙ goes_on (with_rows meta 1 (root_row ∷ map zone_row (zone_numbers n)) no_rows (drill_told n)) all_rows.0 (λ rows. Reads (record { tops = top ∷ []; servers = rows.servers })) all_rows.1,
+    goes_on (metadata meta (drill_told n)) (drill_meta n)
+        (λ found. with_rows meta 1 found.rows no_rows (drill_told n) >>= (λ rows. Reads (record { tops = found.tops; servers = rows.servers })))
+        metadata_read
+        ∙ goes_on (with_rows meta 1 (root_row ∷ map zone_row (zone_numbers n)) no_rows (drill_told n)) all_rows.0
+        (λ rows. Reads (record { tops = top ∷ []; servers = rows.servers }))
+        all_rows.1,
   )
 
 -- the files of a drill give a configuration
