@@ -1,0 +1,16 @@
+pub mod Lines
+pub mod Parts
+pub mod Rows
+pub mod Names
+pub mod Addresses
+pub mod DrillRows
+pub mod DrillTexts
+pub mod Fitting
+pub mod FitRoot
+pub mod FitZone
+pub mod Held
+pub mod Sizes
+pub mod MetaValue
+pub mod MetaRead
+pub mod Servers
+pub mod Loaded

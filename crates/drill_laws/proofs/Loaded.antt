@@ -1,0 +1,216 @@
+-- The files of a drill give a configuration.
+use Rattle.std.proofs.Common.{◌≡◌, ℕ, zero, suc, ◌+◌, ◌-◌, ◌*◌, ◌<◌, ◌≤◌, Bool, true, false, ◌&&◌, List, [], ◌∷◌, ◌++◌, map, length, codes, decimal, None, Result, Ok, if◌then◌else◌, nat_le, refl, ap, ◌∙◌, arith}
+use Rattle.std.specs.List.{AllByRecursion, range_with_len}
+use Rattle.std.proofs.lemmas.Bool.Decides.{nat_tests}
+use Rattle.dns_data.specs.Name.{Labels, name_eq}
+use Rattle.dns_data.proofs.Names.{all_push}
+use Rattle.io_edges.specs.Files.{FilesTold, Holds}
+use Rattle.master_read.specs.ZoneText.{zone_text}
+use Rattle.master_read.specs.declared.zone_text.ZoneText.{ZoneText}
+use Rattle.meta_read.specs.Metadata.{metadata_of}
+use Rattle.meta_read.specs.declared.fault.MetaFault.{MetaFault}
+use Rattle.meta_read.specs.declared.meta.Meta.{Meta as Metadata}
+use Rattle.meta_read.specs.declared.meta.MetaRow.{MetaRow}
+use Rattle.net_model.specs.declared.config.Config.{Config}
+use Rattle.net_model.specs.declared.config.Server.{Server}
+use Rattle.net_model.specs.declared.config.Zone.{Zone}
+use Rattle.zone_rules.specs.ZoneOf.{zone_of}
+use Rattle.config_load.specs.Conf.{everything_left, left_behind, settled, files_behind, zone_files, zone_read, no_rows, with_row, with_rows, metadata, conf}
+use Rattle.config_load.specs.Faults.{of_metadata, of_rule}
+use Rattle.config_load.specs.Joined.{joined}
+use Rattle.config_load.specs.Reading.{Reading, Reads, Refuses, Unknown, ◌>>=◌, unless_refused, told_octets, file_octets}
+use Rattle.config_load.specs.Servers.{given}
+use Rattle.config_load.specs.declared.fault.LoadFault.{LoadFault}
+use Rattle.config_load.specs.declared.fault.LoadFault.TheVariants.{TooLong}
+use Rattle.zone_maker.specs.Drill.{zone_numbers, meta_text, root_text, made_zone_text, zone_file}
+use Rattle.zone_maker.specs.Source.{drill_told}
+use Rattle.drill_laws.proofs.Rows.{rows_rrs, text_of_rows}
+use Rattle.drill_laws.proofs.Names.{zone_name, host_name}
+use Rattle.drill_laws.proofs.DrillRows.{root_rows, root_rows_are, root_rows_count, zone_rows, zone_rows_are, zone_rows_few}
+use Rattle.drill_laws.proofs.DrillTexts.{root_same, zone_same}
+use Rattle.drill_laws.proofs.Fitting.{all_weaker}
+use Rattle.drill_laws.proofs.FitRoot.{labels_apart, root_zone}
+use Rattle.drill_laws.proofs.FitZone.{made_zone}
+use Rattle.drill_laws.proofs.Held.{meta_told, root_told, zone_told}
+use Rattle.drill_laws.proofs.Sizes.{meta_size, root_size, zone_size}
+use Rattle.drill_laws.proofs.MetaRead.{zone_row, root_row, top, drill_meta, meta_given}
+use Rattle.drill_laws.proofs.Servers.{IsNewServer, with_server, given_new}
+
+-- the metadata's name
+abbrev meta : List ℕ
+meta = codes "meta.json"
+
+-- Something holds of each value of the type of a sample, or of one. So a statement speaks of values whose types have no
+-- name here.
+abbrev Each : {A : Type 0} → A → (A → Type 0) → Type 0
+Each {A} sample holds = (value : A) → holds value
+
+abbrev Has : {A : Type 0} → A → (A → Type 0) → Type 0
+Has {A} sample holds = (value : A) × holds value
+
+-- ---- steps that give a value
+
+goes_on : {A B : Type 0} (said : Reading A) (value : A) (next : A → Reading B) → said ≡ Reads value → (said >>= next) ≡ next value
+goes_on {A} said value next is = ap (λ (given : Reading A). given >>= next) is
+
+not_refused : {T E B : Type 0} (refusal : E → LoadFault) (said : Result T E) (value : T) (next : T → Reading B) → said ≡ Ok value → (unless_refused refusal said >>= next) ≡ next value
+not_refused {T} {E} refusal said value next is = ap (λ (given : Result T E). unless_refused refusal given >>= next) is
+
+-- where what follows gives something, the whole gives it
+gives_behind : {A B : Type 0} (said : Reading A) (value : A) (next : A → Reading B) → said ≡ Reads value → (last : B) × (next value ≡ Reads last) → (last : B) × ((said >>= next) ≡ Reads last)
+gives_behind said value next is (last, gives) = (last, goes_on said value next is ∙ gives)
+
+-- ---- a file, and the zone of a row
+
+file_read : (told : FilesTold) (name text : List ℕ) → told name ≡ Holds text → length text ≤ 16777216 → file_octets name told ≡ Reads text
+file_read told name text holds fits =
+    let short : nat_le (length text) 16777216 ≡ true = grind (arith, nat_tests) in
+    ap (told_octets name) holds
+    ∙ ap (λ (b : Bool). if b then Reads text else Refuses (TooLong name)) short
+
+-- a file that includes none
+one_file : (told : FilesTold) (times : ℕ) (names texts : List (List ℕ)) (text : ZoneText) → Each everything_left (λ left. zone_text [] left.records left.includes texts ≡ Ok text
+    → files_behind meta [] left times names texts told ≡ Reads (record { names = names; text = text }))
+unfolding files_behind
+one_file told zero names texts text left gives = ap (settled names (λ file. Unknown (joined meta file))) gives
+one_file told (suc times) names texts text left gives =
+    ap (settled names (λ file. file_octets (joined meta file) told >>= λ octets. files_behind meta [] left times (names ++ joined meta file ∷ []) (texts ++ octets ∷ []) told)) gives
+
+-- What is known of a row's file: its octets, what they give where so much may be read, and the zone of that.
+record IsRead (told : FilesTold) (room includes : ℕ) (file : List ℕ) (records : ZoneText) (zone : Zone) : Type 0 where
+  octets : List ℕ
+  named : joined meta file ≡ file
+  holds : told file ≡ Holds octets
+  short : length octets ≤ 16777216
+  gives : zone_text [] room includes (octets ∷ []) ≡ Ok records
+  keeps : zone_of None records.rrs ≡ Ok zone
+
+module _ (told : FilesTold) (file : List ℕ) (records : ZoneText) (zone : Zone) (server : Labels) where
+  abbrev row : MetaRow
+  row = record { file = file; server = server; origin = None }
+
+  files_read : Each everything_left (λ left. IsRead told left.records left.includes file records zone
+      → zone_files meta row left told ≡ Reads (record { names = file ∷ []; text = records }))
+  unfolding zone_files
+  files_read left is =
+      ap (λ (name : List ℕ). file_octets name told >>= (λ text. files_behind meta [] left left.includes (name ∷ []) (text ∷ []) told)) is.named
+      ∙ goes_on (file_octets file told) is.octets (λ text. files_behind meta [] left left.includes (file ∷ []) (text ∷ []) told) (file_read told file is.octets is.holds is.short)
+      ∙ one_file told left.includes (file ∷ []) (is.octets ∷ []) records left is.gives
+
+  zone_is_read : Each everything_left (λ left. IsRead told left.records left.includes file records zone
+      → zone_read meta row left told ≡ Reads (record { zone = zone; left = left_behind left records }))
+  unfolding zone_read
+  zone_is_read left is =
+      goes_on (zone_files meta row left told) (record { names = file ∷ []; text = records })
+      (λ files. unless_refused (of_rule files.names) (zone_of None files.text.rrs) >>= (λ found. Reads (record { zone = found; left = left_behind left files.text }))) (files_read left is)
+      ∙ not_refused (of_rule (file ∷ [])) (zone_of None records.rrs) zone (λ found. Reads (record { zone = found; left = left_behind left records })) is.keeps
+
+  row_read : (number : ℕ) (servers : List Server) → IsNewServer server servers → Each everything_left (λ left. IsRead told left.records left.includes file records zone
+      → with_row meta number row (record { left = left; servers = servers }) told ≡ Reads (record { left = left_behind left records; servers = with_server server zone servers }))
+  unfolding with_row
+  row_read number servers new left is =
+      goes_on (zone_read meta row left told) (record { zone = zone; left = left_behind left records })
+      (λ read. unless_refused (λ fault. fault) (given number server read.zone servers) >>= (λ all. Reads (record { left = read.left; servers = all }))) (zone_is_read left is)
+      ∙ not_refused (λ fault. fault) (given number server zone servers) (with_server server zone servers)
+      (λ all. Reads (record { left = left_behind left records; servers = all })) (given_new number server zone servers new)
+
+-- ---- the rows of the zones
+
+-- the server isn't that of a zone from this number on
+abbrev IsEarlier : ℕ → Server → Type 0
+IsEarlier from server = (j : ℕ) → from ≤ j → j < 10000 → name_eq (host_name (codes "ns") (decimal j)) server.name ≡ false
+
+module _ (n : ℕ) (few : n ≤ 5000) where
+  -- what a zone's file gives
+  abbrev zone_records : ℕ → ZoneText
+  zone_records i = record { rrs = rows_rrs 2 (zone_rows n i); seen = length (zone_rows n i); included = 0 }
+
+  abbrev zone_of_records : ℕ → Zone
+  zone_of_records i = record { origin = zone_name (decimal i); rrs = rows_rrs 2 (zone_rows n i) }
+
+  zone_is : (i room includes : ℕ) → i < n → 6 ≤ room → IsRead (drill_told n) room includes (zone_file i) (zone_records i) (zone_of_records i)
+  zone_is i room includes within fits = record {
+    octets = made_zone_text n i;
+    named = refl;
+    holds = zone_told n i within few;
+    short = zone_size n i (omega arith);
+    gives = text_of_rows room includes (made_zone_text n i) (zone_rows n i) (zone_same n i) (zone_rows_are n i within few) (omega (arith, zone_rows_few n i));
+    keeps = made_zone n i;
+  }
+
+  rows_read : (a k number : ℕ) (servers : List Server) → a + k ≡ n → AllByRecursion (IsEarlier a) servers → Each everything_left (λ left. 6 * k ≤ left.records
+      → Has no_rows (λ rows. with_rows meta number (map zone_row (range_with_len a k)) (record { left = left; servers = servers }) (drill_told n) ≡ Reads rows))
+  unfolding with_rows
+  rows_read a zero number servers all earlier left fits = (record { left = left; servers = servers }, refl)
+  rows_read a (suc k) number servers all earlier left fits =
+      let within : a < n = omega arith in
+      let name : Labels = host_name (codes "ns") (decimal a) in
+      let server : Server = record { name = name; zones = zone_of_records a ∷ [] } in
+      let new : IsNewServer name servers =
+      all_weaker (IsEarlier a) (λ other. name_eq name other.name ≡ false) servers (λ other is. is a (omega arith) (omega arith)) earlier in
+      let before : AllByRecursion (IsEarlier (a + 1)) servers =
+      all_weaker (IsEarlier a) (IsEarlier (a + 1)) servers (λ other is j above below. is j (omega arith) below) earlier in
+      let here : IsEarlier (a + 1) server = λ j above below. ap (λ (b : Bool). b && true) (labels_apart j a (λ e. omega arith) below (omega arith)) in
+      let room : 6 * k ≤ left.records - length (zone_rows n a) = omega (arith, fits, zone_rows_few n a) in
+      let some : 6 ≤ left.records = omega (arith, fits) in
+      let left_now = left_behind left (zone_records a) in
+      gives_behind (with_row meta number (zone_row a) (record { left = left; servers = servers }) (drill_told n))
+      (record { left = left_now; servers = servers ++ server ∷ [] })
+      (λ rows. with_rows meta (number + 1) (map zone_row (range_with_len (a + 1) k)) rows (drill_told n))
+      (row_read (drill_told n) (zone_file a) (zone_records a) (zone_of_records a) name number servers new left (zone_is a left.records left.includes within some))
+      (rows_read (a + 1) k (number + 1) (servers ++ server ∷ []) (omega arith) (all_push (IsEarlier (a + 1)) servers server before here) left_now room)
+
+  -- ---- the metadata, and the row of the root zone
+
+  metadata_read : metadata meta (drill_told n) ≡ Reads (drill_meta n)
+  unfolding metadata
+  metadata_read =
+      goes_on (file_octets meta (drill_told n)) (meta_text n) (λ octets. unless_refused of_metadata (metadata_of octets)) (file_read (drill_told n) meta (meta_text n) (meta_told n) (meta_size n few))
+      ∙ ap (λ (said : Result Metadata MetaFault). unless_refused of_metadata said) (meta_given n few)
+
+  abbrev root_records : ZoneText
+  root_records = record { rrs = rows_rrs 2 (root_rows n); seen = length (root_rows n); included = 0 }
+
+  abbrev root_of_records : Zone
+  root_of_records = record { origin = []; rrs = rows_rrs 2 (root_rows n) }
+
+  root_is : IsRead (drill_told n) 1000000 1000 (codes "root.zone") root_records root_of_records
+  root_is = record {
+    octets = root_text n;
+    named = refl;
+    holds = root_told n;
+    short = root_size n few;
+    gives = text_of_rows 1000000 1000 (root_text n) (root_rows n) (root_same n) (root_rows_are n few) (omega (arith, root_rows_count n));
+    keeps = root_zone n few;
+  }
+
+  abbrev root_server : Server
+  root_server = record { name = top; zones = root_of_records ∷ [] }
+
+  all_rows : Has no_rows (λ rows. with_rows meta 1 (root_row ∷ map zone_row (zone_numbers n)) no_rows (drill_told n) ≡ Reads rows)
+  unfolding with_rows
+  all_rows =
+      let room : 6 * n ≤ 1000000 - length (root_rows n) = omega (arith, root_rows_count n) in
+      let left_now = left_behind everything_left root_records in
+      gives_behind (with_row meta 1 root_row no_rows (drill_told n))
+      (record { left = left_now; servers = root_server ∷ [] })
+      (λ rows. with_rows meta 2 (map zone_row (zone_numbers n)) rows (drill_told n))
+      (row_read (drill_told n) (codes "root.zone") root_records root_of_records top 1 [] tt everything_left root_is)
+      (rows_read 0 n 2 (root_server ∷ []) (omega arith) (λ j above below. refl, tt) left_now room)
+
+  -- the configuration
+  configuration : (config : Config) × (conf meta (drill_told n) ≡ Reads config)
+  unfolding conf
+  configuration = (
+    record { tops = top ∷ []; servers = all_rows.0.servers },
+    goes_on (metadata meta (drill_told n)) (drill_meta n)
+        (λ found. with_rows meta 1 found.rows no_rows (drill_told n) >>= (λ rows. Reads (record { tops = found.tops; servers = rows.servers })))
+        metadata_read
+        ∙ goes_on (with_rows meta 1 (root_row ∷ map zone_row (zone_numbers n)) no_rows (drill_told n)) all_rows.0
+        (λ rows. Reads (record { tops = top ∷ []; servers = rows.servers }))
+        all_rows.1,
+  )
+
+-- the files of a drill give a configuration
+pub drill_reads : (zones : ℕ) → 1 ≤ zones → zones ≤ 5000 → (config : Config) × (conf (codes "meta.json") (drill_told zones) ≡ Reads config)
+drill_reads zones some few = configuration zones few
