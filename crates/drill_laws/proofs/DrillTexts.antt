@@ -10,9 +10,8 @@ use Rattle.drill_laws.proofs.DrillRows.{delegation_row, address_row, soa_row, al
 abbrev row_line : Row → List ℕ
 row_line row = line_text (row_words row)
 
--- ---- each line, whatever its numbers
-
--- a line of two numbers, that of three, and that of four
+-- ---- The pieces of lines, grouped as they are made and as words of a row: those of a line with two numbers, of one with
+-- three and of one with four.
 glue_two : (z d p m e q f : List ℕ) → z ++ d ++ (p ++ m) ++ e ++ (q ++ f) ≡ (z ++ (d ++ p)) ++ (m ++ ((e ++ q) ++ f))
 glue_two z d p m e q f = simp append_assoc
 
@@ -21,6 +20,8 @@ glue_three z d p m n f = simp append_assoc
 
 glue_four : (h d p m t a q b r c f : List ℕ) → h ++ d ++ ((p ++ (m ++ t)) ++ a ++ q ++ b ++ r ++ c ++ f) ≡ (h ++ (d ++ p)) ++ (m ++ ((t ++ a ++ q ++ b ++ r ++ c) ++ f))
 glue_four h d p m t a q b r c f = simp append_assoc
+
+-- ---- each line
 
 delegation_same : (i : ℕ) → delegation_line i ≡ row_line (delegation_row (decimal i))
 delegation_same i = glue_two (codes "z") (decimal i) (codes ".") (codes " NS ns.z") (decimal i) (codes ".") (codes "\n")

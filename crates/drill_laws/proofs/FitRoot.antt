@@ -1,18 +1,19 @@
 -- The records of a drill's root zone fit.
 use Rattle.std.proofs.Common.{◌≡◌, ◌≢◌, ℕ, zero, suc, ◌+◌, ◌<◌, ◌≤◌, Bool, true, false, ◌&&◌, List, [], ◌∷◌, ◌++◌, decimal, codes, flat_map, None, Ok, refl, ap, arith}
 use Rattle.std.specs.List.{AllByRecursion, range_with_len}
+use Rattle.std.proofs.Math.Bool.{and-false}
 use Rattle.std.proofs.lemmas.Bool.{false_from_ne_true}
 use Rattle.std.proofs.lemmas.Fmt.{decimal_injective}
 use Rattle.dns_data.specs.Label.{label_eq}
 use Rattle.dns_data.specs.Name.{name_eq}
 use Rattle.dns_data.specs.declared.rdata.Rr.{Rr}
-use Rattle.dns_data.proofs.Names.{label_eq_decides, all_push}
+use Rattle.dns_data.proofs.Names.{label_eq_decides, all_push, all_so}
 use Rattle.zone_rules.specs.ZoneOf.{zone_of}
 use Rattle.zone_maker.specs.Drill.{zone_numbers}
 use Rattle.drill_laws.proofs.Rows.{Row, row_rr, rows_rrs}
 use Rattle.drill_laws.proofs.Names.{zone_label, zone_name, host_name}
 use Rattle.drill_laws.proofs.DrillRows.{delegation_row, address_row, referral_rows, root_soa, root_ns, root_rows}
-use Rattle.drill_laws.proofs.Fitting.{Fits, AllFit, NoSoas, IsNewOwner, all_weaker, and_false, new_owner_fits, zone_fits}
+use Rattle.drill_laws.proofs.Fitting.{Fits, AllFit, NoSoas, IsNewOwner, new_owner_fits, zone_fits}
 
 -- the labels of two zones differ
 pub labels_apart : (i j : ℕ) → i ≢ j → i < 10000 → j < 10000 → label_eq (zone_label (decimal i)) (zone_label (decimal j)) ≡ false
@@ -36,12 +37,12 @@ later from rr is = record {
 delegation_earlier : (i line : ℕ) → i < 10000 → IsEarlier (i + 1) (row_rr line (delegation_row (decimal i)))
 delegation_earlier i line small = record {
   zone = λ j above below. ap (λ (b : Bool). b && true) (labels_apart j i (λ e. omega arith) below small);
-  host = λ j above below. and_false (label_eq (zone_label (decimal j)) (zone_label (decimal i)));
+  host = λ j above below. and-false (label_eq (zone_label (decimal j)) (zone_label (decimal i)));
 }
 
 server_earlier : (i line : ℕ) → i < 10000 → IsEarlier (i + 1) (row_rr line (address_row (codes "ns") 0 i))
 server_earlier i line small = record {
-  zone = λ j above below. and_false (label_eq (zone_label (decimal j)) (zone_label (decimal i)));
+  zone = λ j above below. and-false (label_eq (zone_label (decimal j)) (zone_label (decimal i)));
   host = λ j above below. ap (λ (b : Bool). b && true) (labels_apart j i (λ e. omega arith) below small);
 }
 
@@ -52,12 +53,12 @@ referrals_fit a (suc k) line before fits are =
     let delegation : Rr = row_rr line (delegation_row (decimal a)) in
     let server : Rr = row_rr (line + 1) (address_row (codes "ns") 0 a) in
     let zone_new : IsNewOwner (zone_name (decimal a)) before =
-    all_weaker (IsEarlier a) (λ other. name_eq (zone_name (decimal a)) other.owner ≡ false) before (λ other is. is.zone a (omega arith) small) are in
+    all_so (IsEarlier a) (λ other. name_eq (zone_name (decimal a)) other.owner ≡ false) before (λ other is. is.zone a (omega arith) small) are in
     let host_new : IsNewOwner (host_name (codes "ns") (decimal a)) before =
-    all_weaker (IsEarlier a) (λ other. name_eq (host_name (codes "ns") (decimal a)) other.owner ≡ false) before (λ other is. is.host a (omega arith) small) are in
+    all_so (IsEarlier a) (λ other. name_eq (host_name (codes "ns") (decimal a)) other.owner ≡ false) before (λ other is. is.host a (omega arith) small) are in
     let host_new_behind : IsNewOwner (host_name (codes "ns") (decimal a)) (before ++ delegation ∷ []) =
-    all_push (λ other. name_eq (host_name (codes "ns") (decimal a)) other.owner ≡ false) before delegation host_new (and_false (label_eq (zone_label (decimal a)) (zone_label (decimal a)))) in
-    let earlier : AllByRecursion (IsEarlier (a + 1)) before = all_weaker (IsEarlier a) (IsEarlier (a + 1)) before (λ other is. later a other is) are in
+    all_push (λ other. name_eq (host_name (codes "ns") (decimal a)) other.owner ≡ false) before delegation host_new (and-false (label_eq (zone_label (decimal a)) (zone_label (decimal a)))) in
+    let earlier : AllByRecursion (IsEarlier (a + 1)) before = all_so (IsEarlier a) (IsEarlier (a + 1)) before (λ other is. later a other is) are in
     let all : AllByRecursion (IsEarlier (a + 1)) ((before ++ delegation ∷ []) ++ server ∷ []) =
     all_push (IsEarlier (a + 1)) (before ++ delegation ∷ []) server
     (all_push (IsEarlier (a + 1)) before delegation earlier (delegation_earlier a line small))

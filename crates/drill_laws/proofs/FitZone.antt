@@ -1,5 +1,6 @@
 -- The records of a drill's zones fit.
 use Rattle.std.proofs.Common.{◌≡◌, ℕ, ◌%◌, Bool, true, false, ◌&&◌, ◌||◌, not, List, [], ◌∷◌, codes, decimal, Some, None, Ok, if◌then◌else◌, ◌==◌, refl, ap}
+use Rattle.std.proofs.Math.Bool.{and-false}
 use Rattle.dns_data.specs.Label.{label_eq}
 use Rattle.dns_data.specs.Name.{Labels}
 use Rattle.dns_data.specs.declared.rdata.Rr.{Rr}
@@ -10,7 +11,7 @@ use Rattle.zone_maker.specs.Drill.{next_zone, own_network}
 use Rattle.drill_laws.proofs.Rows.{row_rr, rows_rrs}
 use Rattle.drill_laws.proofs.Names.{zone_label, zone_name}
 use Rattle.drill_laws.proofs.DrillRows.{delegation_row, address_row, soa_row, alias_row, gone_rows, zone_rows}
-use Rattle.drill_laws.proofs.Fitting.{Fits, AllFit, NoSoas, and_false, new_owner_fits, zone_fits}
+use Rattle.drill_laws.proofs.Fitting.{Fits, AllFit, NoSoas, new_owner_fits, zone_fits}
 
 module _ (n i : ℕ) where
   abbrev number : List ℕ
@@ -31,7 +32,7 @@ module _ (n i : ℕ) where
 
   -- an owner is none of a name with fewer or with other labels in the zone
   other : (own && false) ≡ false
-  other = and_false own
+  other = and-false own
 
   abbrev soa : Rr
   soa = row_rr 2 (soa_row number)
@@ -60,9 +61,9 @@ module _ (n i : ℕ) where
 
   delegation_fits : Fits origin (soa ∷ []) delegation
   delegation_fits = record {
-    new = ap (λ (b : Bool). b || false) (and_false (own && true));
+    new = ap (λ (b : Bool). b || false) (and-false (own && true));
     below = below;
-    rules = ap (λ (b : Bool). if b || false then Some CnameAndOther else None) (and_false (own && true));
+    rules = ap (λ (b : Bool). if b || false then Some CnameAndOther else None) (and-false (own && true));
   }
 
   server_fits : Fits origin (soa ∷ delegation ∷ []) server

@@ -2,6 +2,7 @@
 use Rattle.std.proofs.Common.{◌≡◌, Bool, true, false, cond, not, ◌&&◌, ◌||◌, List, [], ◌∷◌, ◌++◌, Option, Some, None, Ok, Err, if◌then◌else◌, filter, refl, ap, ◌∙◌}
 use Rattle.std.specs.List.{list_any, AllByRecursion}
 use Rattle.std.specs.Option.{option_or, option_map}
+use Rattle.std.proofs.Math.Bool.{and-false}
 use Rattle.dns_data.specs.Answers.{◌>>=◌}
 use Rattle.dns_data.specs.Distinct.{distinct_behind}
 use Rattle.dns_data.specs.Identical.{is_identical}
@@ -9,6 +10,7 @@ use Rattle.dns_data.specs.Name.{Labels, name_eq, is_prefix}
 use Rattle.dns_data.specs.Rdata.{data_eq}
 use Rattle.dns_data.specs.declared.rdata.Rr.{Rr}
 use Rattle.dns_data.specs.declared.rr_type.RrType.TheVariants as types
+use Rattle.dns_data.proofs.Names.{all_so}
 use Rattle.zone_rules.specs.Apex.{apex_of, apex_of_soas, is_type, is_wildcard}
 use Rattle.zone_rules.specs.Rules.{had, had_at, had_other_at, is_soa_elsewhere, is_second_soa, is_star_record, is_second_cname, is_beside_cname, is_second_dname, rule_at, first_fault_behind}
 use Rattle.zone_rules.specs.ZoneOf.{within, unless_faulty, checked, zone_under, zone_of}
@@ -39,15 +41,6 @@ pub none_of : {A : Type 0} (test : A → Bool) (items : List A) → AllByRecursi
 none_of test [] fail = refl
 none_of test (item ∷ items) fail = let rest = none_of test items fail.1 in λ i. fail.0 i || rest i
 
--- what holds along a list holds along it in a weaker form
-pub all_weaker : {A : Type 0} (P Q : A → Type 0) (items : List A) → ((item : A) → P item → Q item) → AllByRecursion P items → AllByRecursion Q items
-all_weaker P Q [] weaker are = tt
-all_weaker P Q (item ∷ items) weaker are = (weaker item are.0, all_weaker P Q items weaker are.1)
-
-pub and_false : (b : Bool) → (b && false) ≡ false
-and_false true = refl
-and_false false = refl
-
 both_false : (b : Bool) → cond b false false ≡ false
 both_false true = refl
 both_false false = refl
@@ -59,7 +52,7 @@ IsNewOwner owner before = AllByRecursion (λ other. name_eq owner other.owner �
 none_at : (owner : Labels) (test : Rr → Bool) (before : List Rr) → IsNewOwner owner before → list_any (λ other. name_eq owner other.owner && test other) before ≡ false
 none_at owner test before new =
     none_of (λ other. name_eq owner other.owner && test other) before
-    (all_weaker (λ other. name_eq owner other.owner ≡ false) (λ other. (name_eq owner other.owner && test other) ≡ false) before
+    (all_so (λ other. name_eq owner other.owner ≡ false) (λ other. (name_eq owner other.owner && test other) ≡ false) before
     (λ other apart. ap (λ (b : Bool). b && test other) apart) new)
 
 pub new_owner_fits : (origin : Labels) (before : List Rr) (rr : Rr) → IsNewOwner rr.owner before → is_prefix origin rr.owner ≡ true
@@ -69,7 +62,7 @@ new_owner_fits origin before rr new below no_soa no_dname no_star =
     let second_soa : is_second_soa before rr ≡ false = ap (λ (b : Bool). b && had types.Soa before) no_soa in
     let no_cname : had_at types.Cname rr.owner before ≡ false = none_at rr.owner (is_type types.Cname) before new in
     let no_other : had_other_at types.Cname rr.owner before ≡ false = none_at rr.owner (λ other. not (is_type types.Cname other)) before new in
-    let second_cname : is_second_cname before rr ≡ false = ap (λ (b : Bool). is_type types.Cname rr && b) no_cname ∙ and_false (is_type types.Cname rr) in
+    let second_cname : is_second_cname before rr ≡ false = ap (λ (b : Bool). is_type types.Cname rr && b) no_cname ∙ and-false (is_type types.Cname rr) in
     let beside_cname : is_beside_cname before rr ≡ false =
     (λ i. cond (is_type types.Cname rr) (no_other i) (no_cname i)) ∙ both_false (is_type types.Cname rr) in
     let second_dname : is_second_dname before rr ≡ false = ap (λ (b : Bool). b && had_at types.Dname rr.owner before) no_dname in

@@ -3,7 +3,7 @@ use Rattle.std.proofs.Common.{◌≡◌, ℕ, zero, suc, ◌+◌, ◌-◌, ◌*�
 use Rattle.std.specs.List.{AllByRecursion, range_with_len}
 use Rattle.std.proofs.lemmas.Bool.Decides.{nat_tests}
 use Rattle.dns_data.specs.Name.{Labels, name_eq}
-use Rattle.dns_data.proofs.Names.{all_push}
+use Rattle.dns_data.proofs.Names.{all_push, all_so}
 use Rattle.io_edges.specs.Files.{FilesTold, Holds}
 use Rattle.master_read.specs.ZoneText.{zone_text}
 use Rattle.master_read.specs.declared.zone_text.ZoneText.{ZoneText}
@@ -28,7 +28,6 @@ use Rattle.drill_laws.proofs.Rows.{rows_rrs, text_of_rows}
 use Rattle.drill_laws.proofs.Names.{zone_name, host_name}
 use Rattle.drill_laws.proofs.DrillRows.{root_rows, root_rows_are, root_rows_count, zone_rows, zone_rows_are, zone_rows_few}
 use Rattle.drill_laws.proofs.DrillTexts.{root_same, zone_same}
-use Rattle.drill_laws.proofs.Fitting.{all_weaker}
 use Rattle.drill_laws.proofs.FitRoot.{labels_apart, root_zone}
 use Rattle.drill_laws.proofs.FitZone.{made_zone}
 use Rattle.drill_laws.proofs.Held.{meta_told, root_told, zone_told}
@@ -147,9 +146,9 @@ module _ (n : ℕ) (few : n ≤ 5000) where
       let name : Labels = host_name (codes "ns") (decimal a) in
       let server : Server = record { name = name; zones = zone_of_records a ∷ [] } in
       let new : IsNewServer name servers =
-      all_weaker (IsEarlier a) (λ other. name_eq name other.name ≡ false) servers (λ other is. is a (omega arith) (omega arith)) earlier in
+      all_so (IsEarlier a) (λ other. name_eq name other.name ≡ false) servers (λ other is. is a (omega arith) (omega arith)) earlier in
       let before : AllByRecursion (IsEarlier (a + 1)) servers =
-      all_weaker (IsEarlier a) (IsEarlier (a + 1)) servers (λ other is j above below. is j (omega arith) below) earlier in
+      all_so (IsEarlier a) (IsEarlier (a + 1)) servers (λ other is j above below. is j (omega arith) below) earlier in
       let here : IsEarlier (a + 1) server = λ j above below. ap (λ (b : Bool). b && true) (labels_apart j a (λ e. omega arith) below (omega arith)) in
       let room : 6 * k ≤ left.records - length (zone_rows n a) = omega (arith, fits, zone_rows_few n a) in
       let some : 6 ≤ left.records = omega (arith, fits) in

@@ -68,6 +68,7 @@ escaped_server : (i : ℕ) → i < 10000 → escape (server_text i) ≡ server_t
 unfolding escape_byte
 escaped_server i small = ap (λ (rest : List ℕ). codes "ns.z" ++ rest) (escaped_digits (decimal i) (codes ".") (number_of i small).digits)
 
+-- the pieces of a row, grouped as they are made and as strings in quotes
 glue : (f d x q m y e : List ℕ) → f ++ d ++ (x ++ (q ++ m)) ++ d ++ (y ++ (q ++ e)) ≡ f ++ (((d ++ x) ++ q) ++ (m ++ (((d ++ y) ++ q) ++ e)))
 glue f d x q m y e = simp append_assoc
 

@@ -2,11 +2,12 @@
 use Rattle.std.proofs.Common.{◌≡◌, ℕ, Bool, false, ◌&&◌, List, [], ◌∷◌, ◌++◌, Ok, Err, if◌then◌else◌, refl, ap, ◌∙◌}
 use Rattle.std.specs.List.{list_any, AllByRecursion}
 use Rattle.dns_data.specs.Name.{Labels, name_eq}
+use Rattle.dns_data.proofs.Names.{all_so}
 use Rattle.net_model.specs.declared.config.Server.{Server}
 use Rattle.net_model.specs.declared.config.Zone.{Zone}
 use Rattle.config_load.specs.Servers.{has_zone, with_zone, given}
 use Rattle.config_load.specs.declared.fault.LoadFault.TheVariants.{ZoneTwice}
-use Rattle.drill_laws.proofs.Fitting.{none_of, all_weaker}
+use Rattle.drill_laws.proofs.Fitting.{none_of}
 
 -- no server has the name
 abbrev pub IsNewServer : Labels → List Server → Type 0
@@ -19,7 +20,7 @@ with_server name zone servers = servers ++ record { name = name; zones = zone �
 no_zone : (name origin : Labels) (servers : List Server) → IsNewServer name servers → has_zone name origin servers ≡ false
 no_zone name origin servers new =
     none_of (λ server. name_eq name server.name && list_any (λ zone. name_eq origin zone.origin) server.zones) servers
-    (all_weaker (λ server. name_eq name server.name ≡ false) (λ server. (name_eq name server.name && list_any (λ zone. name_eq origin zone.origin) server.zones) ≡ false) servers
+    (all_so (λ server. name_eq name server.name ≡ false) (λ server. (name_eq name server.name && list_any (λ zone. name_eq origin zone.origin) server.zones) ≡ false) servers
     (λ server apart. ap (λ (b : Bool). b && list_any (λ zone. name_eq origin zone.origin) server.zones) apart) new)
 
 behind_others : (name : Labels) (zone : Zone) (servers : List Server) → IsNewServer name servers → with_zone name zone servers ≡ with_server name zone servers
