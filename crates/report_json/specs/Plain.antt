@@ -19,7 +19,8 @@ IsWhole (negative z) = ⊥
 IsWhole (float x) = ⊥
 
 abbrev mutual
-  -- each number is such a one, and the members of each object stand in the order of the octets of their names, each once
+  -- the value is written and read back as it is: each number is a whole one of 64 bits, and the members of each object
+  -- stand in the order of the octets of their names, each once
   pub IsPlain : Data → Type 0
   IsPlain null = ⊤
   IsPlain (boolean b) = ⊤
@@ -28,10 +29,12 @@ abbrev mutual
   IsPlain (array values) = ArePlain values
   IsPlain (object members) = MembersPlain members
 
+  -- all values of a list are so
   pub ArePlain : Items → Type 0
   ArePlain no_items = ⊤
   ArePlain (item value more) = IsPlain value × ArePlain more
 
+  -- and all members of an object, each named below those behind it
   pub MembersPlain : Members → Type 0
   MembersPlain no_members = ⊤
   MembersPlain (member key value more) = AreAbove key more × IsPlain value × MembersPlain more
