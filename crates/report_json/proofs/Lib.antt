@@ -1,4 +1,7 @@
+pub mod LineFeed
+pub mod PlainValues
+pub mod ReadBack
 pub mod Sending
-pub mod Floats
+pub mod TextsRead
 pub mod Walks
 mod Worked

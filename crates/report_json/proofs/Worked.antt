@@ -20,7 +20,8 @@ use Rattle.net_model.specs.declared.walk.Walk.{Walk}
 use Rattle.report_json.specs.Ask.{ask_text}
 use Rattle.graph_form.specs.declared.report.Report.{Report}
 use Rattle.graph_form.specs.declared.report.ReportEntry.{ReportEntry}
-use Rattle.report_json.specs.Report.{report_text}
+use Rattle.report_json.specs.Report.{entry_text, report_text}
+use Rattle.report_json.specs.Walks.{walk_text}
 
 abbrev t : Labels
 t = codes "t" ∷ []
@@ -101,3 +102,14 @@ places : report_text (report 2 1 1 (entry (faults.NoAddress cut) types.A true []
     ≡ codes "{\"classes\":2,\"faults\":[{\"kind\":\"no-address\",\"place\":{\"cut\":\"a.t.\",\"ns\":\"b.t.\",\"server\":\"ns.t.\",\"zone\":\"t.\"},\"query\":\"a.t.\",\"repeats\":true,\"type\":\"A\",\"walks\":[]},{\"kind\":\"answers-differ\",\"place\":{\"class\":\"below\",\"name\":\"t.\",\"type\":\"MX\"},\"query\":\"a.t.\",\"repeats\":false,\"type\":\"MX\",\"walks\":[]}],\"names\":1,\"rewrites\":1}\n"
 unfolding serde_json_on_literals digits
 places = refl
+
+-- an entry by itself, and a walk
+lame : entry_text (entry (faults.Lame cut) types.A false (from (at a ∷ []) (Refer cut ∷ []) (leaves.Lame b) ∷ []))
+    ≡ codes "{\"kind\":\"lame-delegation\",\"place\":{\"cut\":\"a.t.\",\"ns\":\"b.t.\",\"server\":\"ns.t.\",\"zone\":\"t.\"},\"query\":\"a.t.\",\"repeats\":false,\"type\":\"A\",\"walks\":[[{\"cut\":\"a.t.\",\"did\":\"refer\",\"name\":\"a.t.\",\"ns\":\"b.t.\",\"server\":\"ns.t.\",\"zone\":\"t.\"},{\"did\":\"lame\",\"name\":\"a.t.\",\"ns\":\"b.t.\"}]]}"
+unfolding serde_json_on_literals
+lame = refl
+
+alias : walk_text (from (at a ∷ at b ∷ []) (Rewrite place false b ∷ []) leaves.NxDomain)
+    ≡ codes "[{\"did\":\"cname\",\"name\":\"a.t.\",\"owner\":\"a.t.\",\"server\":\"ns.t.\",\"to\":\"b.t.\",\"zone\":\"t.\"},{\"did\":\"nxdomain\",\"name\":\"b.t.\",\"server\":\"ns.t.\",\"zone\":\"t.\"}]"
+unfolding serde_json_on_literals
+alias = refl

@@ -1,4 +1,4 @@
--- The text of a report.
+-- The texts of a report and of an entry.
 use Rattle.std.specs.Prelude.{ℕ, List, [], ◌∷◌, ◌++◌, map, codes}
 use Rattle.dns_data.specs.RrType.{word_of}
 use Rattle.graph_form.specs.declared.report.Report.{Report}
@@ -22,6 +22,10 @@ entry_value entry = object_of (
     (codes "kind", string (kind_word entry.seen.fault))
     ∷ (codes "place", fault_value entry.seen.fault)
     ∷ (codes "query", name_value entry.query) ∷ showing_members entry)
+
+-- its text without white space
+abbrev pub entry_text : ReportEntry → List ℕ
+entry_text entry = compact_text (entry_value entry)
 
 -- a report: how many classes and names there are, how many rewrites a query may use, and the entries
 abbrev pub report_value : Report → Data

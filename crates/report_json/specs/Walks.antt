@@ -9,6 +9,7 @@ use Rattle.net_model.specs.declared.walk.Leaf.TheVariants.{Answer, NoData, NxDom
 use Rattle.net_model.specs.declared.walk.State.{State}
 use Rattle.net_model.specs.declared.walk.Walk.{Walk}
 use Rattle.serde_json.specs.Data.{Data, string}
+use Rattle.serde_json.specs.Written.{compact_text}
 use Rattle.report_json.specs.Json.{array_of, object_of, name_value, texts_value}
 
 -- the zone, as the last member of a step: there is none where the server holds no zone for the name
@@ -89,3 +90,7 @@ end_values leaf (state ∷ next ∷ states) = end_values leaf (next ∷ states)
 -- a walk
 abbrev pub walk_value : Walk → Data
 walk_value walk = array_of (hop_values walk.states walk.hops ++ end_values walk.leaf walk.states)
+
+-- its text without white space
+abbrev pub walk_text : Walk → List ℕ
+walk_text walk = compact_text (walk_value walk)

@@ -1,7 +1,8 @@
 //! The texts of JSON that go to out (RFC 8259).
 //!
-//! The layer above may rest on this: `ask_text` gives the octets that the definition `ask_text` says of a name, a type
-//! and walks.
+//! The layers above may rest on these: `report_text`, `entry_text`, `walk_text` and `ask_text` give the octets that the
+//! definitions of the same names say; the texts are read as the values that they are of (`laws::texts_read_back`); and two
+//! texts of entries, or of walks, are equal exactly where the values are (`laws::texts_tell_values`).
 //!
 //! Costs: a text is written into one buffer as its values are gone through, once, and no tree of values is made. The
 //! text of a name or of data takes memory of its own while it is copied.
@@ -9,9 +10,11 @@
 
 mod ask;
 mod fault;
+pub mod laws;
 mod object;
 mod report;
 mod walk;
 
 pub use ask::ask_text;
-pub use report::report_text;
+pub use report::{entry_text, report_text};
+pub use walk::walk_text;

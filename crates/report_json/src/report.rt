@@ -1,9 +1,9 @@
-//! Reports.
+//! Reports and their entries.
 
 ghost use Rattle.std.specs.Prelude.{◌≡◌, map, IfOk, OnOk};
 ghost use Rattle.serde_json.specs.Events.{SendsValue, SendsMembers};
 ghost use Rattle.report_json.specs.Json.{array_of, json_members};
-ghost use Rattle.report_json.specs.Report.{showing_members, entry_value, report_value, report_text};
+ghost use Rattle.report_json.specs.Report.{showing_members, entry_value, entry_text, report_value, report_text};
 
 use crate::fault::{kind_word, send_fault};
 use crate::object::send_name;
@@ -39,6 +39,34 @@ pub fn report_text(alloc: Global, report: &Report) -> Result<Octets, NoMemory>
         return Err(NoMemory);
     };
     text.push(b'\n')?;
+    Ok(Octets::from_vec(text))
+}
+
+/// An entry, and where memory for the texts of its names comes from.
+#[derive(Drop)]
+struct WrittenEntry<'a> {
+    alloc: Global,
+    entry: &'a ReportEntry,
+}
+
+impl Described for WrittenEntry<'_> {
+    ghost writes = { λ written. SendsValue (entry_value written.entry.now) };
+}
+
+impl Serialize for WrittenEntry<'_> {
+    fn serialize<S: Serializer>(&self, out: &mut S) -> Result<(), S::Error> {
+        send_entry(self.alloc, self.entry, out)
+    }
+}
+
+/// The text of an entry, as it stands in a report, without a line feed.
+pub fn entry_text(alloc: Global, entry: &ReportEntry) -> Result<Octets, NoMemory>
+    ensures { IfOk result (λ text. text ≡ entry_text entry.now) }
+{
+    let written = WrittenEntry { alloc, entry };
+    let Ok(text) = serde_json::to_vec(alloc, &written) else {
+        return Err(NoMemory);
+    };
     Ok(Octets::from_vec(text))
 }
 

@@ -28,7 +28,8 @@ use Rattle.net_model.specs.Shown.{FaultSetting, with_sets, Refers, EndsBehind, L
 use Rattle.net_model.specs.Step.{following}
 use Rattle.net_model.specs.Tails.{AreTails, is_overlong}
 use Rattle.net_model.specs.Walk.{IsWalk}
-use Rattle.net_model.proofs.OneClass.{one_class}
+use Rattle.walk_laws.proofs.JoinedGround.{own_covers}
+use Rattle.walk_laws.proofs.Represents.{represents_everywhere}
 use Rattle.walk_laws.proofs.WalksAlike.ClassTails.{named_everywhere, tails_in_class}
 use Rattle.walk_laws.proofs.WalksAlike.QueryWalks.{walks_kept, front_kept}
 use Rattle.net_model.proofs.TrialOrder.{one_representative}
@@ -233,45 +234,29 @@ module _ (config : Config) (rewrites : ℕ) (ground : Ground) (told : (name : La
         };
       }
 
--- each fault that a query shows, but that a name is overlong, the representative of its class shows, under every ground that
--- covers the configuration
+-- each fault that a query shows, the representative of its class shows, under every ground that covers the configuration. A
+-- named name is alone in its class. Of a class below a name, a member and the representative have unnamed tails
+-- (ClassTails.tails_in_class), so each walk of the member that doesn't end overlong is, with the tail replaced, one of the
+-- representative (QueryWalks.walks_kept), and a front of one where a referral on it is all that counts (front_kept). With the
+-- tail replaced the walks show what they showed: the cuts, the places and the ends that no name enters stay (refers_kept,
+-- rewrite_stays, shown). Answers are shown of one class, and both are in the same (class_kept). An overlong fault is told of
+-- representatives under the configuration's own ground alone, and such a query represents its class under this ground too
+-- (Represents.represents_everywhere); there is one (TrialOrder.one_representative), so the query is it.
 pub carried_under : (config : Config) (rewrites : ℕ) (ground : Ground) → Covers ground config → (class : Class) (query representative : Labels) → IsName query
     → IsClassOf ground query class → IsRepresentative ground class representative
-    → (rtype : RrType) (fault : Fault) → ((place : Place) → fault ≢ faults.Overlong place)
-    → ShowsIn config rewrites query rtype fault → ShowsIn config rewrites representative rtype fault
-carried_under config rewrites ground covers (Exact alone) query representative is of_class stands rtype fault never shows =
-    subst (λ (q : Labels). ShowsIn config rewrites q rtype fault) (sym (stands ∙ of_class.0)) shows
-carried_under config rewrites ground covers (Below above) query representative is of_class stands rtype fault never shows =
-    carried_below config rewrites ground (named_everywhere config ground covers) above query representative is of_class stands rtype fault never shows
-
--- ---- under the configuration's own ground
-
--- only the representative itself shows an overlong fault
-overlong_itself : (config : Config) (rewrites : ℕ) (class : Class) (query representative : Labels)
-    → IsClassOf (ground_of config) query class → IsRepresentative (ground_of config) class representative
-    → (rtype : RrType) (place : Place) → ShowsIn config rewrites query rtype (faults.Overlong place)
-    → ShowsIn config rewrites representative rtype (faults.Overlong place)
-overlong_itself config rewrites class query representative of_class stands rtype place shows =
+    → (rtype : RrType) (fault : Fault) → ShowsIn config rewrites query rtype fault → ShowsIn config rewrites representative rtype fault
+carried_under config rewrites ground covers class query representative is of_class stands rtype (faults.Overlong place) shows =
     let represents : Represents config query = shows.shows.may in
-    let same : class ≡ represents.0 = one_class (ground_of config) query represents.0 class represents.1 of_class in
     let one : query ≡ representative =
-    one_representative (ground_of config) represents.0 query representative represents.2
-    (subst (λ (c : Class). IsRepresentative (ground_of config) c representative) same stands) in
+    one_representative ground class query representative (represents_everywhere config ground covers class query of_class represents) stands in
     subst (λ (q : Labels). ShowsIn config rewrites q rtype (faults.Overlong place)) one shows
+carried_under config rewrites ground covers (Exact alone) query representative is of_class stands rtype fault shows =
+    subst (λ (q : Labels). ShowsIn config rewrites q rtype fault) (sym (stands ∙ of_class.0)) shows
+carried_under config rewrites ground covers (Below above) query representative is of_class stands rtype fault shows =
+    carried_below config rewrites ground (named_everywhere config ground covers) above query representative is of_class stands rtype fault (λ place e. cc) shows
 
--- each fault that a query shows, the representative of its class shows. A named name is alone in its class. Of a class below
--- a name, a member and the representative have unnamed tails (ClassTails.tails_in_class), so each walk of the member that
--- doesn't end overlong is, with the tail replaced, one of the representative (QueryWalks.walks_kept), and a front of one where
--- a referral on it is all that counts (front_kept). With the tail replaced the walks show what they showed: the cuts, the
--- places and the ends that no name enters stay (refers_kept, rewrite_stays, shown). Answers are shown of one class, and both
--- are in the same (class_kept). An overlong fault is told of the representative alone, which is one (OneClass.one_class,
--- TrialOrder.one_representative), so the query is it.
+-- so it does under the configuration's own ground
 pub carried : (config : Config) (rewrites : ℕ) (class : Class) (query representative : Labels) → IsName query
     → IsClassOf (ground_of config) query class → IsRepresentative (ground_of config) class representative
     → (rtype : RrType) (fault : Fault) → ShowsIn config rewrites query rtype fault → ShowsIn config rewrites representative rtype fault
-carried config rewrites class query representative is of_class stands rtype (faults.Overlong place) shows =
-    overlong_itself config rewrites class query representative of_class stands rtype place shows
-carried config rewrites (Exact alone) query representative is of_class stands rtype fault shows =
-    subst (λ (q : Labels). ShowsIn config rewrites q rtype fault) (sym (stands ∙ of_class.0)) shows
-carried config rewrites (Below above) query representative is of_class stands rtype fault shows =
-    carried_below config rewrites (ground_of config) (λ name named. named) above query representative is of_class stands rtype fault (λ place e. cc) shows
+carried config rewrites = carried_under config rewrites (ground_of config) (own_covers config)

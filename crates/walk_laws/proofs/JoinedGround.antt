@@ -1,5 +1,6 @@
--- A joined ground covers each of its configurations, and names the names that it was given.
-use Rattle.std.proofs.Common.{◌≡◌, ◌∙◌, List, [], ◌∷◌, ◌++◌, map, flat_map, Contains, refl, sym, ap, subst, append_assoc, append-nil, inl, inr}
+-- A joined ground covers each of its configurations, and names the names that it was given. A configuration's own ground
+-- covers it, for it is the joined ground of it alone.
+use Rattle.std.proofs.Common.{◌≡◌, ◌∙◌, List, [], ◌∷◌, ◌++◌, map, flat_map, Contains, refl, sym, ap, ap₂, subst, append_assoc, append-nil, inl, inr}
 use Rattle.std.proofs.lemmas.List.Elements.{Contains-append_left, Contains-append_right}
 use Rattle.dns_data.specs.Name.{Labels}
 use Rattle.dns_data.specs.declared.rdata.Rdata.{Rdata}
@@ -9,7 +10,7 @@ use Rattle.dns_data.proofs.Membership.{none_in_nil, has_first, has_later, first_
 use Rattle.net_model.specs.declared.config.Config.{Config}
 use Rattle.net_model.specs.declared.config.Zone.{Zone}
 use Rattle.net_model.specs.Prefix.{prefixes}
-use Rattle.net_model.specs.Reading.{IsNamed, Redirection, Covers, zones, records, origins_and_owners, redirection_of, redirections_of, joined_ground}
+use Rattle.net_model.specs.Reading.{Ground, IsNamed, Redirection, Covers, zones, records, origins_and_owners, redirection_of, redirections_of, ground_of, joined_ground}
 use Rattle.net_model.proofs.Prefixes.{prefixes_have, from_prefixes}
 
 -- the owner of a record's redirection is the record's
@@ -71,3 +72,15 @@ module _ (configs : List Config) (names : List Labels) where
   -- what was given is named
   pub given_named : (name : Labels) → Contains names name → IsNamed (joined_ground configs names) name
   given_named name has = record { base = name; among = base name (Contains-append_right (flat_map origins_and_owners configs) names name has); reads = ([], refl) }
+
+-- the root with the prefixes of names, and redirections
+abbrev ground_from : List Labels → List Redirection → Ground
+ground_from given redirections = record { names = [] ∷ flat_map prefixes given; redirections = redirections }
+
+-- the ground of one configuration joined with nothing is its own
+alone_is_own : (config : Config) → joined_ground (config ∷ []) [] ≡ ground_of config
+alone_is_own config =
+    ap₂ ground_from (append-nil (origins_and_owners config ++ []) ∙ append-nil (origins_and_owners config)) (append-nil (redirections_of config))
+
+pub own_covers : (config : Config) → Covers (ground_of config) config
+own_covers config = subst (λ (ground : Ground). Covers ground config) (alone_is_own config) (joined_covers (config ∷ []) [] config (has_first config []))

@@ -1,5 +1,8 @@
 pub mod FaultsCarried
 pub mod GivenSets
 pub mod JoinedGround
+pub mod Represents
 pub mod Returns
+pub mod SameOutcomes
 pub mod WalksAlike
+mod Worked

@@ -7,3 +7,4 @@ pub use Rattle.net_model.specs.Step
 pub use Rattle.net_model.specs.Tails
 pub use Rattle.net_model.specs.Tree
 pub use Rattle.net_model.specs.Walk
+pub mod Outcome

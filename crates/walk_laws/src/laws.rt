@@ -1,6 +1,6 @@
 //! Laws over the definitions.
 
-ghost use Rattle.std.specs.Prelude.{◌≡◌, ◌≢◌, ℕ, ◌≤◌, true, List, [], ◌∷◌, ◌++◌, length};
+ghost use Rattle.std.specs.Prelude.{◌≡◌, ℕ, ◌≤◌, true, List, ◌++◌, length, Contains};
 ghost use Rattle.dns_data.specs.Name.{Labels, IsName};
 ghost use Rattle.dns_data.specs.declared.rr_type.RrType.{RrType};
 ghost use Rattle.net_model.specs.declared.class.Class.{Class};
@@ -13,13 +13,14 @@ ghost use Rattle.net_model.specs.declared.walk.State.{State};
 ghost use Rattle.net_model.specs.declared.walk.Walk.{Walk};
 ghost use Rattle.net_model.specs.Class.{IsClassOf, IsRepresentative};
 ghost use Rattle.net_model.specs.Learnt.{IsInForce};
-ghost use Rattle.net_model.specs.Reading.{Ground, Covers, ground_of};
+ghost use Rattle.net_model.specs.Reading.{Ground, IsNamed, Covers, ground_of, joined_ground};
 ghost use Rattle.net_model.specs.Returns.{ComesBack, hops_round, RewritesAt};
-ghost use Rattle.net_model.specs.Shown.{ShowsLimit, ShowsIn};
+ghost use Rattle.net_model.specs.Shown.{Represents, ShowsLimit, ShowsIn};
 ghost use Rattle.net_model.specs.Step.{Setting, following};
 ghost use Rattle.net_model.specs.Tails.{AreTails, is_overlong, WalksAs};
 ghost use Rattle.net_model.specs.Tree.{IsReached, AreReached, HasMoreThan};
-ghost use Rattle.net_model.specs.Walk.{IsWalk};
+ghost use Rattle.net_model.specs.Walk.{IsWalk, IsBoundedWith};
+ghost use Rattle.walk_laws.specs.Outcome.{HaveSameOutcomes};
 
 /// With so many rewrites a configuration has one set in force: there is one, and no other.
 pub fn one_in_force()
@@ -64,8 +65,17 @@ pub fn return_law()
         → (place : Place) × RewritesAt (hops_round walk back) place × ShowsIn config rewrites query rtype (faults.Limit place) }
 {}
 
-/// Each fault that a query shows, the representative of its class shows, with the same type. So it is under every ground that
-/// covers the configuration, but for an overlong name, which is told of the representatives under its own ground alone.
+/// Grounds that cover a configuration: its own, and each that joins it with others and with given names. A joined ground
+/// names the names that it was given.
+pub fn covering_grounds()
+    ensures own { (config : Config) → Covers (ground_of config) config }
+    ensures joined { (configs : List Config) (given : List Labels) (config : Config) → Contains configs config → Covers (joined_ground configs given) config }
+    ensures given { (configs : List Config) (given : List Labels) (name : Labels) → Contains given name → IsNamed (joined_ground configs given) name }
+{}
+
+/// Each fault that a query shows, the representative of its class shows, with the same type, under the configuration's own
+/// ground and under every one that covers the configuration. An overlong name is told of the representatives under the own
+/// ground alone, and such a query represents its class under every ground that covers the configuration.
 pub fn carrying()
     ensures own { (config : Config) (rewrites : ℕ) (class : Class) (query representative : Labels) → IsName query
         → IsClassOf (ground_of config) query class → IsRepresentative (ground_of config) class representative
@@ -73,6 +83,25 @@ pub fn carrying()
     ensures covering { (config : Config) (rewrites : ℕ) (base : Ground) → Covers base config
         → (class : Class) (query representative : Labels) → IsName query
         → IsClassOf base query class → IsRepresentative base class representative
-        → (rtype : RrType) (fault : Fault) → ((place : Place) → fault ≢ faults.Overlong place)
-        → ShowsIn config rewrites query rtype fault → ShowsIn config rewrites representative rtype fault }
+        → (rtype : RrType) (fault : Fault) → ShowsIn config rewrites query rtype fault → ShowsIn config rewrites representative rtype fault }
+    ensures represents { (config : Config) (base : Ground) → Covers base config
+        → (class : Class) (query : Labels) → IsClassOf base query class → Represents config query → IsRepresentative base class query }
+{}
+
+/// Queries of one class of which no walk with a type ends in a name that is too long have the same outcomes with it, whatever
+/// servers are followed, under every ground that covers the configuration. Where it is so of one of them, it is so of the
+/// class's representative, which has the same outcomes.
+pub fn outcomes()
+    ensures members { (setting : Setting) (base : Ground) → Covers base setting.config
+        → (class : Class) (one other : Labels) → IsClassOf base one class → IsClassOf base other class
+        → (rtype : RrType) → IsBoundedWith setting one rtype → IsBoundedWith setting other rtype
+        → HaveSameOutcomes setting one other rtype }
+    ensures bounded { (setting : Setting) (base : Ground) → Covers base setting.config
+        → (class : Class) (query representative : Labels) → IsName query
+        → IsClassOf base query class → IsRepresentative base class representative
+        → (rtype : RrType) → IsBoundedWith setting query rtype → IsBoundedWith setting representative rtype }
+    ensures representative { (setting : Setting) (base : Ground) → Covers base setting.config
+        → (class : Class) (query representative : Labels) → IsName query
+        → IsClassOf base query class → IsRepresentative base class representative
+        → (rtype : RrType) → IsBoundedWith setting query rtype → HaveSameOutcomes setting query representative rtype }
 {}

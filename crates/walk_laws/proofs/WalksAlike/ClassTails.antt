@@ -13,7 +13,7 @@ use Rattle.net_model.specs.declared.config.Config.{Config}
 use Rattle.net_model.specs.Class.{IsClassOf, IsRepresentative}
 use Rattle.net_model.specs.Prefix.{prefixes}
 use Rattle.net_model.specs.Reading.{Redirection, ReadsAlong, Ground, IsNamed, Covers, redirections_of, origins_and_owners, ground_of}
-use Rattle.net_model.specs.Tails.{AreTails}
+use Rattle.net_model.specs.Tails.{AreTails, IsUnnamedTail}
 use Rattle.net_model.proofs.FirstLabel.{label_of_name, shorter_first}
 use Rattle.net_model.proofs.Prefixes.{from_prefixes}
 
@@ -51,57 +51,78 @@ named_everywhere config ground covers name named =
               covers.prefixes base begins.0 (subst (Contains ground.names) (sym begins.1) (covers.named_in_config of.0 of.1)))
         ]
 
--- the labels below the name of a class of a member and of the representative, under a ground that names what the
--- configuration names
-pub tails_in_class : (config : Config) (ground : Ground) → ((name : Labels) → IsNamed (ground_of config) name → IsNamed ground name)
-    → (above query representative : Labels) → IsName query
-    → IsClassOf ground query (Below above) → IsRepresentative ground (Below above) representative
-    → (own other : Labels) × (query ≡ above ++ own) × (representative ≡ above ++ other) × AreTails config above own other
-tails_in_class config ground told above query representative is (unnamed, member) stands = by member.below member.prefix where
+-- the labels of a name below another one, of which the first makes an unnamed name
+pub record UnnamedBelow (ground : Ground) (above name : Labels) : Type 0 where
+  pub first : List ℕ
+  pub rest : Labels
+  pub is : name ≡ above ++ first ∷ rest
+  pub unnamed : IsNamed ground (above ++ first ∷ []) → ⊥
+
+-- a member of a class below a name has such labels, since the class's name is the longest named one
+pub member_below : (ground : Ground) (above query : Labels) → IsClassOf ground query (Below above) → UnnamedBelow ground above query
+member_below ground above query (unnamed, member) = by member.below member.prefix where
   longer_unnamed : (label : List ℕ) (rest : Labels) → query ≡ above ++ label ∷ rest → IsNamed ground (above ++ label ∷ []) → ⊥
   longer_unnamed label rest e named =
       let long : length (above ++ label ∷ []) ≤ length above =
       member.longest (above ++ label ∷ []) rest (e ∙ sym (append_assoc above (label ∷ []) rest)) named in
       omega (arith, length-append above (label ∷ []))
 
-  no_longer : (label : List ℕ) (rest : Labels) → query ≡ above ++ label ∷ rest
-      → wire_octets (above ++ stands.label ∷ []) ≤ wire_octets (above ++ label ∷ rest)
-  no_longer label rest e =
-      elim (cases_lt (length label) (length stands.label)) [
-        | inl less ↦ absurd (longer_unnamed label rest e
-            (stands.first.first label (label_of_name above label rest (subst (AllByRecursion IsLabel) e is.labels)) (shorter_first label stands.label less)))
-        | inr fits ↦ omega (
-          arith,
-          octets_with_label above stands.label,
-          octets_below above (label ∷ rest),
-          sum_by-cons (λ (x : List ℕ). length x + 1) label rest,
-        )
-      ]
-
-  by : (below : Labels) → query ≡ above ++ below
-      → (own other : Labels) × (query ≡ above ++ own) × (representative ≡ above ++ other) × AreTails config above own other
+  by : (below : Labels) → query ≡ above ++ below → UnnamedBelow ground above query
   by [] e = absurd (unnamed (subst (IsNamed ground) (sym (e ∙ append-nil above)) member.named))
-  by (label ∷ rest) e = (
-    label ∷ rest,
-    stands.label ∷ [],
-    e,
-    stands.extends,
-    record {
-      of_own = record { first = label; rest = rest; is = refl; unnamed = λ named. longer_unnamed label rest e (told (above ++ label ∷ []) named) };
-      of_other = record {
-        first = stands.label;
-        rest = [];
-        is = refl;
-        unnamed = λ named. stands.first.unnamed (told (above ++ stands.label ∷ []) named);
-      };
-      no_longer = no_longer label rest e;
-    },
-  )
+  by (label ∷ rest) e = record { first = label; rest = rest; is = e; unnamed = longer_unnamed label rest e }
 
--- and so under every ground that covers it. What follows a class's name in a member is unnamed, since the class's name is
--- the longest named one; so is the representative's label, by its definition. It isn't longer than the member's rest, since
--- shorter labels are tried first (FirstLabel.shorter_first). What a configuration names, a ground that covers it names too
--- (named_everywhere).
+-- they are an unnamed tail where the ground names what the configuration names
+pub tail_of : (config : Config) (ground : Ground) → ((name : Labels) → IsNamed (ground_of config) name → IsNamed ground name)
+    → (above name : Labels) → (below : UnnamedBelow ground above name) → IsUnnamedTail config above (below.first ∷ below.rest)
+tail_of config ground told above name below =
+    record { first = below.first; rest = below.rest; is = refl; unnamed = λ named. below.unnamed (told (above ++ below.first ∷ []) named) }
+
+-- the labels below the name of a class of a member and of the representative, under a ground that names what the
+-- configuration names
+pub tails_in_class : (config : Config) (ground : Ground) → ((name : Labels) → IsNamed (ground_of config) name → IsNamed ground name)
+    → (above query representative : Labels) → IsName query
+    → IsClassOf ground query (Below above) → IsRepresentative ground (Below above) representative
+    → (own other : Labels) × (query ≡ above ++ own) × (representative ≡ above ++ other) × AreTails config above own other
+tails_in_class config ground told above query representative is of_class stands =
+    by (member_below ground above query of_class)
+  where
+    no_longer : (below : UnnamedBelow ground above query)
+        → wire_octets (above ++ stands.label ∷ []) ≤ wire_octets (above ++ below.first ∷ below.rest)
+    no_longer below =
+        elim (cases_lt (length below.first) (length stands.label)) [
+          | inl less ↦ absurd (below.unnamed
+              (stands.first.first below.first (label_of_name above below.first below.rest (subst (AllByRecursion IsLabel) below.is is.labels))
+              (shorter_first below.first stands.label less)))
+          | inr fits ↦ omega (
+            arith,
+            octets_with_label above stands.label,
+            octets_below above (below.first ∷ below.rest),
+            sum_by-cons (λ (x : List ℕ). length x + 1) below.first below.rest,
+          )
+        ]
+
+    by : UnnamedBelow ground above query
+        → (own other : Labels) × (query ≡ above ++ own) × (representative ≡ above ++ other) × AreTails config above own other
+    by below = (
+      below.first ∷ below.rest,
+      stands.label ∷ [],
+      below.is,
+      stands.extends,
+      record {
+        of_own = tail_of config ground told above query below;
+        of_other = record {
+          first = stands.label;
+          rest = [];
+          is = refl;
+          unnamed = λ named. stands.first.unnamed (told (above ++ stands.label ∷ []) named);
+        };
+        no_longer = no_longer below;
+      },
+    )
+
+-- and so under every ground that covers it. What follows a class's name in a member is unnamed (member_below); so is the
+-- representative's label, by its definition. It isn't longer than the member's rest, since shorter labels are tried first
+-- (FirstLabel.shorter_first). What a configuration names, a ground that covers it names too (named_everywhere).
 pub class_tails : (config : Config) (ground : Ground) → Covers ground config → (above query representative : Labels) → IsName query
     → IsClassOf ground query (Below above) → IsRepresentative ground (Below above) representative
     → (own other : Labels) × (query ≡ above ++ own) × (representative ≡ above ++ other) × AreTails config above own other
