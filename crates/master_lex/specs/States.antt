@@ -41,7 +41,7 @@ start_of line = record { line = line; blank_start = false; depth = 0; opened = 0
 abbrev pub empty : State
 empty = record { ready = []; tokens = []; raw = []; position = start_of 1 }
 
--- the same, with something else under way
+-- a state with something else under way
 abbrev pub with_mode : State → Mode → State
 with_mode s mode = record s { position = record s.position { mode = mode } }
 
