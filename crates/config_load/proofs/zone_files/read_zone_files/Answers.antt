@@ -13,10 +13,6 @@ pub returns-in_err-origin : goal.returns-in_err-origin
 returns-in_err-origin g c =
     HasAnswered-wanting c.from_residual.result (ReadsFor-none (g.F.Files.told c.args.files.now) (g.F.Files.faults c.args.files.now) (zone_files c.args.meta.now c.args.row.now c.args.left)) c.from_residual.ensures.1
 
--- The row's file is open.
-pub feed_next-requires-clause-open : goal.feed_next-requires-clause-open
-feed_next-requires-clause-open g c = c.new-reader.ensures.open
-
 -- the row's file isn't read
 pub returns-in_err-asked : goal.returns-in_err-asked
 returns-in_err-asked g c =
@@ -44,3 +40,45 @@ loop-asked-init g c =
           (HasFedFiles-more meta row left old new c.new-names.result name c.new-reader.result c.in_ok-asked.asked c.feed_next.new.reader c.in_ok-asked.ensures.only.stays opened c.in_ok-asked.ensures.asked);
       source = HasOpened-source meta row left old new c.new-names.result name c.new-reader.result (ReadsFor-none old (g.F.Files.faults c.args.files.now) (zone_files meta row left)) opened c.in_ok-asked.ensures.only;
     }
+
+-- an included file isn't read
+pub returns-in_err-asked-2 : goal.returns-in_err-asked-2
+returns-in_err-asked-2 g c =
+    let meta = c.args.meta.now in
+    let row = c.args.row.now in
+    let left = c.args.left in
+    let old = g.F.Files.told c.loop-asked.files in
+    let new = g.F.Files.told c.feed_next-in-Include.new.files in
+    let name = joined meta c.as_str-in-Include.result.now in
+    let fed = subst (λ (asked : Asked). HasFedFiles meta row left old c.loop-asked.names asked c.loop-asked.reader) c.in-Include.is c.loop-asked.invariant.fed in
+    let opened = HasOpened-asked meta row left old c.loop-asked.names c.loop-asked.reader c.in-Include.file name fed (ap (joined meta) c.as_str-in-Include.ensures) in
+    HasAnswered-unread meta row left old new c.loop-asked.names name c.loop-asked.reader c.in_err-asked-2.field-0.0 c.from_residual-in_err-asked-2.result c.loop-asked.invariant.source opened c.in_err-asked-2.ensures.only c.in_err-asked-2.ensures.fault c.in_err-asked-2.ensures.cause c.from_residual-in_err-asked-2.ensures.1
+
+pub loop-asked-preserved : goal.loop-asked-preserved
+loop-asked-preserved g c =
+    let meta = c.args.meta.now in
+    let row = c.args.row.now in
+    let left = c.args.left in
+    let old = g.F.Files.told c.loop-asked.files in
+    let new = g.F.Files.told c.feed_next-in-Include.new.files in
+    let after = c.feed_next-in-Include.new.reader in
+    let name = joined meta c.as_str-in-Include.result.now in
+    let fed = subst (λ (asked : Asked). HasFedFiles meta row left old c.loop-asked.names asked c.loop-asked.reader) c.in-Include.is c.loop-asked.invariant.fed in
+    let opened = HasOpened-asked meta row left old c.loop-asked.names c.loop-asked.reader c.in-Include.file name fed (ap (joined meta) c.as_str-in-Include.ensures) in
+    record {
+      fed = subst (λ (names : List (List ℕ)). HasFedFiles meta row left new names c.in_ok-asked-2.asked after) (sym c.in_ok-asked-2.ensures.named)
+          (HasFedFiles-more meta row left old new c.loop-asked.names name c.loop-asked.reader c.in_ok-asked-2.asked after c.in_ok-asked-2.ensures.only.stays opened c.in_ok-asked-2.ensures.asked);
+      source = HasOpened-source meta row left old new c.loop-asked.names name c.loop-asked.reader c.loop-asked.invariant.source opened c.in_ok-asked-2.ensures.only;
+    }
+
+pub finish-requires : goal.finish-requires
+finish-requires g c =
+    let told = g.F.Files.told c.loop-asked.files in
+    HasFedFiles-over c.args.meta.now c.args.row.now c.args.left told c.loop-asked.names c.loop-asked.reader
+    (subst (λ (asked : Asked). HasFedFiles c.args.meta.now c.args.row.now c.args.left told c.loop-asked.names asked c.loop-asked.reader) (is_done c.loop-asked.asked c.in_default.not-Include) c.loop-asked.invariant.fed)
+
+pub returns : goal.returns
+returns g c =
+    let told = g.F.Files.told c.loop-asked.files in
+    let fed = subst (λ (asked : Asked). HasFedFiles c.args.meta.now c.args.row.now c.args.left told c.loop-asked.names asked c.loop-asked.reader) (is_done c.loop-asked.asked c.in_default.not-Include) c.loop-asked.invariant.fed in
+    HasAnswered-finished c.args.meta.now c.args.row.now c.args.left told c.loop-asked.names c.loop-asked.reader c.finish.result c.told.result c.loop-asked.invariant.source fed c.finish.ensures.answers c.told.ensures
