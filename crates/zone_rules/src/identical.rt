@@ -12,7 +12,7 @@ use crate::buckets::rivals;
 use crate::fingerprint::record_number;
 use dns_data::{List, Name, NoMemory, Rdata, Rr};
 use std::alloc::Global;
-use std::collections::BTreeSet;
+use std::collections::{BTreeSet, VecDeque};
 
 /// What tells a record from others: its number, which is compared first and mostly tells them apart, its data and its
 /// owner.
@@ -93,10 +93,12 @@ fn chosen(alloc: Global, rrs: List<Rr>, are_chosen: &[bool]) -> Result<List<Rr>,
     ensures { IfOk result (λ kept. kept ≡ chosen rrs are_chosen.now) }
 {
     let mut kept = List::new(alloc);
-    let mut tests = are_chosen.iter();
-    for rr in rrs {
-        if let Some(true) = tests.next() {
-            kept.push(rr)?;
+    let mut left = VecDeque::from_vec(rrs.into_vec());
+    for is_chosen in are_chosen {
+        if let Some(rr) = left.pop_front() {
+            if *is_chosen {
+                kept.push(rr)?;
+            }
         }
     }
     Ok(kept)

@@ -1,8 +1,8 @@
-use Rattle.std.proofs.Common.{◌≡◌, ◌++◌}
-use Rattle.std.specs.Slice.Iter.{iter_rest}
+use Rattle.std.proofs.Common.{◌≡◌, ◌++◌, drop}
 use Rattle.dns_data.specs.First.{chosen}
 use Rattle.zone_rules.proofs.identical.chosen.Given as goal
 
 -- the records that were chosen, and then those of the others
-abbrev pub invariant-loop-rr : goal.invariant-loop-rr
-invariant-loop-rr l = chosen l.fn.rrs l.are_chosen ≡ l.kept ++ chosen l.rr-iterator (iter_rest l.tests)
+abbrev pub invariant-loop-is_chosen : goal.invariant-loop-is_chosen
+invariant-loop-is_chosen l =
+    chosen l.initial.left.items l.are_chosen ≡ l.kept ++ chosen l.left.items (drop l.is_chosen-index l.are_chosen)
