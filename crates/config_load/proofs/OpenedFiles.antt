@@ -1,5 +1,5 @@
 -- The files of a zone, one after the other.
-use Rattle.std.proofs.Common.{◌≡◌, ℕ, zero, suc, ◌+◌, ◌≤◌, true, false, ◌||◌, List, [], ◌∷◌, ◌++◌, length, length-append, unwrap_or, Result, Ok, Err, IsErrAnd, refl, subst, sym, ap, ◌∙◌, inl, inr, arith}
+use Rattle.std.proofs.Common.{◌≡◌, ℕ, zero, suc, ◌+◌, ◌-◌, ◌<◌, ◌≤◌, true, false, ◌||◌, List, [], ◌∷◌, ◌++◌, length, length-append, unwrap_or, Result, Ok, Err, IsErrAnd, refl, subst, sym, ap, ◌∙◌, inl, inr, arith}
 use Rattle.std.specs.Result.{IfErr}
 use Rattle.dns_data.specs.Answers.{AnswersOr, with_fault}
 use Rattle.dns_data.specs.Name.{Labels}
@@ -126,20 +126,16 @@ module _ (meta : List ℕ) (row : MetaRow) (left : Left) where
   })
 
   module _ (told : FilesTold) (names : List (List ℕ)) (reader : Held) where
-    -- where a file is asked for, fewer than all that may be opened were
-    pub HasFedFiles-few : (file : List ℕ) → HasFedFiles meta row left told names (Include file) reader → length names ≤ left.includes
-    HasFedFiles-few file fed =
-        let within = texts_ask (unwrap_or row.origin []) left.records left.includes fed.texts file (asks-asked _ file fed.asks) in
-        omega (arith, within, fed.as_many)
-
-    -- the file that is asked for is open
-    pub HasOpened-asked : (file name : List ℕ) → HasFedFiles meta row left told names (Include file) reader → name ≡ joined meta file → HasOpened meta row left told names name reader
-    HasOpened-asked file name fed is = by_times fed.times fed.few fed.so_far where
+    opened-behind : (file name : List ℕ) → HasFedFiles meta row left told names (Include file) reader → name ≡ joined meta file → HasOpened meta row left told names name reader
+    opened-behind file name fed is = by_times fed.times fed.few fed.so_far where
       asks : zone_text (unwrap_or row.origin []) left.records left.includes fed.texts ≡ Err (Asks file)
       asks = asks-asked _ file fed.asks
 
+      within : length fed.texts ≤ left.includes
+      within = texts_ask (unwrap_or row.origin []) left.records left.includes fed.texts file asks
+
       by_times : (times : ℕ) → times + length names ≡ left.includes + 1 → Follows told (zone_files meta row left) (files_behind meta (unwrap_or row.origin []) left times names fed.texts) → HasOpened meta row left told names name reader
-      by_times zero few so_far = absurd (omega (arith, few, HasFedFiles-few file fed))
+      by_times zero few so_far = absurd (omega (arith, few, within, fed.as_many))
       by_times (suc times) few so_far = record {
         texts = fed.texts;
         times = times;
@@ -153,6 +149,17 @@ module _ (meta : List ℕ) (row : MetaRow) (left : Left) where
             (λ other. files_behind-asks meta (unwrap_or row.origin []) left times names fed.texts file other asks
             ∙ ap (λ n. next_file meta (unwrap_or row.origin []) left times names fed.texts n other) (sym is)));
       }
+
+    -- the file that is asked for is open
+    pub HasOpened-asked : (asked : Asked) (file name : List ℕ) → asked ≡ Include file → HasFedFiles meta row left told names asked reader → name ≡ joined meta file → HasOpened meta row left told names name reader
+    HasOpened-asked asked file name include fed is =
+        opened-behind file name (subst (λ (a : Asked). HasFedFiles meta row left told names a reader) include fed) is
+
+    -- behind the open file fewer may be opened
+    pub fewer-left : (name : List ℕ) (more : List (List ℕ)) → HasOpened meta row left told names name reader → more ≡ names ++ name ∷ [] → left.includes + 1 - length more < left.includes + 1 - length names
+    fewer-left name more opened is =
+        let longer : length more ≡ length names + 1 = ap length is ∙ length-append names (name ∷ []) in
+        omega (arith, opened.few, longer)
 
     -- nothing more is asked for
     pub HasFedFiles-over : HasFedFiles meta row left told names Done reader → is_over reader ≡ true
