@@ -38,7 +38,14 @@ pub(crate) fn read_zone_files<F: Files>(
     let origin = origin_of(alloc, row)?;
     let mut reader = ZoneReader::new(alloc, origin, left.records, left.includes);
     let mut names = List::new(alloc);
-    let mut asked = feed_next(alloc, files, meta, row.file.as_str(), &mut names, &mut reader)?;
+    let mut asked = feed_next(
+        alloc,
+        files,
+        meta,
+        row.file.as_str(),
+        &mut names,
+        &mut reader,
+    )?;
     while let Asked::Include { file } = asked {
         asked = feed_next(alloc, files, meta, file.as_str(), &mut names, &mut reader)?;
     }

@@ -2,8 +2,7 @@
 use Rattle.std.specs.Prelude.{◌≡◌, refl, ℕ, List, [], ◌∷◌, ◌++◌, codes, replicate, Ok, Err, Result}
 use Rattle.std.specs.Str.{is_utf8, chars}
 use Rattle.dns_data.specs.Name.{Labels}
-use Rattle.dns_data.specs.declared.rdata.Rdata.{Rdata}
-use Rattle.dns_data.specs.declared.rdata.Rdata.TheVariants.{A, Ns, Soa}
+use Rattle.dns_data.specs.declared.rdata.Rdata.TheVariants.{A}
 use Rattle.dns_data.specs.declared.rdata.Rr.{Rr}
 use Rattle.rdata_forms.specs.declared.fault.RdataFault.TheVariants.{BadAddress}
 use Rattle.master_lex.specs.declared.fault.LexKind.TheVariants.{OpenParen}
