@@ -1,11 +1,11 @@
 -- The files of a zone, one after the other.
-use Rattle.std.proofs.Common.{◌≡◌, ℕ, zero, suc, ◌+◌, ◌≤◌, true, false, ◌||◌, List, [], ◌∷◌, ◌++◌, length, length-append, unwrap_or, Result, Ok, Err, IsErrAnd, refl, subst, sym, ap, ◌∙◌, inl, inr, arith}
+use Rattle.std.proofs.Common.{◌≡◌, ℕ, zero, suc, ◌+◌, ◌-◌, ◌<◌, ◌≤◌, true, false, ◌||◌, List, [], ◌∷◌, ◌++◌, length, length-append, unwrap_or, Result, Ok, Err, IsErrAnd, refl, subst, sym, ap, ◌∙◌, inl, inr, arith}
 use Rattle.std.specs.Result.{IfErr}
 use Rattle.dns_data.specs.Answers.{AnswersOr, with_fault}
 use Rattle.dns_data.specs.Name.{Labels}
 use Rattle.io_edges.specs.Files.{FilesTold, StaysTold}
 use Rattle.master_read.proofs.Counts.{texts_ask}
-use Rattle.master_read.specs.Reader.{Held, IsReaderOf, HasEnded, asked_by, is_over, is_no_memory}
+use Rattle.master_read.specs.Reader.{Held, IsReaderOf, GoesOn, HasEnded, asked_by, is_over, is_no_memory}
 use Rattle.master_read.specs.ZoneText.{Unread, Faulty, Asks, zone_text}
 use Rattle.master_read.specs.declared.asked.Asked.{Asked}
 use Rattle.master_read.specs.declared.asked.Asked.TheVariants.{Include, Done}
@@ -15,7 +15,7 @@ use Rattle.master_read.specs.declared.zone_text.ZoneText.{ZoneText}
 use Rattle.meta_read.specs.declared.meta.MetaRow.{MetaRow}
 use Rattle.config_load.specs.Conf.{settled, files_behind, zone_files}
 use Rattle.config_load.specs.Faults.{of_text, FailedAt}
-use Rattle.config_load.specs.Fed.{HasFed, HasEndedFile, FailsToRead}
+use Rattle.config_load.specs.Fed.{HasFed, FailsToRead}
 use Rattle.config_load.specs.Follows.{ByTold, Follows, Answers}
 use Rattle.config_load.specs.Joined.{joined}
 use Rattle.config_load.specs.ReadFiles.{read_files}
@@ -88,85 +88,111 @@ Follows-read first old new meta origin left times names texts name octets stays 
     Follows-then old new first (next_file meta origin left times names texts name) _ stays so_far
     (Follows-bind new (file_octets name) (λ _. Reads octets) (λ told text. files_behind meta origin left times (names ++ name ∷ []) (texts ++ text ∷ []) told) whole)
 
--- The files that were opened of a row's zone: the file of this name is open, and the reader was fed nothing of it.
+-- The files of a row's zone that were fed to a reader, in the order in which they were opened: these are their names, and
+-- this is asked behind them.
+pub record HasFedFiles (meta : List ℕ) (row : MetaRow) (left : Left) (told : FilesTold) (names : List (List ℕ)) (asked : Asked) (reader : Held) : Type 0 where
+  pub texts : List (List ℕ)
+  pub times : ℕ
+  pub few : times + length names ≡ left.includes + 1
+  pub as_many : length texts ≡ length names
+  pub asks : asked ≡ asked_by (zone_text (unwrap_or row.origin []) left.records left.includes texts)
+  pub goes_on : GoesOn asked reader (unwrap_or row.origin []) left.records left.includes texts
+  pub so_far : Follows told (zone_files meta row left) (files_behind meta (unwrap_or row.origin []) left times names texts)
+
+-- Behind the files with these names the file of this name is open, and the reader was fed nothing of it.
 pub record HasOpened (meta : List ℕ) (row : MetaRow) (left : Left) (told : FilesTold) (names : List (List ℕ)) (name : List ℕ) (reader : Held) : Type 0 where
   pub texts : List (List ℕ)
   pub times : ℕ
   pub few : times + length names ≡ left.includes
   pub as_many : length texts ≡ length names
+  pub still_open : reader.ended ≡ false
+  pub none : reader.fed ≡ 0
   pub stands : IsReaderOf reader (unwrap_or row.origin []) left.records left.includes texts []
   pub so_far : Follows told (zone_files meta row left) (next_file meta (unwrap_or row.origin []) left times names texts name)
 
 module _ (meta : List ℕ) (row : MetaRow) (left : Left) where
   -- the row's file
-  pub HasOpened-first : (told : FilesTold) (name : List ℕ) (reader : Held) → name ≡ joined meta row.file → IsReaderOf reader (unwrap_or row.origin []) left.records left.includes [] [] → HasOpened meta row left told [] name reader
-  HasOpened-first told name reader is stands = record {
+  pub HasOpened-first : (told : FilesTold) (names : List (List ℕ)) (name : List ℕ) (reader : Held) → names ≡ [] → name ≡ joined meta row.file → reader.ended ≡ false → reader.fed ≡ 0 → IsReaderOf reader (unwrap_or row.origin []) left.records left.includes [] [] → HasOpened meta row left told names name reader
+  HasOpened-first told names name reader empty is still_open none stands = subst (λ (names : List (List ℕ)). HasOpened meta row left told names name reader) (sym empty) (record {
     texts = [];
     times = left.includes;
     few = omega arith;
     as_many = refl;
+    still_open = still_open;
+    none = none;
     stands = stands;
     so_far = Follows-same told (zone_files meta row left) (next_file meta (unwrap_or row.origin []) left left.includes [] [] name)
         (λ other. zone_files-first meta row left other ∙ ap (λ n. next_file meta (unwrap_or row.origin []) left left.includes [] [] n other) (sym is));
-  }
+  })
 
-  module _ (old new : FilesTold) (names : List (List ℕ)) (name : List ℕ) (reader after : Held) where
-    -- what the texts ask for
-    asked : (file octets : List ℕ) (opened : HasOpened meta row left old names name reader) → HasEndedFile reader octets (Include file) after → zone_text (unwrap_or row.origin []) left.records left.includes (opened.texts ++ octets ∷ []) ≡ Err (Asks file)
-    asked file octets opened ended = asks-asked _ file (ended (unwrap_or row.origin []) left.records left.includes opened.texts opened.stands).0
+  module _ (told : FilesTold) (names : List (List ℕ)) (reader : Held) where
+    opened-behind : (file name : List ℕ) → HasFedFiles meta row left told names (Include file) reader → name ≡ joined meta file → HasOpened meta row left told names name reader
+    opened-behind file name fed is = by_times fed.times fed.few fed.so_far where
+      asks : zone_text (unwrap_or row.origin []) left.records left.includes fed.texts ≡ Err (Asks file)
+      asks = asks-asked _ file fed.asks
 
-    -- the file that is included
-    pub HasOpened-more : (file next : List ℕ) → StaysTold old new → HasOpened meta row left old names name reader → HasFed new name reader (Include file) after → next ≡ joined meta file → HasOpened meta row left new (names ++ name ∷ []) next after
-    HasOpened-more file next stays opened fed is = by_times opened.times opened.few opened.so_far where
-      octets : List ℕ
-      octets = fed.octets
+      within : length fed.texts ≤ left.includes
+      within = texts_ask (unwrap_or row.origin []) left.records left.includes fed.texts file asks
 
-      asks : zone_text (unwrap_or row.origin []) left.records left.includes (opened.texts ++ octets ∷ []) ≡ Err (Asks file)
-      asks = asked file octets opened fed.ended
-
-      texts_longer : length (opened.texts ++ octets ∷ []) ≡ length opened.texts + 1
-      texts_longer = length-append opened.texts (octets ∷ [])
-
-      names_longer : length (names ++ name ∷ []) ≡ length names + 1
-      names_longer = length-append names (name ∷ [])
-
-      within : length (opened.texts ++ octets ∷ []) ≤ left.includes
-      within = texts_ask (unwrap_or row.origin []) left.records left.includes (opened.texts ++ octets ∷ []) file asks
-
-      by_times : (times : ℕ) → times + length names ≡ left.includes → Follows old (zone_files meta row left) (next_file meta (unwrap_or row.origin []) left times names opened.texts name) → HasOpened meta row left new (names ++ name ∷ []) next after
-      by_times zero few so_far = absurd (omega (arith, few, opened.as_many, texts_longer, within))
+      by_times : (times : ℕ) → times + length names ≡ left.includes + 1 → Follows told (zone_files meta row left) (files_behind meta (unwrap_or row.origin []) left times names fed.texts) → HasOpened meta row left told names name reader
+      by_times zero few so_far = absurd (omega (arith, few, within, fed.as_many))
       by_times (suc times) few so_far = record {
-        texts = opened.texts ++ octets ∷ [];
+        texts = fed.texts;
         times = times;
-        few = omega (arith, few, names_longer);
-        as_many = omega (arith, opened.as_many, texts_longer, names_longer);
-        stands = (fed.ended (unwrap_or row.origin []) left.records left.includes opened.texts opened.stands).1.2;
-        so_far = Follows-then new new (zone_files meta row left) (files_behind meta (unwrap_or row.origin []) left (suc times) (names ++ name ∷ []) (opened.texts ++ octets ∷ [])) (next_file meta (unwrap_or row.origin []) left times (names ++ name ∷ []) (opened.texts ++ octets ∷ []) next) (λ _. inr refl)
-            (Follows-read (zone_files meta row left) old new meta (unwrap_or row.origin []) left (suc times) names opened.texts name octets stays so_far fed.whole)
-            (Follows-same new _ (next_file meta (unwrap_or row.origin []) left times (names ++ name ∷ []) (opened.texts ++ octets ∷ []) next)
-            (λ other. files_behind-asks meta (unwrap_or row.origin []) left times (names ++ name ∷ []) (opened.texts ++ octets ∷ []) file other asks
-            ∙ ap (λ n. next_file meta (unwrap_or row.origin []) left times (names ++ name ∷ []) (opened.texts ++ octets ∷ []) n other) (sym is)));
+        few = omega (arith, few);
+        as_many = fed.as_many;
+        still_open = fed.goes_on.0;
+        none = fed.goes_on.1;
+        stands = fed.goes_on.2;
+        so_far = Follows-then told told (zone_files meta row left) (files_behind meta (unwrap_or row.origin []) left (suc times) names fed.texts) (next_file meta (unwrap_or row.origin []) left times names fed.texts name) (λ _. inr refl) so_far
+            (Follows-same told _ (next_file meta (unwrap_or row.origin []) left times names fed.texts name)
+            (λ other. files_behind-asks meta (unwrap_or row.origin []) left times names fed.texts file other asks
+            ∙ ap (λ n. next_file meta (unwrap_or row.origin []) left times names fed.texts n other) (sym is)));
       }
 
-    -- the included file is open, and nothing of it was fed
-    pub HasOpened-open : (file : List ℕ) → HasOpened meta row left old names name reader → HasFed new name reader (Include file) after → (after.ended ≡ false) × (after.fed ≡ 0)
-    HasOpened-open file opened fed =
-        let goes_on = (fed.ended (unwrap_or row.origin []) left.records left.includes opened.texts opened.stands).1 in
-        (goes_on.0, goes_on.1)
+    -- the file that is asked for is open
+    pub HasOpened-asked : (asked : Asked) (file name : List ℕ) → asked ≡ Include file → HasFedFiles meta row left told names asked reader → name ≡ joined meta file → HasOpened meta row left told names name reader
+    HasOpened-asked asked file name include fed is =
+        opened-behind file name (subst (λ (a : Asked). HasFedFiles meta row left told names a reader) include fed) is
 
-    -- the last file ended
-    pub HasOpened-over : HasOpened meta row left old names name reader → HasFed new name reader Done after → is_over after ≡ true
-    HasOpened-over opened fed =
-        ap (λ ended. ended || is_no_memory after.fault) (fed.ended (unwrap_or row.origin []) left.records left.includes opened.texts opened.stands).1.0
+    -- behind the open file fewer may be opened
+    pub fewer-left : (name : List ℕ) (more : List (List ℕ)) → HasOpened meta row left told names name reader → more ≡ names ++ name ∷ [] → left.includes + 1 - length more < left.includes + 1 - length names
+    fewer-left name more opened is =
+        let longer : length more ≡ length names + 1 = ap length is ∙ length-append names (name ∷ []) in
+        omega (arith, opened.few, longer)
+
+    -- nothing more is asked for
+    pub HasFedFiles-over : HasFedFiles meta row left told names Done reader → is_over reader ≡ true
+    HasFedFiles-over fed = ap (λ ended. ended || is_no_memory reader.fault) fed.goes_on.0
 
     -- what the reader answers behind the last file is answered
-    Answers-finished : (given : Result ZoneText TextFault) → StaysTold old new → HasOpened meta row left old names name reader → HasFed new name reader Done after → ((origin : Labels) (room includes : ℕ) (texts : List (List ℕ)) → HasEnded after origin room includes texts → AnswersOr (Faulty text_faults.NoMemory) (with_fault Faulty given) (zone_text origin room includes texts)) → Answers new (zone_files meta row left) (read_files (names ++ name ∷ []) given)
-    Answers-finished given stays opened fed finished =
-        let has_ended = (fed.ended (unwrap_or row.origin []) left.records left.includes opened.texts opened.stands).1.1 in
-        Answers-then new new (zone_files meta row left) (files_behind meta (unwrap_or row.origin []) left opened.times (names ++ name ∷ []) (opened.texts ++ fed.octets ∷ [])) (read_files (names ++ name ∷ []) given) (λ _. inr refl)
-        (Follows-read (zone_files meta row left) old new meta (unwrap_or row.origin []) left opened.times names opened.texts name fed.octets stays opened.so_far fed.whole)
-        (Answers-ended meta (unwrap_or row.origin []) left opened.times (names ++ name ∷ []) (opened.texts ++ fed.octets ∷ []) new given
-        (finished (unwrap_or row.origin []) left.records left.includes (opened.texts ++ fed.octets ∷ []) has_ended))
+    Answers-finished : (given : Result ZoneText TextFault) → HasFedFiles meta row left told names Done reader → ((origin : Labels) (room includes : ℕ) (texts : List (List ℕ)) → HasEnded reader origin room includes texts → AnswersOr (Faulty text_faults.NoMemory) (with_fault Faulty given) (zone_text origin room includes texts)) → Answers told (zone_files meta row left) (read_files names given)
+    Answers-finished given fed finished =
+        Answers-then told told (zone_files meta row left) (files_behind meta (unwrap_or row.origin []) left fed.times names fed.texts) (read_files names given) (λ _. inr refl) fed.so_far
+        (Answers-ended meta (unwrap_or row.origin []) left fed.times names fed.texts told given
+        (finished (unwrap_or row.origin []) left.records left.includes fed.texts fed.goes_on.1))
+
+    pub HasAnswered-finished : {before : FilesTold} {counts counts' : List ℕ → ℕ} (given : Result ZoneText TextFault) (result : Result ZoneFiles LoadFault) → ReadsFor before told counts counts' (zone_files meta row left) → HasFedFiles meta row left told names Done reader → ((origin : Labels) (room includes : ℕ) (texts : List (List ℕ)) → HasEnded reader origin room includes texts → AnswersOr (Faulty text_faults.NoMemory) (with_fault Faulty given) (zone_text origin room includes texts)) → result ≡ read_files names given → HasAnswered before told counts counts' (zone_files meta row left) result
+    HasAnswered-finished {counts = counts} {counts' = counts'} given result source fed finished is = record {
+      answers = subst (λ (r : Result ZoneFiles LoadFault). Answers told (zone_files meta row left) r) (sym is) (Answers-finished given fed finished);
+      cause = FailedAt-no_read counts counts' result (subst (λ (r : Result ZoneFiles LoadFault). IfErr r IsNoRead) (sym is) (read_files-no_read names given));
+      source = source;
+    }
+
+  module _ (old new : FilesTold) (names : List (List ℕ)) (name : List ℕ) (reader : Held) where
+    -- the open file is fed whole
+    pub HasFedFiles-more : (asked : Asked) (after : Held) → StaysTold old new → HasOpened meta row left old names name reader → HasFed new name reader asked after → HasFedFiles meta row left new (names ++ name ∷ []) asked after
+    HasFedFiles-more asked after stays opened fed =
+        let ended = fed.ended (unwrap_or row.origin []) left.records left.includes opened.texts opened.stands in
+        record {
+          texts = opened.texts ++ fed.octets ∷ [];
+          times = opened.times;
+          few = omega (arith, opened.few, length-append names (name ∷ []));
+          as_many = omega (arith, opened.as_many, length-append opened.texts (fed.octets ∷ []), length-append names (name ∷ []));
+          asks = ended.0;
+          goes_on = ended.1;
+          so_far = Follows-read (zone_files meta row left) old new meta (unwrap_or row.origin []) left opened.times names opened.texts name fed.octets stays opened.so_far fed.whole;
+        }
 
     -- the open file alone is read behind those before
     pub HasOpened-source : {before : FilesTold} {counts counts' counts'' : List ℕ → ℕ} → ReadsFor before old counts counts' (zone_files meta row left) → HasOpened meta row left old names name reader → ReadsOnly name old new counts' counts'' → ReadsFor before new counts counts'' (zone_files meta row left)
@@ -174,19 +200,11 @@ module _ (meta : List ℕ) (row : MetaRow) (left : Left) where
         ReadsFor-then {whole = zone_files meta row left} {rest = next_file meta (unwrap_or row.origin []) left opened.times names opened.texts name} opened.so_far source
         (ReadsFor-bind (file_octets name) (λ told text. files_behind meta (unwrap_or row.origin []) left opened.times (names ++ name ∷ []) (opened.texts ++ text ∷ []) told) (ReadsFor-file only))
 
-    -- a file that isn't read
+    -- the open file isn't read
     pub HasAnswered-unread : {before : FilesTold} {counts counts' counts'' : List ℕ → ℕ} (fault : LoadFault) (result : Result ZoneFiles LoadFault) → ReadsFor before old counts counts' (zone_files meta row left) → HasOpened meta row left old names name reader → ReadsOnly name old new counts' counts'' → FailsToRead new name fault → (let answer : Result Asked LoadFault = Err fault in FailedAt counts' counts'' answer) → IsErrAnd result (λ passed. passed ≡ fault) → HasAnswered before new counts counts'' (zone_files meta row left) result
     HasAnswered-unread {counts = counts} {counts' = counts'} {counts'' = counts''} fault result source opened only fails failed is = record {
       answers = Answers-then old new (zone_files meta row left) (next_file meta (unwrap_or row.origin []) left opened.times names opened.texts name) result only.stays opened.so_far
           (Answers-passed new (file_octets name) (λ told text. files_behind meta (unwrap_or row.origin []) left opened.times (names ++ name ∷ []) (opened.texts ++ text ∷ []) told) fault result is fails);
       cause = FailedAt-then counts counts' counts'' result source.never_fall (FailedAt-passed Asked counts' counts'' fault result is failed);
-      source = HasOpened-source source opened only;
-    }
-
-    -- the last file, and what the reader answers
-    pub HasAnswered-finished : {before : FilesTold} {counts counts' counts'' : List ℕ → ℕ} (given : Result ZoneText TextFault) (result : Result ZoneFiles LoadFault) → ReadsFor before old counts counts' (zone_files meta row left) → HasOpened meta row left old names name reader → ReadsOnly name old new counts' counts'' → HasFed new name reader Done after → ((origin : Labels) (room includes : ℕ) (texts : List (List ℕ)) → HasEnded after origin room includes texts → AnswersOr (Faulty text_faults.NoMemory) (with_fault Faulty given) (zone_text origin room includes texts)) → result ≡ read_files (names ++ name ∷ []) given → HasAnswered before new counts counts'' (zone_files meta row left) result
-    HasAnswered-finished {counts = counts} {counts'' = counts''} given result source opened only fed finished is = record {
-      answers = subst (λ (r : Result ZoneFiles LoadFault). Answers new (zone_files meta row left) r) (sym is) (Answers-finished given only.stays opened fed finished);
-      cause = FailedAt-no_read counts counts'' result (subst (λ (r : Result ZoneFiles LoadFault). IfErr r IsNoRead) (sym is) (read_files-no_read (names ++ name ∷ []) given));
       source = HasOpened-source source opened only;
     }

@@ -212,6 +212,11 @@ module _ {T : Type 0} where
   FailsToRead-passed told name fault (Ok value) broken is = absurd is
   FailsToRead-passed told name fault (Err passed) broken is = Answers-read_fault told name passed (subst (IsReadOf name) (sym is) broken)
 
+  -- a file isn't read by who passes on why it isn't
+  pub FailsToRead-again : (told : FilesTold) (name : List ℕ) (fault : LoadFault) (result : Result T LoadFault) → FailsToRead told name fault → IsErrAnd result (λ passed. passed ≡ fault) → IfErr result (FailsToRead told name)
+  FailsToRead-again told name fault (Ok value) fails is = absurd is
+  FailsToRead-again told name fault (Err passed) fails is = subst (FailsToRead told name) (sym is) fails
+
   -- want of memory may stand for any failure
   pub FailsToRead-wanting : (told : FilesTold) (name : List ℕ) (result : Result T LoadFault) → IsErrAnd result (λ fault. fault ≡ NoMemory) → IfErr result (FailsToRead told name)
   FailsToRead-wanting told name (Ok value) wants = absurd wants

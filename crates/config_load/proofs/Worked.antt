@@ -6,7 +6,6 @@ use Rattle.master_read.specs.declared.fault.TextCause.TheVariants as causes
 use Rattle.meta_read.specs.declared.fault.MetaFault.TheVariants as meta_faults
 use Rattle.net_model.specs.declared.config.Server.{Server}
 use Rattle.net_model.specs.declared.config.Zone.{Zone}
-use Rattle.rdata_forms.specs.declared.fault.RdataFault.TheVariants as data_faults
 use Rattle.config_load.specs.Conf.{conf, metadata}
 use Rattle.config_load.specs.Faults.{name_numbered}
 use Rattle.config_load.specs.Joined.{joined}
@@ -64,10 +63,10 @@ twice = refl
 row_line : fields_line (file_of (codes "m.json") (ZoneTwice 2)) (codes "2") (code_of (ZoneTwice 2)) ≡ codes "m.json:2: zone-twice\n"
 row_line = refl
 
-file_line : file_of (codes "m.json") (Text (codes "sub.zone") 12 (causes.Rdata data_faults.BadAddress)) ≡ codes "sub.zone"
+file_line : file_of (codes "m.json") (Text (codes "sub.zone") 12 causes.NotIn) ≡ codes "sub.zone"
 file_line = refl
 
-file_code : code_of (Text (codes "sub.zone") 12 (causes.Rdata data_faults.BadAddress)) ≡ codes "bad-address"
+file_code : code_of (Text (codes "sub.zone") 12 causes.NotIn) ≡ codes "not-in"
 file_code = refl
 
 meta_row : line_of (Meta (meta_faults.Shape 7)) ≡ 7

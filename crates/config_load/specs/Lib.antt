@@ -1,10 +1,12 @@
 pub use Rattle.dns_data.specs.Name
 pub use Rattle.io_edges.specs.Counts
 pub use Rattle.io_edges.specs.Files
+pub use Rattle.master_read.specs.Codes as TextCodes
 pub use Rattle.master_read.specs.ZoneText
+pub use Rattle.meta_read.specs.Codes as MetaCodes
 pub use Rattle.meta_read.specs.Metadata
+pub use Rattle.zone_rules.specs.Codes as RuleCodes
 pub use Rattle.zone_rules.specs.ZoneOf
-pub mod Codes
 pub mod Faults
 pub mod Joined
 pub mod Reading

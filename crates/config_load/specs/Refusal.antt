@@ -1,9 +1,11 @@
 -- Refusals: the file, the line in it (or 0), and the code. Of a failed read and of want of memory nothing is said here:
 -- they are no refusals, and what stands below for them is never printed.
 use Rattle.std.specs.Prelude.{ℕ, List, ◌++◌, codes, decimal}
+use Rattle.master_read.specs.Codes.{text_code}
+use Rattle.meta_read.specs.Codes.{meta_code}
 use Rattle.meta_read.specs.declared.fault.MetaFault.{MetaFault}
 use Rattle.meta_read.specs.declared.fault.MetaFault.TheVariants as meta_faults
-use Rattle.config_load.specs.Codes.{meta_code, text_code, rule_code}
+use Rattle.zone_rules.specs.Codes.{rule_code}
 use Rattle.config_load.specs.declared.fault.LoadFault.{LoadFault}
 use Rattle.config_load.specs.declared.fault.LoadFault.TheVariants.{Read, TooLong, Meta, Text, Rule, ZoneTwice, NoMemory}
 

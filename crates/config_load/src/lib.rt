@@ -13,7 +13,6 @@
 //! times a logarithm.
 #![tactic(auto)]
 
-mod code;
 mod fault;
 mod file;
 mod joined;

@@ -3,7 +3,6 @@
 ghost use Rattle.std.specs.Prelude.{◌≡◌};
 ghost use Rattle.config_load.specs.Refusal.{file_of, line_of, code_of, row_of};
 
-use crate::code::{meta_code, rule_code, text_code};
 use crate::fault::LoadFault;
 use meta_read::MetaFault;
 
@@ -42,9 +41,9 @@ impl LoadFault {
         match self {
             LoadFault::Read { .. } => "read-failed",
             LoadFault::TooLong { .. } => "too-long",
-            LoadFault::Meta(fault) => meta_code(fault),
-            LoadFault::Text { cause, .. } => text_code(cause),
-            LoadFault::Rule { cause, .. } => rule_code(*cause),
+            LoadFault::Meta(fault) => fault.code(),
+            LoadFault::Text { cause, .. } => cause.code(),
+            LoadFault::Rule { cause, .. } => cause.code(),
             LoadFault::ZoneTwice { .. } => "zone-twice",
             LoadFault::NoMemory => "no-memory",
         }

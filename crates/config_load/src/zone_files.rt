@@ -1,10 +1,12 @@
 //! The files of a zone.
 
-ghost use Rattle.std.specs.Prelude.{◌≡◌, [], IfOk, unwrap_or};
+ghost use Rattle.std.specs.Prelude.{◌≡◌, [], ◌∷◌, ◌++◌, false, IfOk, IfErr, OnOk, unwrap_or};
 ghost use Rattle.config_load.specs.Conf.{zone_files};
-ghost use Rattle.config_load.specs.Faults.{name_numbered};
+ghost use Rattle.config_load.specs.Faults.{FailedAt, name_numbered};
+ghost use Rattle.config_load.specs.Fed.{HasFed, FailsToRead};
+ghost use Rattle.config_load.specs.Joined.{joined};
 ghost use Rattle.config_load.specs.ReadFiles.{read_files};
-ghost use Rattle.config_load.specs.Sources.{HasAnswered};
+ghost use Rattle.config_load.specs.Sources.{HasAnswered, ReadsOnly};
 
 use crate::fault::LoadFault;
 use crate::file::feed_whole;
@@ -36,14 +38,42 @@ pub(crate) fn read_zone_files<F: Files>(
     let origin = origin_of(alloc, row)?;
     let mut reader = ZoneReader::new(alloc, origin, left.records, left.includes);
     let mut names = List::new(alloc);
-    let mut name = joined_name(alloc, meta, row.file.as_str())?;
-    while let Asked::Include { file } = feed_whole(alloc, files, name.as_str(), &mut reader)? {
-        let next = joined_name(alloc, meta, file.as_str())?;
-        names.push(name)?;
-        name = next;
+    let mut asked = feed_next(
+        alloc,
+        files,
+        meta,
+        row.file.as_str(),
+        &mut names,
+        &mut reader,
+    )?;
+    while let Asked::Include { file } = asked {
+        asked = feed_next(alloc, files, meta, file.as_str(), &mut names, &mut reader)?;
     }
-    names.push(name)?;
     told(alloc, names, reader.finish())
+}
+
+/// Reads a file of the metadata, or an included one, to its end, and feeds its octets to the reader, whose open file it
+/// is. The name under which it was opened is put behind the others. It answers what comes behind the file.
+fn feed_next<F: Files>(
+    alloc: Global,
+    files: &mut F,
+    meta: &str,
+    file: &str,
+    names: &mut List<Text>,
+    reader: &mut ZoneReader,
+) -> Result<Asked, LoadFault>
+    requires open { reader.old.ended ≡ false }
+    requires none { reader.old.fed ≡ 0 }
+    ensures named { OnOk result (names.new ≡ names.old ++ joined meta.now file.now ∷ []) }
+    ensures asked { IfOk result (λ asked. HasFed (F.told files.new) (joined meta.now file.now) reader.old asked reader.new) }
+    ensures fault { IfErr result (FailsToRead (F.told files.new) (joined meta.now file.now)) }
+    ensures cause { FailedAt (F.faults files.old) (F.faults files.new) result }
+    ensures only { ReadsOnly (joined meta.now file.now) (F.told files.old) (F.told files.new) (F.faults files.old) (F.faults files.new) }
+{
+    let name = joined_name(alloc, meta, file)?;
+    let asked = feed_whole(alloc, files, name.as_str(), reader)?;
+    names.push(name)?;
+    Ok(asked)
 }
 
 /// The origin of a row's file: the root, where the row states none.

@@ -4,10 +4,10 @@ use Rattle.std.specs.Prelude.{nat_eq}
 use Rattle.master_lex.specs.declared.entry.Entry.{Entry}
 use Rattle.master_lex.specs.declared.entry.Token.{Token}
 use Rattle.master_lex.specs.declared.taken.Taken.TheVariants as answers
-use Rattle.master_lex.specs.declared.scanner.Position.{Position}
-use Rattle.master_lex.specs.declared.scanner.Mode.{Mode}
-use Rattle.master_lex.specs.declared.scanner.Mode.TheVariants.{Start, Between, Comment, InToken, Faulty}
-use Rattle.master_lex.specs.declared.scanner.Escape.TheVariants.{Outside, Begun, One, Two}
+use Rattle.master_lex.specs.declared.position.Position.{Position}
+use Rattle.master_lex.specs.declared.position.Mode.{Mode}
+use Rattle.master_lex.specs.declared.position.Mode.TheVariants.{Start, Between, Comment, InToken, Faulty}
+use Rattle.master_lex.specs.declared.position.Escape.TheVariants.{Outside, Begun, One, Two}
 use Rattle.master_lex.specs.Lists.{is_empty}
 use Rattle.master_lex.specs.States.{State, start_of, entry_of, Fits, IsTidy, paren_fault, fault_by, last_fault, whole_by, whole}
 use Rattle.master_lex.specs.Lexer.{LastTaken}

@@ -4,9 +4,9 @@ use Rattle.std.specs.Prelude.{nat_eq, if◌then◌else◌, Some, None}
 use Rattle.std.proofs.lemmas.List.{append-nil}
 use Rattle.master_lex.specs.declared.entry.Entry.{Entry}
 use Rattle.master_lex.specs.declared.fault.LexKind.TheVariants.{OpenParen, OpenQuote}
-use Rattle.master_lex.specs.declared.scanner.Mode.{Mode}
-use Rattle.master_lex.specs.declared.scanner.Mode.TheVariants.{Start, Between, Comment, InToken, Faulty}
-use Rattle.master_lex.specs.declared.scanner.Escape.TheVariants.{Outside, Begun, One, Two}
+use Rattle.master_lex.specs.declared.position.Mode.{Mode}
+use Rattle.master_lex.specs.declared.position.Mode.TheVariants.{Start, Between, Comment, InToken, Faulty}
+use Rattle.master_lex.specs.declared.position.Escape.TheVariants.{Outside, Begun, One, Two}
 use Rattle.master_lex.specs.Pieces.{Broken}
 use Rattle.master_lex.specs.Contents.{Contents, entry_at, fails, behind, contents_from}
 use Rattle.master_lex.specs.States.{State, token_ended, passed, run, Fits, IsTidy, entry_so_far, ahead_by, ahead, fault_by, last_fault, whole_by, made, without_fault, last_entry}

@@ -10,9 +10,9 @@ use Rattle.master_lex.specs.declared.fault.LexKind.TheVariants.{OpenQuote, Stray
 use Rattle.master_lex.specs.declared.octet.OctetKind.{OctetKind}
 use Rattle.master_lex.specs.declared.octet.OctetKind.TheVariants.{Plain, Blank, LineFeed, Semicolon, Open, Close, Quote, Backslash}
 use Rattle.master_lex.specs.declared.scanner.TheConstants.{MOST}
-use Rattle.master_lex.specs.declared.scanner.Mode.{Mode}
-use Rattle.master_lex.specs.declared.scanner.Mode.TheVariants.{Start, Between, Comment, InToken, Faulty}
-use Rattle.master_lex.specs.declared.scanner.Escape.TheVariants.{Outside, Begun, One, Two}
+use Rattle.master_lex.specs.declared.position.Mode.{Mode}
+use Rattle.master_lex.specs.declared.position.Mode.TheVariants.{Start, Between, Comment, InToken, Faulty}
+use Rattle.master_lex.specs.declared.position.Escape.TheVariants.{Outside, Begun, One, Two}
 use Rattle.master_lex.specs.Lists.{is_empty}
 use Rattle.master_lex.specs.Octets.{kind, is_space}
 use Rattle.master_lex.specs.Pieces.{is_code, Piece, Skipped, LineEnd, Written, Broken, before, bad_escape, pieces, comment, in_quotes, after_backslash, after_digit, after_two_digits}

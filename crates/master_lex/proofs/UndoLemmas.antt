@@ -8,11 +8,11 @@ use Rattle.master_lex.specs.declared.entry.Token.{Token}
 use Rattle.master_lex.specs.declared.fault.LexKind.{LexKind}
 use Rattle.master_lex.specs.declared.octet.OctetKind.{OctetKind}
 use Rattle.master_lex.specs.declared.octet.OctetKind.TheVariants.{Plain, Blank, LineFeed, Semicolon, Open, Close, Quote, Backslash}
-use Rattle.master_lex.specs.declared.scanner.Position.{Position}
-use Rattle.master_lex.specs.declared.scanner.Mode.{Mode}
-use Rattle.master_lex.specs.declared.scanner.Mode.TheVariants.{Start, Between, Comment, InToken, Faulty}
-use Rattle.master_lex.specs.declared.scanner.Escape.{Escape}
-use Rattle.master_lex.specs.declared.scanner.Escape.TheVariants.{Outside, Begun, One, Two}
+use Rattle.master_lex.specs.declared.position.Position.{Position}
+use Rattle.master_lex.specs.declared.position.Mode.{Mode}
+use Rattle.master_lex.specs.declared.position.Mode.TheVariants.{Start, Between, Comment, InToken, Faulty}
+use Rattle.master_lex.specs.declared.position.Escape.{Escape}
+use Rattle.master_lex.specs.declared.position.Escape.TheVariants.{Outside, Begun, One, Two}
 use Rattle.master_lex.specs.declared.scanner.TheConstants.{MOST}
 use Rattle.dns_data.specs.Octet.{is_digit}
 use Rattle.master_lex.specs.Octets.{kind, is_space}

@@ -9,11 +9,11 @@ use Rattle.master_lex.specs.declared.fault.LexKind.{LexKind}
 use Rattle.master_lex.specs.declared.fault.LexKind.TheVariants.{OpenParen, OpenQuote, StrayClose, BadEscape, TokenTooLong}
 use Rattle.master_lex.specs.declared.octet.OctetKind.{OctetKind}
 use Rattle.master_lex.specs.declared.octet.OctetKind.TheVariants.{Plain, Blank, LineFeed, Semicolon, Open, Close, Quote, Backslash}
-use Rattle.master_lex.specs.declared.scanner.Position.{Position}
-use Rattle.master_lex.specs.declared.scanner.Mode.{Mode}
-use Rattle.master_lex.specs.declared.scanner.Mode.TheVariants.{Start, Between, Comment, InToken, Faulty}
-use Rattle.master_lex.specs.declared.scanner.Escape.{Escape}
-use Rattle.master_lex.specs.declared.scanner.Escape.TheVariants.{Outside, Begun, One, Two}
+use Rattle.master_lex.specs.declared.position.Position.{Position}
+use Rattle.master_lex.specs.declared.position.Mode.{Mode}
+use Rattle.master_lex.specs.declared.position.Mode.TheVariants.{Start, Between, Comment, InToken, Faulty}
+use Rattle.master_lex.specs.declared.position.Escape.{Escape}
+use Rattle.master_lex.specs.declared.position.Escape.TheVariants.{Outside, Begun, One, Two}
 use Rattle.master_lex.specs.declared.scanner.Scanner.{Scanner}
 use Rattle.master_lex.specs.declared.scanner.TheConstants.{MOST}
 use Rattle.master_lex.specs.Lists.{is_empty}
@@ -41,7 +41,7 @@ start_of line = record { line = line; blank_start = false; depth = 0; opened = 0
 abbrev pub empty : State
 empty = record { ready = []; tokens = []; raw = []; position = start_of 1 }
 
--- the same, with something else under way
+-- a state with something else under way
 abbrev pub with_mode : State → Mode → State
 with_mode s mode = record s { position = record s.position { mode = mode } }
 

@@ -1,7 +1,7 @@
 //! What may be wrong in the text of a master file.
 
 ghost use Rattle.std.specs.Prelude.{◌≡◌};
-ghost use Rattle.master_lex.specs.Kinds.{lex_kind_number};
+ghost use Rattle.master_lex.specs.Kinds.{lex_code, lex_kind_number};
 ghost use Rattle.master_lex.specs.declared.fault.TakeFault.TheVariants.{Lex, NoMemory as OutOfMemory};
 
 use dns_data::NoMemory;
@@ -39,6 +39,19 @@ impl LexKind {
             LexKind::StrayClose => 3,
             LexKind::BadEscape => 4,
             LexKind::TokenTooLong => 5,
+        }
+    }
+
+    /// The code of the kind, a word that is printed.
+    pub fn code(&self) -> &'static str
+        ensures { result.now ≡ lex_code self.now }
+    {
+        match self {
+            LexKind::OpenParen => "open-paren",
+            LexKind::OpenQuote => "open-quote",
+            LexKind::StrayClose => "stray-close",
+            LexKind::BadEscape => "bad-escape",
+            LexKind::TokenTooLong => "token-too-long",
         }
     }
 }

@@ -10,7 +10,8 @@ ghost use Rattle.master_lex.specs.Lexer.{LastTaken};
 
 use crate::entry::Entry;
 use crate::fault::{LexFault, LexKind, TakeFault};
-use crate::scanner::{Escape, Mode, Position, Scanner};
+use crate::position::{Escape, Mode, Position};
+use crate::scanner::Scanner;
 use crate::taken::Taken;
 use dns_data::{List, NoMemory};
 use std::alloc::Global;

@@ -6,7 +6,8 @@ ghost use Rattle.master_lex.specs.Lexer.{IsLexerOf, left};
 ghost use Rattle.master_lex.specs.Taking.{IsAnswer, given_with};
 
 use crate::fault::TakeFault;
-use crate::scanner::{Mode, Scanner};
+use crate::position::Mode;
+use crate::scanner::Scanner;
 use crate::taken::Taken;
 use dns_data::NoMemory;
 use std::alloc::Global;

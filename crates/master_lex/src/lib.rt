@@ -16,6 +16,7 @@ mod laws;
 mod lexer;
 mod octet;
 mod plain;
+mod position;
 mod reading;
 mod scanner;
 mod taken;

@@ -2,13 +2,14 @@
 
 ghost use Rattle.std.specs.Prelude.{◌≡◌, ◌≤◌, length, not, OnErr, IfOk};
 ghost use Rattle.std.specs.List.{prefix_len};
-ghost use Rattle.master_lex.specs.declared.scanner.Mode.TheVariants.{Start, Between};
+ghost use Rattle.master_lex.specs.declared.position.Mode.TheVariants.{Start, Between};
 ghost use Rattle.master_lex.specs.Octets.{kind, is_blank, is_feed, stands};
 ghost use Rattle.master_lex.specs.States.{state_of};
 ghost use Rattle.master_lex.specs.Plain.{KeptPlain, PassedFirst};
 
 use crate::octet::{is_blank_octet, is_feed_octet, is_plain_in_quotes, is_plain_in_word};
-use crate::scanner::{Escape, MOST, Mode, Scanner};
+use crate::position::{Escape, Mode};
+use crate::scanner::{MOST, Scanner};
 use dns_data::NoMemory;
 use std::alloc::Global;
 

@@ -2,14 +2,15 @@
 
 ghost use Rattle.std.specs.Prelude.{◌≡◌, ◌+◌, ◌-◌, ◌^◌, ◌<◌, ◌≤◌, if◌then◌else◌, [], OnOk, OnErr, length};
 ghost use Rattle.master_lex.specs.declared.fault.LexKind.TheVariants.{BadEscape};
-ghost use Rattle.master_lex.specs.declared.scanner.Mode.TheVariants.{InToken};
+ghost use Rattle.master_lex.specs.declared.position.Mode.TheVariants.{InToken};
 ghost use Rattle.master_lex.specs.Octets.{kind};
-ghost use Rattle.master_lex.specs.States.{state_of, start_of, empty, passed, between_by, in_word_by, in_quotes_by, behind_backslash, behind_digit, behind_digits, in_token, kept, pushed, failed, with_mode, escape_begun, token_ended, line_ended, in_comment_by, entry_ended, opened, closed, run, IsHalfway, IsTidy};
+ghost use Rattle.master_lex.specs.States.{state_of, empty, passed, between_by, in_word_by, in_quotes_by, behind_backslash, behind_digit, behind_digits, in_token, kept, pushed, failed, with_mode, escape_begun, token_ended, line_ended, in_comment_by, entry_ended, opened, closed, run, IsHalfway, IsTidy};
 ghost use Rattle.master_lex.specs.Undo.{Grew};
 
 use crate::entry::{Entry, Token};
 use crate::fault::{LexFault, LexKind};
 use crate::octet::{OctetKind, is_code, is_space_octet, kind_of};
+use crate::position::{Escape, Mode, Position};
 use dns_data::{List, NoMemory, Octets};
 use std::alloc::Global;
 use std::collections::VecDeque;
@@ -17,51 +18,6 @@ use std::mem;
 
 /// The most octets that a token has as written.
 pub const MOST: usize = 131_072;
-
-/// How far an escape has come.
-#[derive(Clone, Copy, Debug, PartialEq, Eq)]
-pub enum Escape {
-    /// No escape is under way.
-    Outside,
-    /// The `\` alone.
-    Begun,
-    /// The `\` and this digit.
-    One(u8),
-    /// The `\` and these digits.
-    Two(u8, u8),
-}
-
-/// What is under way.
-#[derive(Clone, Copy, Debug, PartialEq, Eq)]
-pub enum Mode {
-    /// Nothing of an entry yet.
-    Start,
-    /// White space and parentheses.
-    Between,
-    /// A comment.
-    Comment,
-    /// A token.
-    InToken { quoted: bool, escape: Escape },
-    /// A fault, behind which nothing is read.
-    Faulty(LexFault),
-}
-
-/// How far the entry under way has come.
-#[derive(Clone, Copy, Debug, PartialEq, Eq)]
-pub struct Position {
-    /// The line, counted from 1.
-    pub line: u32,
-    /// Whether the entry's first octet is a space or a tab.
-    pub blank_start: bool,
-    /// How many parentheses are open.
-    pub depth: u32,
-    /// The line of the outermost open parenthesis.
-    pub opened: u32,
-    /// The line of the first token.
-    pub first: u32,
-    /// What is under way.
-    pub mode: Mode,
-}
 
 /// The whole entries that weren't taken, and the entry under way.
 #[derive(Debug, Drop)]
@@ -74,22 +30,6 @@ pub struct Scanner {
     pub raw: Octets,
     /// How far the entry under way has come.
     pub position: Position,
-}
-
-impl Position {
-    /// The start of an entry in a line.
-    pub fn start(line: u32) -> Position
-        ensures { result ≡ start_of line }
-    {
-        Position {
-            line,
-            blank_start: false,
-            depth: 0,
-            opened: 0,
-            first: 0,
-            mode: Mode::Start,
-        }
-    }
 }
 
 impl Scanner {

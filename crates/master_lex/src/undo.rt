@@ -7,7 +7,8 @@ ghost use Rattle.master_lex.specs.States.{State, state_of};
 ghost use Rattle.master_lex.specs.Undo.{mark_of, TokensGrew, EntriesGrew, Grew};
 
 use crate::entry::{Entry, Token};
-use crate::scanner::{Position, Scanner};
+use crate::position::Position;
+use crate::scanner::Scanner;
 use dns_data::Octets;
 use std::collections::VecDeque;
 

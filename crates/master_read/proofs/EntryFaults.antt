@@ -187,7 +187,7 @@ entry_told room file so_far entry =
     (if_err_then IsTold (record_of file so_far.context entry) _ (record_told file so_far.context entry) (λ made.
     if_err_then IsTold (with_made room so_far made) _ (if_err_either IsTold (nat_le room so_far.seen) _ _ refl tt) (λ records. tt)))
 
--- so does the fault that a call gives, which answers what the definition says
+-- the fault of a call that answers what the definition says tells of the text
 pub fault_told : (room file line : ℕ) (so_far : Records) (entry : Entry) (fault : EntryFault)
     → AnswersOr WantsMemory (Err fault) (with_fault Cause (effect_of room file so_far entry)) → TellsOfText (fault_at file line fault)
 fault_told room file line so_far entry WantsMemory h = tt
@@ -263,7 +263,7 @@ makes_told held entry texts fault (inr same) =
     let told : IsTextFault fault = IfErr-at_err IsUnread same (with_entry_told (included held.limits held.file.levels) (included_told held.limits held.file.levels) held.limits.room held.file.number entry (record { records = held.records; texts = texts })) in
     told.tells
 
--- so does the fault of texts
+-- the fault of texts says something of them
 pub texts_told : (origin : Labels) (room includes : ℕ) (texts : List (List ℕ)) → IfErr (zone_text origin room includes texts) IsUnread
 unfolding zone_text
 texts_told origin room includes [] = tt

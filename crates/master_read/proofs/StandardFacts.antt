@@ -83,7 +83,7 @@ isi_edu = lines
     ∷ []
     ∷ [])
 
--- its records, all with the MINIMUM of the start of authority
+-- the records of ISI.EDU, all with the MINIMUM of the start of authority
 abbrev isi_edu_records : List Rr
 isi_edu_records =
     rr (name "isi.edu") 60
@@ -104,7 +104,7 @@ isi_edu_reads : alone (name "isi.edu") 11 isi_edu ≡ reads isi_edu_records 11
 unfolding zone_text with_rest with_entries with_entry effect_of record_of owner_of front_in one_more type_said data_behind made_of type_word class_word is_among directive_of
 isi_edu_reads = refl
 
--- its last line includes another file, which is asked for
+-- the last line of the file of ISI.EDU includes another file, which is asked for
 isi_edu_includes :
     zone_text (name "isi.edu") 11 1 ((isi_edu ++ codes "$INCLUDE <SUBSYS>ISI-MAILBOXES.TXT") ∷ [])
     ≡ Err (Asks (codes "<SUBSYS>ISI-MAILBOXES.TXT"))

@@ -75,7 +75,7 @@ with_word front token tokens =
     else (if is_none front.ttl && begins_with_digit token.raw then with_ttl front tokens (time_of token.raw)
     else (if front.class then Ok front else with_class front tokens (class_word token.raw)))
 
--- the same where there is a next token
+-- what stood in front with one token more, if there is a next token that may stand there
 abbrev pub with_next : Front → List Token → Result Front TextCause
 with_next front [] = Ok front
 with_next front (token ∷ tokens) = with_word front token tokens

@@ -61,7 +61,7 @@ HasRead held origin ended taken =
     ≡ as_zone_text (rest_of held.limits held.file (held.file.entries.items ++ others) (text_fault text) (record { records = held.records; texts = later })
     >>= rest_around held.limits held.around)
 
--- the same of the text of the file that is open, of which so much was taken
+-- of the texts that ended and of so much of the text of the open file, all was read but what is held
 abbrev pub IsReading : Held → Labels → List (List ℕ) → List ℕ → Type 0
 IsReading held origin ended text =
     (taken : List Entry) × (IsLexerOf held.lexer text taken × HasRead held origin ended taken)
@@ -87,7 +87,7 @@ pub record IsReaderOf (held : Held) (origin : Labels) (room includes : ℕ) (end
   pub fed_is : held.fed ≡ length text
   pub agrees : StandsBy held.fault held origin ended text
 
--- these texts give what was read
+-- texts give what was read
 abbrev pub HasReadAll : Held → Labels → List (List ℕ) → Type 0
 HasReadAll held origin texts = texts_give held.limits origin texts ≡ Ok (zone_text_of held.records)
 

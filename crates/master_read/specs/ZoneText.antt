@@ -38,7 +38,7 @@ pub record Progress : Type 0 where
 abbrev pub no_records : Records
 no_records = record { context = no_context; rrs = []; seen = 0; included = 0 }
 
--- the same behind other context
+-- what was read so far, with another context for what follows
 abbrev pub in_context : Progress → Context → Progress
 in_context progress context = record progress { records = record progress.records { context = context } }
 
@@ -155,6 +155,6 @@ zone_text origin room includes (text ∷ texts) =
 abbrev pub record_entries : List Entry → List Entry
 record_entries entries = filter (λ entry. not (is_directive entry)) entries
 
--- those of the files that were opened, the zone's file and so many included ones
+-- the record entries of the files that were opened, the zone's file and so many included ones
 abbrev pub opened_record_entries : ℕ → List (List ℕ) → List Entry
 opened_record_entries included texts = flat_map (λ text. record_entries (text_entries text)) (take (included + 1) texts)

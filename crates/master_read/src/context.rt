@@ -32,7 +32,7 @@ impl Context {
         }
     }
 
-    /// The same under an origin.
+    /// A copy of the context under another origin.
     pub fn under(&self, alloc: Global, origin: Name) -> Result<Context, NoMemory>
         ensures { IfOk result (λ inner. inner ≡ under origin self.now) }
     {

@@ -109,7 +109,7 @@ fn read_origin(alloc: Global, context: &mut Context, arguments: &[Token]) -> Res
 #[tactic(auto, unfolding(crate::specs::Directives::ttl_directive))]
 fn read_default_ttl(context: &mut Context, arguments: &[Token]) -> Result<(), EntryFault>
     ensures ok { OnOk result (ttl_directive context.old arguments.now ≡ Ok (Sets context.new)) }
-    ensures fault { IfErr result (λ fault. AnswersOr EntryFault.NoMemory (Err fault) (with_fault EntryFault.Cause (ttl_directive context.old arguments.now))) }
+    ensures fault { IfErr result (λ fault. with_fault EntryFault.Cause (ttl_directive context.old arguments.now) ≡ Err fault) }
 {
     let [time] = arguments else {
         return Err(EntryFault::Cause(TextCause::BadDirective));

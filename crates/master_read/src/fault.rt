@@ -1,6 +1,7 @@
 //! Why texts give no records.
 
 ghost use Rattle.std.specs.Prelude.{◌≡◌};
+ghost use Rattle.master_read.specs.Codes.{text_code};
 ghost use Rattle.master_read.specs.declared.fault.EntryFault.TheVariants as entry_fault;
 ghost use Rattle.master_read.specs.declared.fault.TextCause.TheVariants as cause;
 ghost use Rattle.master_read.specs.declared.fault.TextFault.TheVariants as text_fault;
@@ -56,6 +57,30 @@ pub enum TextCause {
     /// More files are included than may be.
     #[error("too many included files")]
     TooManyIncludes,
+}
+
+impl TextCause {
+    /// The code of the cause, a word that is printed.
+    pub fn code(&self) -> &'static str
+        ensures { result.now ≡ text_code self.now }
+    {
+        match self {
+            TextCause::Lex(kind) => kind.code(),
+            TextCause::BadDirective => "bad-directive",
+            TextCause::NotSupported => "not-supported",
+            TextCause::BadOwner(_) => "bad-owner",
+            TextCause::NoOwner => "no-owner",
+            TextCause::NoType => "no-type",
+            TextCause::UnknownType => "unknown-type",
+            TextCause::NotIn => "not-in",
+            TextCause::BadTtl => "bad-ttl",
+            TextCause::Rdata(fault) => fault.code(),
+            TextCause::NoTtl => "no-ttl",
+            TextCause::TooMany => "too-many-records",
+            TextCause::IncludeDepth => "include-depth",
+            TextCause::TooManyIncludes => "too-many-includes",
+        }
+    }
 }
 
 /// Why texts give no records.

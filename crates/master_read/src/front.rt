@@ -34,7 +34,7 @@ pub fn read_front(tokens: &[Token]) -> Result<Front<'_>, TextCause>
     one_more(front)
 }
 
-/// The same with the next token, if it is a TTL or a class and none such stood there.
+/// What stood in front so far with the next token, if that is a TTL or a class and none such stood there.
 #[tactic(auto, unfolding(crate::specs::Entries::one_more))]
 fn one_more(front: Front<'_>) -> Result<Front<'_>, TextCause>
     ensures { MatchResult result

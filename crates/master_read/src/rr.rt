@@ -29,8 +29,8 @@ pub fn read_record(
 {
     let owner = read_owner(alloc, context, entry)?;
     let front = read_front(behind_owner(entry))?;
-    let rdata = read_data(alloc, front.tokens, &context.origin)?;
     let owner = remember(alloc, context, entry, owner, front.ttl)?;
+    let rdata = read_data(alloc, front.tokens, &context.origin)?;
     Ok(with_ttl(context, owner, front.ttl, file, entry.line, rdata)?)
 }
 

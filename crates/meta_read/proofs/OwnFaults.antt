@@ -1,13 +1,12 @@
 -- No metadata are refused for want of memory: that answer is a call's alone.
-use Rattle.std.proofs.Common.{◌≡◌, ◌≢◌, ℕ, ◌+◌, List, [], ◌∷◌, length, codes, is_some, nat_lt, ◌==◌, Option, Some, None, Result, Ok, Err}
+use Rattle.std.proofs.Common.{ℕ, ◌+◌, List, [], ◌∷◌, length, codes, is_some, nat_lt, ◌==◌, Option, Some, None, Result, Ok, Err}
 use Rattle.std.specs.List.{list_all}
 use Rattle.std.specs.Option.{ok_or}
 use Rattle.std.specs.Result.{IfErr}
 use Rattle.serde_json.specs.Data.{Data}
 use Rattle.serde_json.specs.Find.{as_str, get}
 use Rattle.dns_data.proofs.Answers.{if_err_then, if_err_told, if_err_or, if_err_either}
-use Rattle.dns_data.specs.Distinct.{distinct}
-use Rattle.dns_data.specs.Name.{Labels, name_eq}
+use Rattle.dns_data.specs.Name.{Labels}
 use Rattle.dns_data.specs.Spelling.{name_of_text}
 use Rattle.dns_data.specs.declared.fault.NameFault.{NameFault}
 use Rattle.meta_read.specs.Members.{value_of, list_at, text_at}
@@ -16,9 +15,8 @@ use Rattle.meta_read.specs.Names.{each, name_in_row}
 use Rattle.meta_read.specs.Rows.{file_in_row, origin_at, origin_in, read_row, most_rows, rows_of}
 use Rattle.meta_read.specs.Tops.{top_of, tops_in, tops_of}
 use Rattle.meta_read.specs.declared.fault.MetaFault.{MetaFault}
-use Rattle.meta_read.specs.declared.fault.MetaFault.TheVariants.{NotJson, Shape, BadName, TopUnhosted, NoTops, TooManyRows, NoMemory}
+use Rattle.meta_read.specs.declared.fault.MetaFault.TheVariants.{NotJson, Shape, BadName, NoMemory}
 use Rattle.meta_read.specs.declared.meta.Meta.{Meta}
-use Rattle.meta_read.specs.declared.meta.MetaRow.{MetaRow}
 
 -- the fault says something of the metadata
 abbrev pub IsOwn : MetaFault → Type 0

@@ -1,3 +1,4 @@
+pub mod Codes
 pub mod Members
 pub mod Names
 pub mod Tops

@@ -1,6 +1,7 @@
 //! Why octets are no metadata.
 
 ghost use Rattle.std.specs.Prelude.{◌≡◌};
+ghost use Rattle.meta_read.specs.Codes.{meta_code};
 ghost use Rattle.meta_read.specs.declared.fault.MetaFault.TheVariants as meta_fault;
 
 use dns_data::{Name, WantOfMemory};
@@ -31,6 +32,23 @@ pub enum MetaFault {
     /// Memory ran out.
     #[error("no memory")]
     NoMemory,
+}
+
+impl MetaFault {
+    /// The code of the fault, a word that is printed.
+    pub fn code(&self) -> &'static str
+        ensures { result.now ≡ meta_code self.now }
+    {
+        match self {
+            MetaFault::NotJson => "not-json",
+            MetaFault::Shape { .. } => "bad-shape",
+            MetaFault::BadName { .. } => "bad-name",
+            MetaFault::TopUnhosted(_) => "top-unhosted",
+            MetaFault::NoTops => "no-tops",
+            MetaFault::TooManyRows => "too-many-rows",
+            MetaFault::NoMemory => "no-memory",
+        }
+    }
 }
 
 impl<E: WantOfMemory + Drop> From<E> for MetaFault {

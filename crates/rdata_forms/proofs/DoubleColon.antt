@@ -10,7 +10,7 @@ before-sides : (x : ℕ) (text : List ℕ) → eqb x 58 ≡ false → sides_of (
 before-sides x [] h = refl
 before-sides x (y ∷ text) h = cond-false (eqb x 58 && eqb y 58) _ _ (and_left (eqb x 58) (eqb y 58) h)
 
--- so does a colon before another octet
+-- a colon in front of an octet that is none stands before the sides
 colon-before : (y : ℕ) (text : List ℕ) → eqb y 58 ≡ false → sides_of (58 ∷ y ∷ text) ≡ option_map (after_octet 58) (sides_of (y ∷ text))
 colon-before y text h = cond-false (eqb 58 58 && eqb y 58) _ _ (and_right (eqb 58 58) (eqb y 58) h)
 

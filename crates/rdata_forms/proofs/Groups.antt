@@ -22,7 +22,7 @@ pub five_parts : (a b c d : List ℕ) (rest : List (List ℕ)) → 0 < length re
 five_parts a b c d [] some = absurd (omega arith)
 five_parts a b c d (e ∷ rest) some = refl
 
--- the same of octets that were put together in two steps
+-- a front, zeros and a back that were put together in two steps are whole by the same test
 pub zeros_between : (front with_zeros all back : List ℕ) → length front + length back ≤ 14 → with_zeros ≡ front ++ drop (length front + length back) (replicate 16 0) → all ≡ with_zeros ++ back → if_whole all ≡ with_zero_groups front back
 zeros_between front with_zeros all back room middle end =
     ap if_whole (end ∙ ap (λ (l : List ℕ). l ++ back) middle) ∙ short_is_whole front back room

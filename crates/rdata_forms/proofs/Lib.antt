@@ -1,6 +1,7 @@
 pub mod DottedTexts
 pub mod DoubleColon
 mod Drawn
+pub mod Exact
 pub mod Groups
 pub mod HexTokens
 pub mod Hexadecimal

@@ -146,7 +146,7 @@ reads-fields types.Caa fields origin = reads-caa fields
 pub reads-data : (rtype : RrType) (tokens : List Token) (origin : Labels) → Reads (rdata_of rtype tokens origin)
 reads-data rtype tokens origin = if_err_either IsSaid (is_generic tokens) _ _ (record { own = λ h. cc; named = λ h. cc }) (reads-fields rtype (written tokens) origin)
 
--- the same of data of another type
+-- the fault of data of another type says something of the tokens
 pub reads-other : (word : List ℕ) (tokens : List Token) → Reads (other_of word tokens)
 reads-other word tokens = if_err_either IsSaid (is_generic tokens && not (is_generic_form (written tokens))) _ _ (record { own = λ h. cc; named = λ h. cc }) tt
 

@@ -33,7 +33,7 @@ split-none separator text h = by_test (cases_Bool (ltb (position_or_len (λ octe
       let ge = ltb-false (position_or_len (λ octet. octet == separator) text) (length text) outside in
       split-lacks (λ octet. octet == separator) text (λ k lt. fails_before_first (λ octet. octet == separator) text k 0 (omega arith))
 
--- there is a piece
+-- a text has at least one piece
 pub split-some : (separator : ℕ) (text : List ℕ) → 0 < length (split_on separator text)
 split-some separator text = omega (arith, length-slice_split (λ octet. octet == separator) text)
 

@@ -37,7 +37,7 @@ pub time_from-digit : (seconds : ℕ) (grouped : Bool) (value : Option ℕ) (c :
 time_from-digit seconds grouped value c cs h =
     ap (λ (o : Option ℕ). option_and_then if_ttl (option_map (λ others. seconds + others) o)) (cond-true (is_digit c) _ _ h)
 
--- another octet ends a group
+-- an octet that is no digit ends a group
 pub time_from-letter : (seconds : ℕ) (grouped : Bool) (value : Option ℕ) (c : ℕ) (cs : List ℕ) → is_digit c ≡ false → time_from seconds grouped value (c ∷ cs) ≡ group_then seconds (time_group_of value c) (seconds_after true None cs)
 time_from-letter seconds grouped value c cs h =
     ap (λ (o : Option ℕ). option_and_then if_ttl (option_map (λ others. seconds + others) o)) (cond-false (is_digit c) _ _ h)

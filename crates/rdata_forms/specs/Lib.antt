@@ -1,3 +1,4 @@
+pub mod Codes
 pub mod Numbers
 pub mod Times
 pub mod Addresses

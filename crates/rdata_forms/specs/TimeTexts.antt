@@ -1,5 +1,5 @@
 -- The texts of times: what each stands for, in seconds. A law ties this to how times are worked out.
-use Rattle.std.specs.Prelude.{◌≡◌, ◌⊎◌, ℕ, ◌+◌, ◌*◌, ◌≤◌, ◌<◌, Bool, true, ◌&&◌, List, [], ◌∷◌, ◌++◌, length}
+use Rattle.std.specs.Prelude.{◌≡◌, ◌⊎◌, ℕ, ◌*◌, ◌≤◌, ◌<◌, Bool, true, ◌&&◌, List, [], ◌∷◌, ◌++◌, length}
 use Rattle.std.specs.List.{list_all, flat_map, sum_by}
 use Rattle.std.specs.Option.{is_some, unwrap_or}
 use Rattle.dns_data.specs.Octet.{digits_after}

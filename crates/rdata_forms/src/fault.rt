@@ -1,6 +1,7 @@
 //! Why tokens are no data.
 
 ghost use Rattle.std.specs.Prelude.{◌≡◌};
+ghost use Rattle.rdata_forms.specs.Codes.{data_code};
 ghost use Rattle.rdata_forms.specs.declared.fault.RdataFault.TheVariants as rdata_fault;
 
 use dns_data::{NameFault, WantOfMemory};
@@ -25,6 +26,24 @@ pub enum RdataFault {
     GenericKnown,
     #[error("no memory")]
     NoMemory,
+}
+
+impl RdataFault {
+    /// The code of the fault, a word that is printed.
+    pub fn code(&self) -> &'static str
+        ensures { result.now ≡ data_code self.now }
+    {
+        match self {
+            RdataFault::FieldCount => "field-count",
+            RdataFault::BadNumber => "bad-number",
+            RdataFault::BadAddress => "bad-address",
+            RdataFault::BadName(_) => "bad-name",
+            RdataFault::TextTooLong => "text-too-long",
+            RdataFault::BadHex => "bad-hex",
+            RdataFault::GenericKnown => "generic-known",
+            RdataFault::NoMemory => "no-memory",
+        }
+    }
 }
 
 impl<E: WantOfMemory + Drop> From<E> for RdataFault {

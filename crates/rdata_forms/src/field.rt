@@ -1,6 +1,6 @@
 //! Single fields of data.
 
-ghost use Rattle.std.specs.Prelude.{◌≤◌, IfOk};
+ghost use Rattle.std.specs.Prelude.{◌≡◌, ◌≤◌, IfOk};
 ghost use Rattle.dns_data.specs.Answers.{AnswersOr};
 ghost use Rattle.rdata_forms.specs.Numbers.{number_in};
 ghost use Rattle.rdata_forms.specs.Times.{time_in};
@@ -16,7 +16,7 @@ use std::alloc::Global;
 
 /// A number of one to ten digits, or `BadNumber` where the token is none or the number is above `most`.
 pub fn number_field(token: &Token, most: u32) -> Result<u32, RdataFault>
-    ensures number { AnswersOr RdataFault.NoMemory result (number_in most token.now.raw) }
+    ensures number { result ≡ number_in most token.now.raw }
     ensures within { IfOk result (λ number. number ≤ most) }
 {
     read_number(token.raw.items(), 10, most).ok_or(RdataFault::BadNumber)
@@ -24,7 +24,7 @@ pub fn number_field(token: &Token, most: u32) -> Result<u32, RdataFault>
 
 /// A time in seconds, or `BadNumber` where the token is none.
 pub fn time_field(token: &Token) -> Result<u32, RdataFault>
-    ensures { AnswersOr RdataFault.NoMemory result (time_in token.now.raw) }
+    ensures { result ≡ time_in token.now.raw }
 {
     read_ttl(token.raw.items()).ok_or(RdataFault::BadNumber)
 }

@@ -1,5 +1,6 @@
 //! The fields of each type of data.
 
+ghost use Rattle.std.specs.Prelude.{◌≡◌};
 ghost use Rattle.dns_data.specs.Answers.{AnswersOr};
 ghost use Rattle.rdata_forms.specs.Forms.{written, one_name, a_of, aaaa_of, ns_of, cname_of, ptr_of, dname_of, soa_of, hinfo_of, mx_of, txt_of, strings_of, srv_of, caa_of};
 
@@ -13,7 +14,7 @@ use std::alloc::Global;
 
 /// An IPv4 address (RFC 1035 section 3.4.1).
 pub fn read_a(tokens: &[Token]) -> Result<Rdata, RdataFault>
-    ensures { AnswersOr RdataFault.NoMemory result (a_of (written tokens.now)) }
+    ensures { result ≡ a_of (written tokens.now) }
 {
     let [address] = tokens else {
         return Err(RdataFault::FieldCount);
@@ -26,7 +27,7 @@ pub fn read_a(tokens: &[Token]) -> Result<Rdata, RdataFault>
 
 /// An IPv6 address (RFC 3596 section 2.4).
 pub fn read_aaaa(tokens: &[Token]) -> Result<Rdata, RdataFault>
-    ensures { AnswersOr RdataFault.NoMemory result (aaaa_of (written tokens.now)) }
+    ensures { result ≡ aaaa_of (written tokens.now) }
 {
     let [address] = tokens else {
         return Err(RdataFault::FieldCount);

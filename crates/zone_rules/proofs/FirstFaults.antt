@@ -44,7 +44,7 @@ module _ (may_have : Labels → Bool) (rr : Rr) (none : may_have rr.owner ≡ fa
       (All-weaker (λ other. other.owner ≡ rr.owner → (is_type types.Cname other || is_type types.Cname rr) ≡ true → may_have rr.owner ≡ true) (λ other. rr.owner ≡ other.owner → is_type types.Cname other ≡ false)
       (λ other rival same. false_from_ne_true (is_type types.Cname other) (λ e. let may = rival (sym same) (or_left (is_type types.Cname other) (is_type types.Cname rr) e) in cc)) before rivals)
 
-  -- so it breaks no rule on them
+  -- a record that has no rival breaks no rule on CNAME records
   pub no-second : is_second_cname before rr ≡ false
   no-second = by (is_type types.Cname rr) where
     by : (b : Bool) → (b && had_at types.Cname rr.owner before) ≡ false

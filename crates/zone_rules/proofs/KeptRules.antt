@@ -159,7 +159,7 @@ module _ (origin : Labels) where
         All-cons (R earlier) rr rrs (holds before earlier rr has (keeps origin before rr parts.0))
         (later-clear (before ++ rr ∷ []) rrs parts.1 earlier (Contains-append_left before (rr ∷ []) earlier has))
 
-    -- so it holds of each pair
+    -- the relation holds of each pair of records behind one another
     pairs-clear : (before rrs : List Rr) → first_fault_behind origin before rrs ≡ None → AllPairs R rrs
     pairs-clear before [] none = λ i j d below within. absurd (not-below j within) where
       not-below : (j : ℕ) → j < 0 → ⊥
@@ -194,7 +194,7 @@ pairs-more : (rr : Rr) (rest : List Rr) (b : Bool) → All (are_two rr) rest →
 pairs-more rr rest true all pairs = pairs
 pairs-more rr rest false all pairs = AllPairs-cons are_two rr rest all pairs
 
--- so it is of each pair that is kept
+-- each pair of records that is kept is of two
 pairs-kept : (before rrs : List Rr) → AllPairs are_two (distinct_behind is_identical before rrs)
 pairs-kept before [] = λ i j d below within. absurd (not-below j within) where
   not-below : (j : ℕ) → j < 0 → ⊥

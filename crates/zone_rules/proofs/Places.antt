@@ -7,11 +7,11 @@ use Rattle.std.proofs.Math.Nat.{mul-lt-mul_of_pos_right}
 high_half : (number : ℕ) → number < 2 ^ 64 → number / 2 ^ 32 < 2 ^ 32
 high_half number fits = div_below number (2 ^ 32) (2 ^ 32) (lit< tt) fits
 
--- it fits when it is multiplied by how many buckets there are
+-- the upper half times how many buckets there are fits into 64 bits
 pub scaled_fits : (number len : ℕ) → number < 2 ^ 64 → len < 2 ^ 32 → number / 2 ^ 32 * len < 2 ^ 64
 scaled_fits number len fits few = mul-lt (number / 2 ^ 32) len (2 ^ 32) (2 ^ 32) (high_half number fits) few
 
--- the bucket is one of them
+-- the place is that of a bucket
 pub place_within : (number len : ℕ) → number < 2 ^ 64 → 0 < len → number / 2 ^ 32 * len / 2 ^ 32 < len
 place_within number len fits some =
     let less : number / 2 ^ 32 * len < 2 ^ 32 * len = mul-lt-mul_of_pos_right (high_half number fits) some in

@@ -77,7 +77,7 @@ module _ (may_rival : ℕ → Bool) (rr : Rr) where
       (λ j. not-identical other (is_identical rr other) isnt refl (All-head (λ x. record_number x ≡ record_number rr → may rr ≡ true) other before rivals) j
       || without-rival before isnt (All-tail (λ x. record_number x ≡ record_number rr → may rr ≡ true) other before rivals) j)
 
-  -- so a record that may have a rival is looked for among those that may, and any other is the first
+  -- a record that may have a rival is looked for among those that may, and any other is the first
   pub first-known : (before : List Rr) → All (λ other. record_number other ≡ record_number rr → may rr ≡ true) before → (b : Bool) → may rr ≡ b
       → (b && list_any (λ other. may other && has_identity other (is_identical rr other)) before) ≡ list_any (is_identical rr) before
   first-known before rivals true is_so = among-rivals before is_so

@@ -27,7 +27,7 @@ is_taken Shared = false
 is_taken Taken = true
 is_taken Contested = true
 
--- such an item, and another one
+-- an item fell in that has to stand alone, and another one
 abbrev pub is_contested : Bucket → Bool
 is_contested Empty = false
 is_contested Shared = false

@@ -1,5 +1,6 @@
 pub use Rattle.dns_data.specs.Distinct
 pub use Rattle.dns_data.specs.Identical
+pub mod Codes
 pub mod Apex
 pub mod Rules
 pub mod Buckets

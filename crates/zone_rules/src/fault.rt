@@ -1,6 +1,7 @@
 //! Why records are no zone.
 
 ghost use Rattle.std.specs.Prelude.{◌≡◌};
+ghost use Rattle.zone_rules.specs.Codes.{rule_code};
 ghost use Rattle.zone_rules.specs.declared.fault.RuleFault.TheVariants as rule_fault;
 
 use dns_data::WantOfMemory;
@@ -34,6 +35,24 @@ pub enum RuleCause {
     /// The origin is a wildcard. This profile refuses it; RFC 4592 section 4.1 lets it stand.
     #[error("the origin is a wildcard")]
     StarOrigin,
+}
+
+impl RuleCause {
+    /// The code of the rule, a word that is printed.
+    pub fn code(&self) -> &'static str
+        ensures { result.now ≡ rule_code self.now }
+    {
+        match self {
+            RuleCause::NoSoa => "no-soa",
+            RuleCause::TwoSoas => "two-soas",
+            RuleCause::SoaElsewhere => "soa-elsewhere",
+            RuleCause::CnameAndOther => "cname-and-other",
+            RuleCause::TwoCnames => "two-cnames",
+            RuleCause::TwoDnames => "two-dnames",
+            RuleCause::StarRecord => "star-record",
+            RuleCause::StarOrigin => "star-origin",
+        }
+    }
 }
 
 /// Why records are no zone.

@@ -12,7 +12,7 @@ use crate::buckets::rivals;
 use crate::fingerprint::record_number;
 use dns_data::{List, Name, NoMemory, Rdata, Rr};
 use std::alloc::Global;
-use std::collections::{BTreeSet, VecDeque};
+use std::collections::BTreeSet;
 
 /// What tells a record from others: its number, which is compared first and mostly tells them apart, its data and its
 /// owner.
@@ -93,9 +93,9 @@ fn chosen(alloc: Global, rrs: List<Rr>, are_chosen: &[bool]) -> Result<List<Rr>,
     ensures { IfOk result (λ kept. kept ≡ chosen rrs are_chosen.now) }
 {
     let mut kept = List::new(alloc);
-    let mut left = VecDeque::from_vec(rrs.into_vec());
+    let mut left = rrs.into_iter();
     for is_chosen in are_chosen {
-        if let Some(rr) = left.pop_front() {
+        if let Some(rr) = left.next() {
             if *is_chosen {
                 kept.push(rr)?;
             }

@@ -44,7 +44,7 @@ no_room_at_all : effect_of 0 0 no_records (entry 1 (tokens "t. 60 NS ns.t.")) â‰
 unfolding with_entry effect_of record_of owner_of front_in one_more type_said data_behind made_of type_word class_word is_among
 no_room_at_all = refl
 
--- its other faults come first
+-- other faults of a record come before the want of room
 bad_data_without_room : effect_of 2 0 (one_of 2) (indented 3 (tokens "A 10.0.0.256")) â‰¡ Err (BadData BadAddress)
 unfolding with_entry effect_of record_of owner_of front_in one_more type_said data_behind type_word class_word is_among
 bad_data_without_room = refl

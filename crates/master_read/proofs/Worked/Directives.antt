@@ -31,11 +31,11 @@ a_record = refl
 abbrev before : Context
 before = context_with (name "example") (Some 7) (Some 8) (Some (name "www.example"))
 
--- the same under another origin
+-- the context with something of each, under another origin
 abbrev under : Labels → Context
 under origin = context_with origin (Some 7) (Some 8) (Some (name "www.example"))
 
--- the same with another TTL for records that state none
+-- the context with something of each, with another TTL for records that state none
 abbrev with_default : ℕ → Context
 with_default ttl = context_with (name "example") (Some ttl) (Some 8) (Some (name "www.example"))
 

@@ -87,7 +87,7 @@ a_quoted_class : front_in (token "60" ∷ in_quotes "CH" ∷ []) ≡ Ok (front_w
 unfolding front_in one_more
 a_quoted_class = refl
 
--- it may end the entry
+-- what stands in front may end the entry
 nothing : front_in [] ≡ Ok (front_with None [])
 unfolding front_in one_more
 nothing = refl

@@ -2,8 +2,7 @@
 use Rattle.std.specs.Prelude.{◌≡◌, refl, ℕ, List, [], ◌∷◌, ◌++◌, codes, replicate, Ok, Err, Result}
 use Rattle.std.specs.Str.{is_utf8, chars}
 use Rattle.dns_data.specs.Name.{Labels}
-use Rattle.dns_data.specs.declared.rdata.Rdata.{Rdata}
-use Rattle.dns_data.specs.declared.rdata.Rdata.TheVariants.{A, Ns, Soa}
+use Rattle.dns_data.specs.declared.rdata.Rdata.TheVariants.{A}
 use Rattle.dns_data.specs.declared.rdata.Rr.{Rr}
 use Rattle.rdata_forms.specs.declared.fault.RdataFault.TheVariants.{BadAddress}
 use Rattle.master_lex.specs.declared.fault.LexKind.TheVariants.{OpenParen}
@@ -25,11 +24,11 @@ texts_of texts = zone_text [] 9 3 texts
 abbrev address : Labels → ℕ → ℕ → ℕ → ℕ → Rr
 address owner ttl last file line = record { owner = owner; ttl = ttl; rdata = A (10 ∷ 0 ∷ 0 ∷ last ∷ []); file = file; line = line }
 
--- they have these records, as many record entries, and so many files were included
+-- texts have these records, as many record entries, and so many files were included
 abbrev gives : List Rr → ℕ → ℕ → Result ZoneText Unread
 gives rrs seen included = Ok (record { rrs = rrs; seen = seen; included = included })
 
--- they have this fault in this file and line
+-- texts have this fault in this file and line
 abbrev fails_at : ℕ → ℕ → TextCause → Result ZoneText Unread
 fails_at file line cause = Err (Faulty (At file line cause))
 
@@ -61,7 +60,7 @@ fault_in_a_file : texts_of (outer ∷ lines (codes "www 60 A 10.0.0.2" ∷ codes
 unfolding zone_text with_rest with_entries with_entry effect_of included record_of owner_of front_in one_more type_said data_behind made_of type_word class_word is_among directive_of include_directive is_utf8 chars lib.Utf8.encode
 fault_in_a_file = refl
 
--- and so has the fault of a spelling at its end
+-- the fault of a spelling at an included file's end has the file's number
 spelling_in_a_file : texts_of (outer ∷ codes "www 60 A ( 10.0.0.2" ∷ []) ≡ fails_at 1 1 (Lex OpenParen)
 unfolding zone_text with_rest with_entries with_entry effect_of included record_of owner_of front_in one_more type_said data_behind made_of type_word class_word is_among directive_of include_directive is_utf8 chars lib.Utf8.encode
 spelling_in_a_file = refl

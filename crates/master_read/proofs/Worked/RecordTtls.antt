@@ -22,7 +22,7 @@ stated :
 unfolding record_of owner_of front_in one_more type_said data_behind made_of type_word class_word is_among
 stated = refl
 
--- that of `$TTL`, before the last stated one (RFC 2308 section 4)
+-- the TTL of `$TTL` comes before the last stated one (RFC 2308 section 4)
 by_default :
     record_of 0 (context_with [] (Some 7) (Some 8) None) (entry 3 (tokens "www.t. A 10.0.0.1"))
     ≡ makes (context_with [] (Some 7) (Some 8) (Some (name "www.t"))) (rr (name "www.t") 7 address 3)
@@ -48,7 +48,7 @@ the_minimum :
 unfolding record_of owner_of front_in one_more type_said data_behind made_of type_word class_word is_among
 the_minimum = refl
 
--- and doesn't where another gives the TTL
+-- the MINIMUM doesn't count as stated where another gives the TTL
 a_start_with_a_ttl :
     record_of 0 (context_with [] None None None) (entry 1 (tokens "t. 60 SOA ns.t. h.t. 1 2 3 4 5"))
     ≡ makes (context_with [] None (Some 60) (Some (name "t"))) (rr (name "t") 60 start 1)
@@ -81,7 +81,7 @@ dropped_without_a_ttl :
 unfolding record_of owner_of front_in one_more type_said data_behind made_of type_word class_word is_among
 dropped_without_a_ttl = refl
 
--- its owner and its stated TTL count as those of any record
+-- the owner and the stated TTL of a dropped record count as those of any record
 dropped_with_a_ttl :
     record_of 0 (context_with [] None (Some 8) None) (entry 1 (tokens "t. 60 NSEC3 \\# zz"))
     ≡ drops (context_with [] None (Some 60) (Some (name "t")))

@@ -58,7 +58,7 @@ context_with origin default stated owner =
 abbrev pub front_with : Option ℕ → List Token → Front
 front_with ttl tokens = record { ttl = ttl; class = false; tokens = tokens }
 
--- the same behind a class
+-- what stands in front of a type behind the class: the TTL, and the tokens from there on
 abbrev pub front_in_class : Option ℕ → List Token → Front
 front_in_class ttl tokens = record { ttl = ttl; class = true; tokens = tokens }
 
@@ -88,11 +88,11 @@ entries_alone origin room entries fault =
     as_zone_text (with_rest (included (record { room = room; includes = 0 }) most_levels) room 0 no_context entries fault
     (record { records = record no_records { context = under origin no_context }; texts = [] }))
 
--- it has these records, and so many record entries
+-- a text has these records, and so many record entries
 abbrev pub reads : List Rr → ℕ → Result ZoneText Unread
 reads rrs seen = Ok (record { rrs = rrs; seen = seen; included = 0 })
 
--- it has this fault in this line
+-- a text has this fault in this line
 abbrev pub faulty : ℕ → TextCause → Result ZoneText Unread
 faulty line cause = Err (Faulty (At 0 line cause))
 

@@ -42,7 +42,7 @@ an_empty_origin = refl
 shape_before_name : read_row 2 (row_with (string (codes "z")) (string (codes "a..t")) (boolean true)) ≡ Err (Shape 2)
 shape_before_name = refl
 
--- and a row before the next
+-- all of a row comes before the next row
 row_before_row : rows_of (with_rows (good (codes "a..t") ∷ null ∷ [])) ≡ Err (BadName 1)
 row_before_row = refl
 

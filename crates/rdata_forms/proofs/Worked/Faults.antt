@@ -73,7 +73,7 @@ no_value = refl
 two_values : rdata_of types.Caa (tokens "0 issue ca1 ca2") [] ≡ Err FieldCount
 two_values = refl
 
--- it counts before what stands in the fields
+-- the number of fields counts before what stands in them
 a_bad_field_too_many : rdata_of types.A (tokens "10.0.0.256 x") [] ≡ Err FieldCount
 a_bad_field_too_many = refl
 

@@ -21,7 +21,7 @@ a_start :
     ≡ Ok (Soa (name "venera.isi.edu") (codes "edu" ∷ codes "isi" ∷ codes "action.domains" ∷ []) 20 7200 600 3600000 60)
 a_start = refl
 
--- its times may have units, its serial number has none
+-- the times of a start of authority may have units, the serial number has none
 units : rdata_of types.Soa (tokens ". . 4294967295 3h 15m 1w 1h30M") [] ≡ Ok (Soa [] [] 4294967295 10800 900 604800 5400)
 units = refl
 

@@ -7,7 +7,7 @@ use Rattle.rdata_forms.specs.declared.fault.RdataFault.TheVariants.{BadNumber, T
 empty : string_of 255 (codes "") ≡ Ok []
 empty = refl
 
--- its letters stay as they are, and dots are octets as others
+-- letters of a string stay as they are, and dots are octets as others
 as_it_is : string_of 255 (codes "v=x; Y. z") ≡ Ok (codes "v=x; Y. z")
 as_it_is = refl
 

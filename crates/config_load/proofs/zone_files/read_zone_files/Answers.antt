@@ -1,13 +1,10 @@
-use Rattle.std.proofs.Common.{[], List, ℕ, subst, sym, ap, ◌∙◌}
+use Rattle.std.proofs.Common.{[], List, ℕ, refl, subst, sym, ap}
 use Rattle.dns_data.specs.Name.{Labels}
 use Rattle.master_read.specs.Reader.{IsReaderOf}
 use Rattle.master_read.specs.declared.asked.Asked.{Asked}
 use Rattle.config_load.specs.Conf.{zone_files}
-use Rattle.config_load.specs.Fed.{HasFed, FailsToRead}
 use Rattle.config_load.specs.Joined.{joined}
-use Rattle.config_load.specs.ReadFiles.{read_files}
-use Rattle.config_load.specs.Sources.{ReadsOnly}
-use Rattle.config_load.proofs.OpenedFiles.{is_done, HasOpened, HasOpened-first, HasOpened-more, HasOpened-open, HasOpened-over, HasOpened-source, HasAnswered-unread, HasAnswered-finished}
+use Rattle.config_load.proofs.OpenedFiles.{is_done, fewer-left, HasFedFiles, HasFedFiles-more, HasFedFiles-over, HasOpened-first, HasOpened-asked, HasOpened-source, HasAnswered-unread, HasAnswered-finished}
 use Rattle.config_load.proofs.Sources.{ReadsFor-none, HasAnswered-wanting}
 use Rattle.config_load.proofs.zone_files.read_zone_files.Goals as goal
 
@@ -15,99 +12,89 @@ pub returns-in_err-origin : goal.returns-in_err-origin
 returns-in_err-origin g c =
     HasAnswered-wanting c.from_residual.result (ReadsFor-none (g.F.Files.told c.args.files.now) (g.F.Files.faults c.args.files.now) (zone_files c.args.meta.now c.args.row.now c.args.left)) c.from_residual.ensures.1
 
-pub returns-in_err-name : goal.returns-in_err-name
-returns-in_err-name g c =
-    HasAnswered-wanting c.from_residual-in_err-name.result (ReadsFor-none (g.F.Files.told c.args.files.now) (g.F.Files.faults c.args.files.now) (zone_files c.args.meta.now c.args.row.now c.args.left)) c.from_residual-in_err-name.ensures.1
-
-pub loop-name-init : goal.loop-name-init
-loop-name-init g c =
+-- the row's file isn't read
+pub returns-in_err-asked : goal.returns-in_err-asked
+returns-in_err-asked g c =
     let meta = c.args.meta.now in
     let row = c.args.row.now in
     let left = c.args.left in
-    let told = g.F.Files.told c.args.files.now in
-    let reader = c.new-reader.result in
-    let stands = subst (λ (origin : Labels). IsReaderOf reader origin left.records left.includes [] []) c.in_ok-origin.ensures c.new-reader.ensures.stands in
-    record {
-      opened = subst (λ (names : List (List ℕ)). HasOpened meta row left told names c.in_ok-name.name reader) (sym c.new-names.ensures) (HasOpened-first meta row left told c.in_ok-name.name reader (c.in_ok-name.ensures ∙ ap (joined meta) c.as_str.ensures) stands);
-      still_open = c.new-reader.ensures.open;
-      none = c.new-reader.ensures.fed;
-      source = ReadsFor-none told (g.F.Files.faults c.args.files.now) (zone_files meta row left);
-    }
+    let old = g.F.Files.told c.args.files.now in
+    let new = g.F.Files.told c.feed_next.new.files in
+    let stands = subst (λ (origin : Labels). IsReaderOf c.new-reader.result origin left.records left.includes [] []) c.in_ok-origin.ensures c.new-reader.ensures.stands in
+    let opened = HasOpened-first meta row left old c.new-names.result (joined meta c.as_str.result.now) c.new-reader.result c.new-names.ensures (ap (joined meta) c.as_str.ensures) c.new-reader.ensures.open c.new-reader.ensures.fed stands in
+    HasAnswered-unread meta row left old new c.new-names.result (joined meta c.as_str.result.now) c.new-reader.result c.in_err-asked.field-0.0 c.from_residual-in_err-asked.result (ReadsFor-none old (g.F.Files.faults c.args.files.now) (zone_files meta row left)) opened c.in_err-asked.ensures.only c.in_err-asked.ensures.fault c.in_err-asked.ensures.cause c.from_residual-in_err-asked.ensures.1
 
-pub returns-in_err-file : goal.returns-in_err-file
-returns-in_err-file g c =
-    let told = g.F.Files.told c.feed_whole.new.files in
-    let faults = g.F.Files.faults c.feed_whole.new.files in
-    let only = subst (λ (name : List ℕ). ReadsOnly name (g.F.Files.told c.loop-name.files) told (g.F.Files.faults c.loop-name.files) faults) c.as_str-in-loop-name.ensures c.in_err-file.ensures.only in
-    let fails = subst (λ (name : List ℕ). FailsToRead told name c.in_err-file.field-0.0) c.as_str-in-loop-name.ensures c.in_err-file.ensures.fault in
-    HasAnswered-unread c.args.meta.now c.args.row.now c.args.left (g.F.Files.told c.loop-name.files) told c.loop-name.names c.loop-name.name c.loop-name.reader c.feed_whole.new.reader c.in_err-file.field-0.0 c.from_residual-in_err-file.result c.loop-name.invariant.source c.loop-name.invariant.opened only fails c.in_err-file.ensures.cause c.from_residual-in_err-file.ensures.1
-
-pub returns-in_err-next : goal.returns-in_err-next
-returns-in_err-next g c =
-    let told = g.F.Files.told c.feed_whole.new.files in
-    let faults = g.F.Files.faults c.feed_whole.new.files in
-    let only = subst (λ (name : List ℕ). ReadsOnly name (g.F.Files.told c.loop-name.files) told (g.F.Files.faults c.loop-name.files) faults) c.as_str-in-loop-name.ensures c.in_ok-file.ensures.only in
-    HasAnswered-wanting c.from_residual-in_err-next.result
-    (HasOpened-source c.args.meta.now c.args.row.now c.args.left (g.F.Files.told c.loop-name.files) told c.loop-name.names c.loop-name.name c.loop-name.reader c.feed_whole.new.reader c.loop-name.invariant.source c.loop-name.invariant.opened only)
-    c.from_residual-in_err-next.ensures.1
-
-pub returns-in_err-push : goal.returns-in_err-push
-returns-in_err-push g c =
-    let told = g.F.Files.told c.feed_whole.new.files in
-    let faults = g.F.Files.faults c.feed_whole.new.files in
-    let only = subst (λ (name : List ℕ). ReadsOnly name (g.F.Files.told c.loop-name.files) told (g.F.Files.faults c.loop-name.files) faults) c.as_str-in-loop-name.ensures c.in_ok-file.ensures.only in
-    HasAnswered-wanting c.from_residual-in_err-push.result
-    (HasOpened-source c.args.meta.now c.args.row.now c.args.left (g.F.Files.told c.loop-name.files) told c.loop-name.names c.loop-name.name c.loop-name.reader c.feed_whole.new.reader c.loop-name.invariant.source c.loop-name.invariant.opened only)
-    c.from_residual-in_err-push.ensures.1
-
-pub returns-in_err-push-2 : goal.returns-in_err-push-2
-returns-in_err-push-2 g c =
-    let told = g.F.Files.told c.feed_whole.new.files in
-    let faults = g.F.Files.faults c.feed_whole.new.files in
-    let only = subst (λ (name : List ℕ). ReadsOnly name (g.F.Files.told c.loop-name.files) told (g.F.Files.faults c.loop-name.files) faults) c.as_str-in-loop-name.ensures c.in_ok-file.ensures.only in
-    HasAnswered-wanting c.from_residual-in_err-push-2.result
-    (HasOpened-source c.args.meta.now c.args.row.now c.args.left (g.F.Files.told c.loop-name.files) told c.loop-name.names c.loop-name.name c.loop-name.reader c.feed_whole.new.reader c.loop-name.invariant.source c.loop-name.invariant.opened only)
-    c.from_residual-in_err-push-2.ensures.1
-
-pub loop-name-preserved : goal.loop-name-preserved
-loop-name-preserved g c =
+pub loop-asked-init : goal.loop-asked-init
+loop-asked-init g c =
     let meta = c.args.meta.now in
     let row = c.args.row.now in
     let left = c.args.left in
-    let before = g.F.Files.told c.loop-name.files in
-    let told = g.F.Files.told c.feed_whole.new.files in
-    let faults = g.F.Files.faults c.feed_whole.new.files in
-    let after = c.feed_whole.new.reader in
-    let only = subst (λ (name : List ℕ). ReadsOnly name (g.F.Files.told c.loop-name.files) told (g.F.Files.faults c.loop-name.files) faults) c.as_str-in-loop-name.ensures c.in_ok-file.ensures.only in
-    let named = subst (λ (name : List ℕ). HasFed told name c.loop-name.reader c.in_ok-file.field-0 after) c.as_str-in-loop-name.ensures c.in_ok-file.ensures.asked in
-    let fed = subst (λ (asked : Asked). HasFed told c.loop-name.name c.loop-name.reader asked after) c.in-Include.is named in
-    let next = c.in_ok-next.ensures ∙ ap (joined meta) c.as_str-in-Include.ensures in
-    let opened = HasOpened-more meta row left before told c.loop-name.names c.loop-name.name c.loop-name.reader after c.in-Include.file c.in_ok-next.next only.stays c.loop-name.invariant.opened fed next in
-    let goes_on = HasOpened-open meta row left before told c.loop-name.names c.loop-name.name c.loop-name.reader after c.in-Include.file c.loop-name.invariant.opened fed in
+    let old = g.F.Files.told c.args.files.now in
+    let new = g.F.Files.told c.feed_next.new.files in
+    let name = joined meta c.as_str.result.now in
+    let stands = subst (λ (origin : Labels). IsReaderOf c.new-reader.result origin left.records left.includes [] []) c.in_ok-origin.ensures c.new-reader.ensures.stands in
+    let opened = HasOpened-first meta row left old c.new-names.result name c.new-reader.result c.new-names.ensures (ap (joined meta) c.as_str.ensures) c.new-reader.ensures.open c.new-reader.ensures.fed stands in
     record {
-      opened = subst (λ (names : List (List ℕ)). HasOpened meta row left told names c.in_ok-next.next after) (sym c.in_ok-push.ensures.ok) opened;
-      still_open = goes_on.0;
-      none = goes_on.1;
-      source = HasOpened-source c.args.meta.now c.args.row.now c.args.left (g.F.Files.told c.loop-name.files) told c.loop-name.names c.loop-name.name c.loop-name.reader c.feed_whole.new.reader c.loop-name.invariant.source c.loop-name.invariant.opened only;
+      fed = subst (λ (names : List (List ℕ)). HasFedFiles meta row left new names c.in_ok-asked.asked c.feed_next.new.reader) (sym c.in_ok-asked.ensures.named)
+          (HasFedFiles-more meta row left old new c.new-names.result name c.new-reader.result c.in_ok-asked.asked c.feed_next.new.reader c.in_ok-asked.ensures.only.stays opened c.in_ok-asked.ensures.asked);
+      source = HasOpened-source meta row left old new c.new-names.result name c.new-reader.result (ReadsFor-none old (g.F.Files.faults c.args.files.now) (zone_files meta row left)) opened c.in_ok-asked.ensures.only;
     }
+
+-- the file that is asked for is open
+pub feed_next-requires-in-Include-clause-open : goal.feed_next-requires-in-Include-clause-open
+feed_next-requires-in-Include-clause-open g c =
+    (HasOpened-asked c.args.meta.now c.args.row.now c.args.left (g.F.Files.told c.loop-asked.files) c.loop-asked.names c.loop-asked.reader c.loop-asked.asked c.in-Include.file (joined c.args.meta.now c.in-Include.file) c.in-Include.is c.loop-asked.invariant.fed refl).still_open
+
+pub feed_next-requires-in-Include-clause-none : goal.feed_next-requires-in-Include-clause-none
+feed_next-requires-in-Include-clause-none g c =
+    (HasOpened-asked c.args.meta.now c.args.row.now c.args.left (g.F.Files.told c.loop-asked.files) c.loop-asked.names c.loop-asked.reader c.loop-asked.asked c.in-Include.file (joined c.args.meta.now c.in-Include.file) c.in-Include.is c.loop-asked.invariant.fed refl).none
+
+-- an included file isn't read
+pub returns-in_err-asked-2 : goal.returns-in_err-asked-2
+returns-in_err-asked-2 g c =
+    let meta = c.args.meta.now in
+    let row = c.args.row.now in
+    let left = c.args.left in
+    let old = g.F.Files.told c.loop-asked.files in
+    let new = g.F.Files.told c.feed_next-in-Include.new.files in
+    let name = joined meta c.as_str-in-Include.result.now in
+    let opened = HasOpened-asked meta row left old c.loop-asked.names c.loop-asked.reader c.loop-asked.asked c.in-Include.file name c.in-Include.is c.loop-asked.invariant.fed (ap (joined meta) c.as_str-in-Include.ensures) in
+    HasAnswered-unread meta row left old new c.loop-asked.names name c.loop-asked.reader c.in_err-asked-2.field-0.0 c.from_residual-in_err-asked-2.result c.loop-asked.invariant.source opened c.in_err-asked-2.ensures.only c.in_err-asked-2.ensures.fault c.in_err-asked-2.ensures.cause c.from_residual-in_err-asked-2.ensures.1
+
+pub loop-asked-preserved : goal.loop-asked-preserved
+loop-asked-preserved g c =
+    let meta = c.args.meta.now in
+    let row = c.args.row.now in
+    let left = c.args.left in
+    let old = g.F.Files.told c.loop-asked.files in
+    let new = g.F.Files.told c.feed_next-in-Include.new.files in
+    let after = c.feed_next-in-Include.new.reader in
+    let name = joined meta c.as_str-in-Include.result.now in
+    let opened = HasOpened-asked meta row left old c.loop-asked.names c.loop-asked.reader c.loop-asked.asked c.in-Include.file name c.in-Include.is c.loop-asked.invariant.fed (ap (joined meta) c.as_str-in-Include.ensures) in
+    record {
+      fed = subst (λ (names : List (List ℕ)). HasFedFiles meta row left new names c.in_ok-asked-2.asked after) (sym c.in_ok-asked-2.ensures.named)
+          (HasFedFiles-more meta row left old new c.loop-asked.names name c.loop-asked.reader c.in_ok-asked-2.asked after c.in_ok-asked-2.ensures.only.stays opened c.in_ok-asked-2.ensures.asked);
+      source = HasOpened-source meta row left old new c.loop-asked.names name c.loop-asked.reader c.loop-asked.invariant.source opened c.in_ok-asked-2.ensures.only;
+    }
+
+pub loop-asked-smaller : goal.loop-asked-smaller
+loop-asked-smaller g c =
+    let meta = c.args.meta.now in
+    let row = c.args.row.now in
+    let left = c.args.left in
+    let old = g.F.Files.told c.loop-asked.files in
+    let name = joined meta c.as_str-in-Include.result.now in
+    let opened = HasOpened-asked meta row left old c.loop-asked.names c.loop-asked.reader c.loop-asked.asked c.in-Include.file name c.in-Include.is c.loop-asked.invariant.fed (ap (joined meta) c.as_str-in-Include.ensures) in
+    fewer-left meta row left old c.loop-asked.names c.loop-asked.reader name c.feed_next-in-Include.new.names opened c.in_ok-asked-2.ensures.named
 
 pub finish-requires : goal.finish-requires
 finish-requires g c =
-    let told = g.F.Files.told c.feed_whole.new.files in
-    let after = c.feed_whole.new.reader in
-    let named = subst (λ (name : List ℕ). HasFed told name c.loop-name.reader c.in_ok-file.field-0 after) c.as_str-in-loop-name.ensures c.in_ok-file.ensures.asked in
-    let done = is_done c.in_ok-file.field-0 c.in_default.not-Include in
-    let fed = subst (λ (asked : Asked). HasFed told c.loop-name.name c.loop-name.reader asked after) done named in
-    HasOpened-over c.args.meta.now c.args.row.now c.args.left (g.F.Files.told c.loop-name.files) told c.loop-name.names c.loop-name.name c.loop-name.reader after c.loop-name.invariant.opened fed
+    let told = g.F.Files.told c.loop-asked.files in
+    HasFedFiles-over c.args.meta.now c.args.row.now c.args.left told c.loop-asked.names c.loop-asked.reader
+    (subst (λ (asked : Asked). HasFedFiles c.args.meta.now c.args.row.now c.args.left told c.loop-asked.names asked c.loop-asked.reader) (is_done c.loop-asked.asked c.in_default.not-Include) c.loop-asked.invariant.fed)
 
 pub returns : goal.returns
 returns g c =
-    let told = g.F.Files.told c.feed_whole.new.files in
-    let faults = g.F.Files.faults c.feed_whole.new.files in
-    let after = c.feed_whole.new.reader in
-    let only = subst (λ (name : List ℕ). ReadsOnly name (g.F.Files.told c.loop-name.files) told (g.F.Files.faults c.loop-name.files) faults) c.as_str-in-loop-name.ensures c.in_ok-file.ensures.only in
-    let named = subst (λ (name : List ℕ). HasFed told name c.loop-name.reader c.in_ok-file.field-0 after) c.as_str-in-loop-name.ensures c.in_ok-file.ensures.asked in
-    let done = is_done c.in_ok-file.field-0 c.in_default.not-Include in
-    let fed = subst (λ (asked : Asked). HasFed told c.loop-name.name c.loop-name.reader asked after) done named in
-    HasAnswered-finished c.args.meta.now c.args.row.now c.args.left (g.F.Files.told c.loop-name.files) told c.loop-name.names c.loop-name.name c.loop-name.reader after c.finish.result c.told.result c.loop-name.invariant.source c.loop-name.invariant.opened only fed c.finish.ensures.answers
-    (c.told.ensures ∙ ap (λ (names : List (List ℕ)). read_files names c.finish.result) c.in_ok-push-2.ensures.ok)
+    let told = g.F.Files.told c.loop-asked.files in
+    let fed = subst (λ (asked : Asked). HasFedFiles c.args.meta.now c.args.row.now c.args.left told c.loop-asked.names asked c.loop-asked.reader) (is_done c.loop-asked.asked c.in_default.not-Include) c.loop-asked.invariant.fed in
+    HasAnswered-finished c.args.meta.now c.args.row.now c.args.left told c.loop-asked.names c.loop-asked.reader c.finish.result c.told.result c.loop-asked.invariant.source fed c.finish.ensures.answers c.told.ensures

@@ -1,17 +1,16 @@
-use Rattle.std.proofs.Common.{◌≡◌, ◌+◌, ◌-◌, false, length}
+use Rattle.std.proofs.Common.{◌+◌, ◌-◌, length}
 use Rattle.config_load.specs.Conf.{zone_files}
 use Rattle.config_load.specs.Sources.{ReadsFor}
-use Rattle.config_load.proofs.OpenedFiles.{HasOpened}
+use Rattle.config_load.proofs.OpenedFiles.{HasFedFiles}
 use Rattle.config_load.proofs.zone_files.read_zone_files.Given as goal
 
--- the file of this name is open, behind those that were read
-abbrev pub invariant-loop-name : goal.invariant-loop-name
-invariant-loop-name g l = record {
-  opened : HasOpened l.meta l.row l.fn.left (g.F.Files.told l.files) l.names l.name l.reader;
-  still_open : l.reader.ended ≡ false;
-  none : l.reader.fed ≡ 0;
+-- the files with these names were fed to the reader, and no other file was read
+abbrev pub invariant-loop-asked : goal.invariant-loop-asked
+invariant-loop-asked g l = record {
+  fed : HasFedFiles l.meta l.row l.fn.left (g.F.Files.told l.files) l.names l.asked l.reader;
   source : ReadsFor (g.F.Files.told l.fn.files) (g.F.Files.told l.files) (g.F.Files.faults l.fn.files) (g.F.Files.faults l.files) (zone_files l.meta l.row l.fn.left);
 }
 
-abbrev pub decreases-loop-name : goal.decreases-loop-name
-decreases-loop-name g l = l.fn.left.includes + 1 - length l.names
+-- how many files may still be opened
+abbrev pub decreases-loop-asked : goal.decreases-loop-asked
+decreases-loop-asked g l = l.fn.left.includes + 1 - length l.names

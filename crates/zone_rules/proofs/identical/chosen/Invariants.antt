@@ -5,4 +5,4 @@ use Rattle.zone_rules.proofs.identical.chosen.Given as goal
 -- the records that were chosen, and then those of the others
 abbrev pub invariant-loop-is_chosen : goal.invariant-loop-is_chosen
 invariant-loop-is_chosen l =
-    chosen l.initial.left.items l.are_chosen ≡ l.kept ++ chosen l.left.items (drop l.is_chosen-index l.are_chosen)
+    chosen l.initial.left l.are_chosen ≡ l.kept ++ chosen l.left (drop l.is_chosen-index l.are_chosen)

@@ -2,7 +2,7 @@
 use Rattle.std.proofs.Common.{◌≡◌, [], ◌∷◌, Ok, Err, inr, sym, ap, ◌∙◌, rules}
 use Rattle.dns_data.specs.Answers.{AnswersOr}
 use Rattle.master_lex.specs.States.{state_of}
-use Rattle.master_lex.specs.declared.scanner.Mode.TheVariants.{Faulty}
+use Rattle.master_lex.specs.declared.position.Mode.TheVariants.{Faulty}
 use Rattle.master_lex.specs.declared.taken.Taken.TheVariants as answers
 use Rattle.master_lex.proofs.StandsLemmas.{stands_answer, first_answer, fault_answer, more_answer, last_answer, last_keeps, no_first, same_lexer}
 use Rattle.master_lex.proofs.lexer.Lexer.take.Goals as goal

@@ -1,8 +1,8 @@
 -- What was kept or is plain under way was passed over.
 use Rattle.std.proofs.Common.{◌≡◌, rules}
 use Rattle.std.proofs.lemmas.Result.{IfOk-weaker}
-use Rattle.master_lex.specs.declared.scanner.Mode.TheVariants.{InToken}
-use Rattle.master_lex.specs.declared.scanner.Escape.TheVariants.{Outside}
+use Rattle.master_lex.specs.declared.position.Mode.TheVariants.{InToken}
+use Rattle.master_lex.specs.declared.position.Escape.TheVariants.{Outside}
 use Rattle.master_lex.specs.States.{state_of}
 use Rattle.master_lex.specs.Plain.{KeptPlain, PassedFirst}
 use Rattle.master_lex.proofs.PlainLemmas.{kept_in_token, comment_first, faulty_first}
