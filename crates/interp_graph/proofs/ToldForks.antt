@@ -1,6 +1,6 @@
 -- What a state leads to, by what its server answers for sets of types.
-use Rattle.std.proofs.Common.{◌≡◌, Bool, true, false, not, List, [], ◌∷◌, map, Option, Some, None, refl, sym, ap, ◌∙◌, subst, inl, inr, true≢false, arith}
-use Rattle.std.specs.Prelude.{Contains, AllPairs, if◌then◌else◌, is_some, option_and_then}
+use Rattle.std.proofs.Common.{◌≡◌, Bool, true, List, [], ◌∷◌, map, Some, None, sym, ap, ◌∙◌, subst, inl, inr, arith}
+use Rattle.std.specs.Prelude.{Contains, AllPairs}
 use Rattle.std.specs.List.{AllByRecursion}
 use Rattle.std.proofs.lemmas.List.Elements.{All-from_recursion, All-contains}
 use Rattle.std.proofs.lemmas.Simd.{map-map}
@@ -10,16 +10,12 @@ use Rattle.dns_data.specs.declared.rr_type.RrType.{RrType}
 use Rattle.dns_data.proofs.Membership.{none_in_nil, has_first, first_or_later, map_has, from_map, pairs_of_images}
 use Rattle.dns_data.proofs.Searches.{from_any, any_has}
 use Rattle.net_model.specs.Lookup.{found}
-use Rattle.net_model.specs.Nearest.{nearest, nearest_of, server_named, server_names, is_configured}
+use Rattle.net_model.specs.Nearest.{nearest_of}
 use Rattle.net_model.specs.Step as step
 use Rattle.net_model.specs.Step.{Setting, may_follow, delegated, referred, after_lookup, in_zone, next}
-use Rattle.net_model.specs.declared.config.Server.{Server}
 use Rattle.net_model.specs.declared.config.Zone.{Zone}
-use Rattle.net_model.specs.declared.place.Cut.{Cut}
-use Rattle.net_model.specs.declared.walk.Hop.TheVariants.{Refer}
-use Rattle.net_model.specs.declared.walk.Leaf.TheVariants.{NoAddress, Unhosted, Outside}
+use Rattle.net_model.specs.declared.walk.Leaf.TheVariants.{Outside}
 use Rattle.net_model.specs.declared.walk.State.{State}
-use Rattle.net_model.proofs.Followed.{names_follow_all}
 use Rattle.sym_query.specs.TypedFound.{AreApart, IsFoundFor, answers_type}
 use Rattle.sym_query.specs.declared.typed_found.TypedFound.{TypedFound}
 use Rattle.interp_graph.specs.Steps.{fork_of, IsApart, AreForks}

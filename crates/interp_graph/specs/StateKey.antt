@@ -6,7 +6,7 @@ use mathlib.Core.Bool.{beq}
 use Rattle.std.specs.Bool.{Decides}
 use Rattle.std.specs.Cmp.{IsEquivalence, decided, unsigned_Decides, booleans_Decides}
 use Rattle.std.proofs.lemmas.Bool.{and_parts, and_from}
-use Rattle.dns_data.specs.Name.{Labels, name_eq}
+use Rattle.dns_data.specs.Name.{name_eq}
 use Rattle.dns_data.proofs.Names.{name_eq_decides}
 use Rattle.net_model.specs.declared.place.Place.{Place}
 use Rattle.net_model.specs.declared.walk.State.{State}

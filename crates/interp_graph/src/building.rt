@@ -24,7 +24,6 @@ use graph_form::{Graph, Node};
 use name_rules::SymName;
 use net_model::State;
 use std::alloc::Global;
-use std::collections::VecDeque;
 use zone_lookup::{Hosts, Walker, starts};
 
 /// The graph of the walks of a name with its tail, while every configured server is followed: for all types at once, with
@@ -84,9 +83,8 @@ pub(crate) fn begin(
     ensures passed { IsErrOf result GraphFault.StatesPassed → (setting : Setting) → AreDrafts setting states work.old.drafts.items → HasMoreComing setting states work.old.limit }
 {
     let all = TypeSet::all();
-    let mut left = VecDeque::from_vec(states.into_vec());
     let mut starts = List::new(alloc);
-    while let Some(state) = left.pop_front() {
+    for state in states {
         starts.push(work.reach(alloc, state, all)?)?;
     }
     Ok(starts)
@@ -124,17 +122,16 @@ pub(crate) fn graph_of(alloc: Global, work: Work, starts: List<u32>) -> Result<G
         pairs: _,
         limit: _,
     } = work;
-    let nodes = nodes_of(alloc, drafts)?;
+    let nodes = nodes_of(alloc, List::from_vec(drafts))?;
     Ok(Graph::new(nodes, starts))
 }
 
 /// The nodes that drafts become.
-fn nodes_of(alloc: Global, drafts: Vec<Draft>) -> Result<List<Node>, NoMemory>
-    ensures { IfOk result (λ nodes. nodes ≡ map node_of drafts.items) }
+fn nodes_of(alloc: Global, drafts: List<Draft>) -> Result<List<Node>, NoMemory>
+    ensures { IfOk result (λ nodes. nodes ≡ map node_of drafts) }
 {
-    let mut left = VecDeque::from_vec(drafts);
     let mut nodes = List::new(alloc);
-    while let Some(draft) = left.pop_front() {
+    for draft in drafts {
         nodes.push(Node {
             state: draft.state,
             arms: draft.arms,

@@ -16,7 +16,6 @@ use crate::work::Work;
 use dns_data::{List, TypeSet};
 use graph_form::{Arm, Branch};
 use std::alloc::Global;
-use std::collections::VecDeque;
 use zone_lookup::Step;
 
 /// Gives a node the arms that its state's forks tell. The types of the forks are those that wait at the node, which don't
@@ -39,8 +38,7 @@ pub(crate) fn put_forks(
         → AreDrafts setting begin work.old.drafts.items → AreForksAt setting work.old.drafts.items at forks
         → HasMoreComing setting begin work.old.limit }
 {
-    let mut left = VecDeque::from_vec(forks.into_vec());
-    while let Some(fork) = left.pop_front() {
+    for fork in forks {
         put_fork(alloc, work, at, fork)?;
     }
     Ok(())
@@ -89,9 +87,8 @@ pub(crate) fn branches(
         → AreDrafts setting begin work.old.drafts.items → ComeOn setting begin types (map branch_of steps)
         → HasMoreComing setting begin work.old.limit }
 {
-    let mut left = VecDeque::from_vec(steps.into_vec());
     let mut branches = List::new(alloc);
-    while let Some(step) = left.pop_front() {
+    for step in steps {
         branches.push(branch(alloc, work, types, step)?)?;
     }
     Ok(branches)

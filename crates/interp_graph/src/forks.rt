@@ -10,7 +10,6 @@ use dns_data::{List, Name, NoMemory, TypeSet};
 use name_rules::SymName;
 use net_model::State;
 use std::alloc::Global;
-use std::collections::VecDeque;
 use sym_query::{TypedFound, find_sym};
 use zone_lookup::{Walker, after_lookup, outside};
 
@@ -54,9 +53,8 @@ fn all_forks(
 ) -> Result<List<Fork>, NoMemory>
     ensures { IfOk result (λ forks. map fork_of forks ≡ map (λ answer. (answer.types, after_lookup walker.now state.now origin.now answer.found)) answers) }
 {
-    let mut left = VecDeque::from_vec(answers.into_vec());
     let mut forks = List::new(alloc);
-    while let Some(answer) = left.pop_front() {
+    for answer in answers {
         forks.push(Fork {
             types: answer.types,
             steps: after_lookup(alloc, walker, state, origin, answer.found)?,

@@ -1,5 +1,5 @@
 -- What is found of the fronts of targets, link by link.
-use Rattle.std.proofs.Common.{◌≡◌, ◌∙◌, ℕ, suc, zero, ◌+◌, ◌*◌, ◌<◌, ◌≤◌, ◌⊎◌, List, [], ◌∷◌, ◌++◌, length, take, drop, append_assoc, map, get_or, Contains, All, inl, inr, sym, refl, ap, subst, arith, Some, None}
+use Rattle.std.proofs.Common.{◌≡◌, ◌∙◌, ℕ, suc, zero, ◌+◌, ◌*◌, ◌<◌, ◌≤◌, ◌⊎◌, List, [], ◌∷◌, ◌++◌, length, take, drop, map, get_or, Contains, All, inl, inr, sym, refl, ap, subst, arith, Some, None}
 use Rattle.std.specs.Prelude.{◌↔◌, slice_get}
 use Rattle.std.proofs.lemmas.Bool.{cases_lt}
 use Rattle.std.proofs.lemmas.List.{take_all, take_more, take-append-le, take-append-drop, length-map, length-append, drop_at}
@@ -104,45 +104,34 @@ module _ (targets : Targets) (are : AreTargets targets) where
       (All-contains (λ (l : Link). (l.front < length targets.links.bases) × (l.base < length targets.links.fronts)) targets.links.list (link front base) are.kept.within given).1)
 
   -- what follows from a link, put to the others
-  pub followed : (before next reads is_read first second after : List Link) (bases fronts : List (List ℕ)) (one : Link) → AreKept before bases fronts
+  pub followed : (before next reads is_read after : List Link) (bases fronts : List (List ℕ)) (one : Link) → AreKept before bases fronts
       → All (IsTrueLink targets) before → Contains before one
       → ((other : Link) → Contains next other ↔ IsNextLink targets one other)
       → reads ≡ read_from one.front bases (get_or targets.links.fronts one.base [])
       → is_read ≡ read_by one.base fronts (get_or targets.links.bases one.front [])
-      → AreAdded before next first → AreAdded first reads second → AreAdded second is_read after
+      → AreAdded before ((next ++ reads) ++ is_read) after
       → IsFollowed targets before one after
-  followed before next reads is_read first second after bases fronts one kept each_true known nexts reads_is read_is a b c =
+  followed before next reads is_read after bases fronts one kept each_true known nexts reads_is read_is added =
       record {
-        new = a.new ++ b.new ++ c.new;
-        is = c.is ∙ ap (λ (l : List Link). l ++ c.new) (b.is ∙ ap (λ (l : List Link). l ++ b.new) a.is)
-            ∙ ap (λ (l : List Link). l ++ c.new) (append_assoc before a.new b.new) ∙ append_assoc before (a.new ++ b.new) c.new;
+        new = added.new;
+        is = added.is;
         each_true = all_from_contains (IsTrueLink targets) after true_after;
-        next = λ other goes. in_second other (in_first other (a.has other ((nexts other).1 goes)));
-        reads = λ target base among has. in_second (link one.front base) (b.has (link one.front base)
+        next = λ other goes. added.has other
+            (Contains-append_left (next ++ reads) is_read other (Contains-append_left next reads other ((nexts other).1 goes)));
+        reads = λ target base among has. added.has (link one.front base)
+            (Contains-append_left (next ++ reads) is_read (link one.front base) (Contains-append_right next reads (link one.front base)
             (subst (λ (l : List Link). Contains l (link one.front base)) (sym reads_is)
             (read_from_has one.front bases (get_or targets.links.fronts one.base []) target base
-            ((are.kept.by_base one.base target).1 among) ((kept.by_front target base).1 has))));
-        is_read = λ front owner among has. c.has (link front one.base)
+            ((are.kept.by_base one.base target).1 among) ((kept.by_front target base).1 has)))));
+        is_read = λ front owner among has. added.has (link front one.base)
+            (Contains-append_right (next ++ reads) is_read (link front one.base)
             (subst (λ (l : List Link). Contains l (link front one.base)) (sym read_is)
             (read_by_has one.base fronts (get_or targets.links.bases one.front []) owner front
-            ((are.kept.by_front one.front owner).1 among) ((kept.by_base owner front).1 has)));
+            ((are.kept.by_front one.front owner).1 among) ((kept.by_base owner front).1 has))));
       }
     where
-      in_first : (other : Link) → Contains first other → Contains second other
-      in_first other has = subst (λ (l : List Link). Contains l other) (sym b.is) (Contains-append_left first b.new other has)
-
-      in_second : (other : Link) → Contains second other → Contains after other
-      in_second other has = subst (λ (l : List Link). Contains l other) (sym c.is) (Contains-append_left second c.new other has)
-
       this : IsTrueLink targets one
       this = All-contains (IsTrueLink targets) before one each_true known
-
-      true_first : (other : Link) → Contains first other → IsTrueLink targets other
-      true_first other has =
-          elim (a.only other has) [
-            | inl old ↦ All-contains (IsTrueLink targets) before other each_true old
-            | inr new ↦ next_true one other this ((nexts other).0 new)
-          ]
 
       by_target : (other : Link) → Contains (read_from one.front bases (get_or targets.links.fronts one.base [])) other → IsTrueLink targets other
       by_target other has =
@@ -159,18 +148,17 @@ module _ (targets : Targets) (are : AreTargets targets) where
           (All-contains (IsTrueLink targets) before (link front owner) each_true ((kept.by_base owner front).0 row))
           ((are.kept.by_front one.front owner).0 among) this)
 
-      true_second : (other : Link) → Contains second other → IsTrueLink targets other
-      true_second other has =
-          elim (b.only other has) [
-            | inl old ↦ true_first other old
-            | inr new ↦ by_target other (subst (λ (l : List Link). Contains l other) reads_is new)
-          ]
-
       true_after : (other : Link) → Contains after other → IsTrueLink targets other
       true_after other has =
-          elim (c.only other has) [
-            | inl old ↦ true_second other old
-            | inr new ↦ by_owner other (subst (λ (l : List Link). Contains l other) read_is new)
+          elim (added.only other has) [
+            | inl old ↦ All-contains (IsTrueLink targets) before other each_true old
+            | inr new ↦ elim (Contains-append_cases (next ++ reads) is_read other new) [
+              | inl first ↦ elim (Contains-append_cases next reads other first) [
+                | inl goes ↦ next_true one other this ((nexts other).0 goes)
+                | inr by ↦ by_target other (subst (λ (l : List Link). Contains l other) reads_is by)
+              ]
+              | inr by ↦ by_owner other (subst (λ (l : List Link). Contains l other) read_is by)
+            ]
           ]
 
   -- ---- links looked at one after another

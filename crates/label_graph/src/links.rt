@@ -113,39 +113,37 @@ impl Links {
         }
     }
 
-    /// The front with each base name to which one of the targets is known to read on.
-    pub fn read_from(
+    /// Puts the front with each base name to which one of the targets is known to read on at the end.
+    pub fn put_read_from(
         &self,
-        alloc: Global,
         front: usize,
         targets: &[usize],
-    ) -> Result<Vec<Link>, NoMemory>
+        links: &mut Vec<Link>,
+    ) -> Result<(), NoMemory>
         requires { All (λ target. target < length self.now.bases) targets.now }
-        ensures links { IfOk result (λ links. links.items ≡ read_from front self.now.bases targets.now) }
+        ensures links { OnOk result (links.new.items ≡ links.old.items ++ read_from front self.now.bases targets.now) }
         ensures kept { AreKept self.now.list self.now.bases self.now.fronts }
     {
-        let mut links = Vec::new(alloc);
         for target in targets {
-            put_with_front(&mut links, front, self.bases.at(*target))?;
+            put_with_front(links, front, self.bases.at(*target))?;
         }
-        Ok(links)
+        Ok(())
     }
 
-    /// Each front that is known to read on to one of the owners, with the base name.
-    pub fn read_by(
+    /// Puts each front that is known to read on to one of the owners, with the base name, at the end.
+    pub fn put_read_by(
         &self,
-        alloc: Global,
         base: usize,
         owners: &[usize],
-    ) -> Result<Vec<Link>, NoMemory>
+        links: &mut Vec<Link>,
+    ) -> Result<(), NoMemory>
         requires { All (λ owner. owner < length self.now.fronts) owners.now }
-        ensures { IfOk result (λ links. links.items ≡ read_by base self.now.fronts owners.now) }
+        ensures { OnOk result (links.new.items ≡ links.old.items ++ read_by base self.now.fronts owners.now) }
     {
-        let mut links = Vec::new(alloc);
         for owner in owners {
-            put_with_base(&mut links, base, self.fronts.at(*owner))?;
+            put_with_base(links, base, self.fronts.at(*owner))?;
         }
-        Ok(links)
+        Ok(())
     }
 
     /// The base names that are linked with a front.

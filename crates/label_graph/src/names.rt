@@ -102,6 +102,7 @@ impl NameTree {
         ensures label { IsLabel result.now }
     {
         let from = behind(&self.names[place]);
+        // The labels are read, so that it is known here that they are those of a name.
         let _ = self.names[other].labels();
         octets_at(self.names.as_slice(), other, from)
     }

@@ -52,13 +52,10 @@ fn with_next(alloc: Global, table: &TargetTable, known: Links, one: Link) -> Res
     ensures fronts { IfOk result (λ after. length after.bases ≡ length table.now.fronts) }
     ensures names { IfOk result (λ after. length after.fronts ≡ length table.now.names) }
 {
-    let next = next_links(alloc, table, one)?;
-    let reads = known.read_from(alloc, one.front, table.links.fronts_of(one.base))?;
-    let is_read = known.read_by(alloc, one.base, table.links.bases_of(one.front))?;
-    let known = known.with_all(alloc, next.as_slice())?;
-    let known = known.with_all(alloc, reads.as_slice())?;
-    let known = known.with_all(alloc, is_read.as_slice())?;
-    Ok(known)
+    let mut more = next_links(alloc, table, one)?;
+    known.put_read_from(one.front, table.links.fronts_of(one.base), &mut more)?;
+    known.put_read_by(one.base, table.links.bases_of(one.front), &mut more)?;
+    known.with_all(alloc, more.as_slice())
 }
 
 /// The links that go on by a label from this one.

@@ -1,3 +1,3 @@
 mod Learning
-mod Passing
 mod Resolved
+mod ShownWalks

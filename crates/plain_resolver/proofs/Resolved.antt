@@ -1,6 +1,6 @@
 -- The walks of a query as a list: they are all its walks in order, and there are no more and no fewer.
-use Rattle.std.proofs.Common.{◌≡◌, ◌≢◌, ℕ, ◌<◌, ◌≤◌, List, [], ◌∷◌, map, length, get_or, Contains, AllPairs, Option, Some, None, Result, Ok, Err, is_some, true, Less, sym, refl, ap, ◌∙◌, subst, arith}
-use Rattle.std.specs.Prelude.{IsSome, IfOk, OnOk}
+use Rattle.std.proofs.Common.{◌≡◌, ℕ, ◌<◌, ◌≤◌, List, [], ◌∷◌, map, length, get_or, Contains, AllPairs, Option, Some, None, is_some, true, Less, sym, refl, ap, ◌∙◌, subst, arith}
+use Rattle.std.specs.Prelude.{IsSome}
 use Rattle.std.specs.Cmp.Lexicographic.{nat_list_cmp_total}
 use Rattle.std.specs.List.{AllByRecursion, flat_map}
 use Rattle.std.proofs.lemmas.List.{length-map}
@@ -9,7 +9,7 @@ use Rattle.dns_data.specs.Name.{Labels}
 use Rattle.dns_data.specs.declared.rr_type.RrType.{RrType}
 use Rattle.net_model.specs.declared.walk.Walk.{Walk}
 use Rattle.net_model.specs.Step.{Setting, start}
-use Rattle.net_model.specs.Walk.{walk_along, path_cmp, ArePaths, AreWalks}
+use Rattle.net_model.specs.Walk.{walk_along, path_cmp, AreWalks}
 use Rattle.dns_data.proofs.Membership.{has_first, has_later, map_has, from_map, all_images, pairs_of_images}
 use Rattle.dns_data.proofs.OrderedLists.{never_before_itself}
 use Rattle.net_model.proofs.Counting.{no_more_than}
@@ -21,17 +21,6 @@ map_same : {X Y : Type 0} (f g : X → Y) (xs : List X) → ((x : X) → Contain
 map_same f g [] agree = refl
 map_same f g (x ∷ xs) agree =
     ap (λ y. y ∷ map f xs) (agree x (has_first x xs)) ∙ ap (λ ys. g x ∷ ys) (map_same f g xs (λ y has. agree y (has_later x xs y has)))
-
--- what two clauses say of an answer together
-pub if_ok_both : {A E : Type 0} (P Q : A → Type 0) (S : Type 0) (r : Result A E) → IfOk r P → OnOk r S → ((a : A) → P a → S → Q a) → IfOk r Q
-if_ok_both P Q S (Ok a) one other make = make a one other
-if_ok_both P Q S (Err e) one other make = tt
-
--- and three
-pub on_ok_all : {A E : Type 0} (P Q : A → Type 0) (S T : Type 0) (r : Result A E) → IfOk r P → IfOk r Q → OnOk r S
-    → ((a : A) → P a → Q a → S → T) → OnOk r T
-on_ok_all P Q S T (Ok a) one two three make = make a one two three
-on_ok_all P Q S T (Err e) one two three make = tt
 
 -- what is there
 the_walk : (o : Option Walk) → is_some o ≡ true → (walk : Walk) × (o ≡ Some walk)

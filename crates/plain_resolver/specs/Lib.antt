@@ -3,3 +3,4 @@ pub use Rattle.net_model.specs.Walk
 pub mod Asked
 pub mod Begun
 pub mod Passed
+pub mod Shown

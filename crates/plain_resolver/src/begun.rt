@@ -2,6 +2,7 @@
 
 ghost use Rattle.std.specs.Prelude.{◌≡◌, ◌++◌, ◌∷◌, [], IfOk, OnOk};
 ghost use Rattle.std.specs.Option.{option_to_list};
+ghost use Rattle.plain_resolver.specs.Begun.{ended};
 
 use dns_data::{List, NoMemory};
 use net_model::{Hop, Leaf, State, Walk};
@@ -66,13 +67,24 @@ impl BegunWalk {
 
     /// The walk with this end.
     pub fn ended(&self, alloc: Global, hop: Option<Hop>, leaf: Leaf) -> Result<Walk, NoMemory>
-        ensures { IfOk result (λ walk. walk ≡ record { states = self.now.states; hops = self.now.hops ++ option_to_list hop; leaf = leaf }) }
+        ensures { IfOk result (λ walk. walk ≡ ended self.now hop leaf) }
     {
-        Ok(Walk {
-            states: copied_states(alloc, self.states.as_slice())?,
-            hops: hops_to_end(alloc, self.hops.as_slice(), hop)?,
+        let mut walk = Walk {
+            states: List::new(alloc),
+            hops: List::new(alloc),
             leaf,
-        })
+        };
+        self.put_way(alloc, hop, &mut walk)?;
+        Ok(walk)
+    }
+
+    /// Puts copies of the states and hops into a walk, and the hop to its end.
+    fn put_way(&self, alloc: Global, last: Option<Hop>, walk: &mut Walk) -> Result<(), NoMemory>
+        ensures { OnOk result (walk.new ≡ ended self.now last walk.old.leaf) }
+    {
+        walk.hops = hops_to_end(alloc, self.hops.as_slice(), last)?;
+        walk.states = copied_states(alloc, self.states.as_slice())?;
+        Ok(())
     }
 }
 

@@ -10,6 +10,7 @@ mod fault;
 mod resolver;
 mod rounds;
 mod steps;
+mod visitor;
 mod walks;
 
 pub use fault::{LearntFault, ResolveFault};

@@ -7,10 +7,11 @@ use dns_data::{Name, RrType};
 use std::marker::Model;
 use zone_lookup::{Hosts, Walker};
 
-/// What the steps of a walk depend on, and the type of the query.
+/// What the steps of a walk depend on, and the name and type of the query.
 #[derive(Debug, Drop)]
 pub(crate) struct Resolver<'h, 'a> {
     walker: Walker<'h, 'a>,
+    query: &'h Name,
     rtype: RrType,
 }
 
@@ -19,22 +20,23 @@ impl<'h, 'a> Model for Resolver<'h, 'a> {
 
     ghost Value = { Asked };
 
-    ghost view = { λ resolver. record { setting = resolver.walker; rtype = resolver.rtype } };
+    ghost view = { λ resolver. record { setting = resolver.walker; query = resolver.query.now; rtype = resolver.rtype } };
 }
 
 impl<'h, 'a> Resolver<'h, 'a> {
-    /// The resolver of queries of a type.
+    /// The resolver of a query, while the servers of these names are followed.
     pub fn new(
         hosts: &'h Hosts<'a>,
         rewrites: u32,
         followed: &'h [Name],
+        query: &'h Name,
         rtype: RrType,
     ) -> Resolver<'h, 'a>
-        ensures setting { result.setting ≡ following hosts.entry.now rewrites followed.entry.now }
-        ensures rtype { result.rtype ≡ rtype }
+        ensures { result ≡ record { setting = following hosts.entry.now rewrites followed.entry.now; query = query.entry.now; rtype = rtype } }
     {
         Resolver {
             walker: Walker::following(hosts, rewrites, followed),
+            query,
             rtype,
         }
     }
@@ -44,6 +46,13 @@ impl<'h, 'a> Resolver<'h, 'a> {
         ensures { result.now ≡ self.now.setting }
     {
         &self.walker
+    }
+
+    /// The name of the query.
+    pub fn query(&self) -> &'h Name
+        ensures { result.now ≡ self.now.query }
+    {
+        self.query
     }
 
     /// The type of the query.

@@ -1,19 +1,19 @@
 //! The servers whose addresses are learnt.
 
 ghost use Rattle.std.specs.Prelude.{◌≡◌, ◌↔◌, ◌++◌, ◌∷◌, [], length, true, IfOk, OnOk, IsErrOf, if◌then◌else◌};
-ghost use Rattle.std.specs.List.{list_any};
 ghost use Rattle.dns_data.specs.Name.{Labels};
-ghost use Rattle.net_model.specs.Learnt.{gives_address, LearnsBy, Learns, IsRound, AfterRounds};
+ghost use Rattle.net_model.specs.Learnt.{LearnsBy, Learns, IsRound, AfterRounds};
 ghost use Rattle.net_model.specs.Step.{following};
 ghost use Rattle.plain_resolver.specs.Passed.{HasMoreWalks, HasTooMany, NoneHasTooMany, NoneInRounds, IsFirstToPass, IsFirstWithTooMany};
 
 use crate::fault::{LearntFault, ResolveFault};
 use crate::resolver::Resolver;
-use crate::walks::all_walks;
+use crate::visitor::AddressSeen;
+use crate::walks::visit_walks;
 use dns_data::{List, Name, NoMemory, RrType};
-use net_model::{Config, Walk};
+use net_model::Config;
 use std::alloc::Global;
-use zone_lookup::{Hosts, gives_address};
+use zone_lookup::Hosts;
 
 /// The names of the servers whose addresses are learnt after as many rounds as there are servers, begun with these. It
 /// is `WalksPassed` where for one of the sets from which a round starts some server's name has more than `most` walks of
@@ -128,7 +128,8 @@ fn learns_by_either(
     Ok(four || six)
 }
 
-/// Whether a walk of the name with this type gives an address. It is `WalksPassed` where there are more than `most`.
+/// Whether a walk of the name with this type gives an address. It is `WalksPassed` where there are more than `most`. The
+/// walks are counted and looked at, and none is made.
 fn learns_by(
     alloc: Global,
     hosts: &Hosts<'_>,
@@ -142,14 +143,8 @@ fn learns_by(
     ensures few { OnOk result (HasMoreWalks (following hosts.now rewrites followed.now) name.now t most → ⊥) }
     ensures passed { IsErrOf result ResolveFault.WalksPassed → HasMoreWalks (following hosts.now rewrites followed.now) name.now t most }
 {
-    let resolver = Resolver::new(hosts, rewrites, followed, t);
-    let walks = all_walks(alloc, &resolver, name, most)?;
-    Ok(some_gives(walks.as_slice()))
-}
-
-/// Whether one of the walks gives an address.
-fn some_gives(walks: &[Walk]) -> bool
-    ensures { result ≡ list_any (λ walk. gives_address walk.leaf) walks.now }
-{
-    walks.iter().any(|walk| gives_address(&walk.leaf))
+    let resolver = Resolver::new(hosts, rewrites, followed, name, t);
+    let mut address = AddressSeen::new();
+    visit_walks(alloc, &resolver, most, &mut address)?;
+    Ok(address.seen())
 }

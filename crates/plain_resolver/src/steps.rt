@@ -11,7 +11,7 @@ use std::alloc::Global;
 use zone_lookup::{Step, after_lookup, find, outside};
 
 /// The steps of a state, in order.
-pub(crate) fn next(
+pub(crate) fn steps_of(
     alloc: Global,
     resolver: &Resolver<'_, '_>,
     state: &State,

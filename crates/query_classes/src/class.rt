@@ -7,7 +7,6 @@ ghost use Rattle.net_model.specs.Class.{class_name, IsClassOf};
 ghost use Rattle.net_model.specs.Reading.{IsNamed};
 ghost use Rattle.query_classes.specs.Members.{IsEmptyClass, RepresentsClass};
 
-use crate::below::name_below;
 use crate::live_name::LiveName;
 use dns_data::{Label, Name, NoMemory};
 use label_graph::{LabelGraph, laws};
@@ -23,22 +22,15 @@ pub fn class_of(alloc: Global, graph: &LabelGraph, q: &Name) -> Result<Class, No
     ensures prefixes { IfOk result (λ _. (above below : Labels) → IsNamed graph.now (above ++ below) → IsNamed graph.now above) }
 {
     laws::graph_is_closed(graph);
-    let mut live = graph.start(alloc)?;
-    let mut above = Name::root();
+    let mut above = LiveName::root(alloc, graph)?;
     let mut rest = q.labels();
     while let Some(octets) = rest.next() {
         let label = Label::with_octets(alloc, octets)?;
-        let next = graph.advance(alloc, &live, &label)?;
-        if next.is_empty() {
-            return Ok(Class::Below(above));
+        if !above.descend(alloc, graph, &label)? {
+            return Ok(Class::Below(above.into_name()));
         }
-        let Some(name) = name_below(alloc, &above, &label)? else {
-            unreachable!()
-        };
-        above = name;
-        live = next;
     }
-    Ok(Class::Exact(q.copy(alloc)?))
+    Ok(Class::Exact(above.into_name()))
 }
 
 /// The representative of the class, or `None` where the class is empty.

@@ -1,17 +1,16 @@
 //! Names with their live sets.
 
-ghost use Rattle.std.specs.Prelude.{◌≡◌, [], ◌∷◌, ◌++◌, map, All, IfOk, OnOk};
-ghost use Rattle.dns_data.specs.Name.{IsName};
+ghost use Rattle.std.specs.Prelude.{◌≡◌, ◌↔◌, ◌≤◌, [], ◌∷◌, ◌++◌, map, All, IfOk, OnOk, IsTrue, if◌then◌else◌};
+ghost use Rattle.dns_data.specs.Name.{IsName, wire_octets};
 ghost use Rattle.label_graph.specs.LiveSet.{IsLiveSet};
 ghost use Rattle.net_model.specs.Reading.{IsNamed};
 ghost use Rattle.query_classes.specs.Children.{AreChildren, IsBelow, live_below};
 
 use crate::below::name_below;
 use crate::free::free_label;
-use dns_data::{Label, List, Name, NoMemory};
+use dns_data::{JoinFault, Label, List, Name, NoMemory};
 use label_graph::{LabelGraph, LiveSet, NextName, laws};
 use std::alloc::Global;
-use std::collections::VecDeque;
 
 /// A name with its live set in a graph, so that a walk down the class tree goes on from where it stands.
 #[derive(Debug, Drop)]
@@ -67,14 +66,47 @@ impl LiveName {
         }
     }
 
+    /// Goes on to the name with the label below, where that is named, and tells whether it is.
+    pub(crate) fn descend(
+        &mut self,
+        alloc: Global,
+        graph: &LabelGraph,
+        label: &Label,
+    ) -> Result<bool, NoMemory>
+        requires live { IsLiveSet graph.now self.old.name self.old.live }
+        requires short { wire_octets (self.old.name ++ label.now ∷ []) ≤ 255 }
+        ensures named { IfOk result (λ named. IsTrue named ↔ IsNamed graph.now (self.old.name ++ label.now ∷ [])) }
+        ensures name { IfOk result (λ named. self.new.name ≡ (if named then self.old.name ++ label.now ∷ [] else self.old.name)) }
+        ensures live { OnOk result (IsLiveSet graph.now self.new.name self.new.live) }
+    {
+        let next = graph.advance(alloc, &self.live, label)?;
+        if next.is_empty() {
+            return Ok(false);
+        }
+        match self.name.push(alloc, label) {
+            Ok(()) => {
+                self.live = next;
+                Ok(true)
+            }
+            Err(JoinFault::NoMemory) => Err(NoMemory),
+            Err(JoinFault::TooLong) => unreachable!(),
+        }
+    }
+
+    /// The name, whose live set is let go.
+    pub(crate) fn into_name(self) -> Name
+        ensures { result ≡ self.name }
+    {
+        self.name
+    }
+
     /// The names of at most 255 octets with one of the labels below this one, each with the live set that comes with it.
     fn with_nexts(&self, alloc: Global, nexts: List<NextName>) -> Result<Vec<LiveName>, NoMemory>
         ensures below { IfOk result (λ names. names.items ≡ live_below self.now.name nexts) }
         ensures names { IfOk result (λ names. All (λ below. IsName below.name) names.items) }
     {
-        let mut left = VecDeque::from_vec(nexts.into_vec());
-        let mut names = Vec::with_capacity(alloc, left.len())?;
-        while let Some(next) = left.pop_front() {
+        let mut names = Vec::with_capacity(alloc, nexts.len())?;
+        for next in nexts {
             self.put_below(alloc, next, &mut names)?;
         }
         Ok(names)

@@ -1,10 +1,6 @@
-use Rattle.std.proofs.Common.{length}
 use Rattle.interp_graph.proofs.Beginning.{BegunSoFar}
 use Rattle.interp_graph.proofs.building.begin.Given as goal
 
 -- the starts so far
 abbrev pub invariant-loop-state : goal.invariant-loop-state
-invariant-loop-state l = BegunSoFar l.fn.work l.work l.all l.fn.states l.left.items l.starts
-
-abbrev pub decreases-loop-state : goal.decreases-loop-state
-decreases-loop-state l = length l.left.items
+invariant-loop-state l = BegunSoFar l.fn.work l.work l.all l.fn.states l.state-iterator l.starts

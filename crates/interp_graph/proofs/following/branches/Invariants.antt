@@ -1,10 +1,6 @@
-use Rattle.std.proofs.Common.{length}
 use Rattle.interp_graph.proofs.ForkSteps.{BranchesSoFar}
 use Rattle.interp_graph.proofs.following.branches.Given as goal
 
 -- the branches of the steps so far
 abbrev pub invariant-loop-step : goal.invariant-loop-step
-invariant-loop-step l = BranchesSoFar l.fn.work l.work l.types l.fn.steps l.left.items l.branches
-
-abbrev pub decreases-loop-step : goal.decreases-loop-step
-decreases-loop-step l = length l.left.items
+invariant-loop-step l = BranchesSoFar l.fn.work l.work l.types l.fn.steps l.step-iterator l.branches

@@ -1,10 +1,6 @@
-use Rattle.std.proofs.Common.{length}
 use Rattle.interp_graph.proofs.ForkSteps.{ForksSoFar}
 use Rattle.interp_graph.proofs.following.put_forks.Given as goal
 
 -- the arms of the forks so far
 abbrev pub invariant-loop-fork : goal.invariant-loop-fork
-invariant-loop-fork l = ForksSoFar l.fn.work l.work l.at l.fn.forks l.left.items
-
-abbrev pub decreases-loop-fork : goal.decreases-loop-fork
-decreases-loop-fork l = length l.left.items
+invariant-loop-fork l = ForksSoFar l.fn.work l.work l.at l.fn.forks l.fork-iterator

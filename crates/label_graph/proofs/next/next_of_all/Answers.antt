@@ -1,11 +1,31 @@
-use Rattle.std.proofs.Common.{◌≡◌, ◌∙◌, ℕ, List, Contains, AllPairs, Less, ap, sym, subst}
+use Rattle.std.proofs.Common.{◌≡◌, ◌∙◌, ℕ, List, [], ◌∷◌, ◌++◌, take, All, Contains, AllPairs, Less, ap, sym, subst}
 use Rattle.std.specs.Prelude.{◌↔◌}
-use Rattle.std.proofs.lemmas.List.{take_all}
+use Rattle.std.proofs.lemmas.List.{map-append, take_all, take_more}
+use Rattle.std.proofs.lemmas.List.Elements.{All-push}
 use Rattle.dns_data.specs.Label.{label_cmp}
-use Rattle.label_graph.specs.Graphs.{SomeItem, HasChild}
+use Rattle.label_graph.specs.declared.next.NextName.{NextName}
+use Rattle.label_graph.specs.Graphs.{SomeItem, HasChild, IsLiveBelow}
 use Rattle.dns_data.specs.Name.{Labels}
 use Rattle.label_graph.specs.Targets.{Targets}
+use Rattle.label_graph.proofs.NextNames.{labels_of}
 use Rattle.label_graph.proofs.next.next_of_all.Goals as goal
+
+pub loop-label-preserved : goal.loop-label-preserved
+loop-label-preserved c =
+    let names = c.loop-label.names.items in
+    let next = c.in_ok-next_with.field-0 in
+    let items = c.as_slice-label-items.result.now in
+    let index = c.loop-label.label-index in
+    let P = λ (n : NextName). IsLiveBelow c.args.table.now c.args.reads.now c.args.places.now n.label n.live in
+    record {
+      labels =
+          ap labels_of c.in_ok-push.ensures.items
+          ∙ map-append (λ (n : NextName). n.label) names (next ∷ [])
+          ∙ ap (λ (labels : List (List ℕ)). labels ++ next.label ∷ []) c.loop-label.invariant.labels
+          ∙ ap (λ (label : List ℕ). take index items ++ label ∷ []) (c.in_ok-next_with.ensures.label ∙ c.label-item.is)
+          ∙ sym (take_more items index c.label-item.result c.loop-label-test.true);
+      live = subst (All P) (sym c.in_ok-push.ensures.items) (All-push P names next c.loop-label.invariant.live c.in_ok-next_with.ensures.live);
+    }
 
 pub returns-clause-labels : goal.returns-clause-labels
 returns-clause-labels c =

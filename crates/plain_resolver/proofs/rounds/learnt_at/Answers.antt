@@ -1,10 +1,10 @@
-use Rattle.std.proofs.Common.{◌≡◌, ◌≤◌, List, length, sym, ap, ◌∙◌, subst, arith}
+use Rattle.std.proofs.Common.{◌≡◌, List, length, sym, ap, ◌∙◌, subst, arith}
 use Rattle.std.specs.Cmp.Lexicographic.{pointwise_decides}
 use Rattle.dns_data.specs.Name.{Labels}
 use Rattle.dns_data.proofs.Names.{name_eq_decides}
 use Rattle.net_model.specs.declared.config.Config.{Config}
 use Rattle.net_model.specs.declared.config.Server.{Server}
-use Rattle.net_model.specs.Learnt.{AfterRounds, IsRound}
+use Rattle.net_model.specs.Learnt.{IsRound}
 use Rattle.plain_resolver.specs.Passed.{NoneHasTooMany, NoneInRounds}
 use Rattle.plain_resolver.proofs.Learning.{stays, next_round, next_few, all_more}
 use Rattle.plain_resolver.proofs.rounds.learnt_at.Goals as goal

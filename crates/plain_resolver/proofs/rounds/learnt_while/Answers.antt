@@ -1,9 +1,8 @@
-use Rattle.std.proofs.Common.{◌≡◌, ℕ, List, map, take, length, Contains, filter, sym, ap, ◌∙◌, subst, arith, rules}
+use Rattle.std.proofs.Common.{◌≡◌, List, map, take, Contains, filter, sym, ap, ◌∙◌, subst, rules}
 use Rattle.std.proofs.lemmas.List.{take_all}
-use Rattle.dns_data.specs.Name.{Labels}
 use Rattle.net_model.specs.declared.config.Config.{Config}
 use Rattle.net_model.specs.declared.config.Server.{Server}
-use Rattle.plain_resolver.specs.Passed.{HasTooMany, IsFirstToPass}
+use Rattle.plain_resolver.specs.Passed.{IsFirstToPass}
 use Rattle.plain_resolver.proofs.Learning.{test_while, test_tells, learnt_more, few_more, first_to_pass}
 use Rattle.plain_resolver.proofs.rounds.learnt_while.Goals as goal
 

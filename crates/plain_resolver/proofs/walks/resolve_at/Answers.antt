@@ -1,14 +1,16 @@
-use Rattle.std.proofs.Common.{◌≡◌, sym, subst}
-use Rattle.dns_data.specs.declared.rr_type.RrType.{RrType}
-use Rattle.net_model.specs.Step.{Setting, following}
+use Rattle.std.proofs.Common.{◌≡◌, ◌∙◌, ◌++◌, ◌∷◌, List, [], sym, ap, subst}
+use Rattle.std.specs.List.{fold}
+use Rattle.net_model.specs.declared.walk.Walk.{Walk}
 use Rattle.net_model.specs.Walk.{AreWalks}
+use Rattle.plain_resolver.specs.Asked.{Asked}
+use Rattle.plain_resolver.proofs.ShownWalks.{all_listed}
 use Rattle.plain_resolver.proofs.walks.resolve_at.Goals as goal
 
 pub returns-clause-walks : goal.returns-clause-walks
 returns-clause-walks c =
-    let resolver = c.new-resolver.result in
-    let name = c.args.name.now in
-    let setting = following c.args.hosts.now c.args.rewrites c.args.followed.now in
-    subst (λ (t : RrType). AreWalks setting name t c.from_vec.result) c.new-resolver.ensures.rtype
-    (subst (λ (s : Setting). AreWalks s name resolver.rtype c.from_vec.result) c.new-resolver.ensures.setting
-    (subst (AreWalks resolver.setting name resolver.rtype) (sym c.from_vec.ensures) c.in_ok-walks.ensures.walks))
+    let shown = c.in_ok-visit_walks.ensures.shown in
+    let are : c.visit_walks.new.visitor ≡ shown.0 =
+    shown.2 ∙ ap (λ (before : List Walk). fold (λ (all : List Walk) (walk : Walk). all ++ walk ∷ []) before shown.0) c.new-walks.ensures ∙ all_listed [] shown.0 in
+    let asked : AreWalks c.new-resolver.result.setting c.new-resolver.result.query c.new-resolver.result.rtype shown.0 = shown.1 in
+    subst (λ (asked : Asked). AreWalks asked.setting asked.query asked.rtype c.visit_walks.new.visitor) c.new-resolver.ensures
+    (subst (AreWalks c.new-resolver.result.setting c.new-resolver.result.query c.new-resolver.result.rtype) (sym are) asked)

@@ -6,9 +6,9 @@ use Rattle.query_classes.proofs.class.class_of.Given as goal
 -- the labels passed make a named name, whose live set is known
 abbrev pub invariant-loop-octets : goal.invariant-loop-octets
 invariant-loop-octets l = record {
-  passed : l.q ≡ l.above ++ l.rest;
-  live : IsLiveSet l.graph l.above l.live;
-  named : IsNamed l.graph l.above;
+  passed : l.q ≡ l.above.name ++ l.rest;
+  live : IsLiveSet l.graph l.above.name l.above.live;
+  named : IsNamed l.graph l.above.name;
 }
 
 abbrev pub decreases-loop-octets : goal.decreases-loop-octets

@@ -1,4 +1,4 @@
-use Rattle.std.proofs.Common.{◌≡◌, ◌++◌, All, length}
+use Rattle.std.proofs.Common.{◌≡◌, ◌++◌, All}
 use Rattle.dns_data.specs.Name.{IsName}
 use Rattle.query_classes.specs.Children.{live_below}
 use Rattle.query_classes.proofs.live_name.LiveName.with_nexts.Given as goal
@@ -6,9 +6,6 @@ use Rattle.query_classes.proofs.live_name.LiveName.with_nexts.Given as goal
 -- the names so far, and those of what is left
 abbrev pub invariant-loop-next : goal.invariant-loop-next
 invariant-loop-next l = record {
-  below : l.names.items ++ live_below l.self.name l.left.items ≡ live_below l.self.name l.initial.left.items;
+  below : l.names.items ++ live_below l.self.name l.next-iterator ≡ live_below l.self.name l.fn.nexts;
   names : All (λ below. IsName below.name) l.names.items;
 }
-
-abbrev pub decreases-loop-next : goal.decreases-loop-next
-decreases-loop-next l = length l.left.items
