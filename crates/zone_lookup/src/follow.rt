@@ -8,6 +8,7 @@ ghost use Rattle.net_model.specs.Zone.{has_address};
 ghost use Rattle.zone_tree.specs.Tree.{IsNode, name_of};
 
 use crate::hosts::Hosts;
+use crate::learnt_sets::LearntSets;
 use dns_data::{Name, RrType};
 use net_model::{Cut, may_follow};
 use zone_tree::{NodeId, Tree};
@@ -40,6 +41,19 @@ impl<'a> Hosts<'a> {
             Some(tree) => has_address(tree, &cut.ns),
             None => false,
         }
+    }
+}
+
+impl LearntSets {
+    /// Whether the address of the cut's name server is known: it is a top server, it has glue in that referral, or it is in
+    /// the least set.
+    pub fn may_follow(&self, hosts: &Hosts<'_>, cut: &Cut) -> bool
+        requires { is_prefix cut.now.zone cut.now.cut ≡ true }
+        ensures { result ≡ may_follow hosts.now cut.now self.now.least }
+    {
+        is_among(hosts.config().tops.items(), &cut.ns)
+            || hosts.has_glue(cut)
+            || self.has_least(&cut.ns)
     }
 }
 
