@@ -1,8 +1,9 @@
 -- The server at a place: where it isn't added or dropped it is settled; where it is the search goes on fairly, fewer are left to be
 -- moved, and it is settled, as those are that were settled before and don't wait for its address.
-use Rattle.std.proofs.Common.{◌≡◌, ◌↔◌, ℕ, ◌<◌, Bool, true, false, not, true≢false, List, length, sym, ◌∙◌, subst, Some}
+use Rattle.std.proofs.Common.{◌≡◌, ◌↔◌, ℕ, ◌<◌, Bool, true, false, not, true≢false, List, length, refl, sym, ◌∙◌, subst, Some}
 use Rattle.std.specs.Prelude.{◌⊎◌, Contains, slice_get}
 use Rattle.std.specs.BTreeMap as map
+use Rattle.std.proofs.Math.Bool.{beq}
 use Rattle.std.proofs.lemmas.List.Elements.{Contains-get_or}
 use Rattle.std.proofs.lemmas.Option.{get_or_from_slice_get, slice_get_within}
 use Rattle.dns_data.specs.Name.{Labels}
@@ -27,6 +28,13 @@ use Rattle.address_deps.proofs.Waking.{gone_apart, gone_fewer, gone_there, graph
 pub are_servers : (direction : Direction) (config : Config) (graphs : List PlainGraph) (names : List Labels) → IsFair direction config graphs names → AreServers config names
 are_servers Adding config graphs names fair = fair.servers
 are_servers Dropping config graphs names fair = fair.servers
+
+-- of two answers that aren't one each is the other's contrary
+pub contrary : (a b : Bool) → beq a b ≡ false → a ≡ not b
+contrary true true e = cc
+contrary true false e = refl
+contrary false true e = refl
+contrary false false e = cc
 
 module _ (config : Config) (graphs : List PlainGraph) (names : List Labels) (place : ℕ) (server : Server) (here : slice_get config.servers place ≡ Some server) where
   same : (other : Server) → slice_get config.servers place ≡ Some other → server ≡ other

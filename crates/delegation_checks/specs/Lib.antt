@@ -1,9 +1,6 @@
 pub use Rattle.graph_form.specs.GraphOf
 pub use Rattle.graph_form.specs.Verdict
 pub use Rattle.net_model.specs.Shown
-pub use Rattle.zone_lookup.specs.LearntSets
-pub use Rattle.zone_lookup.specs.Sides
-pub use Rattle.zone_lookup.specs.Sound
 pub mod Delegations
 pub mod Met
 pub mod Referrals

@@ -1,5 +1,5 @@
 -- Sound referrals.
-use Rattle.std.proofs.Common.{◌≡◌, Bool, false, not, Option, Some, None, refl, ap, ◌∙◌}
+use Rattle.std.proofs.Common.{◌≡◌, Bool, true, false, not, Option, Some, None, refl, ap, ◌∙◌}
 use Rattle.std.specs.Prelude.{◌&&◌, is_some, option_and_then}
 use Rattle.dns_data.specs.Name.{is_prefix}
 use Rattle.net_model.specs.Nearest.{held_zone, is_top, server_named, zone_with_origin}

@@ -4,7 +4,6 @@ ghost use Rattle.std.specs.Prelude.{◌≡◌, true, IfOk};
 ghost use Rattle.dns_data.specs.Name.{is_prefix};
 ghost use Rattle.zone_lookup.specs.Sound.{IsSound, depends_on_itself, wants_glue};
 
-use crate::follow::is_among;
 use crate::hosts::Hosts;
 use crate::learnt_sets::LearntSets;
 use crate::sides::{addresses_differ, zones_differ};
@@ -27,8 +26,7 @@ pub fn depends_on_itself(hosts: &Hosts<'_>, sets: &LearntSets, cut: &Cut) -> boo
     ensures { result ≡ depends_on_itself hosts.now sets.now cut.now }
 {
     hosts.host(&cut.ns).is_some()
-        && !is_among(hosts.config().tops.items(), &cut.ns)
-        && !hosts.has_glue(cut)
+        && !hosts.is_known(cut)
         && sets.has_greatest(&cut.ns)
         && !sets.has_least(&cut.ns)
 }
