@@ -22,13 +22,14 @@ use Rattle.graph_form.specs.declared.node.Node.{Node}
 use Rattle.graph_form.proofs.TypedBranches.{typed_for}
 use Rattle.address_deps.specs.Dependents.{branch_awaits, graph_awaits}
 use Rattle.address_deps.specs.Giving.{gives_by, gives_from, may_take, node_gives}
-use Rattle.address_deps.specs.Sets.{AreServers, is_in}
+use Rattle.zone_lookup.specs.LearntSets.{is_among}
+use Rattle.address_deps.specs.Sets.{AreServers}
 use Rattle.address_deps.proofs.GivingNodes.{learns_path, path_learns}
 
 -- two sets of servers that are one but for this name, for which the graph doesn't wait
 pub record AreAlike (config : Config) (graph : PlainGraph) (one other : List Labels) : Type 0 where
   pub name : Labels
-  pub apart : (server : Labels) → name_eq name server ≡ false → is_in one server ≡ is_in other server
+  pub apart : (server : Labels) → name_eq name server ≡ false → is_among one server ≡ is_among other server
   pub not_awaited : Contains (graph_awaits config graph) name → ⊥
 
 -- the other way round

@@ -14,7 +14,8 @@ use Rattle.graph_form.specs.GraphOf.{IsGraphOf}
 use Rattle.graph_form.proofs.Paths.{same_item}
 use Rattle.graph_form.proofs.Places.{PairAt, pair_at}
 use Rattle.address_deps.specs.Dependents.{AreDependents, places_of}
-use Rattle.address_deps.specs.Sets.{AreServerGraphs, AreServers, NoneMoreLearntAt, IsLearntAt, is_in}
+use Rattle.zone_lookup.specs.LearntSets.{is_among}
+use Rattle.address_deps.specs.Sets.{AreServerGraphs, AreServers, NoneMoreLearntAt, IsLearntAt}
 use Rattle.address_deps.proofs.Awaited.{AreAlike, alike_back, same_learnt}
 use Rattle.address_deps.proofs.Rounds.{there_or_not}
 
@@ -23,12 +24,12 @@ abbrev GraphFor : Config → ℕ → Server → PlainGraph → Type 0
 GraphFor config rewrites server graph = IsGraphOf (following config rewrites (server_names config)) server.name graph
 
 -- the graph of the server at a place
-record GraphAt (config : Config) (rewrites : ℕ) (graphs : List PlainGraph) (place : ℕ) (server : Server) : Type 0 where
+pub record GraphAt (config : Config) (rewrites : ℕ) (graphs : List PlainGraph) (place : ℕ) (server : Server) : Type 0 where
   pub graph : PlainGraph
   pub here : slice_get graphs place ≡ Some graph
   pub is_graph : IsGraphOf (following config rewrites (server_names config)) server.name graph
 
-graph_at : (config : Config) (rewrites : ℕ) (graphs : List PlainGraph) (place : ℕ) (server : Server) → AreServerGraphs config rewrites graphs
+pub graph_at : (config : Config) (rewrites : ℕ) (graphs : List PlainGraph) (place : ℕ) (server : Server) → AreServerGraphs config rewrites graphs
     → slice_get config.servers place ≡ Some server → GraphAt config rewrites graphs place server
 graph_at config rewrites graphs place server are here = by (pair_at (GraphFor config rewrites) config.servers graphs are place) where
   by : ((slice_get config.servers place ≡ None) × (slice_get graphs place ≡ None)) ⊎ PairAt (GraphFor config rewrites) config.servers graphs place
@@ -44,14 +45,14 @@ graph_at config rewrites graphs place server are here = by (pair_at (GraphFor co
 
 module _ (config : Config) (graphs : List PlainGraph) (places : map.BTreeMap Labels (List ℕ)) (dependents : AreDependents config graphs (length graphs) places)
     (one other : List Labels) (of_one : AreServers config one) (of_other : AreServers config other)
-    (name : Labels) (apart : (server : Labels) → name_eq name server ≡ false → is_in one server ≡ is_in other server) where
+    (name : Labels) (apart : (server : Labels) → name_eq name server ≡ false → is_among one server ≡ is_among other server) where
   alike : (place : ℕ) → place < length graphs → (Contains (places_of places name) place → ⊥) → (graph : PlainGraph) → slice_get graphs place ≡ Some graph
       → AreAlike config graph one other
   alike place within not_listed graph here =
       record { name = name; apart = apart; not_awaited = λ awaited. not_listed (dependents.listed place graph within here name awaited) }
 
   -- where the other has more, who can't be learnt still can't be
-  pub still_none_more : ((server : Labels) → is_in one server ≡ true → is_in other server ≡ true) → (place : ℕ) → place < length graphs
+  pub still_none_more : ((server : Labels) → is_among one server ≡ true → is_among other server ≡ true) → (place : ℕ) → place < length graphs
       → NoneMoreLearntAt config graphs one place → Contains (places_of places name) place ⊎ NoneMoreLearntAt config graphs other place
   still_none_more more place within closed =
       elim (there_or_not (places_of places name) place) [
@@ -64,7 +65,7 @@ module _ (config : Config) (graphs : List PlainGraph) (places : map.BTreeMap Lab
       ]
 
   -- where the other has fewer, who can be learnt still can
-  pub still_learnt : ((server : Labels) → is_in other server ≡ true → is_in one server ≡ true) → (place : ℕ) → place < length graphs
+  pub still_learnt : ((server : Labels) → is_among other server ≡ true → is_among one server ≡ true) → (place : ℕ) → place < length graphs
       → IsLearntAt config graphs one place → Contains (places_of places name) place ⊎ IsLearntAt config graphs other place
   still_learnt fewer place within learnt =
       elim (there_or_not (places_of places name) place) [
@@ -84,29 +85,28 @@ server_at config place within =
     ]
 
 module _ (name : Labels) (one other : List Labels) where
-  module _ (put : (server : Labels) → is_in other server ≡ (name_eq name server || is_in one server)) where
-    pub put_apart : (server : Labels) → name_eq name server ≡ false → is_in one server ≡ is_in other server
-    put_apart server differs = sym (put server ∙ ap (λ (b : Bool). b || is_in one server) differs)
+  module _ (put : (server : Labels) → is_among other server ≡ (name_eq name server || is_among one server)) where
+    pub put_apart : (server : Labels) → name_eq name server ≡ false → is_among one server ≡ is_among other server
+    put_apart server differs = sym (put server ∙ ap (λ (b : Bool). b || is_among one server) differs)
 
-    pub put_more : (server : Labels) → is_in one server ≡ true → is_in other server ≡ true
+    pub put_more : (server : Labels) → is_among one server ≡ true → is_among other server ≡ true
     put_more server has = put server ∙ by (name_eq name server) where
-      by : (b : Bool) → (b || is_in one server) ≡ true
+      by : (b : Bool) → (b || is_among one server) ≡ true
       by true = refl
       by false = has
 
-    pub put_there : is_in other name ≡ true
-    put_there = put name ∙ ap (λ (b : Bool). b || is_in one name) ((name_eq_decides name name).1 refl)
+    pub put_there : is_among other name ≡ true
+    put_there = put name ∙ ap (λ (b : Bool). b || is_among one name) ((name_eq_decides name name).1 refl)
 
-  module _ (gone : (server : Labels) → is_in other server ≡ (not (name_eq name server) && is_in one server)) where
-    pub gone_apart : (server : Labels) → name_eq name server ≡ false → is_in one server ≡ is_in other server
-    gone_apart server differs = sym (gone server ∙ ap (λ (b : Bool). not b && is_in one server) differs)
+  module _ (gone : (server : Labels) → is_among other server ≡ (not (name_eq name server) && is_among one server)) where
+    pub gone_apart : (server : Labels) → name_eq name server ≡ false → is_among one server ≡ is_among other server
+    gone_apart server differs = sym (gone server ∙ ap (λ (b : Bool). not b && is_among one server) differs)
 
-    pub gone_fewer : (server : Labels) → is_in other server ≡ true → is_in one server ≡ true
+    pub gone_fewer : (server : Labels) → is_among other server ≡ true → is_among one server ≡ true
     gone_fewer server has = by (name_eq name server) (sym (gone server) ∙ has) where
-      by : (b : Bool) → (not b && is_in one server) ≡ true → is_in one server ≡ true
+      by : (b : Bool) → (not b && is_among one server) ≡ true → is_among one server ≡ true
       by true e = cc
       by false e = e
 
-    pub gone_there : is_in other name ≡ true → ⊥
-    gone_there has =
-        let no : false ≡ true = sym (gone name ∙ ap (λ (b : Bool). not b && is_in one name) ((name_eq_decides name name).1 refl)) ∙ has in cc
+    pub gone_there : is_among other name ≡ false
+    gone_there = gone name ∙ ap (λ (b : Bool). not b && is_among one name) ((name_eq_decides name name).1 refl)

@@ -1,13 +1,19 @@
 -- A search among the servers, in either direction. The contracts of inner calls alone cite it.
-use Rattle.std.specs.Prelude.{◌≡◌, ℕ, ◌||◌, ◌&&◌, not, List}
+use Rattle.std.specs.Prelude.{◌≡◌, ℕ, Bool, true, false, ◌||◌, ◌&&◌, not, List}
 use Rattle.dns_data.specs.Name.{Labels, name_eq}
 use Rattle.net_model.specs.declared.config.Config.{Config}
 use Rattle.net_model.specs.declared.config.Server.{Server}
 use Rattle.graph_form.specs.Graph.{PlainGraph}
+use Rattle.zone_lookup.specs.LearntSets.{is_among}
 use Rattle.address_deps.specs.declared.direction.Direction.{Direction}
 use Rattle.address_deps.specs.declared.direction.Direction.TheVariants.{Adding, Dropping}
 use Rattle.address_deps.specs.Dependents.{IsRound}
-use Rattle.address_deps.specs.Sets.{NoneMoreLearntAt, IsGrowing, IsLearntAt, IsShrinking, absent, is_in, present}
+use Rattle.address_deps.specs.Sets.{NoneMoreLearntAt, IsGrowing, IsLearntAt, IsShrinking, absent, present}
+
+-- servers are added
+abbrev pub adds : Direction → Bool
+adds Adding = true
+adds Dropping = false
 
 -- no server was added or dropped before its time
 abbrev pub IsFair : Direction → Config → List PlainGraph → List Labels → Type 0
@@ -26,8 +32,8 @@ unmoved Dropping servers names = present servers names
 
 -- the server was added or dropped
 abbrev pub IsMoved : Direction → Labels → List Labels → List Labels → Type 0
-IsMoved Adding server old new = (name : Labels) → is_in new name ≡ (name_eq server name || is_in old name)
-IsMoved Dropping server old new = (name : Labels) → is_in new name ≡ (not (name_eq server name) && is_in old name)
+IsMoved Adding server old new = (name : Labels) → is_among new name ≡ (name_eq server name || is_among old name)
+IsMoved Dropping server old new = (name : Labels) → is_among new name ≡ (not (name_eq server name) && is_among old name)
 
 -- between two rounds each server that doesn't wait is settled
 abbrev pub IsRoundOf : Direction → Config → List PlainGraph → List Labels → List ℕ → Type 0

@@ -1,16 +1,14 @@
 //! A search among the servers, in either direction.
 
-ghost use Rattle.std.specs.Prelude.{◌≡◌, ◌<◌, ◌≤◌, ◌==◌, ◌++◌, ◌||◌, ◌&&◌, not, ℕ, Some, true, false, length, slice_get, IfOk, OnOk};
-ghost use Rattle.dns_data.specs.Name.{Labels, name_eq};
+ghost use Rattle.std.specs.Prelude.{◌≡◌, ◌<◌, ◌≤◌, ◌==◌, ◌++◌, ℕ, Some, true, false, length, slice_get, IfOk, OnOk};
 ghost use Rattle.net_model.specs.declared.config.Server.{Server};
 ghost use Rattle.address_deps.specs.Dependents.{AreAllPlaces, AreDependents, places_of};
-ghost use Rattle.address_deps.specs.Direction.{IsFair, IsMoved, IsRoundOf, IsSettledAt, unmoved};
-ghost use Rattle.address_deps.specs.Sets.{is_in, absent, present, IsGrowing, NoneMoreLearntAt, IsShrinking, IsLearntAt};
+ghost use Rattle.address_deps.specs.Direction.{IsFair, IsMoved, IsRoundOf, IsSettledAt, adds, unmoved};
 
 use crate::dependents::Dependents;
 use crate::giving::learns;
 use crate::server_set::ServerSet;
-use dns_data::{List, NoMemory};
+use dns_data::{List, Name, NoMemory};
 use graph_form::Graph;
 use std::alloc::Global;
 use zone_lookup::Hosts;
@@ -20,6 +18,31 @@ use zone_lookup::Hosts;
 pub(crate) enum Direction {
     Adding,
     Dropping,
+}
+
+impl Direction {
+    /// Whether servers are added.
+    fn adds(self) -> bool
+        ensures { result ≡ adds self }
+    {
+        match self {
+            Direction::Adding => true,
+            Direction::Dropping => false,
+        }
+    }
+
+    /// Adds a server to the set, or drops it.
+    fn change(self, alloc: Global, name: &Name, names: &mut ServerSet) -> Result<(), NoMemory>
+        ensures { OnOk result (IsMoved self name.now names.old names.new) }
+    {
+        match self {
+            Direction::Adding => names.put(alloc, name),
+            Direction::Dropping => {
+                names.take(name);
+                Ok(())
+            }
+        }
+    }
 }
 
 /// The servers that are left when none more is to be added or dropped. Each server is looked at once, and again when one was
@@ -110,67 +133,14 @@ fn move_at(
     ensures moved { IfOk result (λ moved. moved ≡ true → (server : Server) → slice_get hosts.now.servers place ≡ Some server
         → IsMoved direction server.name names.old names.new) }
 {
-    match direction {
-        Direction::Adding => add_at(alloc, hosts, graphs, place, names),
-        Direction::Dropping => drop_at(alloc, hosts, graphs, place, names),
-    }
-}
-
-/// Adds the server at a place, if an address of it can be learnt; gives whether it was added.
-fn add_at(
-    alloc: Global,
-    hosts: &Hosts<'_>,
-    graphs: &[Graph],
-    place: usize,
-    names: &mut ServerSet,
-) -> Result<bool, NoMemory>
-    requires many { length graphs.now ≡ length hosts.now.servers }
-    requires within { place < length graphs.now }
-    requires growing { IsGrowing hosts.now graphs.now names.old }
-    ensures growing { OnOk result (IsGrowing hosts.now graphs.now names.new) }
-    ensures fewer { IfOk result (λ added. added ≡ true → absent hosts.now.servers names.new < absent hosts.now.servers names.old) }
-    ensures same { IfOk result (λ added. added ≡ false → names.new ≡ names.old) }
-    ensures closed { IfOk result (λ added. added ≡ false → NoneMoreLearntAt hosts.now graphs.now names.old place) }
-    ensures put { IfOk result (λ added. added ≡ true → (server : Server) → slice_get hosts.now.servers place ≡ Some server
-        → (name : Labels) → is_in names.new name ≡ (name_eq server.name name || is_in names.old name)) }
-{
-    let name = &hosts.config().servers.items()[place].name;
-    if names.has(name) {
+    let name = name_at(hosts, place);
+    if names.has(name) == direction.adds() {
         return Ok(false);
     }
-    if !learns(alloc, hosts, &graphs[place], names)? {
+    if learns(alloc, hosts, &graphs[place], names)? != direction.adds() {
         return Ok(false);
     }
-    names.put(alloc, name)?;
-    Ok(true)
-}
-
-/// Drops the server at a place, if no address of it can be learnt; gives whether it was dropped.
-fn drop_at(
-    alloc: Global,
-    hosts: &Hosts<'_>,
-    graphs: &[Graph],
-    place: usize,
-    names: &mut ServerSet,
-) -> Result<bool, NoMemory>
-    requires many { length graphs.now ≡ length hosts.now.servers }
-    requires within { place < length graphs.now }
-    requires shrinking { IsShrinking hosts.now graphs.now names.old }
-    ensures shrinking { OnOk result (IsShrinking hosts.now graphs.now names.new) }
-    ensures fewer { IfOk result (λ dropped. dropped ≡ true → present hosts.now.servers names.new < present hosts.now.servers names.old) }
-    ensures same { IfOk result (λ dropped. dropped ≡ false → names.new ≡ names.old) }
-    ensures learnt { IfOk result (λ dropped. dropped ≡ false → IsLearntAt hosts.now graphs.now names.old place) }
-    ensures gone { IfOk result (λ dropped. dropped ≡ true → (server : Server) → slice_get hosts.now.servers place ≡ Some server
-        → (name : Labels) → is_in names.new name ≡ (not (name_eq server.name name) && is_in names.old name)) }
-{
-    let name = &hosts.config().servers.items()[place].name;
-    if !names.has(name) {
-        return Ok(false);
-    }
-    if learns(alloc, hosts, &graphs[place], names)? {
-        return Ok(false);
-    }
-    names.take(name);
+    direction.change(alloc, name, names)?;
     Ok(true)
 }
 
@@ -184,9 +154,16 @@ fn wake(
     requires { place < length hosts.now.servers }
     ensures { OnOk result ((server : Server) → slice_get hosts.now.servers place ≡ Some server → next.new ≡ next.old ++ places_of dependents.now.places server.name) }
 {
-    let name = &hosts.config().servers.items()[place].name;
-    for other in dependents.on(name) {
+    for other in dependents.on(name_at(hosts, place)) {
         next.push(*other)?;
     }
     Ok(())
+}
+
+/// The name of the server at a place.
+fn name_at<'a>(hosts: &Hosts<'a>, place: usize) -> &'a Name
+    requires { place < length hosts.now.servers }
+    ensures { (server : Server) → slice_get hosts.now.servers place ≡ Some server → result.now ≡ server.name }
+{
+    &hosts.config().servers.items()[place].name
 }

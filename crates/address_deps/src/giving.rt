@@ -3,7 +3,7 @@
 ghost use Rattle.std.specs.Prelude.{◌≡◌, ◌↔◌, ◌<◌, ℕ, true, false, length, slice_get, Some, IfOk};
 ghost use Rattle.std.specs.List.{list_any};
 ghost use Rattle.dns_data.specs.Name.{Labels, name_eq};
-ghost use Rattle.net_model.specs.Learnt.{gives_address, LearnsBy, Learns};
+ghost use Rattle.net_model.specs.Learnt.{LearnsBy, Learns};
 ghost use Rattle.net_model.specs.Nearest.{server_names};
 ghost use Rattle.net_model.specs.Step.{following};
 ghost use Rattle.graph_form.specs.Graph.{branches_of};
@@ -14,9 +14,9 @@ ghost use Rattle.address_deps.specs.Giving.{may_take, is_marked, branch_gives, u
 use crate::server_set::ServerSet;
 use dns_data::{NoMemory, RrType};
 use graph_form::{Branch, Graph};
-use net_model::{Hop, Leaf};
+use net_model::Hop;
 use std::alloc::Global;
-use zone_lookup::Hosts;
+use zone_lookup::{Hosts, gives_address};
 
 /// Whether an address of the graph's query can be learnt while these servers are followed.
 pub(crate) fn learns(
@@ -151,11 +151,4 @@ fn is_marked(marks: &[bool], at: u32) -> bool
         Some(mark) => *mark,
         None => false,
     }
-}
-
-/// Whether the end of a walk gives an address, or leads out of what is configured.
-fn gives_address(leaf: &Leaf) -> bool
-    ensures { result ≡ gives_address leaf.now }
-{
-    matches!(leaf, Leaf::Answer(_) | Leaf::Outside | Leaf::Unhosted(_))
 }

@@ -6,7 +6,8 @@ ghost use Rattle.dns_data.specs.Name.{Labels};
 ghost use Rattle.net_model.specs.Learnt.{IsLeast, IsGreatest};
 ghost use Rattle.net_model.specs.Nearest.{server_names};
 ghost use Rattle.address_deps.specs.Dependents.{AreDependents};
-ghost use Rattle.address_deps.specs.Sets.{AreServerGraphs, is_in};
+ghost use Rattle.address_deps.specs.Sets.{AreServerGraphs};
+ghost use Rattle.zone_lookup.specs.LearntSets.{is_among};
 
 use crate::dependents::Dependents;
 use crate::direction::{Direction, settled};
@@ -81,7 +82,7 @@ fn greatest(
 
 /// The names of all servers.
 fn all_servers(alloc: Global, hosts: &Hosts<'_>) -> Result<ServerSet, NoMemory>
-    ensures { IfOk result (λ all. (name : Labels) → is_in all name ≡ is_in (server_names hosts.now) name) }
+    ensures { IfOk result (λ all. (name : Labels) → is_among all name ≡ is_among (server_names hosts.now) name) }
 {
     let mut all = ServerSet::new(alloc);
     for server in hosts.config().servers.items() {
@@ -92,7 +93,7 @@ fn all_servers(alloc: Global, hosts: &Hosts<'_>) -> Result<ServerSet, NoMemory>
 
 /// The names of the servers of a set, in the order of the servers.
 fn in_order(alloc: Global, hosts: &Hosts<'_>, set: &ServerSet) -> Result<List<Name>, NoMemory>
-    ensures { IfOk result (λ names. names ≡ filter (is_in set.now) (server_names hosts.now)) }
+    ensures { IfOk result (λ names. names ≡ filter (is_among set.now) (server_names hosts.now)) }
 {
     let mut names = List::new(alloc);
     for server in hosts.config().servers.items() {

@@ -40,9 +40,12 @@ use Rattle.net_model.specs.declared.walk.Leaf.TheVariants as leaves
 use Rattle.net_model.specs.declared.walk.Walk.{Walk}
 use Rattle.delegation_checks.specs.Delegations.{IsGraphIn, is_of_delegations}
 use Rattle.delegation_checks.specs.Met.{AreOfReferrals}
-use Rattle.delegation_checks.specs.Referrals.{addresses_differ, depends_on_itself, if_shown, is_among, leaf_faults, referral_faults, typed_referrals, wants_glue, zones_differ}
+use Rattle.delegation_checks.specs.Referrals.{if_shown, leaf_faults, referral_faults, typed_referrals}
 use Rattle.delegation_checks.proofs.Candidates.{behind_faults, branch_faults, candidate, hop_faults, referral_met}
-use Rattle.delegation_checks.proofs.ZonesTell.{among_has, cyclic_told, differ_told, glue_told, has_among, other_addresses, told_addresses, told_cyclic, told_differ, told_glue}
+use Rattle.zone_lookup.specs.LearntSets.{is_among}
+use Rattle.zone_lookup.specs.Sides.{addresses_differ, zones_differ}
+use Rattle.zone_lookup.specs.Sound.{depends_on_itself, wants_glue}
+use Rattle.zone_lookup.proofs.ZonesTell.{among_has, cyclic_told, differ_told, glue_told, has_among, other_addresses, told_addresses, told_cyclic, told_differ, told_glue}
 use Rattle.delegation_checks.proofs.InsideZones.{BranchInside, HopInside, next_inside}
 
 -- a fault that is shown, or none

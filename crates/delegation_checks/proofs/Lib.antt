@@ -2,4 +2,3 @@ pub mod Candidates
 pub mod DelegationsShown
 pub mod InsideZones
 pub mod LookedInto
-pub mod ZonesTell

@@ -7,17 +7,16 @@ ghost use Rattle.graph_form.specs.Verdict.{AreShownOf};
 ghost use Rattle.net_model.specs.Shown.{with_lists};
 ghost use Rattle.net_model.specs.Step.{Setting};
 
-use crate::learnt_sets::LearntSets;
 use crate::referral_faults::faults_of;
 use crate::referrals::referrals_of;
 use dns_data::{List, NoMemory};
 use graph_form::{Deps, Graph, Seen, first_types};
 use std::alloc::Global;
-use zone_lookup::Hosts;
+use zone_lookup::{Hosts, LearntSets};
 
 /// The faults of delegations that the query of a graph shows in the configuration of the servers, each once and with its
 /// first type, in fault order. The two lists stand in the place of the least and the greatest set of learnt addresses. It
-/// makes sets of them; for many graphs make them once, and ask `LearntSets`.
+/// makes sets of them; for many graphs make them once, and call `delegation_faults_with`.
 pub fn delegation_faults(
     alloc: Global,
     hosts: &Hosts<'_>,
@@ -32,24 +31,22 @@ pub fn delegation_faults(
         greatest: deps.greatest.copy(alloc)?,
     };
     let sets = LearntSets::build(alloc, lists)?;
-    sets.delegation_faults(alloc, hosts, graph)
+    delegation_faults_with(alloc, hosts, &sets, graph)
 }
 
-impl LearntSets {
-    /// The faults of delegations that the query of a graph shows in the configuration of the servers, each once and with
-    /// its first type, in fault order. The two sets stand in the place of the least and the greatest set of learnt addresses.
-    pub fn delegation_faults(
-        &self,
-        alloc: Global,
-        hosts: &Hosts<'_>,
-        graph: &Graph,
-    ) -> Result<List<Seen>, NoMemory>
-        ensures { IfOk result (λ shown. (setting : Setting) (query : Labels) → IsGraphIn hosts.now setting query graph.now
-            → AreShownOf (with_lists setting self.now.least self.now.greatest) query is_of_delegations shown) }
-    {
-        let met = referrals_of(alloc, graph)?;
-        let seen = faults_of(alloc, hosts, self, met)?;
-        let shown = first_types(alloc, seen)?;
-        Ok(shown)
-    }
+/// The faults of delegations that the query of a graph shows in the configuration of the servers, each once and with its
+/// first type, in fault order. The two sets stand in the place of the least and the greatest set of learnt addresses.
+pub fn delegation_faults_with(
+    alloc: Global,
+    hosts: &Hosts<'_>,
+    sets: &LearntSets,
+    graph: &Graph,
+) -> Result<List<Seen>, NoMemory>
+    ensures { IfOk result (λ shown. (setting : Setting) (query : Labels) → IsGraphIn hosts.now setting query graph.now
+        → AreShownOf (with_lists setting sets.now.least sets.now.greatest) query is_of_delegations shown) }
+{
+    let met = referrals_of(alloc, graph)?;
+    let seen = faults_of(alloc, hosts, sets, met)?;
+    let shown = first_types(alloc, seen)?;
+    Ok(shown)
 }

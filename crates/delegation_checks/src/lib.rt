@@ -2,21 +2,15 @@
 //! differing glue, cyclic dependencies, and name servers without an address.
 //!
 //! The layer above may rest on this: the list is exactly what the query shows of these kinds, each with its first type, in
-//! fault order. A referral that `is_sound` lets pass shows none of its own, whatever comes behind it.
+//! fault order.
 //!
 //! Costs: each branch of the graph is passed over once, and its referrals are sorted. Of each name server of a cut, both zones
 //! are found by their origins once a graph, and their name servers and the addresses of glue are compared. Whether a name is
 //! among the learnt ones is found in sets that are made once for all graphs. What is found is sorted. No walk is listed.
-//! `is_sound` looks into one name server, and for one that isn't configured only for its glue; `may_follow` passes over the
-//! top servers.
 #![tactic(auto)]
 
-mod cuts;
 mod delegations;
-mod learnt_sets;
 mod referral_faults;
 mod referrals;
-mod sound;
 
-pub use delegations::delegation_faults;
-pub use learnt_sets::{LearntSets, set_of};
+pub use delegations::{delegation_faults, delegation_faults_with};

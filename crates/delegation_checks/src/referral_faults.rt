@@ -4,29 +4,21 @@ ghost use Rattle.std.specs.Prelude.{◌≡◌, ◌++◌, ◌<◌, IfOk, OnOk, le
 ghost use Rattle.std.specs.Option.{option_copied};
 ghost use Rattle.dns_data.specs.Name.{is_prefix};
 ghost use Rattle.delegation_checks.specs.Met.{AreOfReferrals, IsAgain, is_met, met_cmp};
-ghost use Rattle.delegation_checks.specs.Referrals.{
-  addresses_differ,
-  cut_faults,
-  depends_on_itself,
-  end_faults,
-  if_shown,
-  leaf_faults,
-  referral_faults,
-  wants_glue,
-  zones_differ,
-};
+ghost use Rattle.delegation_checks.specs.Referrals.{cut_faults, end_faults, if_shown, leaf_faults, referral_faults};
 ghost use Rattle.graph_form.specs.Branches.{with_type};
 ghost use Rattle.net_model.specs.declared.fault.Fault.TheVariants as faults;
+ghost use Rattle.zone_lookup.specs.Sides.{addresses_differ, zones_differ};
+ghost use Rattle.zone_lookup.specs.Sound.{depends_on_itself, wants_glue};
 
-use crate::cuts::{addresses_differ, depends_on_itself, wants_glue, zones_differ};
-use crate::learnt_sets::LearntSets;
 use crate::referrals::Met;
 use dns_data::{List, NoMemory, RrType};
 use graph_form::Seen;
 use net_model::{Cut, Fault, Leaf};
 use std::alloc::Global;
 use std::cmp::Ordering;
-use zone_lookup::Hosts;
+use zone_lookup::{
+    Hosts, LearntSets, addresses_differ, depends_on_itself, wants_glue, zones_differ,
+};
 
 /// The faults of referrals. The zones are asked once for each name server of a cut.
 pub(crate) fn faults_of(

@@ -6,7 +6,6 @@ use Rattle.std.proofs.lemmas.List.{append_assoc, map-append, take_more}
 use Rattle.std.proofs.lemmas.List.Elements.{Contains-append_left}
 use Rattle.dns_data.specs.Name.{Labels, name_eq, is_prefix}
 use Rattle.dns_data.proofs.Names.{all_push, all_so}
-use Rattle.delegation_checks.specs.Referrals.{referral_faults}
 use Rattle.net_model.specs.declared.deps.Deps.{Deps}
 use Rattle.net_model.specs.Nearest.{is_configured, is_top, nearest, nearest_of, server_named}
 use Rattle.net_model.specs.Step.{Setting, Branch, Go, End, delegated, has_glue, may_follow, referred}
@@ -17,6 +16,7 @@ use Rattle.net_model.specs.declared.place.Cut.{Cut}
 use Rattle.net_model.specs.declared.walk.Hop.TheVariants.{Refer}
 use Rattle.net_model.specs.declared.walk.Leaf.TheVariants as leaves
 use Rattle.net_model.specs.declared.walk.State.{State}
+use Rattle.zone_lookup.specs.Sound.{IsSound}
 use Rattle.straight_walks.specs.Searching.{AreReferrals, Extends, IsReferral, IsSettingOf, cut_to, state_at, state_of, to_servers}
 use Rattle.straight_walks.specs.Straight.{EndsUnanswered, GoesTo}
 use Rattle.straight_walks.specs.declared.queue.Queued.{Queued}
@@ -32,11 +32,11 @@ still_known false false least followed so e = so e
 
 module _ (config : Config) (deps : Deps) (query : Labels) (cut : Cut) where
   -- walks go on to a name server that is known and serves a zone at or below the cut
-  pub goes_on_to : (host : Server) (zone : Zone) → referral_faults config deps cut ≡ [] → Some host ≡ server_named config cut.ns
+  pub goes_on_to : (host : Server) (zone : Zone) → IsSound config deps cut → Some host ≡ server_named config cut.ns
       → may_follow config cut deps.least ≡ true → Some zone ≡ nearest host query → is_prefix cut.cut zone.origin ≡ true
       → IsReferral config deps query cut referral.GoesOn
   goes_on_to host zone sound named known serves below setting above of =
-      (subst (λ (c : Config). referral_faults c deps cut ≡ []) (sym of.config_is) sound, goes)
+      (subst (λ (c : Config). IsSound c deps cut) (sym of.config_is) sound, goes)
     where
       state : State
       state = state_at config query cut.server above

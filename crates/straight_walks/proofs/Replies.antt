@@ -7,7 +7,6 @@ use Rattle.dns_data.specs.declared.rdata.Rdata.{Rdata}
 use Rattle.dns_data.specs.declared.rr_type.RrType.{RrType}
 use Rattle.dns_data.specs.declared.rr_type.RrType.TheVariants as types
 use Rattle.dns_data.proofs.NameFronts.{is_prefix_tells}
-use Rattle.delegation_checks.proofs.InsideZones.{cut_inside}
 use Rattle.net_model.specs.Lookup.{Deciding, ByCut, ByNothing, ByRecords, aliased, answer_of, answered, deciding, first_name}
 use Rattle.net_model.specs.Nearest.{nearest_of}
 use Rattle.net_model.specs.Step.{Setting, End, after_lookup, in_zone, next}
@@ -17,6 +16,7 @@ use Rattle.net_model.specs.declared.config.Zone.{Zone}
 use Rattle.net_model.specs.declared.walk.Leaf.TheVariants.{Outside}
 use Rattle.net_model.specs.declared.walk.State.{State}
 use Rattle.zone_tree.specs.Tree.{ZoneTree, IsNode, name_of}
+use Rattle.zone_lookup.proofs.CutsInside.{cut_inside}
 use Rattle.straight_walks.specs.Searching.{IsReply, leaf_by, leaf_with, sorted_data, state_at, to_servers}
 use Rattle.straight_walks.specs.declared.server.Reply.TheVariants as reply
 use Rattle.straight_walks.proofs.Unhosted.{nearest_is_held}

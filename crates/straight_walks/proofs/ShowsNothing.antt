@@ -9,8 +9,6 @@ use Rattle.dns_data.proofs.Membership.{has_first, each_along}
 use Rattle.graph_form.specs.Trails.{WalksTake, ZonesShow}
 use Rattle.net_model.specs.declared.deps.Deps.{Deps}
 use Rattle.graph_form.proofs.Taking.{taken, zones}
-use Rattle.delegation_checks.specs.Referrals.{addresses_differ, depends_on_itself, if_shown, wants_glue, zones_differ}
-use Rattle.delegation_checks.proofs.ZonesTell.{told_addresses, told_cyclic, told_differ, told_glue}
 use Rattle.net_model.specs.Shown.{FaultSetting, Refers, Shows, ShowsAnswers, LastRewriteAt, is_authoritative, with_lists}
 use Rattle.net_model.specs.Step.{Setting}
 use Rattle.net_model.specs.Walk.{IsWalk}
@@ -23,28 +21,10 @@ use Rattle.net_model.specs.declared.walk.Hop.TheVariants.{Refer}
 use Rattle.net_model.specs.declared.walk.Leaf.{Leaf}
 use Rattle.net_model.specs.declared.walk.Leaf.TheVariants as leaves
 use Rattle.net_model.specs.declared.walk.Walk.{Walk}
-use Rattle.straight_walks.specs.Straight.{GoesStraight, IsSound}
+use Rattle.zone_lookup.specs.Sound.{IsSound}
+use Rattle.zone_lookup.proofs.ZonesTell.{told_addresses, told_cyclic, told_differ, told_glue}
+use Rattle.straight_walks.specs.Straight.{GoesStraight}
 use Rattle.straight_walks.proofs.StraightWalks.{EndsSo, GoesStraightBy, IsSoundHop, goes_by}
-
--- where none of four faults is shown each test fails
-none_shown : (a b c d : Bool) (one two three four : Fault) → if_shown a one ++ if_shown b two ++ if_shown c three ++ if_shown d four ≡ []
-    → (a ≡ false) × (b ≡ false) × (c ≡ false) × (d ≡ false)
-none_shown true b c d one two three four e = cc
-none_shown false true c d one two three four e = cc
-none_shown false false true d one two three four e = cc
-none_shown false false false true one two three four e = cc
-none_shown false false false false one two three four e = (refl, refl, refl, refl)
-
--- the referral shows none of the faults that stand in the zones or in the sets of learnt addresses
-abbrev Quiet : Config → Deps → Cut → Type 0
-Quiet config deps cut =
-    (zones_differ config cut ≡ false) × (wants_glue config cut ≡ false) × (addresses_differ config cut ≡ false) × (depends_on_itself config deps cut ≡ false)
-
--- nor does one that shows no fault
-quiet : (config : Config) (deps : Deps) (cut : Cut) → IsSound config deps cut → Quiet config deps cut
-quiet config deps cut sound =
-    none_shown (zones_differ config cut) (wants_glue config cut) (addresses_differ config cut) (depends_on_itself config deps cut)
-    (faults.Differs cut) (faults.NoGlue cut) (faults.GlueDiffers cut) (faults.Cyclic cut) sound
 
 -- an end with an answer has this one
 answer_end : (answer leaf : Leaf) → EndsSo answer leaf → is_authoritative leaf ≡ true → leaf ≡ answer
@@ -65,9 +45,9 @@ module _ (setting : Setting) (deps : Deps) (most : ℕ) (query : Labels) (straig
   so : (walk : Walk) → OfQuery walk → GoesStraightBy setting.config deps (straight.answer rtype) straight.states walk
   so walk is = goes_by setting deps most query straight rtype walk is
 
-  -- its referrals show no fault
-  sound : (walk : Walk) (cut : Cut) → OfQuery walk → Refers walk cut → Quiet setting.config deps cut
-  sound walk cut is refers = quiet setting.config deps cut (each_along (IsSoundHop setting.config deps) walk.hops (so walk is).hops (Refer cut) refers)
+  -- its referrals are sound
+  sound : (walk : Walk) (cut : Cut) → OfQuery walk → Refers walk cut → IsSound setting.config deps cut
+  sound walk cut is refers = each_along (IsSoundHop setting.config deps) walk.hops (so walk is).hops (Refer cut) refers
 
   -- it ends so
   ends_so : (walk : Walk) (leaf : Leaf) → OfQuery walk → walk.leaf ≡ leaf → EndsSo (straight.answer rtype) leaf
@@ -93,10 +73,10 @@ module _ (setting : Setting) (deps : Deps) (most : ℕ) (query : Labels) (straig
   -- no walks show a fault
   no_walks : (walks : List Walk) (fault : Fault) → AllByRecursion OfQuery walks → WalksTake walks fault → ZonesShow lists fault → ⊥
   no_walks (walk ∷ []) (faults.Lame cut) are take hold = true≢false (sym (ends_so walk (leaves.Lame cut.ns) are.0 take.ends).0)
-  no_walks (walk ∷ []) (faults.Differs cut) are take hold = true≢false (sym (told_differ setting.config cut hold) ∙ (sound walk cut are.0 take).0)
-  no_walks (walk ∷ []) (faults.NoGlue cut) are take hold = true≢false (sym (told_glue setting.config cut hold) ∙ (sound walk cut are.0 take).1)
-  no_walks (walk ∷ []) (faults.GlueDiffers cut) are take hold = true≢false (sym (told_addresses setting.config cut hold) ∙ (sound walk cut are.0 take).2)
-  no_walks (walk ∷ []) (faults.Cyclic cut) are take hold = true≢false (sym (told_cyclic setting deps cut hold) ∙ (sound walk cut are.0 take).3)
+  no_walks (walk ∷ []) (faults.Differs cut) are take hold = true≢false (sym (told_differ setting.config cut hold) ∙ (sound walk cut are.0 take).same_servers)
+  no_walks (walk ∷ []) (faults.NoGlue cut) are take hold = true≢false (sym (told_glue setting.config cut hold) ∙ (sound walk cut are.0 take).glued)
+  no_walks (walk ∷ []) (faults.GlueDiffers cut) are take hold = true≢false (sym (told_addresses setting.config cut hold) ∙ (sound walk cut are.0 take).same_addresses)
+  no_walks (walk ∷ []) (faults.Cyclic cut) are take hold = true≢false (sym (told_cyclic setting deps cut hold) ∙ (sound walk cut are.0 take).independent)
   no_walks (walk ∷ []) (faults.Limit place) are take hold = true≢false (sym (ends_so walk (leaves.Limit place) are.0 take).0)
   no_walks (walk ∷ []) (faults.Blackhole place) are take hold = unrewritten walk place are.0 take.rewritten
   no_walks (one ∷ other ∷ []) (faults.Answers class shown_with) are take hold = no_two one other are.0 are.1.0 take

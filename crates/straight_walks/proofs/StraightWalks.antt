@@ -20,7 +20,8 @@ use Rattle.net_model.specs.declared.walk.State.{State}
 use Rattle.net_model.specs.declared.walk.Walk.{Walk}
 use Rattle.net_model.proofs.Leads.{GoesOn, EndsBy, branch_taken}
 use Rattle.net_model.proofs.WalkEnds.{item}
-use Rattle.straight_walks.specs.Straight.{Answers, EndsUnanswered, GoesStraight, GoesTo, IsSound}
+use Rattle.zone_lookup.specs.Sound.{IsSound}
+use Rattle.straight_walks.specs.Straight.{Answers, EndsUnanswered, GoesStraight, GoesTo}
 
 -- the hop is a referral that shows no fault
 abbrev pub IsSoundHop : Config → Deps → Hop → Type 0

@@ -1,25 +1,24 @@
--- A referral to a name server that isn't configured shows no fault but that it wants glue, and walks end there.
-use Rattle.std.proofs.Common.{◌≡◌, Bool, true, false, not, cond, List, [], ◌++◌, Option, Some, None, refl, sym, ap, ◌∙◌, subst, inr}
+-- A referral to a name server that isn't configured is sound unless it wants glue, and walks end there.
+use Rattle.std.proofs.Common.{◌≡◌, Bool, true, false, not, cond, Option, Some, None, refl, sym, ap, ◌∙◌, subst, inr}
 use Rattle.std.specs.Prelude.{◌&&◌, is_some, option_and_then}
 use Rattle.std.specs.Option.{option_map_or}
 use Rattle.dns_data.specs.Name.{Labels, name_eq, is_prefix}
 use Rattle.dns_data.proofs.Names.{name_eq_decides}
 use Rattle.dns_data.proofs.Searches.{found_there}
-use Rattle.delegation_checks.specs.Referrals.{glue_of_sides, if_shown, is_among, referral_faults, sides_differ}
 use Rattle.net_model.specs.declared.deps.Deps.{Deps}
-use Rattle.net_model.specs.Nearest.{held_zone, is_top, nearest, nearest_of, server_named, zone_with_origin}
+use Rattle.net_model.specs.Nearest.{held_zone, nearest, nearest_of, server_named, zone_with_origin}
 use Rattle.net_model.specs.Prefix.{longest}
 use Rattle.net_model.specs.Step.{Setting, End, delegated, may_follow, referred}
 use Rattle.net_model.specs.Zone.{has_address}
 use Rattle.net_model.specs.declared.config.Config.{Config}
 use Rattle.net_model.specs.declared.config.Server.{Server}
 use Rattle.net_model.specs.declared.config.Zone.{Zone}
-use Rattle.net_model.specs.declared.fault.Fault.{Fault}
-use Rattle.net_model.specs.declared.fault.Fault.TheVariants as faults
 use Rattle.net_model.specs.declared.place.Cut.{Cut}
 use Rattle.net_model.specs.declared.walk.Hop.TheVariants.{Refer}
 use Rattle.net_model.specs.declared.walk.Leaf.TheVariants as leaves
 use Rattle.net_model.specs.declared.walk.State.{State}
+use Rattle.zone_lookup.specs.Sound.{IsSound, wants_glue}
+use Rattle.zone_lookup.proofs.SoundReferrals.{unhosted_sound}
 use Rattle.straight_walks.specs.Searching.{IsReferral, IsSettingOf}
 use Rattle.straight_walks.specs.declared.name_server.Referral.TheVariants as referral
 
@@ -38,37 +37,26 @@ nearest_is_held config server name zone e = by (server_named config server) e wh
 
 -- ---- a name server that isn't configured
 
-module _ (config : Config) (deps : Deps) (query : Labels) (cut : Cut) where
-  -- the faults, by what is known
-  abbrev faults_by : Option Server → Option Zone → Bool → List Fault
-  faults_by named held below =
-      if_shown (sides_differ cut held (option_and_then (λ holder. zone_with_origin holder cut.cut) named)) (faults.Differs cut)
-      ++ if_shown (below && not (below && option_map_or (λ zone. has_address zone cut.ns) held false)) (faults.NoGlue cut)
-      ++ if_shown (below && glue_of_sides cut held (option_and_then (λ holder. zone_with_origin holder cut.cut) named)) (faults.GlueDiffers cut)
-      ++ if_shown (is_some named && not (is_top config cut.ns) && not (below && option_map_or (λ zone. has_address zone cut.ns) held false)
-      && is_among deps.greatest cut.ns && not (is_among deps.least cut.ns)) (faults.Cyclic cut)
+-- glue is there, or isn't wanted
+abbrev HasIfBelow : Bool → Bool → Type 0
+HasIfBelow below address = (below && not address) ≡ false
 
-  -- glue is there, or isn't wanted
-  abbrev HasIfBelow : Bool → Bool → Type 0
-  HasIfBelow below address = (below && not address) ≡ false
+none_wanted : (below address : Bool) → HasIfBelow below address → (below && not (below && address)) ≡ false
+none_wanted false address so = refl
+none_wanted true address so = so
 
-  -- so none is shown
-  none_by : (below address : Bool) → HasIfBelow below address
-      → if_shown false (faults.Differs cut) ++ if_shown (below && not (below && address)) (faults.NoGlue cut)
-      ++ if_shown (below && false) (faults.GlueDiffers cut) ++ if_shown false (faults.Cyclic cut) ≡ []
-  none_by false address so = refl
-  none_by true true so = refl
-  none_by true false so = cc
+module _ (config : Config) (deps : Deps) (query : Labels) (cut : Cut) (zone : Zone) (held : held_zone config cut.server cut.zone ≡ Some zone)
+    (unhosted : server_named config cut.ns ≡ None) where
+  glued_by : HasIfBelow (is_prefix cut.cut cut.ns) (has_address zone cut.ns) → wants_glue config cut ≡ false
+  glued_by so =
+      let below = is_prefix cut.cut cut.ns in
+      ap (λ (referring : Option Zone). below && not (below && option_map_or (λ zone. has_address zone cut.ns) referring false)) held
+      ∙ none_wanted below (has_address zone cut.ns) so
 
-  module _ (zone : Zone) (held : held_zone config cut.server cut.zone ≡ Some zone) (unhosted : server_named config cut.ns ≡ None) where
-    shows_none : HasIfBelow (is_prefix cut.cut cut.ns) (has_address zone cut.ns) → referral_faults config deps cut ≡ []
-    shows_none so =
-        ap (λ (named : Option Server). faults_by named (held_zone config cut.server cut.zone) (is_prefix cut.cut cut.ns)) unhosted
-        ∙ ap (λ (zone : Option Zone). faults_by None zone (is_prefix cut.cut cut.ns)) held
-        ∙ none_by (is_prefix cut.cut cut.ns) (has_address zone cut.ns) so
-
-    pub unhosted_ends : HasIfBelow (is_prefix cut.cut cut.ns) (has_address zone cut.ns) → IsReferral config deps query cut referral.Ends
-    unhosted_ends so = λ setting state of. inr (cut, subst (λ (c : Config). referral_faults c deps cut ≡ []) (sym of.config_is) (shows_none so), ends setting state of) where
+  pub unhosted_ends : HasIfBelow (is_prefix cut.cut cut.ns) (has_address zone cut.ns) → IsReferral config deps query cut referral.Ends
+  unhosted_ends so = λ setting state of.
+      inr (cut, subst (λ (c : Config). IsSound c deps cut) (sym of.config_is) (unhosted_sound config deps cut unhosted (glued_by so)), ends setting state of)
+    where
       ends : (setting : Setting) (state : State) → IsSettingOf config deps setting → referred setting state cut ≡ End (Some (Refer cut)) (leaves.Unhosted cut.ns)
       ends setting state of =
           ap (λ (b : Bool). cond (not b) (End (Some (Refer cut)) (leaves.Unhosted cut.ns))

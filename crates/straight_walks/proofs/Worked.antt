@@ -15,6 +15,7 @@ use Rattle.net_model.specs.declared.place.Cut.{Cut}
 use Rattle.net_model.specs.declared.walk.Leaf.{Leaf}
 use Rattle.net_model.specs.declared.walk.Leaf.TheVariants.{NxDomain}
 use Rattle.net_model.specs.declared.walk.State.{State}
+use Rattle.zone_lookup.specs.Sound.{IsSound}
 use Rattle.straight_walks.specs.Straight.{GoesStraight, StepsStraight}
 
 abbrev t : Labels
@@ -87,9 +88,15 @@ third =
     has_later first (behind nsa ∷ behind nsb ∷ []) (behind nsb)
     (has_later (behind nsa) (behind nsb ∷ []) (behind nsb) (has_first (behind nsb) []))
 
--- walks go to either name server
+-- walks go to either name server, by sound referrals
+first_sound : IsSound setting.config deps (cut nsa)
+first_sound = record { same_servers = refl; glued = refl; same_addresses = refl; independent = refl }
+
+second_sound : IsSound setting.config deps (cut nsb)
+second_sound = record { same_servers = refl; glued = refl; same_addresses = refl; independent = refl }
+
 first_goes : StepsStraight setting deps answer states first
-first_goes rtype = (inr (inr (cut nsa, behind nsa, refl, refl, second)), (inr (inr (cut nsb, behind nsb, refl, refl, third)), tt))
+first_goes rtype = (inr (inr (cut nsa, behind nsa, first_sound, refl, second)), (inr (inr (cut nsb, behind nsb, second_sound, refl, third)), tt))
 
 -- where the name doesn't exist
 second_answers : StepsStraight setting deps answer states (behind nsa)

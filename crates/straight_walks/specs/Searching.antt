@@ -19,7 +19,8 @@ use Rattle.net_model.specs.declared.walk.Leaf.{Leaf}
 use Rattle.net_model.specs.declared.walk.Leaf.TheVariants.{Answer, NoData, NxDomain}
 use Rattle.net_model.specs.declared.walk.State.{State}
 use Rattle.zone_tree.specs.Tree.{ZoneTree, IsNode, name_of}
-use Rattle.straight_walks.specs.Straight.{EndsUnanswered, FollowsLeast, GoesStraight, GoesTo, IsSound, StepsStraight}
+use Rattle.zone_lookup.specs.Sound.{IsSound}
+use Rattle.straight_walks.specs.Straight.{EndsUnanswered, FollowsLeast, GoesStraight, GoesTo, StepsStraight}
 use Rattle.straight_walks.specs.declared.queue.Queued.{Queued}
 use Rattle.straight_walks.specs.declared.searching.Search.{Search}
 use Rattle.straight_walks.specs.declared.referring.NextReferral.{NextReferral}

@@ -1,7 +1,6 @@
 -- Queries whose walks go straight: by delegations alone, to ends that show no fault, where all servers answer alike.
 use Rattle.std.specs.Prelude.{◌≡◌, ◌≤◌, ℕ, true, List, [], ◌⊎◌, length, Some, None, Contains}
 use Rattle.std.specs.List.{AllByRecursion, list_any}
-use Rattle.delegation_checks.specs.Referrals.{referral_faults}
 use Rattle.dns_data.specs.Name.{Labels, name_eq}
 use Rattle.dns_data.specs.declared.rr_type.RrType.{RrType}
 use Rattle.net_model.specs.declared.deps.Deps.{Deps}
@@ -14,10 +13,7 @@ use Rattle.net_model.specs.declared.walk.Hop.TheVariants.{Refer}
 use Rattle.net_model.specs.declared.walk.Leaf.{Leaf}
 use Rattle.net_model.specs.declared.walk.Leaf.TheVariants.{Outside, Unhosted}
 use Rattle.net_model.specs.declared.walk.State.{State}
-
--- a referral to the name server shows no fault, whatever comes after it
-abbrev pub IsSound : Config → Deps → Cut → Type 0
-IsSound config deps cut = referral_faults config deps cut ≡ []
+use Rattle.zone_lookup.specs.Sound.{IsSound}
 
 -- the branch ends where no zone answers: its server holds none for the name, or the name server isn't configured
 abbrev pub EndsUnanswered : Config → Deps → Branch → Type 0

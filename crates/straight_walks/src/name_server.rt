@@ -8,11 +8,10 @@ ghost use Rattle.net_model.specs.declared.config.Config.{Config};
 ghost use Rattle.zone_tree.specs.Tree.{IsNode, name_of};
 ghost use Rattle.straight_walks.specs.Searching.{IsReferral};
 
-use delegation_checks::LearntSets;
 use dns_data::{Name, NoMemory};
 use net_model::Cut;
 use std::alloc::Global;
-use zone_lookup::{Host, Hosts, has_glue_below};
+use zone_lookup::{Host, Hosts, LearntSets, has_glue_below};
 use zone_tree::{NodeId, Tree};
 
 /// A referral to a name server that shows no fault: walks end there, since it isn't configured, or go on to it. Of other

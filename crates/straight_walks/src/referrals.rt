@@ -9,11 +9,10 @@ ghost use Rattle.straight_walks.specs.Searching.{AreReferrals, Extends, IsReferr
 
 use crate::name_server::{Referral, referral_to_host, referral_to_unhosted};
 use crate::queue::{Queued, enqueue};
-use delegation_checks::LearntSets;
 use dns_data::{Name, NoMemory};
 use net_model::Cut;
 use std::alloc::Global;
-use zone_lookup::Hosts;
+use zone_lookup::{Hosts, LearntSets};
 use zone_tree::{NodeId, Tree};
 
 /// Whether the referrals of a zone cut are seen to show no fault. The states at its name servers that are configured are queued

@@ -8,10 +8,9 @@ use crate::referrals::queue_referrals;
 use crate::searching::Search;
 use crate::server::{Reply, reply_of};
 use crate::straight::MOST;
-use delegation_checks::LearntSets;
 use dns_data::{Name, NoMemory};
 use std::alloc::Global;
-use zone_lookup::{Hosts, Named};
+use zone_lookup::{Hosts, LearntSets, Named};
 
 /// An origin of a zone, with the search for each name whose nearest origin it is.
 #[derive(Drop)]

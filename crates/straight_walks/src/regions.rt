@@ -9,13 +9,12 @@ ghost use Rattle.straight_walks.specs.Regions.{IsRegion, region_origins};
 use crate::origins::origins_of;
 use crate::region::{Region, search_below};
 use crate::searching::Search;
-use delegation_checks::LearntSets;
 use dns_data::{Name, NoMemory};
 use graph_form::Deps;
 use net_model::Config;
 use std::alloc::Global;
 use std::marker::Model;
-use zone_lookup::{Hosts, nearest_item};
+use zone_lookup::{Hosts, LearntSets, nearest_item};
 
 /// The origins of a configuration's zones, each with the states to which walks for the names below it come, as far as these are
 /// the same for all names that have no other origin between. Contracts see the configuration and the two sets of learnt addresses,

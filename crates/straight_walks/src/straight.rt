@@ -15,10 +15,9 @@ use crate::referrals::queue_referrals;
 use crate::referring::{NextReferral, next_referral};
 use crate::regions::Regions;
 use crate::searching::Search;
-use delegation_checks::LearntSets;
 use dns_data::{Name, NoMemory};
 use std::alloc::Global;
-use zone_lookup::Hosts;
+use zone_lookup::{Hosts, LearntSets};
 use zone_tree::Tree;
 
 /// No more states than these are looked at.

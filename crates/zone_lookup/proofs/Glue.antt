@@ -30,7 +30,7 @@ held_origin config server origin zone e = by (server_named config server) e wher
   by (Some holder) e = (name_eq_decides zone.origin origin).0 (found_there (λ (z : Zone). name_eq z.origin origin) holder.zones zone e).1
 
 -- a name that doesn't exist owns nothing
-missing_owns : (zone : Zone) (name : Labels) (rtype : RrType) → is_prefix zone.origin name ≡ true → exists_in zone name ≡ false
+pub missing_owns : (zone : Zone) (name : Labels) (rtype : RrType) → is_prefix zone.origin name ≡ true → exists_in zone name ≡ false
     → owns zone name rtype ≡ false
 missing_owns zone name rtype inside missing = by (owns zone name rtype) refl where
   by : (b : Bool) → owns zone name rtype ≡ b → b ≡ false

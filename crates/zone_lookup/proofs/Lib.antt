@@ -1,5 +1,8 @@
+pub mod CutsInside
 mod FirstsByName
 pub mod Glue
 pub mod NearestZones
 mod OriginsBefore
 mod PlacesNear
+pub mod SoundReferrals
+pub mod ZonesTell

@@ -5,6 +5,9 @@ pub use Rattle.net_model.specs.Step
 pub use Rattle.zone_tree.specs.Tree
 pub mod Firsts
 pub mod Hosts
+pub mod LearntSets
 pub mod Named
+pub mod Sides
+pub mod Sound
 pub mod Steps
 pub mod Walker

@@ -1,13 +1,15 @@
 //! Which name servers may be followed.
 
-ghost use Rattle.std.specs.Prelude.{◌≡◌, true};
+ghost use Rattle.std.specs.Prelude.{◌≡◌, ◌||◌, true};
 ghost use Rattle.std.specs.List.{list_any};
 ghost use Rattle.dns_data.specs.Name.{name_eq, is_prefix};
+ghost use Rattle.net_model.specs.Nearest.{is_top};
 ghost use Rattle.net_model.specs.Step.{has_glue, may_follow};
 ghost use Rattle.net_model.specs.Zone.{has_address};
 ghost use Rattle.zone_tree.specs.Tree.{IsNode, name_of};
 
 use crate::hosts::Hosts;
+use crate::learnt_sets::LearntSets;
 use dns_data::{Name, RrType};
 use net_model::{Cut, may_follow};
 use zone_tree::{NodeId, Tree};
@@ -22,9 +24,16 @@ impl<'a> Hosts<'a> {
         if !cut.zone.is_prefix_of(&cut.cut) {
             return may_follow(self.config(), cut, followed);
         }
-        is_among(self.config().tops.items(), &cut.ns)
-            || self.has_glue(cut)
-            || is_among(followed, &cut.ns)
+        self.is_known(cut) || is_among(followed, &cut.ns)
+    }
+
+    /// Whether the address of the cut's name server is known whatever is learnt: it is a top server, or it has glue in that
+    /// referral.
+    pub(crate) fn is_known(&self, cut: &Cut) -> bool
+        requires { is_prefix cut.now.zone cut.now.cut ≡ true }
+        ensures { result ≡ (is_top self.now cut.now.ns || has_glue self.now cut.now) }
+    {
+        is_among(self.config().tops.items(), &cut.ns) || self.has_glue(cut)
     }
 
     /// Whether the name server has glue in the referral: it is at or below the zone cut, and the referring zone holds an
@@ -40,6 +49,17 @@ impl<'a> Hosts<'a> {
             Some(tree) => has_address(tree, &cut.ns),
             None => false,
         }
+    }
+}
+
+impl LearntSets {
+    /// Whether the address of the cut's name server is known: it is a top server, it has glue in that referral, or it is in
+    /// the least set.
+    pub fn may_follow(&self, hosts: &Hosts<'_>, cut: &Cut) -> bool
+        requires { is_prefix cut.now.zone cut.now.cut ≡ true }
+        ensures { result ≡ may_follow hosts.now cut.now self.now.least }
+    {
+        hosts.is_known(cut) || self.has_least(&cut.ns)
     }
 }
 

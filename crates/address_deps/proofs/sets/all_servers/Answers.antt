@@ -2,7 +2,7 @@ use Rattle.std.proofs.Common.{◌++◌, ◌∷◌, [], List, map, take, sym, ap,
 use Rattle.std.proofs.lemmas.List.{take_more, map-append}
 use Rattle.dns_data.specs.Name.{Labels}
 use Rattle.net_model.specs.declared.config.Server.{Server}
-use Rattle.address_deps.specs.Sets.{is_in}
+use Rattle.zone_lookup.specs.LearntSets.{is_among}
 use Rattle.address_deps.proofs.Growing.{put_last}
 use Rattle.address_deps.proofs.sets.all_servers.Goals as goal
 
@@ -13,7 +13,7 @@ loop-server-preserved c = λ name.
     let server = c.server-item.result in
     let names = map (λ (s : Server). s.name) (take index servers) in
     c.in_ok-put.ensures name
-    ∙ put_last names server.name name (is_in c.loop-server.all name) (c.loop-server.invariant name)
-    ∙ sym (ap (λ (xs : List Labels). is_in xs name)
+    ∙ put_last names server.name name (is_among c.loop-server.all name) (c.loop-server.invariant name)
+    ∙ sym (ap (λ (xs : List Labels). is_among xs name)
     (ap (map (λ (s : Server). s.name)) (take_more servers index server c.loop-server-test.true ∙ ap (λ (s : Server). take index servers ++ s ∷ []) (sym c.server-item.is))
     ∙ map-append (λ (s : Server). s.name) (take index servers) (server ∷ [])))

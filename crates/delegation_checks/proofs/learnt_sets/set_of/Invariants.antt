@@ -1,7 +1,0 @@
-use Rattle.std.proofs.Common.{take}
-use Rattle.delegation_checks.specs.LearntSets.{IsSetOf}
-use Rattle.delegation_checks.proofs.learnt_sets.set_of.Given as goal
-
--- of the names so far
-abbrev pub invariant-loop-name : goal.invariant-loop-name
-invariant-loop-name l = IsSetOf (take l.name-index l.names) l.set
