@@ -14,7 +14,7 @@ use Rattle.dns_data.proofs.Names.{name_eq_decides}
 use Rattle.net_model.specs.declared.config.Config.{Config}
 use Rattle.graph_form.specs.Graph.{PlainGraph}
 use Rattle.graph_form.proofs.Paths.{same_item}
-use Rattle.address_deps.specs.Dependents.{AreAllPlaces, AreDependents, IsListed, graph_awaits, places_of}
+use Rattle.address_deps.specs.Dependents.{AreAllPlaces, AreDependents, IsListedFor, graph_awaits, places_of}
 
 -- the names to which references lead
 abbrev pub names_of : List (Bor Labels) → List Labels
@@ -49,7 +49,7 @@ module _ (place : ℕ) where
       → ((other : Labels) → name_eq name other ≡ false → places_of mid other ≡ places_of old other)
       → ((other : Labels) → places_of new other ≡ cond (name_eq name other) after (places_of mid other))
       → Contains after place → ((other : ℕ) → Contains before other → Contains after other)
-      → ((other : ℕ) → Contains after other → Contains before other ⊎ (other ≡ place)) → IsListed place (name ∷ []) old new
+      → ((other : ℕ) → Contains after other → Contains before other ⊎ (other ≡ place)) → IsListedFor place (name ∷ []) old new
   listed_one name before after old mid new was others is there stays only =
       record {
         listed = λ other has. elim (first_or_later name [] other has) [
@@ -82,12 +82,12 @@ module _ (place : ℕ) where
           ]
       only_by other k has false e = inl (subst (λ (xs : List ℕ). Contains xs k) (elsewhere other e) has)
 
-  pub listed_none : (places : Places) → IsListed place [] places places
+  pub listed_none : (places : Places) → IsListedFor place [] places places
   listed_none places = record { listed = λ name has. absurd (none_in_nil name has); stays = λ name k has. has; only = λ name k has. inl has }
 
   -- listed for some names, and then for one more
-  pub listed_more : (names : List Labels) (name : Labels) (old mid new : Places) → IsListed place names old mid → IsListed place (name ∷ []) mid new
-      → IsListed place (names ++ name ∷ []) old new
+  pub listed_more : (names : List Labels) (name : Labels) (old mid new : Places) → IsListedFor place names old mid → IsListedFor place (name ∷ []) mid new
+      → IsListedFor place (names ++ name ∷ []) old new
   listed_more names name old mid new some one =
       record {
         listed = λ other has. elim (Contains-append_cases names (name ∷ []) other has) [
@@ -107,7 +107,7 @@ module _ (config : Config) (graphs : List PlainGraph) where
       }
 
   pub more_dependents : (bound : ℕ) (graph : PlainGraph) (old new : Places) → slice_get graphs bound ≡ Some graph → AreDependents config graphs bound old
-      → IsListed bound (graph_awaits config graph) old new → AreDependents config graphs (bound + 1) new
+      → IsListedFor bound (graph_awaits config graph) old new → AreDependents config graphs (bound + 1) new
   more_dependents bound graph old new here before put =
       record {
         listed = λ place other within there name awaited. elim (cases_lt place bound) [

@@ -8,7 +8,7 @@ use Rattle.dns_data.specs.Name.{Labels}
 use Rattle.dns_data.proofs.Membership.{first_or_later, none_in_nil}
 use Rattle.dns_data.proofs.Searches.{any_has, from_any}
 use Rattle.graph_form.specs.Graph.{PlainGraph}
-use Rattle.address_deps.specs.Dependents.{AreWithin, IsRound}
+use Rattle.address_deps.specs.Dependents.{AreWithin, IsSearchRound}
 use Rattle.address_deps.specs.Giving.{unset}
 
 -- whether a number is in a list is decided
@@ -40,7 +40,7 @@ module _ (Good : List Labels → Type 0) (At : List Labels → ℕ → Type 0) (
     pub fewer : (length next == 0) ≡ false → count names < count first
     pub no_more : count names ≤ count first
 
-  pub round_begins : IsRound Good At graphs first waiting → IsRoundAt 0 first []
+  pub round_begins : IsSearchRound Good At graphs first waiting → IsRoundAt 0 first []
   round_begins round =
       record {
         good = round.good;
@@ -50,7 +50,7 @@ module _ (Good : List Labels → Type 0) (At : List Labels → ℕ → Type 0) (
         no_more = omega arith;
       }
 
-  pub round_ends : (at : ℕ) (names : List Labels) (next : List ℕ) → length waiting ≤ at → IsRoundAt at names next → IsRound Good At graphs names next
+  pub round_ends : (at : ℕ) (names : List Labels) (next : List ℕ) → length waiting ≤ at → IsRoundAt at names next → IsSearchRound Good At graphs names next
   round_ends at names next past on =
       record {
         good = on.good;

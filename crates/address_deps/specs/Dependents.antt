@@ -32,7 +32,7 @@ abbrev pub places_of : map.BTreeMap Labels (List ℕ) → Labels → List ℕ
 places_of places name = unwrap_or (map.get name_cmp places name) []
 
 -- a place is listed for more names
-pub record IsListed (place : ℕ) (names : List Labels) (old new : map.BTreeMap Labels (List ℕ)) : Type 0 where
+pub record IsListedFor (place : ℕ) (names : List Labels) (old new : map.BTreeMap Labels (List ℕ)) : Type 0 where
   pub listed : (name : Labels) → Contains names name → Contains (places_of new name) place
   pub stays : (name : Labels) (other : ℕ) → Contains (places_of old name) other → Contains (places_of new name) other
   pub only : (name : Labels) (other : ℕ) → Contains (places_of new name) other → Contains (places_of old name) other ⊎ (other ≡ place)
@@ -52,7 +52,7 @@ abbrev pub AreAllPlaces : ℕ → List ℕ → Type 0
 AreAllPlaces bound places = (place : ℕ) → Contains places place ↔ (place < bound)
 
 -- Between two rounds of a search: something holds of its set of names, and something else of each place that doesn't wait.
-pub record IsRound (Good : List Labels → Type 0) (At : List Labels → ℕ → Type 0) (graphs : List PlainGraph) (names : List Labels) (waiting : List ℕ) : Type 0 where
+pub record IsSearchRound (Good : List Labels → Type 0) (At : List Labels → ℕ → Type 0) (graphs : List PlainGraph) (names : List Labels) (waiting : List ℕ) : Type 0 where
   pub good : Good names
   pub others : (place : ℕ) → place < length graphs → Contains waiting place ⊎ At names place
   pub within : AreWithin graphs waiting

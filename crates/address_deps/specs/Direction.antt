@@ -7,7 +7,7 @@ use Rattle.graph_form.specs.Graph.{PlainGraph}
 use Rattle.zone_lookup.specs.LearntSets.{is_among}
 use Rattle.address_deps.specs.declared.direction.Direction.{Direction}
 use Rattle.address_deps.specs.declared.direction.Direction.TheVariants.{Adding, Dropping}
-use Rattle.address_deps.specs.Dependents.{IsRound}
+use Rattle.address_deps.specs.Dependents.{IsSearchRound}
 use Rattle.address_deps.specs.Sets.{NoneMoreLearntAt, IsGrowing, IsLearntAt, IsShrinking, absent, present}
 
 -- servers are added
@@ -37,4 +37,4 @@ IsMoved Dropping server old new = (name : Labels) → is_among new name ≡ (not
 
 -- between two rounds each server that doesn't wait is settled
 abbrev pub IsRoundOf : Direction → Config → List PlainGraph → List Labels → List ℕ → Type 0
-IsRoundOf direction config graphs names waiting = IsRound (IsFair direction config graphs) (IsSettledAt direction config graphs) graphs names waiting
+IsRoundOf direction config graphs names waiting = IsSearchRound (IsFair direction config graphs) (IsSettledAt direction config graphs) graphs names waiting

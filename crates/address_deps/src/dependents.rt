@@ -4,7 +4,7 @@ ghost use Rattle.std.specs.Prelude.{◌≡◌, ◌⊎◌, ◌++◌, ◌∷◌, [
 ghost use Rattle.dns_data.specs.Name.{Labels, name_eq};
 ghost use Rattle.address_deps.specs.Dependents.{
   AreDependents,
-  IsListed,
+  IsListedFor,
   branch_awaits,
   graph_awaits,
   hop_awaits,
@@ -52,7 +52,7 @@ impl Dependents {
 
     /// Lists a place for each of the names.
     fn put_all(&mut self, alloc: Global, names: &[&Name], place: usize) -> Result<(), NoMemory>
-        ensures { OnOk result (IsListed place (map (λ name. name.now) names.now) self.old.places self.new.places) }
+        ensures { OnOk result (IsListedFor place (map (λ name. name.now) names.now) self.old.places self.new.places) }
     {
         for name in names {
             self.put(alloc, name, place)?;
@@ -62,7 +62,7 @@ impl Dependents {
 
     /// Lists a place for the name.
     fn put(&mut self, alloc: Global, name: &Name, place: usize) -> Result<(), NoMemory>
-        ensures { OnOk result (IsListed place (name.now ∷ []) self.old.places self.new.places) }
+        ensures { OnOk result (IsListedFor place (name.now ∷ []) self.old.places self.new.places) }
     {
         let mut listed = self.take(alloc, name);
         put_once(&mut listed, place)?;

@@ -10,7 +10,7 @@ use Rattle.config_load.specs.Conf.{conf, metadata}
 use Rattle.config_load.specs.Faults.{name_numbered}
 use Rattle.config_load.specs.Joined.{joined}
 use Rattle.config_load.specs.Reading.{Misses, Unknown}
-use Rattle.config_load.specs.Refusal.{file_of, line_of, code_of, fields_line}
+use Rattle.config_load.specs.Refusal.{file_of, line_told, code_of, fields_line}
 use Rattle.config_load.specs.Servers.{given}
 use Rattle.config_load.specs.declared.fault.LoadFault.TheVariants.{Meta, Text, ZoneTwice}
 
@@ -69,7 +69,7 @@ file_line = refl
 file_code : code_of (Text (codes "sub.zone") 12 causes.NotIn) ≡ codes "not-in"
 file_code = refl
 
-meta_row : line_of (Meta (meta_faults.Shape 7)) ≡ 7
+meta_row : line_told (Meta (meta_faults.Shape 7)) ≡ 7
 meta_row = refl
 
 -- The metadata file comes first.

@@ -26,14 +26,14 @@ file_of meta (ZoneTwice row) = meta
 file_of meta NoMemory = meta
 
 -- the line in a zone file, or the number of the metadata's row, both counted from 1, or 0
-abbrev pub line_of : LoadFault → ℕ
-line_of (Read file) = 0
-line_of (TooLong file) = 0
-line_of (Meta fault) = row_of fault
-line_of (Text file line cause) = line
-line_of (Rule file line cause) = line
-line_of (ZoneTwice row) = row
-line_of NoMemory = 0
+abbrev pub line_told : LoadFault → ℕ
+line_told (Read file) = 0
+line_told (TooLong file) = 0
+line_told (Meta fault) = row_of fault
+line_told (Text file line cause) = line
+line_told (Rule file line cause) = line
+line_told (ZoneTwice row) = row
+line_told NoMemory = 0
 
 -- the code
 abbrev pub code_of : LoadFault → List ℕ
@@ -51,4 +51,4 @@ fields_line file line code = file ++ (codes ":" ++ (line ++ (codes ": " ++ (code
 
 -- the line on err of a refusal
 abbrev pub refusal_line : List ℕ → LoadFault → List ℕ
-refusal_line meta fault = fields_line (file_of meta fault) (decimal (line_of fault)) (code_of fault)
+refusal_line meta fault = fields_line (file_of meta fault) (decimal (line_told fault)) (code_of fault)

@@ -1,7 +1,7 @@
 //! What a refusal prints.
 
 ghost use Rattle.std.specs.Prelude.{◌≡◌};
-ghost use Rattle.config_load.specs.Refusal.{file_of, line_of, code_of, row_of};
+ghost use Rattle.config_load.specs.Refusal.{file_of, line_told, code_of, row_of};
 
 use crate::fault::LoadFault;
 use meta_read::MetaFault;
@@ -23,7 +23,7 @@ impl LoadFault {
     /// The line in a zone file, or the number of the metadata's row, both counted from 1, or 0 where the fault is in
     /// none.
     pub fn line(&self) -> u32
-        ensures { result ≡ line_of self.now }
+        ensures { result ≡ line_told self.now }
     {
         match self {
             LoadFault::Meta(fault) => row_of(fault),

@@ -19,7 +19,7 @@ use Rattle.net_model.specs.declared.place.Cut.{Cut}
 use Rattle.net_model.specs.declared.walk.Leaf.{Leaf}
 use Rattle.graph_form.specs.Branches.{with_type}
 use Rattle.delegation_checks.specs.Met.{AreOfReferrals, IsAgain, IsOfReferral, is_met}
-use Rattle.delegation_checks.specs.Referrals.{cut_faults, end_faults, faults_at}
+use Rattle.delegation_checks.specs.Referrals.{cut_faults, referral_end_faults, faults_at}
 use Rattle.delegation_checks.specs.declared.referrals.Met.{Met}
 
 -- an item of a longer list covers as well
@@ -90,13 +90,13 @@ module _ (config : Config) (deps : Deps) where
     -- with the faults of the next, whose zones were asked, or were already
     pub next_so_far : (seen mid last : List Seen) → AreSoFar met place seen
         → (mid ≡ seen ++ with_type now.rtype (cut_faults config deps now.cut.now)) ⊎ (IsAgain met place × (mid ≡ seen))
-        → last ≡ mid ++ with_type now.rtype (end_faults deps now.cut.now (option_copied now.end)) → AreSoFar met (place + 1) last
+        → last ≡ mid ++ with_type now.rtype (referral_end_faults deps now.cut.now (option_copied now.end)) → AreSoFar met (place + 1) last
     next_so_far seen mid last so_far asked put = record { from = from_last; covers = covers_last } where
       cut : List Fault
       cut = cut_faults config deps now.cut.now
 
       end : List Fault
-      end = end_faults deps now.cut.now (option_copied now.end)
+      end = referral_end_faults deps now.cut.now (option_copied now.end)
 
       in_mid : (one : Seen) → Contains mid one → Contains last one
       in_mid one has = subst (λ (xs : List Seen). Contains xs one) (sym put) (Contains-append_left mid (with_type now.rtype end) one has)
@@ -144,7 +144,7 @@ module _ (config : Config) (deps : Deps) where
             let type_is : number_of again.now.rtype ≡ number_of now.rtype = ap (λ (m : Met). number_of m.rtype) it in
             let has_before : Contains (cut_faults config deps again.earlier.cut.now) fault = subst (λ (c : Cut). Contains (cut_faults config deps c) fault) (sym cut_is) has in
             let before = so_far.covers again.earlier fault again.has
-            (Contains-append_left (cut_faults config deps again.earlier.cut.now) (end_faults deps again.earlier.cut.now (option_copied again.earlier.end)) fault has_before) in
+            (Contains-append_left (cut_faults config deps again.earlier.cut.now) (referral_end_faults deps again.earlier.cut.now (option_copied again.earlier.end)) fault has_before) in
             record {
               by = before.by;
               has = in_seen before.by before.has;

@@ -39,9 +39,9 @@ leaf_faults deps cut (leaves.NoAddress ns) = if_shown (name_eq cut.ns ns && not 
 leaf_faults deps cut leaf = []
 
 -- if the branch ends there
-abbrev pub end_faults : Deps → Cut → Option Leaf → List Fault
-end_faults deps cut None = []
-end_faults deps cut (Some leaf) = leaf_faults deps cut leaf
+abbrev pub referral_end_faults : Deps → Cut → Option Leaf → List Fault
+referral_end_faults deps cut None = []
+referral_end_faults deps cut (Some leaf) = leaf_faults deps cut leaf
 
 -- a referral on a branch: the name server of the cut, and the end behind it, if the branch is one
 abbrev pub hop_referrals : Hop → Option Leaf → List (Cut × Option Leaf)
@@ -55,7 +55,7 @@ branch_referrals (End (Some hop) leaf) = hop_referrals hop (Some leaf)
 
 -- the faults of a referral
 abbrev pub faults_at : Config → Deps → Cut × Option Leaf → List Fault
-faults_at config deps at = cut_faults config deps at.0 ++ end_faults deps at.0 at.1
+faults_at config deps at = cut_faults config deps at.0 ++ referral_end_faults deps at.0 at.1
 
 -- with a type
 abbrev pub typed : {X : Type 0} → RrType → List X → List (X × RrType)

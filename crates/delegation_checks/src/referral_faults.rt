@@ -4,7 +4,7 @@ ghost use Rattle.std.specs.Prelude.{◌≡◌, ◌++◌, ◌<◌, IfOk, OnOk, le
 ghost use Rattle.std.specs.Option.{option_copied};
 ghost use Rattle.dns_data.specs.Name.{is_prefix};
 ghost use Rattle.delegation_checks.specs.Met.{AreOfReferrals, IsAgain, is_met, met_cmp};
-ghost use Rattle.delegation_checks.specs.Referrals.{cut_faults, end_faults, if_shown, leaf_faults, referral_faults};
+ghost use Rattle.delegation_checks.specs.Referrals.{cut_faults, referral_end_faults, if_shown, leaf_faults, referral_faults};
 ghost use Rattle.graph_form.specs.Branches.{with_type};
 ghost use Rattle.net_model.specs.declared.fault.Fault.TheVariants as faults;
 ghost use Rattle.zone_lookup.specs.Sides.{addresses_differ, zones_differ};
@@ -194,7 +194,7 @@ fn put_end(
     met: &Met<'_>,
     seen: &mut List<Seen>,
 ) -> Result<(), NoMemory>
-    ensures { OnOk result (seen.new ≡ seen.old ++ with_type met.now.rtype (end_faults sets.now met.now.cut.now (option_copied met.now.end))) }
+    ensures { OnOk result (seen.new ≡ seen.old ++ with_type met.now.rtype (referral_end_faults sets.now met.now.cut.now (option_copied met.now.end))) }
 {
     match met.end {
         Some(leaf) => put_leaf(alloc, sets, met.cut, leaf, met.rtype, seen),

@@ -18,7 +18,7 @@ use Rattle.rdata_forms.specs.Times.{time_of}
 use Rattle.rdata_forms.specs.declared.fault.RdataFault.{RdataFault}
 use Rattle.master_read.specs.Context.{no_context, under, behind_record}
 use Rattle.master_read.specs.Directives.{directive_of, ttl_directive}
-use Rattle.master_read.specs.Entries.{Front, Made, front_of, front_in, one_more, with_ttl, with_class, begins_with_digit, owner_of, data_behind, data_by, as_data, type_said, made_of, record_of}
+use Rattle.master_read.specs.Entries.{Front, Made, front_of, front_in, one_more, with_ttl, with_class_word, begins_with_digit, owner_of, data_behind, data_by, as_data, type_said, made_of, record_of}
 use Rattle.master_read.specs.Words.{class_word, type_word}
 use Rattle.master_read.specs.ZoneText.{Unread, Progress, Effect, Leaves, Include, no_records, said_by, with_made, at, effect_of, with_effect, with_entry, with_entries, with_rest, ended, included, most_levels, as_zone_text, zone_text}
 use Rattle.master_read.specs.declared.context.Context.{Context}
@@ -82,8 +82,8 @@ front_stays : (text : List ℕ) (rtype : RrType) (fields : List Token) → IsTyp
 unfolding one_more
 front_stays text rtype fields is =
     let front : Front = front_of (bare text ∷ fields) in
-    ap (λ (b : Bool). if b then with_ttl front fields (time_of text) else with_class front fields (class_word text)) is.no_ttl
-    ∙ ap (λ (said : Option ClassWord). with_class front fields said) is.no_class
+    ap (λ (b : Bool). if b then with_ttl front fields (time_of text) else with_class_word front fields (class_word text)) is.no_ttl
+    ∙ ap (λ (said : Option ClassWord). with_class_word front fields said) is.no_class
 
 front_reads : (text : List ℕ) (rtype : RrType) (fields : List Token) → IsTypeText text rtype
     → front_in (bare text ∷ fields) ≡ Ok (front_of (bare text ∷ fields))

@@ -11,7 +11,7 @@ use Rattle.dns_data.specs.declared.rr_type.RrType.{RrType}
 use Rattle.dns_data.proofs.Membership.{has_first, has_later, first_or_later}
 use Rattle.net_model.specs.Step.{Setting}
 use Rattle.net_model.specs.declared.walk.State.{State}
-use Rattle.graph_form.specs.FirstPath.{AreBarren, ArePassed, IsBarren, IsBefore, IsFirstFrom, IsToFollowAt, is_to_follow, mark_of, node_behind, node_takes, takes_from}
+use Rattle.graph_form.specs.FirstPath.{AreBarren, ArePassed, IsBarren, IsBefore, IsFirstFrom, IsToFollowAt, is_to_follow, met_mark, node_behind, node_takes, takes_from}
 use Rattle.graph_form.specs.Graph.{HasBranch, PlainGraph}
 use Rattle.graph_form.specs.GraphOf.{IsGraphOf}
 use Rattle.graph_form.specs.declared.first_path.Onward.{Onward}
@@ -36,32 +36,32 @@ numbers_more path turn =
 -- ---- marks
 
 -- a mark is that of one node, behind a branch that shows or not
-one_node : (at to : ℕ) (taken other : Bool) → mark_of at taken ≡ mark_of to other → at ≡ to
+one_node : (at to : ℕ) (taken other : Bool) → met_mark at taken ≡ met_mark to other → at ≡ to
 one_node at to true true e = omega (arith, e)
 one_node at to true false e = absurd (omega (arith, e))
 one_node at to false true e = absurd (omega (arith, e))
 one_node at to false false e = omega (arith, e)
 
-one_side : (at to : ℕ) (taken other : Bool) → mark_of at taken ≡ mark_of to other → taken ≡ other
+one_side : (at to : ℕ) (taken other : Bool) → met_mark at taken ≡ met_mark to other → taken ≡ other
 one_side at to true true e = refl
 one_side at to true false e = absurd (omega (arith, e))
 one_side at to false true e = absurd (omega (arith, e))
 one_side at to false false e = refl
 
 -- the marks of a node that isn't there aren't, either
-mark_past : (at size : ℕ) (taken : Bool) (marks : List Bool) → length marks ≡ 2 * size → slice_get marks (mark_of at taken) ≡ None → size ≤ at
-mark_past at size taken marks room none = by (cases_lt (mark_of at taken) (length marks)) where
+mark_past : (at size : ℕ) (taken : Bool) (marks : List Bool) → length marks ≡ 2 * size → slice_get marks (met_mark at taken) ≡ None → size ≤ at
+mark_past at size taken marks room none = by (cases_lt (met_mark at taken) (length marks)) where
   within : (xs : List Bool) (k : ℕ) → k < length xs → slice_get xs k ≡ None → ⊥
   within [] k less e = omega arith
   within (x ∷ xs) zero less e = cc
   within (x ∷ xs) (suc k) less e = within xs k (omega arith) e
 
-  past : (taken : Bool) → length marks ≤ mark_of at taken → size ≤ at
+  past : (taken : Bool) → length marks ≤ met_mark at taken → size ≤ at
   past true more = omega (arith, more, room)
   past false more = omega (arith, more, room)
 
-  by : ((mark_of at taken) < length marks) ⊎ (length marks ≤ mark_of at taken) → size ≤ at
-  by (inl less) = absurd (within marks (mark_of at taken) less none)
+  by : ((met_mark at taken) < length marks) ⊎ (length marks ≤ met_mark at taken) → size ≤ at
+  by (inl less) = absurd (within marks (met_mark at taken) less none)
   by (inr more) = past taken more
 
 -- a mark that is set is the new one, or was set
@@ -110,7 +110,7 @@ module _ (shows : State → Branch → Bool) (graph : PlainGraph) (rtype : RrTyp
   pub record IsSearch (begin : ℕ) (path : List Turn) (met : List Bool) : Type 0 where
     pub turns : AreTurns shows graph rtype begin path
     pub room : length met ≡ 2 * length graph.nodes
-    pub marked : (at : ℕ) (taken : Bool) → slice_get met (mark_of at taken) ≡ Some true
+    pub marked : (at : ℕ) (taken : Bool) → slice_get met (met_mark at taken) ≡ Some true
         → Stands path taken at ⊎ IsBarren shows graph rtype taken at
     pub begun : Stands path false begin ⊎ IsBarren shows graph rtype false begin
 
@@ -128,7 +128,7 @@ module _ (shows : State → Branch → Bool) (graph : PlainGraph) (rtype : RrTyp
         → LeadsNowhere shows graph rtype (turn.taken || shows node.state branch) branch
     passed_nowhere turn below met search number node (End hop leaf) has closed = closed
     passed_nowhere turn below met search number node (Go hop to) has closed =
-        by (slice_get met (mark_of to (turn.taken || shows node.state (Go hop to)))) refl closed
+        by (slice_get met (met_mark to (turn.taken || shows node.state (Go hop to)))) refl closed
       where
         stood : Stands (turn ∷ below) (turn.taken || shows node.state (Go hop to)) to → (to ≡ turn.node) ⊎ ((other : Turn) × Contains below other × (other.node ≡ to))
         stood stands =
@@ -137,7 +137,7 @@ module _ (shows : State → Branch → Bool) (graph : PlainGraph) (rtype : RrTyp
               | inr later ↦ inr (stands.turn, later, stands.node_is)
             ]
 
-        by : (mark : Option Bool) → slice_get met (mark_of to (turn.taken || shows node.state (Go hop to))) ≡ mark
+        by : (mark : Option Bool) → slice_get met (met_mark to (turn.taken || shows node.state (Go hop to))) ≡ mark
             → option_map_or not mark false ≡ false → IsBarren shows graph rtype (turn.taken || shows node.state (Go hop to)) to
         by None e passed =
             no_node_barren (turn.taken || shows node.state (Go hop to)) to
@@ -193,18 +193,18 @@ module _ (shows : State → Branch → Bool) (graph : PlainGraph) (rtype : RrTyp
 
     -- where the branch to follow goes to a node, that one wasn't met
     pub wasnt_met : (turn : Turn) (met : List Bool) (onward : Onward) (to : ℕ) → IsToFollowAt shows graph rtype met turn onward → onward.to ≡ Some to
-        → slice_get met (mark_of to onward.taken) ≡ Some false
+        → slice_get met (met_mark to onward.taken) ≡ Some false
     wasnt_met turn met onward to at to_is = by at.branch (sym at.leads ∙ to_is) at.is_to_follow where
       of_mark : (mark : Option Bool) → option_map_or not mark false ≡ true → mark ≡ Some false
       of_mark None e = cc
       of_mark (Some true) e = cc
       of_mark (Some false) e = refl
 
-      by : (branch : Branch) → node_behind branch ≡ Some to → is_to_follow met onward.taken branch ≡ true → slice_get met (mark_of to onward.taken) ≡ Some false
+      by : (branch : Branch) → node_behind branch ≡ Some to → is_to_follow met onward.taken branch ≡ true → slice_get met (met_mark to onward.taken) ≡ Some false
       by (End hop leaf) behind e = cc
       by (Go hop other) behind e =
           let same : other ≡ to = cc in
-          of_mark (slice_get met (mark_of to onward.taken)) (subst (λ n. option_map_or not (slice_get met (mark_of n onward.taken)) false ≡ true) same e)
+          of_mark (slice_get met (met_mark to onward.taken)) (subst (λ n. option_map_or not (slice_get met (met_mark n onward.taken)) false ≡ true) same e)
 
     -- the turn with the branch that is followed, and the one behind it
     abbrev pub followed : Turn → Onward → Turn
@@ -216,10 +216,10 @@ module _ (shows : State → Branch → Bool) (graph : PlainGraph) (rtype : RrTyp
     -- and the search goes on there
     pub goes_on : (turn : Turn) (below : List Turn) (met : List Bool) (onward : Onward) (to : ℕ) → IsSearch begin (turn ∷ below) met
         → ArePassed shows graph rtype met turn (Some onward) → IsToFollowAt shows graph rtype met turn onward → onward.to ≡ Some to
-        → IsSearch begin (behind onward to ∷ followed turn onward ∷ below) (set met (mark_of to onward.taken) true)
+        → IsSearch begin (behind onward to ∷ followed turn onward ∷ below) (set met (met_mark to onward.taken) true)
     goes_on turn below met onward to search closed at to_is = by at.branch at.has at.taken (sym at.leads ∙ to_is) where
-      within : mark_of to onward.taken < length met
-      within = slice_get_within met (mark_of to onward.taken) false (wasnt_met turn met onward to at to_is)
+      within : met_mark to onward.taken < length met
+      within = slice_get_within met (met_mark to onward.taken) false (wasnt_met turn met onward to at to_is)
 
       on_path : Turn → Type 0
       on_path other = Contains (behind onward to ∷ followed turn onward ∷ below) other
@@ -243,7 +243,7 @@ module _ (shows : State → Branch → Bool) (graph : PlainGraph) (rtype : RrTyp
             })
           ]
 
-      new_stands : (at : ℕ) (taken : Bool) → mark_of at taken ≡ mark_of to onward.taken → Stands (behind onward to ∷ followed turn onward ∷ below) taken at
+      new_stands : (at : ℕ) (taken : Bool) → met_mark at taken ≡ met_mark to onward.taken → Stands (behind onward to ∷ followed turn onward ∷ below) taken at
       new_stands at taken same =
           record {
             turn = behind onward to;
@@ -252,17 +252,17 @@ module _ (shows : State → Branch → Bool) (graph : PlainGraph) (rtype : RrTyp
             taken_is = sym (one_side at to taken onward.taken same);
           }
 
-      marks : (at : ℕ) (taken : Bool) → slice_get (set met (mark_of to onward.taken) true) (mark_of at taken) ≡ Some true
+      marks : (at : ℕ) (taken : Bool) → slice_get (set met (met_mark to onward.taken) true) (met_mark at taken) ≡ Some true
           → Stands (behind onward to ∷ followed turn onward ∷ below) taken at ⊎ IsBarren shows graph rtype taken at
       marks at taken e =
-          elim (was_set met (mark_of to onward.taken) (mark_of at taken) within e) [
+          elim (was_set met (met_mark to onward.taken) (met_mark at taken) within e) [
             | inl same ↦ inl (new_stands at taken same)
             | inr was ↦ stands_still at taken (search.marked at taken was)
           ]
 
       by : (branch : Branch) → HasBranch graph rtype turn.node onward.number at.node branch → onward.taken ≡ (turn.taken || shows at.node.state branch)
           → node_behind branch ≡ Some to
-          → IsSearch begin (behind onward to ∷ followed turn onward ∷ below) (set met (mark_of to onward.taken) true)
+          → IsSearch begin (behind onward to ∷ followed turn onward ∷ below) (set met (met_mark to onward.taken) true)
       by (End hop leaf) has taken goes = cc
       by (Go hop other) has taken goes =
           let same : other ≡ to = cc in
@@ -278,7 +278,7 @@ module _ (shows : State → Branch → Bool) (graph : PlainGraph) (rtype : RrTyp
                 rest = search.turns.1;
               },
             );
-            room = length-set met (mark_of to onward.taken) true ∙ search.room;
+            room = length-set met (met_mark to onward.taken) true ∙ search.room;
             marked = marks;
             begun = stands_still begin false search.begun;
           }

@@ -7,7 +7,7 @@ use Rattle.std.proofs.lemmas.List.Folds.{list_any-append}
 use Rattle.std.proofs.Math.Bool.{or-false}
 use Rattle.dns_data.specs.Name.{name_eq}
 use Rattle.net_model.specs.declared.walk.State.{State}
-use Rattle.graph_form.specs.Repeated.{equal_twice, name_at, place_at}
+use Rattle.graph_form.specs.Repeated.{equal_twice, names_asked, place_at}
 use Rattle.graph_form.specs.Report.{is_same_place, repeats}
 use Rattle.graph_form.specs.contracts.repeated.QuestionPartialEq.TheImpl as question_impl
 use Rattle.graph_form.specs.declared.repeated.Question.{Question}
@@ -51,25 +51,25 @@ module _ {A : Type 0} (eq : A → A → Bool) (turned : (x y : A) → eq x y ≡
 -- ---- the questions of states
 
 -- questions are compared as the places of states
-asks_there : (question : Question) (state : State) → name_at question ≡ place_at state → (questions : List Question) (states : List State)
-    → map name_at questions ≡ map place_at states
+asks_there : (question : Question) (state : State) → names_asked question ≡ place_at state → (questions : List Question) (states : List State)
+    → map names_asked questions ≡ map place_at states
     → list_any ((question_impl.ghosts).eq question) questions ≡ list_any (is_same_place state) states
 asks_there question state is [] [] e = refl
 asks_there question state is [] (s ∷ states) e = cc
 asks_there question state is (q ∷ questions) [] e = cc
 asks_there question state is (q ∷ questions) (s ∷ states) e =
-    let first : name_at q ≡ place_at s = cc in
-    let rest : map name_at questions ≡ map place_at states = cc in
+    let first : names_asked q ≡ place_at s = cc in
+    let rest : map names_asked questions ≡ map place_at states = cc in
     (λ j. (name_eq (is j).0 (first j).0 && name_eq (is j).1 (first j).1) || asks_there question state is questions states rest j)
 
-pub twice_asked : (questions : List Question) (states : List State) → map name_at questions ≡ map place_at states
+pub twice_asked : (questions : List Question) (states : List State) → map names_asked questions ≡ map place_at states
     → equal_twice (question_impl.ghosts).eq questions ≡ repeats states
 twice_asked [] [] e = refl
 twice_asked [] (s ∷ states) e = cc
 twice_asked (q ∷ questions) [] e = cc
 twice_asked (q ∷ questions) (s ∷ states) e =
-    let first : name_at q ≡ place_at s = cc in
-    let rest : map name_at questions ≡ map place_at states = cc in
+    let first : names_asked q ≡ place_at s = cc in
+    let rest : map names_asked questions ≡ map place_at states = cc in
     (λ j. asks_there q s first questions states rest j || twice_asked questions states rest j)
 
 -- ---- tests

@@ -134,12 +134,12 @@ pub record IsFirstAlong (shows : State → Branch → Bool) (graph : PlainGraph)
 -- ---- the search
 
 -- where it is marked that a node was met, behind a branch that shows or not
-abbrev pub mark_of : ℕ → Bool → ℕ
-mark_of at taken = 2 * at + (if taken then 1 else 0)
+abbrev pub met_mark : ℕ → Bool → ℕ
+met_mark at taken = 2 * at + (if taken then 1 else 0)
 
 -- the branch is to be followed: it ends a path that shows, or goes to a node that wasn't met
 abbrev pub is_to_follow : List Bool → Bool → Branch → Bool
-is_to_follow met taken (Go hop to) = option_map_or not (slice_get met (mark_of to taken)) false
+is_to_follow met taken (Go hop to) = option_map_or not (slice_get met (met_mark to taken)) false
 is_to_follow met taken (End hop leaf) = taken
 
 -- the node that a branch goes to
@@ -171,7 +171,7 @@ ArePassed shows graph rtype met turn found =
 -- the nodes that were met are barren
 abbrev pub AreBarren : (State → Branch → Bool) → PlainGraph → RrType → List Bool → Type 0
 AreBarren shows graph rtype met =
-    (at : ℕ) (taken : Bool) → slice_get met (mark_of at taken) ≡ Some true → IsBarren shows graph rtype taken at
+    (at : ℕ) (taken : Bool) → slice_get met (met_mark at taken) ≡ Some true → IsBarren shows graph rtype taken at
 
 -- ---- its walk
 

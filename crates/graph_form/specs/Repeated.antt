@@ -11,8 +11,8 @@ equal_twice eq [] = false
 equal_twice eq (item ∷ items) = list_any (eq item) items || equal_twice eq items
 
 -- what references hold, and what they are of
-abbrev pub name_at : Question → Labels × Labels
-name_at question = (question.server.now, question.name.now)
+abbrev pub names_asked : Question → Labels × Labels
+names_asked question = (question.server.now, question.name.now)
 
 abbrev pub place_at : State → Labels × Labels
 place_at state = (state.server, state.name)

@@ -12,7 +12,7 @@ ghost use Rattle.graph_form.specs.FirstPath.{
   IsToFollowAt,
   branch_shows,
   is_to_follow,
-  mark_of,
+  met_mark,
   takes_along,
 };
 ghost use Rattle.graph_form.specs.GraphOf.{IsGraphOf};
@@ -99,7 +99,7 @@ fn first_rest(
             match onward.to {
                 None => return Ok(Some(numbers_of(alloc, path.as_slice())?)),
                 Some(to) => {
-                    met[mark_of(to, onward.taken)] = true;
+                    met[met_mark(to, onward.taken)] = true;
                     path.push(Turn {
                         node: to,
                         taken: onward.taken,
@@ -153,7 +153,7 @@ fn is_to_follow(met: &[bool], taken: bool, branch: &Branch) -> bool
     ensures { result ≡ is_to_follow met.now taken branch.now }
 {
     match branch {
-        Branch::Go { to, .. } => match met.get(mark_of(*to, taken)) {
+        Branch::Go { to, .. } => match met.get(met_mark(*to, taken)) {
             Some(is_met) => !*is_met,
             None => false,
         },
@@ -162,8 +162,8 @@ fn is_to_follow(met: &[bool], taken: bool, branch: &Branch) -> bool
 }
 
 /// Where it is marked that a node was met, behind a branch that shows the fault or not.
-fn mark_of(at: u32, taken: bool) -> usize
-    ensures { result ≡ mark_of at taken }
+fn met_mark(at: u32, taken: bool) -> usize
+    ensures { result ≡ met_mark at taken }
 {
     2 * at as usize + usize::from(taken)
 }

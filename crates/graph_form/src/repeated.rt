@@ -1,7 +1,7 @@
 //! Walks that come to a server twice with one name.
 
 ghost use Rattle.std.specs.Prelude.{◌≡◌, IfOk, map};
-ghost use Rattle.graph_form.specs.Repeated.{equal_twice, name_at, place_at};
+ghost use Rattle.graph_form.specs.Repeated.{equal_twice, names_asked, place_at};
 ghost use Rattle.graph_form.specs.Report.{repeats};
 
 use dns_data::{Name, NoMemory};
@@ -27,7 +27,7 @@ pub fn repeats(alloc: Global, walk: &Walk) -> Result<bool, NoMemory>
 
 /// The questions of the states.
 fn questions_of<'a>(alloc: Global, states: &'a [State]) -> Result<Vec<Question<'a>>, NoMemory>
-    ensures { IfOk result (λ questions. map name_at questions.items ≡ map place_at states.now) }
+    ensures { IfOk result (λ questions. map names_asked questions.items ≡ map place_at states.now) }
 {
     let mut questions = Vec::with_capacity(alloc, states.len())?;
     for state in states {

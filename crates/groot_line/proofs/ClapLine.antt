@@ -8,7 +8,7 @@ use Rattle.clap.specs.Walk.{Row, Rule, Text, arg_by_id, arg_by_index, arg_by_lon
 use Rattle.clap.proofs.FaultLemmas.{past}
 use Rattle.groot_line.specs.Arguments.{option_named}
 use Rattle.groot_line.specs.Command.{has_option}
-use Rattle.groot_line.specs.Line.{line_of, operands_rule, option_rule}
+use Rattle.groot_line.specs.Line.{command_line, operands_rule, option_rule}
 use Rattle.groot_line.specs.LineOption.{option_name}
 use Rattle.groot_line.specs.declared.command.Command.{Command}
 use Rattle.groot_line.specs.declared.command.Command.TheVariants.{Check, Ask, Classes, Drill}
@@ -32,13 +32,13 @@ rules Drill = option_built options.Workers ∷ operands_built ∷ []
 abbrev pub line_shape : List Rule → Shape
 line_shape c = record (new_shape (codes "groot")) { rules = c; no_binary_name = true; disable_help_flag = true; disable_help_subcommand = true; is_built = true }
 
-pub is_free : (command : Command) → is_simple_and_free (line_of command) ≡ true
+pub is_free : (command : Command) → is_simple_and_free (command_line command) ≡ true
 is_free Check = refl
 is_free Ask = refl
 is_free Classes = refl
 is_free Drill = refl
 
-pub is_plain : (command : Command) → is_simple (line_of command) ≡ true
+pub is_plain : (command : Command) → is_simple (command_line command) ≡ true
 is_plain Check = refl
 is_plain Ask = refl
 is_plain Classes = refl

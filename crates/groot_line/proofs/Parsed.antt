@@ -17,11 +17,11 @@ use Rattle.clap.specs.declared.parser.matches.ArgMatches.{ArgMatches}
 use Rattle.clap.proofs.FaultLemmas.{leaf_fault}
 use Rattle.clap.proofs.WalkLemmas.{both, first_value-rows, raw_values-rows}
 use Rattle.dns_data.specs.Answers.{◌>>=◌}
-use Rattle.groot_line.specs.Arguments.{Arguments, no_arguments, value_of, given, with_value, awaiting, with_operand, option_named, is_dashed, after_option, after_dash, after_word, after_words, arguments_of}
+use Rattle.groot_line.specs.Arguments.{Arguments, no_arguments, value_given, with_value, with_value, awaiting, with_operand, option_named, is_dashed, after_option, after_dash, after_word, after_words, arguments_of}
 use Rattle.groot_line.specs.Command.{has_option}
-use Rattle.groot_line.specs.Line.{line_of}
+use Rattle.groot_line.specs.Line.{command_line}
 use Rattle.groot_line.specs.LineOption.{option_name}
-use Rattle.groot_line.specs.Matches.{fault_by, is_in_form, operands_in, said_by}
+use Rattle.groot_line.specs.Matches.{refusal_by, is_in_form, operands_in, arguments_in}
 use Rattle.groot_line.specs.declared.command.Command.{Command}
 use Rattle.groot_line.specs.declared.command.Command.TheVariants.{Check, Ask, Classes, Drill}
 use Rattle.groot_line.specs.declared.fault.LineFault.{LineFault}
@@ -119,7 +119,7 @@ total_end : (c : List Rule) (w : Walk) → total c w [] ≡ settle_fault c false
 unfolding walk_fault
 total_end c w = refl
 
-keeps_awaiting : (p o : LineOption) (a : Arguments) → value_of p (awaiting o a) ≡ value_of p a
+keeps_awaiting : (p o : LineOption) (a : Arguments) → value_given p (awaiting o a) ≡ value_given p a
 keeps_awaiting options.Workers o a = refl
 keeps_awaiting options.Classes o a = refl
 keeps_awaiting options.Rewrites o a = refl
@@ -130,7 +130,7 @@ awaiting_says o rows a says = record {
   of_operands = says.of_operands;
 }
 
-given_awaits : (o : LineOption) (v : Text) (a : Arguments) → (given o v a).awaited ≡ None
+given_awaits : (o : LineOption) (v : Text) (a : Arguments) → (with_value o v a).awaited ≡ None
 given_awaits options.Workers v a = refl
 given_awaits options.Classes v a = refl
 given_awaits options.Rewrites v a = refl
@@ -196,11 +196,11 @@ module _ (command : Command) where
 
   -- a value for an option, which has none yet, or has one
   with_value_ends : (w : Walk) (word : Text) (words : List Text) (o : LineOption) (v : Text) (a : Arguments)
-      → (value_of o a ≡ None → Ends c w (word ∷ words) (after_words command words (given o v a)))
-      → (is_some (value_of o a) ≡ true → total c w (word ∷ words) ≡ [] → ⊥)
+      → (value_given o a ≡ None → Ends c w (word ∷ words) (after_words command words (with_value o v a)))
+      → (is_some (value_given o a) ≡ true → total c w (word ∷ words) ≡ [] → ⊥)
       → Ends c w (word ∷ words) (with_value o v a >>= λ next. after_words command words next)
-  with_value_ends w word words o v a first second = by (value_of o a) refl where
-    by : (value : Option Text) → value_of o a ≡ value → Ends c w (word ∷ words) (cond (is_some value) (Err Usage) (Ok (given o v a)) >>= λ next. after_words command words next)
+  with_value_ends w word words o v a first second = by (value_given o a) refl where
+    by : (value : Option Text) → value_given o a ≡ value → Ends c w (word ∷ words) (cond (is_some value) (Err Usage) (Ok (with_value o v a)) >>= λ next. after_words command words next)
     by None e = first e
     by (Some x) e = (second (ap is_some e), refl)
 
@@ -228,11 +228,11 @@ module _ (command : Command) where
       fault_is : turn_fault (line_shape c) [] (walk_at rows pending (between b)) word ≡ use_fault false (option_built o) (v ∷ []) (settled_rows c pending rows)
       fault_is = valued_fault c o rows pending (between b) word name (found name o named) v e ∙ ap (λ k. or_else k (use_fault false (option_built o) (v ∷ []) (settled_rows c pending rows))) passes
 
-      first : value_of o a ≡ None → Ends c (walk_at rows pending (between b)) (word ∷ words) (after_words command words (given o v a))
+      first : value_given o a ≡ None → Ends c (walk_at rows pending (between b)) (word ∷ words) (after_words command words (with_value o v a))
       first free = goes_on c _ _ word words _ (fault_is ∙ once_passes o v _ a says free) (valued_walked c o rows pending (between b) word name (found name o named) v e)
-          (rest (used (option_built o) (v ∷ []) (settled_rows c pending rows)) None false (given o v a) refl (once_says o v _ a says free) (given_awaits o v a))
+          (rest (used (option_built o) (v ∷ []) (settled_rows c pending rows)) None false (with_value o v a) refl (once_says o v _ a says free) (given_awaits o v a))
 
-      second : is_some (value_of o a) ≡ true → total c (walk_at rows pending (between b)) (word ∷ words) ≡ [] → ⊥
+      second : is_some (value_given o a) ≡ true → total c (walk_at rows pending (between b)) (word ∷ words) ≡ [] → ⊥
       second taken = refused c _ word words (λ none. twice_fails o v _ a says taken (sym fault_is ∙ none))
 
   waits : (word : Text) (words : List Text) → list_all is_in_form words ≡ true → Rests words → Look command word → Waits (word ∷ words)
@@ -246,12 +246,12 @@ module _ (command : Command) where
     by false e = subst (Ends c w (word ∷ words)) (sym (next_said command word words a (with_value o word a) (value_said command word a o e some)))
         (with_value_ends w word words o word a first second)
       where
-        first : value_of o a ≡ None → Ends c w (word ∷ words) (after_words command words (given o word a))
+        first : value_given o a ≡ None → Ends c w (word ∷ words) (after_words command words (with_value o word a))
         first free = goes_on c w _ word words _ (value_passes command o rows word has e) (value_walked command o rows word has e)
-            (rest rows (option_held o word) false (given o word a) (option_settles o word rows has ∙ once_passes o word rows a says free)
-            (subst (λ r. Says r (given o word a)) (sym (option_rows o word rows has)) (once_says o word rows a says free)) (given_awaits o word a))
+            (rest rows (option_held o word) false (with_value o word a) (option_settles o word rows has ∙ once_passes o word rows a says free)
+            (subst (λ r. Says r (with_value o word a)) (sym (option_rows o word rows has)) (once_says o word rows a says free)) (given_awaits o word a))
 
-        second : is_some (value_of o a) ≡ true → total c w (word ∷ words) ≡ [] → ⊥
+        second : is_some (value_given o a) ≡ true → total c w (word ∷ words) ≡ [] → ⊥
         second taken none = stays_faulty rows (option_held o word) false words forms
             (λ passes. twice_fails o word rows a says taken (sym (option_settles o word rows has) ∙ passes))
             (sym (total_next c w word words ∙ ap₂ or_else (value_passes command o rows word has e) (ap (λ v. total c v words) (value_walked command o rows word has e))) ∙ none)
@@ -272,7 +272,7 @@ module _ (command : Command) where
 
 nothing_said : Says [] no_arguments
 nothing_said = record { of_option = of_option; of_operands = refl } where
-  of_option : (o : LineOption) → all_of (option_name o) [] ≡ option_map (λ v. v ∷ []) (value_of o no_arguments)
+  of_option : (o : LineOption) → all_of (option_name o) [] ≡ option_map (λ v. v ∷ []) (value_given o no_arguments)
   of_option options.Workers = refl
   of_option options.Classes = refl
   of_option options.Rewrites = refl
@@ -280,16 +280,16 @@ nothing_said = record { of_option = of_option; of_operands = refl } where
 whole : (command : Command) (words : List Text) → list_all is_in_form words ≡ true → Ends (rules command) (walk_at [] None idle) words (arguments_of command words)
 whole command words forms = (follows command words forms).0 [] None false no_arguments refl nothing_said refl
 
-fault_is : (command : Command) (words : List Text) → fault_of (line_of command) words ≡ total (rules command) (walk_at [] None idle) words
+fault_is : (command : Command) (words : List Text) → fault_of (command_line command) words ≡ total (rules command) (walk_at [] None idle) words
 fault_is command words = at_line command ∙ at_level where
   c : List Rule
   c = rules command
 
-  at_line : (own : Command) → fault_of (line_of own) words ≡ level_fault (line_shape (rules own)) [] nothing_held words false []
-  at_line Check = leaf_fault (built (line_of Check)) nothing_held words refl
-  at_line Ask = leaf_fault (built (line_of Ask)) nothing_held words refl
-  at_line Classes = leaf_fault (built (line_of Classes)) nothing_held words refl
-  at_line Drill = leaf_fault (built (line_of Drill)) nothing_held words refl
+  at_line : (own : Command) → fault_of (command_line own) words ≡ level_fault (line_shape (rules own)) [] nothing_held words false []
+  at_line Check = leaf_fault (built (command_line Check)) nothing_held words refl
+  at_line Ask = leaf_fault (built (command_line Ask)) nothing_held words refl
+  at_line Classes = leaf_fault (built (command_line Classes)) nothing_held words refl
+  at_line Drill = leaf_fault (built (command_line Drill)) nothing_held words refl
 
   end : Held
   end = end_of c (walk_at [] None idle) words
@@ -299,9 +299,9 @@ fault_is command words = at_line command ∙ at_level where
       (ap₂ or_else (defaults_pass command (settled_rows c end.pending end.rows)) (nothing_required command (finished c end)))
       ∙ ap (λ k. or_else (walk_fault (line_shape c) [] (walk_at [] None idle) words) k) (or_else_none (settle_fault c false end))
 
-rows_are : (command : Command) (words : List Text) → matches_of (line_of command) words ≡ end_rows (rules command) (walk_at [] None idle) words
+rows_are : (command : Command) (words : List Text) → matches_of (command_line command) words ≡ end_rows (rules command) (walk_at [] None idle) words
 rows_are command words = at_line command ∙ rows_end command _ where
-  at_line : (own : Command) → matches_of (line_of own) words ≡ finished (rules own) (end_of (rules own) (walk_at [] None idle) words)
+  at_line : (own : Command) → matches_of (command_line own) words ≡ finished (rules own) (end_of (rules own) (walk_at [] None idle) words)
   at_line Check = refl
   at_line Ask = refl
   at_line Classes = refl
@@ -319,36 +319,36 @@ one_is : (value : Option Text) → option_and_then (λ vs. slice_get vs 0) (opti
 one_is None = refl
 one_is (Some v) = refl
 
-value_is : (m : ArgMatches) (a : Arguments) → Says (rows_of (found_of m)) a → (o : LineOption) → first_value (found_of m) (option_name o) ≡ value_of o a
+value_is : (m : ArgMatches) (a : Arguments) → Says (rows_of (found_of m)) a → (o : LineOption) → first_value (found_of m) (option_name o) ≡ value_given o a
 value_is m a says o =
     first_value-rows (found_of m) (option_name o) ∙ first_is (option_name o) (rows_of (found_of m))
-    ∙ ap (option_and_then (λ vs. slice_get vs 0)) (says.of_option o) ∙ one_is (value_of o a)
+    ∙ ap (option_and_then (λ vs. slice_get vs 0)) (says.of_option o) ∙ one_is (value_given o a)
 
 operands_are : (m : ArgMatches) (a : Arguments) → Says (rows_of (found_of m)) a → operands_in m ≡ a.operands
 operands_are m a says = ap (λ found. unwrap_or found []) (raw_values-rows (found_of m) (codes "operands")) ∙ says.of_operands
 
-said_is : (m : ArgMatches) (a : Arguments) → Says (rows_of (found_of m)) a → a.awaited ≡ None → a ≡ said_by m
+said_is : (m : ArgMatches) (a : Arguments) → Says (rows_of (found_of m)) a → a.awaited ≡ None → a ≡ arguments_in m
 said_is m a says none = rw (sym (value_is m a says options.Workers), sym (value_is m a says options.Classes), sym (value_is m a says options.Rewrites), sym (operands_are m a says), none) refl
 
 -- `clap` gives what the words say
-pub parsed : (command : Command) (words : List Text) (m : ArgMatches) → list_all is_in_form words ≡ true → fault_of (line_of command) words ≡ []
-    → HasMatchesOf (line_of command) words m → arguments_of command words ≡ Ok (said_by m)
+pub parsed : (command : Command) (words : List Text) (m : ArgMatches) → list_all is_in_form words ≡ true → fault_of (command_line command) words ≡ []
+    → HasMatchesOf (command_line command) words m → arguments_of command words ≡ Ok (arguments_in m)
 parsed command words m forms passes has = by (arguments_of command words) refl (whole command words forms) where
-  by : (said : Result Arguments LineFault) → arguments_of command words ≡ said → Ends (rules command) (walk_at [] None idle) words said → said ≡ Ok (said_by m)
+  by : (said : Result Arguments LineFault) → arguments_of command words ≡ said → Ends (rules command) (walk_at [] None idle) words said → said ≡ Ok (arguments_in m)
   by (Ok a) e ends = ap Ok (said_is m a (subst (λ r. Says r a) (sym ((has (is_plain command)).0 ∙ rows_are command words)) ends.1) ends.2)
   by (Err fault) e ends = absurd (ends.0 (sym (fault_is command words) ∙ passes))
 
 -- or refuses what says nothing
-unparsed : (command : Command) (words : List Text) → list_all is_in_form words ≡ true → (fault_of (line_of command) words ≡ [] → ⊥) → arguments_of command words ≡ Err Usage
+unparsed : (command : Command) (words : List Text) → list_all is_in_form words ≡ true → (fault_of (command_line command) words ≡ [] → ⊥) → arguments_of command words ≡ Err Usage
 unparsed command words forms fails = by (arguments_of command words) (whole command words forms) where
   by : (said : Result Arguments LineFault) → Ends (rules command) (walk_at [] None idle) words said → said ≡ Err Usage
   by (Ok a) ends = absurd (fails (fault_is command words ∙ ends.0))
   by (Err fault) ends = ap Err ends.1
 
-pub refused_line : (command : Command) (words : List Text) (e : Error) → list_all is_in_form words ≡ true → HasKind (fault_of (line_of command) words) e
-    → (fault_by (kind_of e) ≡ NoMemory) ⊎ (arguments_of command words ≡ Err (fault_by (kind_of e)))
-refused_line command words e forms (inl memory) = inl (ap fault_by memory)
-refused_line command words e forms (inr among) = by (fault_by (kind_of e)) where
+pub refused_line : (command : Command) (words : List Text) (e : Error) → list_all is_in_form words ≡ true → HasKind (fault_of (command_line command) words) e
+    → (refusal_by (kind_of e) ≡ NoMemory) ⊎ (arguments_of command words ≡ Err (refusal_by (kind_of e)))
+refused_line command words e forms (inl memory) = inl (ap refusal_by memory)
+refused_line command words e forms (inr among) = by (refusal_by (kind_of e)) where
   by : (fault : LineFault) → (fault ≡ NoMemory) ⊎ (arguments_of command words ≡ Err fault)
   by NoMemory = inl refl
   by Usage = inr (unparsed command words forms (λ none. subst (IsAmong (kind_of e)) none among))
@@ -369,8 +369,8 @@ after_word_usage command word a = by (is_dashed word) refl a.awaited refl where
   IsUsage said = IfErr said (λ fault. fault ≡ Usage)
 
   of_value : (o : LineOption) (v : Text) → IsUsage (with_value o v a)
-  of_value o v = go (is_some (value_of o a)) where
-    go : (b : Bool) → IsUsage (cond b (Err Usage) (Ok (given o v a)))
+  of_value o v = go (is_some (value_given o a)) where
+    go : (b : Bool) → IsUsage (cond b (Err Usage) (Ok (with_value o v a)))
     go true = refl
     go false = tt
 

@@ -25,21 +25,21 @@ abbrev pub no_arguments : Arguments
 no_arguments = record { workers = None; classes = None; rewrites = None; operands = []; awaited = None }
 
 -- the value that an option was given
-abbrev pub value_of : LineOption → Arguments → Option (List ℕ)
-value_of Workers arguments = arguments.workers
-value_of Classes arguments = arguments.classes
-value_of Rewrites arguments = arguments.rewrites
+abbrev pub value_given : LineOption → Arguments → Option (List ℕ)
+value_given Workers arguments = arguments.workers
+value_given Classes arguments = arguments.classes
+value_given Rewrites arguments = arguments.rewrites
 
 -- with a value for an option, which is no longer awaited
-abbrev pub given : LineOption → List ℕ → Arguments → Arguments
-given Workers value arguments = record arguments { workers = Some value; awaited = None }
-given Classes value arguments = record arguments { classes = Some value; awaited = None }
-given Rewrites value arguments = record arguments { rewrites = Some value; awaited = None }
+abbrev pub with_value : LineOption → List ℕ → Arguments → Arguments
+with_value Workers value arguments = record arguments { workers = Some value; awaited = None }
+with_value Classes value arguments = record arguments { classes = Some value; awaited = None }
+with_value Rewrites value arguments = record arguments { rewrites = Some value; awaited = None }
 
 -- with a value for an option, which stands at most once
 abbrev pub with_value : LineOption → List ℕ → Arguments → Result Arguments LineFault
 with_value option value arguments =
-    if is_some (value_of option arguments) then Err Usage else Ok (given option value arguments)
+    if is_some (value_given option arguments) then Err Usage else Ok (with_value option value arguments)
 
 -- with an option whose value the next word is
 abbrev pub awaiting : LineOption → Arguments → Arguments

@@ -26,5 +26,5 @@ abbrev pub with_option : Command → LineOption → App → App
 with_option command option line = if has_option command option then with_rule line (option_rule option) else line
 
 -- the options of the command, and operands
-abbrev pub line_of : Command → App
-line_of command = with_rule (with_option command Rewrites (with_option command Classes (with_option command Workers bare_line))) operands_rule
+abbrev pub command_line : Command → App
+command_line command = with_rule (with_option command Rewrites (with_option command Classes (with_option command Workers bare_line))) operands_rule

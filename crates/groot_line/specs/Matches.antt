@@ -14,17 +14,17 @@ abbrev pub is_in_form : List ℕ → Bool
 is_in_form word = not (is_dashed word) || is_some (long_of word)
 
 -- every refusal but want of memory is that of the words
-abbrev pub fault_by : ErrorKind → LineFault
-fault_by OutOfMemory = NoMemory
-fault_by kind = Usage
+abbrev pub refusal_by : ErrorKind → LineFault
+refusal_by OutOfMemory = NoMemory
+refusal_by kind = Usage
 
 -- the operands in order
 abbrev pub operands_in : ArgMatches → List (List ℕ)
 operands_in matches = unwrap_or (option_map raw_values (matched_of (found_of matches) (codes "operands"))) []
 
 -- the values of options, and the operands
-abbrev pub said_by : ArgMatches → Arguments
-said_by matches = record {
+abbrev pub arguments_in : ArgMatches → Arguments
+arguments_in matches = record {
   workers = first_value (found_of matches) (codes "workers");
   classes = first_value (found_of matches) (codes "classes");
   rewrites = first_value (found_of matches) (codes "rewrites");

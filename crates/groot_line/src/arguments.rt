@@ -4,9 +4,9 @@ ghost use Rattle.std.specs.Prelude.{◌≡◌, ◌⊎◌, map, IfOk, IfErr, Ok, 
 ghost use Rattle.std.specs.List.{list_all};
 ghost use Rattle.clap.specs.Simple.{app_of};
 ghost use Rattle.clap.specs.Values.{kind_of};
-ghost use Rattle.groot_line.specs.Arguments.{arguments_of, value_of};
-ghost use Rattle.groot_line.specs.Line.{line_of, with_option};
-ghost use Rattle.groot_line.specs.Matches.{fault_by, is_in_form, said_by};
+ghost use Rattle.groot_line.specs.Arguments.{arguments_of, value_given};
+ghost use Rattle.groot_line.specs.Line.{command_line, with_option};
+ghost use Rattle.groot_line.specs.Matches.{refusal_by, is_in_form, arguments_in};
 ghost use Rattle.groot_line.specs.Number.{number_by};
 
 use crate::command::Command;
@@ -23,23 +23,23 @@ pub(crate) fn read_arguments<'a>(
     command: Command,
     words: &'a [&'a str],
 ) -> Result<ArgMatches<'a>, LineFault>
-    ensures ok { IfOk result (λ matches. arguments_of command (map (λ word. word.now) words.now) ≡ Ok (said_by matches)) }
+    ensures ok { IfOk result (λ matches. arguments_of command (map (λ word. word.now) words.now) ≡ Ok (arguments_in matches)) }
     ensures err { IfErr result (λ fault. (fault ≡ LineFault.NoMemory)
         ⊎ (arguments_of command (map (λ word. word.now) words.now) ≡ Err fault)) }
 {
     if !are_in_form(words) {
         return Err(LineFault::Usage);
     }
-    let line = line_of(alloc, command)?;
+    let line = command_line(alloc, command)?;
     match line.try_get_matches_from(words) {
         Ok(matches) => Ok(matches),
-        Err(error) => Err(fault_by(&error)),
+        Err(error) => Err(refusal_by(&error)),
     }
 }
 
 /// The fault of an error of `clap`.
-fn fault_by(error: &Error) -> LineFault
-    ensures { result ≡ fault_by (kind_of error.now) }
+fn refusal_by(error: &Error) -> LineFault
+    ensures { result ≡ refusal_by (kind_of error.now) }
 {
     match error.kind() {
         ErrorKind::OutOfMemory => LineFault::NoMemory,
@@ -67,8 +67,8 @@ fn is_in_form(word: &str) -> bool
 }
 
 /// The command as `clap` is told it.
-fn line_of<'a>(alloc: Global, command: Command) -> Result<clap::Command<'a>, AllocError>
-    ensures { IfOk result (λ line. app_of line ≡ line_of command) }
+fn command_line<'a>(alloc: Global, command: Command) -> Result<clap::Command<'a>, AllocError>
+    ensures { IfOk result (λ line. app_of line ≡ command_line command) }
 {
     let line = clap::Command::new(alloc, "groot")
         .no_binary_name(true)
@@ -96,7 +96,7 @@ fn with_option<'a>(
 
 /// The number of an option.
 pub(crate) fn number(matches: &ArgMatches<'_>, option: LineOption) -> Result<u32, LineFault>
-    ensures { result ≡ number_by option (value_of option (said_by matches.now)) }
+    ensures { result ≡ number_by option (value_given option (arguments_in matches.now)) }
 {
     match matches.get_str(option.name()) {
         None => Ok(option.unsaid()),

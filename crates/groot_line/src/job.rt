@@ -2,7 +2,7 @@
 
 ghost use Rattle.std.specs.Prelude.{map};
 ghost use Rattle.dns_data.specs.Answers.{AnswersOr};
-ghost use Rattle.groot_line.specs.Matches.{said_by};
+ghost use Rattle.groot_line.specs.Matches.{arguments_in};
 ghost use Rattle.groot_line.specs.Job.{job_of, job_by, asked};
 
 use crate::arguments::{number, read_arguments};
@@ -58,7 +58,7 @@ pub fn read_words(alloc: Global, words: &[&str]) -> Result<Job, LineFault>
 
 /// The job of a command and the words behind it.
 fn job_by(alloc: Global, command: Command, matches: &ArgMatches<'_>) -> Result<Job, LineFault>
-    ensures { AnswersOr LineFault.NoMemory result (job_by command (said_by matches.now)) }
+    ensures { AnswersOr LineFault.NoMemory result (job_by command (arguments_in matches.now)) }
 {
     let operands = matches.get_strs("operands").unwrap_or(&[]);
     match command {

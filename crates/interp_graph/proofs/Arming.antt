@@ -16,9 +16,9 @@ use Rattle.net_model.proofs.Leads.{Leads}
 use Rattle.graph_form.specs.declared.node.Arm.{Arm}
 use Rattle.graph_form.specs.declared.node.Branch.{Branch}
 use Rattle.graph_form.proofs.Places.{place_of_item}
-use Rattle.interp_graph.specs.Drafts.{Awaits, Tells, IsMade, Comes, AreDrafts, Grows, states_of, size_of, pair_count}
+use Rattle.interp_graph.specs.Drafts.{Awaits, TellsBranch, IsMade, Comes, AreDrafts, Grows, states_of, size_of, pair_count}
 use Rattle.zone_lookup.specs.Steps.{branch_of}
-use Rattle.interp_graph.specs.Work.{IsFresh, IsWithin, IsSound, Waits, StillWaits, Advances, ComesTo, ComeOn, HasMoreComing, IsForkAt, Numbered, Took, TooMany, PutArm}
+use Rattle.interp_graph.specs.Work.{HasNoType, IsWithin, IsSoundWork, Waits, StillWaits, Advances, ComesTo, ComeOn, HasMoreComing, IsForkAt, Numbered, TookTypes, TooMany, PutArm}
 use Rattle.interp_graph.specs.declared.draft.Draft.{Draft}
 use Rattle.interp_graph.specs.declared.step.Fork.{Fork}
 use Rattle.interp_graph.specs.declared.work.Work.{Work}
@@ -56,7 +56,7 @@ advances_twice before between after one other =
 
 -- ---- a state is reached: it is numbered, and types come to its draft
 
-module _ (before middle : Work) (at : ℕ) (state : State) (sound : IsSound before)
+module _ (before middle : Work) (at : ℕ) (state : State) (sound : IsSoundWork before)
     (num : Numbered before.drafts.items middle.drafts.items state at) (keyed : middle.keys.keys ≡ states_of middle.drafts.items)
     (once : AllPairs (λ a b. a ≢ b) (states_of middle.drafts.items)) (stack : middle.stack.items ≡ before.stack.items)
     (pairs : middle.pairs ≡ before.pairs) (limit : middle.limit ≡ before.limit) where
@@ -92,7 +92,7 @@ module _ (before middle : Work) (at : ℕ) (state : State) (sound : IsSound befo
       (numbered_drafts before.drafts.items middle.drafts.items state at num setting begin are) there.0 there.1
       (subst (ComesTo setting begin set_of) (sym there.2) come))
 
-  module _ (after : Work) (set_of : List Bool) (took : Took middle after at set_of) (some : (rtype : RrType) × (has_bit set_of rtype ≡ true)) where
+  module _ (after : Work) (set_of : List Bool) (took : TookTypes middle after at set_of) (some : (rtype : RrType) × (has_bit set_of rtype ≡ true)) where
     some_each : length after.drafts.items ≤ after.pairs
     some_each = elim num [
       | inl old ↦ omega (arith, took_length middle after at set_of took, ap (λ (ds : List Draft). length ds) old.1, sound.some_each, pairs, took_more middle after at set_of took)
@@ -109,12 +109,12 @@ module _ (before middle : Work) (at : ℕ) (state : State) (sound : IsSound befo
     ]
       where
         fresh : (new : (draft : Draft) × (middle.drafts.items ≡ before.drafts.items ++ draft ∷ []) × (at ≡ length before.drafts.items)
-            × IsFresh draft × (draft.state ≡ state)) → slice_get middle.drafts.items at ≡ Some new.0
+            × HasNoType draft × (draft.state ≡ state)) → slice_get middle.drafts.items at ≡ Some new.0
         fresh new =
             ap (λ (ds : List Draft). slice_get ds at) new.1
             ∙ (ap (slice_get (before.drafts.items ++ new.0 ∷ [])) new.2 ∙ pushed_there before.drafts.items new.0)
 
-    pub reached_sound : IsSound after
+    pub reached_sound : IsSoundWork after
     reached_sound =
         record {
           keyed = ap (λ k. k.keys) took.keys ∙ (keyed ∙ sym (took_states middle after at set_of took));
@@ -178,7 +178,7 @@ module _ (before after : Work) (at : ℕ) (arm : Arm) (put : PutArm before after
   put_length : length after.drafts.items ≡ length before.drafts.items
   put_length = ap (λ (ds : List Draft). length ds) put.drafts ∙ length-set before.drafts.items at put.new
 
-  pub put_sound : IsSound before → IsSound after
+  pub put_sound : IsSoundWork before → IsSoundWork after
   put_sound sound =
       record {
         keyed = ap (λ k. k.keys) put.keys ∙ (sound.keyed ∙ sym put_states);
@@ -281,12 +281,12 @@ fork_comes setting begin drafts at fork are is waits hop to has rtype typed =
 
 -- branches that tell a fork's steps make an arm
 pub fork_made : (setting : Setting) (before drafts : List Draft) (at : ℕ) (fork : Fork) (branches : List Branch) → Grows before drafts
-    → IsForkAt setting before at fork → at < length before → AllZip (Tells drafts fork.types) branches (map branch_of fork.steps)
+    → IsForkAt setting before at fork → at < length before → AllZip (TellsBranch drafts fork.types) branches (map branch_of fork.steps)
     → (draft : Draft) → slice_get drafts at ≡ Some draft → IsMade setting drafts draft.state (record { types = fork.types; branches = branches })
 fork_made setting before drafts at fork branches grows is below told draft there rtype typed =
     let was = item_below before at below in
     let later = grows at was.0 was.1 in
     let same : was.0.state ≡ draft.state =
     sym later.has_state ∙ ap (λ (d : Draft). d.state) (one_there drafts at later.draft draft later.is_draft there) in
-    subst (λ (s : State). AllZip (Tells drafts fork.types) branches (next setting rtype s)) same
-    (subst (AllZip (Tells drafts fork.types) branches) (is was.0 was.1 rtype typed) told)
+    subst (λ (s : State). AllZip (TellsBranch drafts fork.types) branches (next setting rtype s)) same
+    (subst (AllZip (TellsBranch drafts fork.types) branches) (is was.0 was.1 rtype typed) told)

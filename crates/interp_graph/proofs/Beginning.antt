@@ -9,7 +9,7 @@ use Rattle.net_model.specs.Step.{Setting}
 use Rattle.net_model.specs.declared.walk.State.{State}
 use Rattle.graph_form.proofs.Places.{place_of_item}
 use Rattle.interp_graph.specs.Drafts.{Awaits, Comes, AreDrafts}
-use Rattle.interp_graph.specs.Work.{IsSound, Advances, ComesTo, HasMoreComing}
+use Rattle.interp_graph.specs.Work.{IsSoundWork, Advances, ComesTo, HasMoreComing}
 use Rattle.interp_graph.specs.declared.work.Work.{Work}
 use Rattle.interp_graph.proofs.Arming.{advances_twice}
 use Rattle.interp_graph.proofs.Drafts.{awaits_grow}
@@ -23,7 +23,7 @@ begins setting states state rtype has =
 
 -- so far: all types come to the nodes of the states that aren't left
 pub record BegunSoFar (before now : Work) (set_of : List Bool) (all left : List State) (starts : List ℕ) : Type 0 where
-  pub sound : IsSound now
+  pub sound : IsSoundWork now
   pub advances : Advances before now
   pub done : List State
   pub parts : done ++ left ≡ all
@@ -43,7 +43,7 @@ module _ (before now : Work) (set_of : List Bool) (all left : List State) (start
   begun_passed passed setting are =
       subst (HasMoreComing setting all) so.advances.limit (passed setting all (so.drafts setting are) (comes setting))
 
-  pub begun_more : (after : Work) (at : ℕ) → IsSound after → Advances now after → Awaits after.drafts.items set_of at state
+  pub begun_more : (after : Work) (at : ℕ) → IsSoundWork after → Advances now after → Awaits after.drafts.items set_of at state
       → ((setting : Setting) (begin : List State) → AreDrafts setting begin now.drafts.items → ComesTo setting begin set_of state
       → AreDrafts setting begin after.drafts.items)
       → BegunSoFar before after set_of all left (starts ++ at ∷ [])

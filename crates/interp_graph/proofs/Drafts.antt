@@ -15,9 +15,9 @@ use Rattle.graph_form.specs.declared.node.Arm.{Arm}
 use Rattle.graph_form.specs.declared.node.Branch.{Branch}
 use Rattle.graph_form.specs.declared.node.Branch.TheVariants.{Go, End}
 use Rattle.graph_form.proofs.Places.{pairs_joined}
-use Rattle.interp_graph.specs.Drafts.{Awaits, Tells, IsMade, Comes, IsDraft, AreDrafts, Grows}
+use Rattle.interp_graph.specs.Drafts.{Awaits, TellsBranch, IsMade, Comes, IsDraft, AreDrafts, Grows}
 use Rattle.interp_graph.specs.Steps.{IsApart}
-use Rattle.interp_graph.specs.Work.{IsFresh, TakesTypes, HasArm}
+use Rattle.interp_graph.specs.Work.{HasNoType, TakesTypes, HasArm}
 use Rattle.interp_graph.specs.declared.draft.Draft.{Draft}
 use Rattle.interp_graph.proofs.ItemsByNumber.{from_pushed, in_front, from_set, set_there, set_elsewhere, side_by_side}
 
@@ -34,14 +34,14 @@ module _ (before after : List Draft) (grows : Grows before after) where
         wants = λ rtype has. later.wants rtype (awaits.wants rtype has);
       }
 
-  pub tells_grow : (types : List Bool) (branch : Branch) (other : step.Branch) → Tells before types branch other → Tells after types branch other
+  pub tells_grow : (types : List Bool) (branch : Branch) (other : step.Branch) → TellsBranch before types branch other → TellsBranch after types branch other
   tells_grow types (Go hop to) other (state, tells, awaits) = (state, tells, awaits_grow types to state awaits)
   tells_grow types (End hop leaf) other tells = tells
 
   pub zip_grows : (types : List Bool) (branches : List Branch) (others : List step.Branch)
-      → AllZip (Tells before types) branches others → AllZip (Tells after types) branches others
+      → AllZip (TellsBranch before types) branches others → AllZip (TellsBranch after types) branches others
   zip_grows types branches others all =
-      side_by_side (Tells before types) (Tells after types) branches others (tells_grow types) all
+      side_by_side (TellsBranch before types) (TellsBranch after types) branches others (tells_grow types) all
 
   pub made_grows : (setting : Setting) (state : State) (arm : Arm) → IsMade setting before state arm → IsMade setting after state arm
   made_grows setting state arm made rtype has = zip_grows arm.types arm.branches (next setting rtype state) (made rtype has)
@@ -55,7 +55,7 @@ grows_twice before between after one other at draft is =
 
 -- ---- a draft more
 
-fresh_draft : (draft : Draft) → IsFresh draft → IsDraft draft
+fresh_draft : (draft : Draft) → HasNoType draft → IsDraft draft
 fresh_draft draft fresh =
     record {
       apart = subst (AllPairs (λ (a b : Arm). IsApart a.types b.types)) (sym fresh.no_arms) (λ i j d before within. absurd (omega arith));
@@ -69,7 +69,7 @@ grows_behind drafts draft at other is =
     record { draft = other; is_draft = in_front drafts (draft ∷ []) at other is; has_state = refl; wants = λ rtype has. has }
 
 pub drafts_with_new : (setting : Setting) (begin : List State) (drafts : List Draft) (draft : Draft) → AreDrafts setting begin drafts
-    → IsFresh draft → AreDrafts setting begin (drafts ++ draft ∷ [])
+    → HasNoType draft → AreDrafts setting begin (drafts ++ draft ∷ [])
 drafts_with_new setting begin drafts draft are fresh =
     record {
       each = λ at other is. elim (from_pushed drafts draft other at is) [

@@ -19,7 +19,7 @@ use Rattle.graph_form.specs.declared.node.Branch.{Branch}
 use Rattle.graph_form.specs.declared.node.Branch.TheVariants.{Go, End}
 use Rattle.graph_form.specs.declared.node.Node.{Node}
 use Rattle.graph_form.proofs.Places.{place_of_item}
-use Rattle.interp_graph.specs.Drafts.{Awaits, Tells, Comes, AreDrafts, states_of, node_of}
+use Rattle.interp_graph.specs.Drafts.{Awaits, TellsBranch, Comes, AreDrafts, states_of, node_of}
 use Rattle.interp_graph.specs.declared.draft.Draft.{Draft}
 use Rattle.interp_graph.proofs.ItemsByNumber.{from_mapped, mapped_there, side_by_side, beside}
 
@@ -68,7 +68,7 @@ module _ (setting : Setting) (begin : List State) (drafts : List Draft) (are : A
             let found = find_some (λ (a : Arm). has_bit a.types rtype) awaits.draft.arms arm has is in
             ap is_some found.1
 
-    tells_step : (set : List Bool) (branch : Branch) (other : step.Branch) → Tells drafts set branch other → TellsStep graph branch other
+    tells_step : (set : List Bool) (branch : Branch) (other : step.Branch) → TellsBranch drafts set branch other → TellsStep graph branch other
     tells_step set (Go hop to) other (state, tells, awaits) =
         (state, tells, (node_of awaits.draft, mapped_there node_of drafts to awaits.draft awaits.is_draft, awaits.has_state))
     tells_step set (End hop leaf) other tells = tells
@@ -92,11 +92,11 @@ module _ (setting : Setting) (begin : List State) (drafts : List Draft) (are : A
           steps = λ at node arm rtype is typed.
               let of = of_draft at node arm is in
               subst (λ (s : State). AllZip (TellsStep graph) arm.branches (next setting rtype s)) (ap (λ (n : Node). n.state) of.same)
-              (side_by_side (Tells drafts arm.types) (TellsStep graph) arm.branches (next setting rtype of.draft.state) (tells_step arm.types)
+              (side_by_side (TellsBranch drafts arm.types) (TellsStep graph) arm.branches (next setting rtype of.draft.state) (tells_step arm.types)
               (are.made at of.draft arm of.is_draft of.has rtype typed));
           closed = λ at node arm rtype is typed hop to has.
               let of = of_draft at node arm is in
-              let told = beside (Tells drafts arm.types) arm.branches (next setting rtype of.draft.state) (Go hop to)
+              let told = beside (TellsBranch drafts arm.types) arm.branches (next setting rtype of.draft.state) (Go hop to)
               (are.made at of.draft arm of.is_draft of.has rtype typed) has in
               has_type arm.types to told.2.0 rtype told.2.2 typed;
           starts = subst (λ (states : List State). AllZip (HasState graph) starts states) from_query

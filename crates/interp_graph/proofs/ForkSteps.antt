@@ -12,10 +12,10 @@ use Rattle.net_model.specs.Step as step
 use Rattle.net_model.specs.Step.{Setting}
 use Rattle.net_model.specs.declared.walk.State.{State}
 use Rattle.graph_form.specs.declared.node.Branch.{Branch}
-use Rattle.interp_graph.specs.Drafts.{Tells, AreDrafts, Grows}
+use Rattle.interp_graph.specs.Drafts.{TellsBranch, AreDrafts, Grows}
 use Rattle.zone_lookup.specs.Steps.{branch_of}
 use Rattle.interp_graph.specs.Steps.{IsFork, IsApart, AreSplit}
-use Rattle.interp_graph.specs.Work.{IsSound, Waits, StillWaits, Advances, ComeOn, HasMoreComing, IsForkAt, AreForksAt, SplitWaiting}
+use Rattle.interp_graph.specs.Work.{IsSoundWork, Waits, StillWaits, Advances, ComeOn, HasMoreComing, IsForkAt, AreForksAt, SplitWaiting}
 use Rattle.interp_graph.specs.declared.draft.Draft.{Draft}
 use Rattle.interp_graph.specs.declared.step.Fork.{Fork}
 use Rattle.zone_lookup.specs.declared.steps.Step.{Step}
@@ -29,12 +29,12 @@ use Rattle.interp_graph.proofs.Working.{one_there}
 
 -- so far: the branches tell the steps that aren't left
 pub record BranchesSoFar (before now : Work) (set_of : List Bool) (all left : List Step) (branches : List Branch) : Type 0 where
-  pub sound : IsSound now
+  pub sound : IsSoundWork now
   pub advances : Advances before now
   pub still : StillWaits before now
   pub done : List Step
   pub parts : done ++ left ≡ all
-  pub told : AllZip (Tells now.drafts.items set_of) branches (map branch_of done)
+  pub told : AllZip (TellsBranch now.drafts.items set_of) branches (map branch_of done)
   pub drafts : (setting : Setting) (begin : List State) → AreDrafts setting begin before.drafts.items → ComeOn setting begin set_of (map branch_of all)
       → AreDrafts setting begin now.drafts.items
 
@@ -63,7 +63,7 @@ module _ (before now : Work) (set_of : List Bool) (all left : List Step) (branch
       (passed setting begin (so.drafts setting begin are come) (one_comes one so setting begin come))
 
   pub branches_more : (one : Step) → BranchesSoFar before now set_of all (one ∷ left) branches → (after : Work) (branch : Branch)
-      → IsSound after → Advances now after → StillWaits now after → Tells after.drafts.items set_of branch (branch_of one)
+      → IsSoundWork after → Advances now after → StillWaits now after → TellsBranch after.drafts.items set_of branch (branch_of one)
       → ((setting : Setting) (begin : List State) → AreDrafts setting begin now.drafts.items → ComeOn setting begin set_of (branch_of one ∷ [])
       → AreDrafts setting begin after.drafts.items)
       → BranchesSoFar before after set_of all left (branches ++ branch ∷ [])
@@ -74,8 +74,8 @@ module _ (before now : Work) (set_of : List Bool) (all left : List Step) (branch
         still = λ at rtype waits. still at rtype (so.still at rtype waits);
         done = so.done ++ one ∷ [];
         parts = append_assoc so.done (one ∷ []) left ∙ so.parts;
-        told = subst (AllZip (Tells after.drafts.items set_of) (branches ++ branch ∷ [])) (sym (map-append branch_of so.done (one ∷ [])))
-            (beside_pushed (Tells after.drafts.items set_of) branches (map branch_of so.done) branch (branch_of one)
+        told = subst (AllZip (TellsBranch after.drafts.items set_of) (branches ++ branch ∷ [])) (sym (map-append branch_of so.done (one ∷ [])))
+            (beside_pushed (TellsBranch after.drafts.items set_of) branches (map branch_of so.done) branch (branch_of one)
             (zip_grows now.drafts.items after.drafts.items advances.grows set_of branches (map branch_of so.done) so.told) tells);
         drafts = λ setting begin are come. drafts setting begin (so.drafts setting begin are come) (one_comes one so setting begin come);
       }
@@ -100,7 +100,7 @@ still_below before after at grows below =
 
 -- so far: the types of the forks that are left wait, and of those that wait each is in one of them or came since
 pub record ForksSoFar (before now : Work) (at : ℕ) (all left : List Fork) : Type 0 where
-  pub sound : IsSound now
+  pub sound : IsSoundWork now
   pub advances : Advances before now
   pub was_below : at < length before.drafts.items
   pub apart : AllPairs (λ a b. IsApart a.types b.types) left
@@ -111,7 +111,7 @@ pub record ForksSoFar (before now : Work) (at : ℕ) (all left : List Fork) : Ty
   pub drafts : (setting : Setting) (begin : List State) → AreDrafts setting begin before.drafts.items → AreForksAt setting before.drafts.items at all
       → AreDrafts setting begin now.drafts.items
 
-pub forks_begin : (before : Work) (at : ℕ) (all : List Fork) → IsSound before → at < length before.drafts.items → SplitWaiting before.drafts.items at all
+pub forks_begin : (before : Work) (at : ℕ) (all : List Fork) → IsSoundWork before → at < length before.drafts.items → SplitWaiting before.drafts.items at all
     → ForksSoFar before before at all all
 forks_begin before at all sound below split =
     let was = item_below before.drafts.items at below in
@@ -143,7 +143,7 @@ module _ (before now : Work) (at : ℕ) (all left : List Fork) (fork : Fork) (so
   forks_passed passed setting begin are forks =
       subst (HasMoreComing setting begin) so.advances.limit (passed setting begin (so.drafts setting begin are forks) (is_fork setting forks))
 
-  pub forks_more : (after : Work) → IsSound after → Advances now after
+  pub forks_more : (after : Work) → IsSoundWork after → Advances now after
       → ((rtype : RrType) → has_bit fork.types rtype ≡ true → Waits after.drafts.items at rtype → ⊥)
       → ((rtype : RrType) → has_bit fork.types rtype ≡ false → Waits now.drafts.items at rtype → Waits after.drafts.items at rtype)
       → ((setting : Setting) (begin : List State) → AreDrafts setting begin now.drafts.items → IsForkAt setting now.drafts.items at fork

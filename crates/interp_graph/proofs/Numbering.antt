@@ -21,7 +21,7 @@ use Rattle.indexmap.specs.IndexSet.{insert_key}
 use Rattle.graph_form.proofs.Places.{item_there}
 use Rattle.interp_graph.specs.Drafts.{states_of, size_of}
 use Rattle.interp_graph.specs.StateKey.{state_eq, state_decides}
-use Rattle.interp_graph.specs.Work.{TakesTypes, Took, TooMany}
+use Rattle.interp_graph.specs.Work.{TakesTypes, TookTypes, TooMany}
 use Rattle.interp_graph.specs.declared.draft.Draft.{Draft}
 use Rattle.interp_graph.specs.declared.work.Work.{Work}
 use Rattle.interp_graph.proofs.ItemsByNumber.{from_pushed, from_mapped}
@@ -107,7 +107,7 @@ module _ (work : Work) (at : ℕ) (set_of newly : List Bool) (old : Draft) (is :
       not-true (has_bit old.wanted rtype) (and_parts (has_bit set_of rtype) (not (has_bit old.wanted rtype)) (sym (minus rtype) ∙ new)).1
 
   -- where none is new, all came before
-  pub none_new : size_of newly ≡ 0 → Took work work at set_of
+  pub none_new : size_of newly ≡ 0 → TookTypes work work at set_of
   none_new none =
       record {
         keys = refl;

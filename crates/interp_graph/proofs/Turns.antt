@@ -7,21 +7,21 @@ use Rattle.dns_data.proofs.Membership.{none_in_nil, first_or_later}
 use Rattle.net_model.specs.Step.{Setting}
 use Rattle.net_model.specs.declared.walk.State.{State}
 use Rattle.interp_graph.specs.Drafts.{AreDrafts, Grows}
-use Rattle.interp_graph.specs.Work.{IsSound, IsListed, IsRid, Waits, Advances, HasMoreComing}
+use Rattle.interp_graph.specs.Work.{IsSoundWork, AreToFollow, IsRid, Waits, Advances, HasMoreComing}
 use Rattle.interp_graph.specs.declared.draft.Draft.{Draft}
 use Rattle.interp_graph.specs.declared.work.Work.{Work}
 use Rattle.interp_graph.proofs.Drafts.{grows_not, grows_twice}
 
 -- so far, in walks that are read so
 pub record TurnsSoFar (IsSo : Setting → List State → Type 0) (before now : Work) : Type 0 where
-  pub sound : IsSound now
+  pub sound : IsSoundWork now
   pub limit : now.limit ≡ before.limit
-  pub listed : IsListed now
+  pub listed : AreToFollow now
   pub grows : Grows before.drafts.items now.drafts.items
   pub drafts : (setting : Setting) (begin : List State) → IsSo setting begin → AreDrafts setting begin before.drafts.items → AreDrafts setting begin now.drafts.items
 
 module _ (IsSo : Setting → List State → Type 0) where
-  pub turns_begin : (before : Work) → IsSound before → IsListed before → TurnsSoFar IsSo before before
+  pub turns_begin : (before : Work) → IsSoundWork before → AreToFollow before → TurnsSoFar IsSo before before
   turns_begin before sound listed =
       record { sound = sound; limit = refl; listed = listed; grows = grows_not before.drafts.items; drafts = λ setting begin so are. are }
 
@@ -34,7 +34,7 @@ module _ (IsSo : Setting → List State → Type 0) where
         subst (HasMoreComing setting begin) (limit_same ∙ so.limit)
         (passed setting begin is (subst (AreDrafts setting begin) (sym drafts_same) (so.drafts setting begin is are)))
 
-    module _ (after : Work) (sound : IsSound after) (advances : Advances taken after) (rid : IsRid after at) where
+    module _ (after : Work) (sound : IsSoundWork after) (advances : Advances taken after) (rid : IsRid after at) where
       pub turns_more : ((setting : Setting) (begin : List State) → IsSo setting begin → AreDrafts setting begin taken.drafts.items → AreDrafts setting begin after.drafts.items)
           → TurnsSoFar IsSo before after
       turns_more drafts =

@@ -13,7 +13,7 @@ use Rattle.dns_data.proofs.Membership.{none_in_nil, has_first, first_or_later}
 use Rattle.net_model.specs.Step.{Setting}
 use Rattle.net_model.specs.declared.walk.State.{State}
 use Rattle.interp_graph.specs.Drafts.{Awaits, Comes, AreDrafts, Grows, states_of, size_of, pair_count}
-use Rattle.interp_graph.specs.Work.{TakesTypes, IsWithin, Waits, ComesTo, HasMoreComing, Numbered, Took, TooMany}
+use Rattle.interp_graph.specs.Work.{TakesTypes, IsWithin, Waits, ComesTo, HasMoreComing, Numbered, TookTypes, TooMany}
 use Rattle.interp_graph.specs.declared.draft.Draft.{Draft}
 use Rattle.interp_graph.specs.declared.work.Work.{Work}
 use Rattle.interp_graph.proofs.Counts.{more_types, more_reached}
@@ -100,7 +100,7 @@ module _ (drafts : List Draft) (at : ℕ) (old new : Draft) (is : slice_get draf
 
 -- ---- types come to a draft
 
-module _ (before after : Work) (at : ℕ) (set_of : List Bool) (took : Took before after at set_of) where
+module _ (before after : Work) (at : ℕ) (set_of : List Bool) (took : TookTypes before after at set_of) where
   pub took_grows : Grows before.drafts.items after.drafts.items
   took_grows = elim took.change [
     | inl same ↦ subst (Grows before.drafts.items) (sym same.drafts) (grows_not before.drafts.items)

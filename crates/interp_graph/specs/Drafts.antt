@@ -33,14 +33,14 @@ pub record Awaits (drafts : List Draft) (types : List Bool) (at : ℕ) (state : 
 
 -- a branch for some types tells a branch of a state: it leads to a draft of the same state to which they come, or is
 -- the same end
-abbrev pub Tells : List Draft → List Bool → Branch → step.Branch → Type 0
-Tells drafts set (Go hop to) branch = (state : State) × (branch ≡ step.Go hop state) × Awaits drafts set to state
-Tells drafts set (End hop leaf) branch = branch ≡ step.End hop leaf
+abbrev pub TellsBranch : List Draft → List Bool → Branch → step.Branch → Type 0
+TellsBranch drafts set (Go hop to) branch = (state : State) × (branch ≡ step.Go hop state) × Awaits drafts set to state
+TellsBranch drafts set (End hop leaf) branch = branch ≡ step.End hop leaf
 
 -- the branches of an arm tell the steps of the state for each of its types
 abbrev pub IsMade : Setting → List Draft → State → Arm → Type 0
 IsMade setting drafts state arm =
-    (rtype : RrType) → has_bit arm.types rtype ≡ true → AllZip (Tells drafts arm.types) arm.branches (next setting rtype state)
+    (rtype : RrType) → has_bit arm.types rtype ≡ true → AllZip (TellsBranch drafts arm.types) arm.branches (next setting rtype state)
 
 -- branches lead to the state from one in which the query begins
 pub record Comes (setting : Setting) (begin : List State) (rtype : RrType) (state : State) : Type 0 where

@@ -16,7 +16,7 @@ use Rattle.interp_graph.specs.declared.work.Work.{Work}
 use Rattle.interp_graph.specs.Steps.{IsFork, AreSplit}
 
 -- no type comes to the draft yet
-pub record IsFresh (draft : Draft) : Type 0 where
+pub record HasNoType (draft : Draft) : Type 0 where
   pub no_arms : draft.arms ≡ []
   pub none_wanted : (rtype : RrType) → has_bit draft.wanted rtype ≡ false
   pub none_waiting : (rtype : RrType) → has_bit draft.waiting rtype ≡ false
@@ -45,7 +45,7 @@ pub record IsWithin (work : Work) : Type 0 where
   pub fits : work.limit < 2 ^ 32
 
 -- the drafts are numbered by their states, there are no more of them than pairs, and what is to be followed is among them
-pub record IsSound (work : Work) : Type 0 where
+pub record IsSoundWork (work : Work) : Type 0 where
   pub keyed : work.keys.keys ≡ states_of work.drafts.items
   pub once : AllPairs (λ a b. a ≢ b) (states_of work.drafts.items)
   pub within : IsWithin work
@@ -59,8 +59,8 @@ pub record Waits (drafts : List Draft) (at : ℕ) (rtype : RrType) : Type 0 wher
   pub waits : has_bit draft.waiting rtype ≡ true
 
 -- each draft at which a type waits is to be followed
-abbrev pub IsListed : Work → Type 0
-IsListed work = (at : ℕ) (rtype : RrType) → Waits work.drafts.items at rtype → Contains work.stack.items at
+abbrev pub AreToFollow : Work → Type 0
+AreToFollow work = (at : ℕ) (rtype : RrType) → Waits work.drafts.items at rtype → Contains work.stack.items at
 
 -- what waits still does
 abbrev pub StillWaits : Work → Work → Type 0
@@ -115,7 +115,7 @@ pub record AwaitAll (drafts : List Draft) (starts : List ℕ) (states : List Sta
 abbrev pub Numbered : List Draft → List Draft → State → ℕ → Type 0
 Numbered before after state at =
     ((draft : Draft) × (after ≡ before) × (slice_get before at ≡ Some draft) × (draft.state ≡ state))
-    ⊎ ((draft : Draft) × (after ≡ before ++ draft ∷ []) × (at ≡ length before) × IsFresh draft × (draft.state ≡ state))
+    ⊎ ((draft : Draft) × (after ≡ before ++ draft ∷ []) × (at ≡ length before) × HasNoType draft × (draft.state ≡ state))
 
 -- types come to the draft with this number, and there is one pair more for each that is new
 pub record Changes (before after : Work) (at : ℕ) (types : List Bool) : Type 0 where
@@ -141,7 +141,7 @@ pub record Stays (before after : Work) (at : ℕ) (types : List Bool) : Type 0 w
   pub stack : after.stack.items ≡ before.stack.items
   pub pairs : after.pairs ≡ before.pairs
 
-pub record Took (before after : Work) (at : ℕ) (types : List Bool) : Type 0 where
+pub record TookTypes (before after : Work) (at : ℕ) (types : List Bool) : Type 0 where
   pub keys : after.keys ≡ before.keys
   pub limit : after.limit ≡ before.limit
   pub change : Stays before after at types ⊎ Changes before after at types

@@ -12,7 +12,7 @@ ghost use Rattle.graph_form.specs.Graph.{pairs_of};
 ghost use Rattle.graph_form.specs.GraphOf.{IsExact, IsGraphOf};
 ghost use Rattle.interp_graph.specs.Asked.{IsAsked, StandsForOthers, ReachesMost};
 ghost use Rattle.interp_graph.specs.Drafts.{AreDrafts, Grows, node_of};
-ghost use Rattle.interp_graph.specs.Work.{IsSound, IsListed, Waits, Advances, HasMoreComing, AwaitAll};
+ghost use Rattle.interp_graph.specs.Work.{IsSoundWork, AreToFollow, Waits, Advances, HasMoreComing, AwaitAll};
 
 use crate::draft::Draft;
 use crate::fault::GraphFault;
@@ -75,8 +75,8 @@ pub(crate) fn begin(
     work: &mut Work,
     states: List<State>,
 ) -> Result<List<u32>, GraphFault>
-    requires { IsSound work.old }
-    ensures sound { OnOk result (IsSound work.new) }
+    requires { IsSoundWork work.old }
+    ensures sound { OnOk result (IsSoundWork work.new) }
     ensures advances { OnOk result (Advances work.old work.new) }
     ensures starts { IfOk result (λ starts. AwaitAll work.new.drafts.items starts states) }
     ensures drafts { OnOk result ((setting : Setting) → AreDrafts setting states work.old.drafts.items → AreDrafts setting states work.new.drafts.items) }
@@ -92,9 +92,9 @@ pub(crate) fn begin(
 
 /// Follows each type that waits at a node, while every configured server is followed.
 fn follow(alloc: Global, walker: &Walker<'_, '_>, work: &mut Work) -> Result<(), GraphFault>
-    requires sound { IsSound work.old }
-    requires listed { IsListed work.old }
-    ensures sound { OnOk result (IsSound work.new) }
+    requires sound { IsSoundWork work.old }
+    requires listed { AreToFollow work.old }
+    ensures sound { OnOk result (IsSoundWork work.new) }
     ensures limit { OnOk result (work.new.limit ≡ work.old.limit) }
     ensures grows { OnOk result (Grows work.old.drafts.items work.new.drafts.items) }
     ensures none { OnOk result ((at : ℕ) (rtype : RrType) → Waits work.new.drafts.items at rtype → ⊥) }
@@ -111,7 +111,7 @@ fn follow(alloc: Global, walker: &Walker<'_, '_>, work: &mut Work) -> Result<(),
 
 /// The graph whose nodes are made.
 pub(crate) fn graph_of(alloc: Global, work: Work, starts: List<u32>) -> Result<Graph, NoMemory>
-    requires sound { IsSound work }
+    requires sound { IsSoundWork work }
     requires drafts { (setting : Setting) × (begin : List State) × AreDrafts setting begin work.drafts.items }
     ensures { IfOk result (λ graph. graph ≡ record { nodes = map node_of work.drafts.items; starts = starts }) }
 {

@@ -7,8 +7,8 @@ ghost use Rattle.dns_data.specs.declared.rr_type.RrType.{RrType};
 ghost use Rattle.net_model.specs.Step.{Setting};
 ghost use Rattle.net_model.specs.declared.walk.State.{State};
 ghost use Rattle.zone_lookup.specs.Steps.{branch_of};
-ghost use Rattle.interp_graph.specs.Drafts.{Tells, AreDrafts};
-ghost use Rattle.interp_graph.specs.Work.{IsSound, Advances, StillWaits, Waits, ComeOn, HasMoreComing, IsForkAt, AreForksAt, SplitWaiting, IsRid};
+ghost use Rattle.interp_graph.specs.Drafts.{TellsBranch, AreDrafts};
+ghost use Rattle.interp_graph.specs.Work.{IsSoundWork, Advances, StillWaits, Waits, ComeOn, HasMoreComing, IsForkAt, AreForksAt, SplitWaiting, IsRid};
 
 use crate::fault::GraphFault;
 use crate::step::Fork;
@@ -26,10 +26,10 @@ pub(crate) fn put_forks(
     at: usize,
     forks: List<Fork>,
 ) -> Result<(), GraphFault>
-    requires sound { IsSound work.old }
+    requires sound { IsSoundWork work.old }
     requires there { at < vec_len work.old.drafts }
     requires split { SplitWaiting work.old.drafts.items at forks }
-    ensures sound { OnOk result (IsSound work.new) }
+    ensures sound { OnOk result (IsSoundWork work.new) }
     ensures advances { OnOk result (Advances work.old work.new) }
     ensures rid { OnOk result (IsRid work.new at) }
     ensures drafts { OnOk result ((setting : Setting) (begin : List State) → AreDrafts setting begin work.old.drafts.items
@@ -46,10 +46,10 @@ pub(crate) fn put_forks(
 
 /// Gives a node the arm that one fork of its state tells.
 fn put_fork(alloc: Global, work: &mut Work, at: usize, fork: Fork) -> Result<(), GraphFault>
-    requires sound { IsSound work.old }
+    requires sound { IsSoundWork work.old }
     requires there { at < vec_len work.old.drafts }
     requires waits { (rtype : RrType) → has_bit fork.types rtype ≡ true → Waits work.old.drafts.items at rtype }
-    ensures sound { OnOk result (IsSound work.new) }
+    ensures sound { OnOk result (IsSoundWork work.new) }
     ensures advances { OnOk result (Advances work.old work.new) }
     ensures done { OnOk result ((rtype : RrType) → has_bit fork.types rtype ≡ true → Waits work.new.drafts.items at rtype → ⊥) }
     ensures others { OnOk result ((rtype : RrType) → has_bit fork.types rtype ≡ false → Waits work.old.drafts.items at rtype → Waits work.new.drafts.items at rtype) }
@@ -75,12 +75,12 @@ pub(crate) fn branches(
     types: TypeSet,
     steps: List<Step>,
 ) -> Result<List<Branch>, GraphFault>
-    requires sound { IsSound work.old }
+    requires sound { IsSoundWork work.old }
     requires some { (rtype : RrType) × (has_bit types rtype ≡ true) }
-    ensures sound { OnOk result (IsSound work.new) }
+    ensures sound { OnOk result (IsSoundWork work.new) }
     ensures advances { OnOk result (Advances work.old work.new) }
     ensures still { OnOk result (StillWaits work.old work.new) }
-    ensures told { IfOk result (λ branches. AllZip (Tells work.new.drafts.items types) branches (map branch_of steps)) }
+    ensures told { IfOk result (λ branches. AllZip (TellsBranch work.new.drafts.items types) branches (map branch_of steps)) }
     ensures drafts { OnOk result ((setting : Setting) (begin : List State) → AreDrafts setting begin work.old.drafts.items
         → ComeOn setting begin types (map branch_of steps) → AreDrafts setting begin work.new.drafts.items) }
     ensures passed { IsErrOf result GraphFault.StatesPassed → (setting : Setting) (begin : List State)
@@ -96,12 +96,12 @@ pub(crate) fn branches(
 
 /// The branch for some types by one step of a state.
 fn branch(alloc: Global, work: &mut Work, types: TypeSet, step: Step) -> Result<Branch, GraphFault>
-    requires sound { IsSound work.old }
+    requires sound { IsSoundWork work.old }
     requires some { (rtype : RrType) × (has_bit types rtype ≡ true) }
-    ensures sound { OnOk result (IsSound work.new) }
+    ensures sound { OnOk result (IsSoundWork work.new) }
     ensures advances { OnOk result (Advances work.old work.new) }
     ensures still { OnOk result (StillWaits work.old work.new) }
-    ensures told { IfOk result (λ branch. Tells work.new.drafts.items types branch (branch_of step)) }
+    ensures told { IfOk result (λ branch. TellsBranch work.new.drafts.items types branch (branch_of step)) }
     ensures drafts { OnOk result ((setting : Setting) (begin : List State) → AreDrafts setting begin work.old.drafts.items
         → ComeOn setting begin types (branch_of step ∷ []) → AreDrafts setting begin work.new.drafts.items) }
     ensures passed { IsErrOf result GraphFault.StatesPassed → (setting : Setting) (begin : List State)

@@ -9,7 +9,7 @@ ghost use Rattle.graph_form.specs.GraphOf.{IsExactIn, IsGraphOf};
 ghost use Rattle.interp_graph.specs.Asked.{IsBuilt};
 ghost use Rattle.interp_graph.specs.Drafts.{AreDrafts, Grows};
 ghost use Rattle.interp_graph.specs.Restricted.{IsNumbered, IsRestriction};
-ghost use Rattle.interp_graph.specs.Work.{IsSound, IsListed, Waits, HasMoreComing, AwaitAll};
+ghost use Rattle.interp_graph.specs.Work.{IsSoundWork, AreToFollow, Waits, HasMoreComing, AwaitAll};
 
 use crate::building::{begin, graph_of};
 use crate::fault::GraphFault;
@@ -58,11 +58,11 @@ fn follow_all(
     work: &mut Work,
     states: List<State>,
 ) -> Result<List<u32>, GraphFault>
-    requires sound { IsSound work.old }
+    requires sound { IsSoundWork work.old }
     requires none { work.old.drafts.items ≡ [] }
     requires numbered { IsNumbered limited.now.numbers.keys limited.now.graph.now }
     requires built { (setting : Setting) × IsRestriction limited.now.hosts.now limited.now.graph.now limited.now.followed.now setting states }
-    ensures sound { OnOk result (IsSound work.new) }
+    ensures sound { OnOk result (IsSoundWork work.new) }
     ensures starts { IfOk result (λ starts. AwaitAll work.new.drafts.items starts states) }
     ensures none { OnOk result ((at : ℕ) (rtype : RrType) → Waits work.new.drafts.items at rtype → ⊥) }
     ensures drafts { OnOk result ((setting : Setting)
@@ -77,12 +77,12 @@ fn follow_all(
 
 /// Follows each type that waits at a node, while some servers are followed.
 fn follow(alloc: Global, limited: &Limited<'_, '_>, work: &mut Work) -> Result<(), GraphFault>
-    requires sound { IsSound work.old }
-    requires listed { IsListed work.old }
+    requires sound { IsSoundWork work.old }
+    requires listed { AreToFollow work.old }
     requires numbered { IsNumbered limited.now.numbers.keys limited.now.graph.now }
     requires built { (setting : Setting) × (begin : List State)
         × IsRestriction limited.now.hosts.now limited.now.graph.now limited.now.followed.now setting begin × AreDrafts setting begin work.old.drafts.items }
-    ensures sound { OnOk result (IsSound work.new) }
+    ensures sound { OnOk result (IsSoundWork work.new) }
     ensures limit { OnOk result (work.new.limit ≡ work.old.limit) }
     ensures grows { OnOk result (Grows work.old.drafts.items work.new.drafts.items) }
     ensures none { OnOk result ((at : ℕ) (rtype : RrType) → Waits work.new.drafts.items at rtype → ⊥) }

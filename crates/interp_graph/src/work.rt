@@ -6,7 +6,7 @@ ghost use Rattle.net_model.specs.declared.walk.State.{State};
 ghost use Rattle.dns_data.specs.TypeSet.{has_bit};
 ghost use Rattle.dns_data.specs.declared.rr_type.RrType.{RrType};
 ghost use Rattle.interp_graph.specs.Drafts.{Awaits, AreDrafts, states_of};
-ghost use Rattle.interp_graph.specs.Work.{IsSound, IsListed, Advances, StillWaits, ComesTo, HasMoreComing, IsFresh, IsWithin, Numbered, Took, TooMany, PutArm};
+ghost use Rattle.interp_graph.specs.Work.{IsSoundWork, AreToFollow, Advances, StillWaits, ComesTo, HasMoreComing, HasNoType, IsWithin, Numbered, TookTypes, TooMany, PutArm};
 
 use crate::draft::Draft;
 use crate::fault::GraphFault;
@@ -31,7 +31,7 @@ pub(crate) struct Work {
 impl Work {
     /// A graph without a node, which may have so many pairs.
     pub fn new(alloc: Global, limit: u32) -> Work
-        ensures sound { IsSound result }
+        ensures sound { IsSoundWork result }
         ensures drafts { result.drafts.items ≡ [] }
         ensures stack { result.stack.items ≡ [] }
         ensures limit { result.limit ≡ limit }
@@ -47,8 +47,8 @@ impl Work {
 
     /// Takes a node to which types came, or `None` where there is none.
     pub fn take(&mut self) -> Option<usize>
-        requires { IsSound self.old }
-        ensures sound { IsSound self.new }
+        requires { IsSoundWork self.old }
+        ensures sound { IsSoundWork self.new }
         ensures drafts { self.new.drafts.items ≡ self.old.drafts.items }
         ensures limit { self.new.limit ≡ self.old.limit }
         ensures pairs { self.new.pairs ≡ self.old.pairs }
@@ -62,9 +62,9 @@ impl Work {
     /// The number of the node of a state to which types come. They wait there, but for those that came before. It is
     /// `StatesPassed` where there are more pairs then than are allowed.
     pub fn reach(&mut self, alloc: Global, state: State, types: TypeSet) -> Result<u32, GraphFault>
-        requires sound { IsSound self.old }
+        requires sound { IsSoundWork self.old }
         requires some { (rtype : RrType) × (has_bit types rtype ≡ true) }
-        ensures sound { OnOk result (IsSound self.new) }
+        ensures sound { OnOk result (IsSoundWork self.new) }
         ensures advances { OnOk result (Advances self.old self.new) }
         ensures still { OnOk result (StillWaits self.old self.new) }
         ensures awaits { IfOk result (λ at. Awaits self.new.drafts.items types at state) }
@@ -82,7 +82,7 @@ impl Work {
     fn want(&mut self, at: usize, types: TypeSet) -> Result<(), GraphFault>
         requires there { at < vec_len self.old.drafts }
         requires room { IsWithin self.old }
-        ensures took { OnOk result (Took self.old self.new at types) }
+        ensures took { OnOk result (TookTypes self.old self.new at types) }
         ensures passed { IsErrOf result GraphFault.StatesPassed → TooMany self.old at types }
     {
         let newly = types.minus(self.drafts[at].wanted);
@@ -136,7 +136,7 @@ fn number(
 
 /// A node in the making to which no type comes.
 fn new_draft(alloc: Global, state: State) -> Draft
-    ensures fresh { IsFresh result }
+    ensures fresh { HasNoType result }
     ensures state { result.state ≡ state }
 {
     Draft {

@@ -9,7 +9,7 @@ use Rattle.master_lex.specs.declared.position.Mode.TheVariants.{Start, Between, 
 use Rattle.master_lex.specs.declared.position.Escape.TheVariants.{Outside, Begun, One, Two}
 use Rattle.master_lex.specs.Pieces.{Broken}
 use Rattle.master_lex.specs.Contents.{Contents, entry_at, fails, behind, contents_from}
-use Rattle.master_lex.specs.States.{State, token_ended, passed, run, Fits, IsTidy, entry_so_far, ahead_by, ahead, fault_by, last_fault, whole_by, made, without_fault, last_entry}
+use Rattle.master_lex.specs.States.{State, token_ended, passed, run, Fits, IsTidy, entry_so_far, ahead_by, ahead, fault_at_end, last_fault, whole_by, made, without_fault, last_entry}
 use Rattle.master_lex.proofs.UndoLemmas.{moves}
 use Rattle.master_lex.proofs.Steps.{ended_ahead, bad_ahead, step}
 
@@ -24,7 +24,7 @@ run_ahead s (c ∷ cs) more tidy = step s c (cs ++ more) tidy ∙ run_ahead (pas
 
 -- what is held where the text ends, with this under way
 abbrev ended_by : Mode → State → Contents
-ended_by m s = record { whole = s.ready; last = without_fault (fault_by m s.position) (made (whole_by m s)); fault = fault_by m s.position }
+ended_by m s = record { whole = s.ready; last = without_fault (fault_at_end m s.position) (made (whole_by m s)); fault = fault_at_end m s.position }
 
 no_more : (ready last : List Entry) (fault : _) → ◌≡◌ {A = Contents} (record { whole = ready ++ []; last = last; fault = fault }) (record { whole = ready; last = last; fault = fault })
 no_more ready last fault = ap (λ (w : List Entry). record { whole = w; last = last; fault = fault }) (append-nil ready)

@@ -14,7 +14,7 @@ use Rattle.master_lex.specs.declared.taken.Taken.{Taken}
 use Rattle.master_lex.specs.declared.taken.Taken.TheVariants as answers
 use Rattle.master_lex.specs.Contents.{Contents, behind, contents, text_entries, text_fault}
 use Rattle.master_lex.specs.States.{State, empty, run, Fits, IsTidy, ahead_by, ahead, last_fault, whole_by, made, without_fault, last_entry}
-use Rattle.master_lex.specs.Taking.{IsFault, left_answer, IsAnswer, given_with}
+use Rattle.master_lex.specs.Taking.{IsFault, left_answer, IsNextEntry, given_with}
 use Rattle.master_lex.specs.Lexer.{Lexing, IsLexerOf, left, LastTaken}
 use Rattle.master_lex.proofs.Running.{run_ahead, end_ahead}
 use Rattle.master_lex.proofs.Settled.{held_fault, not_settled}
@@ -87,7 +87,7 @@ fault_is s text given tidy h = by s.position.mode tidy (λ more. ap (λ (c : Con
 -- a lexer answers by what is left
 pub stands_answer : (s : State) (n : ℕ) (finished : Bool) (result : Result Taken TakeFault) → IsTidy s
     → AnswersOr NoMemory result (left_answer finished (left (record { state = s; fed = n; finished = finished })) (known_fault (record { state = s; fed = n; finished = finished })))
-    → (text : List ℕ) (given : List Entry) → IsLexerOf (record { state = s; fed = n; finished = finished }) text given → IsAnswer finished text given result
+    → (text : List ℕ) (given : List Entry) → IsLexerOf (record { state = s; fed = n; finished = finished }) text given → IsNextEntry finished text given result
 stands_answer s n true result tidy a text given h = (
   last_fault s.position,
   (sym h.agrees.fault, rw (left_over given (s.ready ++ last_entry s) (text_entries text) (h.agrees.entries ∙ append_assoc given s.ready (last_entry s))) a),

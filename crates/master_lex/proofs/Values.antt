@@ -11,7 +11,7 @@ use Rattle.master_lex.specs.declared.fault.TakeFault.TheVariants as faults
 use Rattle.master_lex.specs.declared.taken.Taken.TheVariants as answers
 use Rattle.master_lex.specs.Contents.{Contents, behind, contents, text_entries, text_fault}
 use Rattle.master_lex.specs.States.{empty, run, ahead_by, last_entry, ahead}
-use Rattle.master_lex.specs.Taking.{left_answer, IsAnswer}
+use Rattle.master_lex.specs.Taking.{left_answer, IsNextEntry}
 use Rattle.master_lex.specs.Lexer.{Lexing, Remains, IsLexerOf}
 use Rattle.master_lex.proofs.UndoLemmas.{moves_far}
 use Rattle.master_lex.proofs.Running.{run_ahead, end_ahead}
@@ -65,20 +65,20 @@ module _ (lexer : Lexing) (text : List ℕ) (given : List Entry) (ended : lexer.
       let e = r.entries ∙ append_assoc given lexer.state.ready (last_entry lexer.state) in
       e ∙ ap (λ (x : List Entry). given ++ x) (sym (ap (drop (length given)) e ∙ drop_front given (lexer.state.ready ++ last_entry lexer.state)))
 
-  pub taken_all : IsAnswer lexer.finished text given (Ok answers.End) → (given ≡ text_entries text) × (None ≡ text_fault text)
+  pub taken_all : IsNextEntry lexer.finished text given (Ok answers.End) → (given ≡ text_entries text) × (None ≡ text_fault text)
   taken_all answer =
-      let a : IsAnswer true text given (Ok answers.End) = rw ended at answer in
+      let a : IsNextEntry true text given (Ok answers.End) = rw ended at answer in
       let p = end_by (drop (length given) (text_entries text)) a.0 a.1.1 in
       (all_given given (drop (length given) (text_entries text)) (text_entries text) split p.0, p.1 ∙ a.1.0)
 
-  pub never_more : IsAnswer lexer.finished text given (Ok answers.More) → ⊥
+  pub never_more : IsNextEntry lexer.finished text given (Ok answers.More) → ⊥
   never_more answer =
-      let a : IsAnswer true text given (Ok answers.More) = rw ended at answer in
+      let a : IsNextEntry true text given (Ok answers.More) = rw ended at answer in
       more_by (drop (length given) (text_entries text)) a.0 a.1.1
 
-  pub taken_to_fault : (line : ℕ) (kind : LexKind) → IsAnswer lexer.finished text given (Err (faults.Lex line kind)) → (given ≡ text_entries text) × (Some (made_fault line kind) ≡ text_fault text)
+  pub taken_to_fault : (line : ℕ) (kind : LexKind) → IsNextEntry lexer.finished text given (Err (faults.Lex line kind)) → (given ≡ text_entries text) × (Some (made_fault line kind) ≡ text_fault text)
   taken_to_fault line kind answer =
-      let a : IsAnswer true text given (Err (faults.Lex line kind)) = rw ended at answer in
+      let a : IsNextEntry true text given (Err (faults.Lex line kind)) = rw ended at answer in
       elim a.1.1 [
         | inl never ↦ absurd (cc)
         | inr said ↦ let p = fault_by (drop (length given) (text_entries text)) a.0 line kind said in

@@ -224,7 +224,7 @@ ahead_by Start s text = contents_from (record (entry_so_far s) { blank_start = b
 ahead_by Between s text = contents_from (entry_so_far s) (pieces text)
 ahead_by Comment s text = contents_from (entry_so_far s) (comment text)
 ahead_by (InToken quoted escape) s text = contents_from (entry_so_far s) (before quoted s.raw (rest_of_token quoted escape text))
-ahead_by (Faulty fault) s text = record { whole = []; last = []; fault = Some fault }
+ahead_by (Faulty fault) s text = record { ended_entry = []; last = []; fault = Some fault }
 
 -- the whole entries that weren't taken, and behind them what a text holds that goes on from here
 abbrev pub ahead : State → List ℕ → Contents
@@ -241,14 +241,14 @@ token_fault Outside true position = Some (record { line = position.line; kind = 
 token_fault _ quoted position = Some (record { line = position.line; kind = BadEscape })
 
 -- the fault in which the text ends, by what is under way
-abbrev pub fault_by : Mode → Position → Option LexFault
-fault_by (InToken quoted escape) position = token_fault escape quoted position
-fault_by (Faulty fault) position = Some fault
-fault_by _ position = paren_fault position
+abbrev pub fault_at_end : Mode → Position → Option LexFault
+fault_at_end (InToken quoted escape) position = token_fault escape quoted position
+fault_at_end (Faulty fault) position = Some fault
+fault_at_end _ position = paren_fault position
 
 -- the fault in which the text ends, if it ends here
 abbrev pub last_fault : Position → Option LexFault
-last_fault position = fault_by position.mode position
+last_fault position = fault_at_end position.mode position
 
 -- the token under way ends with the text
 abbrev pub whole_by : Mode → State → State
@@ -256,8 +256,8 @@ whole_by (InToken quoted escape) s = token_ended s quoted
 whole_by _ s = s
 
 -- the tokens of the entry that ends with the text
-abbrev pub whole : State → State
-whole s = whole_by s.position.mode s
+abbrev pub ended_entry : State → State
+ended_entry s = whole_by s.position.mode s
 
 -- the entry that the tokens make, or none without a token
 abbrev pub made : State → List Entry
@@ -270,7 +270,7 @@ without_fault (Some fault) entries = []
 
 -- the entry that ends with the text, if the text ends here
 abbrev pub last_entry : State → List Entry
-last_entry s = without_fault (last_fault s.position) (made (whole s))
+last_entry s = without_fault (last_fault s.position) (made (ended_entry s))
 
 -- the stores hold the same
 pub record SameStores (old new : State) : Type 0 where

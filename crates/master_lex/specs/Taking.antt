@@ -12,7 +12,7 @@ use Rattle.master_lex.specs.declared.taken.Taken.TheVariants as answers
 -- the entries of a text that has ended; else those that are whole, however it goes on
 abbrev pub entries_in : Bool → List ℕ → List Entry
 entries_in true text = text_entries text
-entries_in false text = (contents text).whole
+entries_in false text = (contents text).ended_entry
 
 -- the fault is that of the text that has ended; else the one that it has however it goes on, or there is no such
 abbrev pub IsFault : Bool → List ℕ → Option LexFault → Type 0
@@ -32,8 +32,8 @@ left_answer finished (entry ∷ entries) fault = Ok (answers.Entry entry)
 left_answer finished [] fault = end_answer finished fault
 
 -- The next entry of the text is answered behind those that were given; else its fault; else whether it has ended.
-abbrev pub IsAnswer : Bool → List ℕ → List Entry → Result Taken TakeFault → Type 0
-IsAnswer finished text given result =
+abbrev pub IsNextEntry : Bool → List ℕ → List Entry → Result Taken TakeFault → Type 0
+IsNextEntry finished text given result =
     (fault : Option LexFault) × (IsFault finished text fault × AnswersOr NoMemory result (left_answer finished (drop (length given) (entries_in finished text)) fault))
 
 -- the entries that were given, with this answer

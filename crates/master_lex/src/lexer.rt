@@ -3,7 +3,7 @@
 ghost use Rattle.std.specs.Prelude.{◌≡◌, ◌+◌, ◌-◌, ◌^◌, ◌<◌, ◌≤◌, ℕ, List, [], ◌++◌, length, true, false, OnOk, OnErr, IfOk};
 ghost use Rattle.master_lex.specs.declared.entry.Entry.{Entry};
 ghost use Rattle.master_lex.specs.Lexer.{IsLexerOf, left};
-ghost use Rattle.master_lex.specs.Taking.{IsAnswer, given_with};
+ghost use Rattle.master_lex.specs.Taking.{IsNextEntry, given_with};
 
 use crate::fault::TakeFault;
 use crate::position::Mode;
@@ -77,7 +77,7 @@ impl Lexer {
     /// `NoMemory` the call can be tried again.
     pub fn take(&mut self, alloc: Global) -> Result<Taken, TakeFault>
         ensures answer { (text : List ℕ) (given : List Entry) → IsLexerOf self.old text given
-            → IsAnswer self.old.finished text given result }
+            → IsNextEntry self.old.finished text given result }
         ensures stands { (text : List ℕ) (given : List Entry) → IsLexerOf self.old text given
             → IfOk result (λ taken. IsLexerOf self.new text (given_with given taken)) }
         ensures left { IfOk result (λ taken. left self.old ≡ given_with [] taken ++ left self.new) }

@@ -13,7 +13,7 @@ use Rattle.master_lex.specs.declared.fault.LexFault.{LexFault}
 use Rattle.master_read.specs.Context.{under, back_at}
 use Rattle.master_read.specs.Directives.{Directive, Sets, Includes, is_directive, directive_of}
 use Rattle.master_read.specs.Entries.{Made, record_of}
-use Rattle.master_read.specs.ZoneText.{Unread, Faulty, Asks, Progress, Effect, Leaves, Opens, Include, no_records, in_context, at, said_by, with_made, effect_of, with_effect, with_entry, with_entries, ended, with_rest, with_file, with_next_text, one_included, included, most_levels, zone_text_of, zone_text, record_entries, opened_record_entries}
+use Rattle.master_read.specs.ZoneText.{Unread, Faulty, Asks, Progress, Effect, Leaves, Opens, Include, no_records, in_context, at, said_by, with_made, effect_of, with_effect, with_entry, with_entries, ended, with_rest, with_include, with_next_text, one_included, included, most_levels, zone_text_of, zone_text, record_entries, opened_record_entries}
 use Rattle.master_read.specs.declared.context.Context.{Context}
 use Rattle.master_read.specs.declared.fault.TextCause.{TextCause}
 use Rattle.master_read.specs.declared.fault.TextCause.TheVariants.{TooMany, TooManyIncludes}
@@ -216,7 +216,7 @@ module _ (limits : Limits) (include : Include) (counts : IncludeCounts limits in
       (counts_then limits p steps.0 q (length (record_entries entries)) 0 (entries_count file entries p steps.0 steps.1.0) (end_counts file before fault steps.0 q steps.1.1))
 
   -- a file, behind any context
-  file_counts : (origin : Labels) (text : List ℕ) (p q : Progress) → with_file include limits.room origin text p ≡ Ok q → Counts limits p (length (record_entries (text_entries text))) q
+  file_counts : (origin : Labels) (text : List ℕ) (p q : Progress) → with_include include limits.room origin text p ≡ Ok q → Counts limits p (length (record_entries (text_entries text))) q
   file_counts origin text p q e =
       let start : Progress = in_context p (under origin p.records.context) in
       let rest = rest_counts p.records.included p.records.context (text_entries text) (text_fault text) start q e in
@@ -241,7 +241,7 @@ module _ (limits : Limits) (include : Include) (counts : IncludeCounts limits in
           by (at_first d) rest = entry_asks file entry p asked d
           by (at_next q is d) rest = within_before limits p q (count_of (is_directive entry)) (entry_counts file entry p q is) (rest q d)
 
-    file_asks : (origin : Labels) (text : List ℕ) (p : Progress) (asked : List ℕ) → with_file include limits.room origin text p ≡ Err (Asks asked) → IsWithin limits p
+    file_asks : (origin : Labels) (text : List ℕ) (p : Progress) (asked : List ℕ) → with_include include limits.room origin text p ≡ Err (Asks asked) → IsWithin limits p
     unfolding with_rest
     file_asks origin text p asked e =
         by (which (with_entries include limits.room p.records.included (text_entries text) (in_context p (under origin p.records.context))) (ended p.records.included p.records.context (text_fault text)) (Asks asked) e) where
@@ -273,13 +273,13 @@ next_counts limits p q text texts is less rest =
     }
 
 next_text_counts : (limits : Limits) (include : Include) → IncludeCounts limits include → (name : List ℕ) (origin : Labels) (p q : Progress) (texts : List (List ℕ)) → p.texts ≡ texts
-    → p.records.included < limits.includes → with_next_text name (with_file include limits.room origin) (one_included p) texts ≡ Ok q → Counts limits p 0 q
+    → p.records.included < limits.includes → with_next_text name (with_include include limits.room origin) (one_included p) texts ≡ Ok q → Counts limits p 0 q
 next_text_counts limits include counts name origin p q [] is less e = absurd cc
 next_text_counts limits include counts name origin p q (text ∷ texts) is less e =
     next_counts limits p q text texts is less (file_counts limits include counts origin text (record (one_included p) { texts = texts }) q e)
 
 next_text_asks : (limits : Limits) (include : Include) → IncludeCounts limits include → IncludeAsks limits include → (name : List ℕ) (origin : Labels) (p : Progress) (asked : List ℕ) (texts : List (List ℕ))
-    → p.texts ≡ texts → p.records.included < limits.includes → with_next_text name (with_file include limits.room origin) (one_included p) texts ≡ Err (Asks asked) → IsWithin limits p
+    → p.texts ≡ texts → p.records.included < limits.includes → with_next_text name (with_include include limits.room origin) (one_included p) texts ≡ Err (Asks asked) → IsWithin limits p
 next_text_asks limits include counts asks name origin p asked [] is less e = let none : length p.texts ≡ 0 = ap (λ (ts : List (List ℕ)). length ts) is in omega (arith, none, less)
 next_text_asks limits include counts asks name origin p asked (text ∷ texts) is less e =
     let one : length p.texts ≡ length texts + 1 = ap (λ (ts : List (List ℕ)). length ts) is ∙ sym (add-one (length texts)) in
@@ -292,8 +292,8 @@ included_counts limits zero file line name origin p q e = absurd cc
 included_counts limits (suc levels) file line name origin p q e =
     by (nat_le limits.includes p.records.included) refl e (next_text_counts limits (included limits levels) (included_counts limits levels) name origin p q p.texts refl) where
       by : (full : Bool) → nat_le limits.includes p.records.included ≡ full
-          → cond full (Err (Faulty (At file line TooManyIncludes))) (with_next_text name (with_file (included limits levels) limits.room origin) (one_included p) p.texts) ≡ Ok q
-          → (p.records.included < limits.includes → with_next_text name (with_file (included limits levels) limits.room origin) (one_included p) p.texts ≡ Ok q → Counts limits p 0 q) → Counts limits p 0 q
+          → cond full (Err (Faulty (At file line TooManyIncludes))) (with_next_text name (with_include (included limits levels) limits.room origin) (one_included p) p.texts) ≡ Ok q
+          → (p.records.included < limits.includes → with_next_text name (with_include (included limits levels) limits.room origin) (one_included p) p.texts ≡ Ok q → Counts limits p 0 q) → Counts limits p 0 q
       by true is d next = absurd cc
       by false is d next = next (grind (arith, nat_tests)) d
 
@@ -304,8 +304,8 @@ included_asks limits (suc levels) file line name origin p asked e =
     by (nat_le limits.includes p.records.included) refl e
     (next_text_asks limits (included limits levels) (included_counts limits levels) (included_asks limits levels) name origin p asked p.texts refl) where
       by : (full : Bool) → nat_le limits.includes p.records.included ≡ full
-          → cond full (Err (Faulty (At file line TooManyIncludes))) (with_next_text name (with_file (included limits levels) limits.room origin) (one_included p) p.texts) ≡ Err (Asks asked)
-          → (p.records.included < limits.includes → with_next_text name (with_file (included limits levels) limits.room origin) (one_included p) p.texts ≡ Err (Asks asked) → IsWithin limits p) → IsWithin limits p
+          → cond full (Err (Faulty (At file line TooManyIncludes))) (with_next_text name (with_include (included limits levels) limits.room origin) (one_included p) p.texts) ≡ Err (Asks asked)
+          → (p.records.included < limits.includes → with_next_text name (with_include (included limits levels) limits.room origin) (one_included p) p.texts ≡ Err (Asks asked) → IsWithin limits p) → IsWithin limits p
       by true is d next = absurd cc
       by false is d next = next (grind (arith, nat_tests)) d
 
@@ -321,7 +321,7 @@ texts_count origin room includes (text ∷ later) given e =
     let limits : Limits = record { room = room; includes = includes } in
     let include : Include = included limits most_levels in
     let start : Progress = record { records = no_records; texts = later } in
-    let steps = both_steps (with_file include room origin text start) (λ progress. Ok (zone_text_of progress.records)) given e in
+    let steps = both_steps (with_include include room origin text start) (λ progress. Ok (zone_text_of progress.records)) given e in
     let counts = file_counts limits include (included_counts limits most_levels) origin text start steps.0 steps.1.0 in
     let same : zone_text_of steps.0.records ≡ given = cc (steps.1.1) in
     let included : steps.0.records.included ≡ length counts.used = let i = counts.included in omega (arith, i) in
@@ -344,7 +344,7 @@ texts_ask origin room includes (text ∷ later) file e =
     let limits : Limits = record { room = room; includes = includes } in
     let include : Include = included limits most_levels in
     let start : Progress = record { records = no_records; texts = later } in
-    rw (← add-one (length later)) (by (with_file include room origin text start) e (file_asks limits include (included_counts limits most_levels) (included_asks limits most_levels) origin text start file)) where
+    rw (← add-one (length later)) (by (with_include include room origin text start) e (file_asks limits include (included_counts limits most_levels) (included_asks limits most_levels) origin text start file)) where
       by : (said : Result Progress Unread) → (said >>= (λ progress. Ok (zone_text_of progress.records))) ≡ Err (Asks file) → (said ≡ Err (Asks file) → 0 + length later < includes) → length later + 1 ≤ includes
       by (Ok progress) d within = absurd cc
       by (Err unread) d within = let is : unread ≡ Asks file = cc in let h = within (ap Err is) in omega (arith, h)

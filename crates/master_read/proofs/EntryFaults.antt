@@ -23,12 +23,12 @@ use Rattle.rdata_forms.specs.Times.{time_of}
 use Rattle.rdata_forms.specs.declared.fault.RdataFault.{RdataFault}
 use Rattle.rdata_forms.specs.declared.fault.RdataFault.TheVariants as rdata_faults
 use Rattle.master_read.specs.Directives.{is_directive, named_below, origin_directive, ttl_directive, file_named, include_origin, include_directive, directive_of}
-use Rattle.master_read.specs.Entries.{written_owner, owner_of, behind_owner, Front, front_of, begins_with_digit, with_class, with_next as with_next_word, one_more, front_in, type_said, as_data, data_by, data_behind, ttl_of, made_of, record_of}
+use Rattle.master_read.specs.Entries.{written_owner, owner_of, behind_owner, Front, front_of, begins_with_digit, with_class_word, with_next as with_next_word, one_more, front_in, type_said, as_data, data_by, data_behind, ttl_of, made_of, record_of}
 use Rattle.master_read.specs.Fault.{tells_of_name, tells_of_data, tells_of_text, TellsOfText}
 use Rattle.master_read.specs.Reader.{Held}
 use Rattle.master_read.specs.Steps.{fault_at, IsFaultOf, entry_makes}
 use Rattle.master_read.specs.Words.{type_word, class_word}
-use Rattle.master_read.specs.ZoneText.{Unread, Faulty, Asks, TellsOfUnread, Progress, Effect, Leaves, Opens, Include, no_records, at, with_made, effect_of, with_effect, with_entry, with_entries, ended, with_rest, with_file, with_next_text, one_included, included, most_levels, zone_text}
+use Rattle.master_read.specs.ZoneText.{Unread, Faulty, Asks, TellsOfUnread, Progress, Effect, Leaves, Opens, Include, no_records, at, with_made, effect_of, with_effect, with_entry, with_entries, ended, with_rest, with_include, with_next_text, one_included, included, most_levels, zone_text}
 use Rattle.master_read.specs.declared.context.Context.{Context}
 use Rattle.master_read.specs.declared.fault.EntryFault.{EntryFault}
 use Rattle.master_read.specs.declared.fault.EntryFault.TheVariants.{Cause, NoMemory as WantsMemory}
@@ -125,7 +125,7 @@ owner_told : (context : Context) (entry : Entry) → Told (owner_of context entr
 unfolding owner_of
 owner_told context entry = if_err_either IsTold entry.blank_start _ _ (if_err_or IsTold context.owner NoOwner refl) (written_told context entry.tokens)
 
-class_told : (front : Front) (tokens : List Token) (class : Option ClassWord) → Told (with_class front tokens class)
+class_told : (front : Front) (tokens : List Token) (class : Option ClassWord) → Told (with_class_word front tokens class)
 class_told front tokens (Some In) = tt
 class_told front tokens (Some NotIn) = refl
 class_told front tokens None = tt
@@ -237,7 +237,7 @@ ended_told : (file : ℕ) (before : Context) (fault : Option LexFault) (progress
 ended_told file before None progress = tt
 ended_told file before (Some fault) progress = record { own = λ e. cc; tells = refl }
 
-with_file_told : (include : Include) → ToldBy include → (room : ℕ) (origin : Labels) (text : List ℕ) (progress : Progress) → IfErr (with_file include room origin text progress) IsUnread
+with_file_told : (include : Include) → ToldBy include → (room : ℕ) (origin : Labels) (text : List ℕ) (progress : Progress) → IfErr (with_include include room origin text progress) IsUnread
 unfolding with_rest
 with_file_told include told room origin text progress =
     if_err_then IsUnread (with_entries include room progress.records.included (text_entries text) _) _
@@ -245,7 +245,7 @@ with_file_told include told room origin text progress =
     (λ more. ended_told progress.records.included progress.records.context (text_fault text) more)
 
 next_told : (include : Include) → ToldBy include → (room : ℕ) (name : List ℕ) (origin : Labels) (progress : Progress) (texts : List (List ℕ))
-    → IfErr (with_next_text name (with_file include room origin) progress texts) IsUnread
+    → IfErr (with_next_text name (with_include include room origin) progress texts) IsUnread
 next_told include told room name origin progress [] = tt
 next_told include told room name origin progress (text ∷ texts) = with_file_told include told room origin text _
 
@@ -270,5 +270,5 @@ texts_told origin room includes [] = tt
 texts_told origin room includes (text ∷ texts) =
     let include : Include = included (record { room = room; includes = includes }) most_levels in
     let start : Progress = record { records = no_records; texts = texts } in
-    if_err_then IsUnread (with_file include room origin text start) _
+    if_err_then IsUnread (with_include include room origin text start) _
     (with_file_told include (included_told (record { room = room; includes = includes }) most_levels) room origin text start) (λ progress. tt)

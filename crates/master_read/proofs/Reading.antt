@@ -13,7 +13,7 @@ use Rattle.master_lex.proofs.Values.{taken_first}
 use Rattle.master_read.specs.Context.{under, back_at}
 use Rattle.master_read.specs.Reader.{Held, rest_of, rest_around, texts_give, IsSettled}
 use Rattle.master_read.specs.Steps.{fault_at, IsFaultOf, OpensFile, IsPausing, MayOpen, entry_makes}
-use Rattle.master_read.specs.ZoneText.{Unread, Faulty, Asks, Progress, Effect, Leaves, Opens, Include, at, effect_of, with_effect, with_entry, with_entries, ended, with_rest, with_file, with_next_text, one_included, included, as_zone_text, zone_text_of}
+use Rattle.master_read.specs.ZoneText.{Unread, Faulty, Asks, Progress, Effect, Leaves, Opens, Include, at, effect_of, with_effect, with_entry, with_entries, ended, with_rest, with_include, with_next_text, one_included, included, as_zone_text, zone_text_of}
 use Rattle.master_read.specs.declared.fault.EntryFault.{EntryFault}
 use Rattle.master_read.specs.declared.fault.EntryFault.TheVariants.{Cause, NoMemory as WantsMemory}
 use Rattle.master_read.specs.declared.fault.TextCause.{TextCause}
@@ -230,12 +230,12 @@ rest_first limits file entry entries fault progress =
 -- what it makes, where the file may be opened
 opens : (limits : Limits) (levels room file line : ℕ) (name : List ℕ) (origin : Labels) (progress : Progress) → progress.records.included < limits.includes
     → included limits (suc levels) file line name origin progress
-    ≡ with_next_text name (with_file (included limits levels) limits.room origin) (one_included progress) progress.texts
+    ≡ with_next_text name (with_include (included limits levels) limits.room origin) (one_included progress) progress.texts
 unfolding included
 opens limits levels room file line name origin progress less = by (nat_le limits.includes progress.records.included) refl where
   by : (full : Bool) → nat_le limits.includes progress.records.included ≡ full
-      → cond full (Err (Faulty (At file line TooManyIncludes))) (with_next_text name (with_file (included limits levels) limits.room origin) (one_included progress) progress.texts)
-      ≡ with_next_text name (with_file (included limits levels) limits.room origin) (one_included progress) progress.texts
+      → cond full (Err (Faulty (At file line TooManyIncludes))) (with_next_text name (with_include (included limits levels) limits.room origin) (one_included progress) progress.texts)
+      ≡ with_next_text name (with_include (included limits levels) limits.room origin) (one_included progress) progress.texts
   by true e = absurd (grind (arith, nat_tests))
   by false e = refl
 
@@ -259,7 +259,7 @@ unfolding included
 too_many limits zero file line name origin progress deep less = absurd (omega arith)
 too_many limits (suc levels) file line name origin progress deep less = by (nat_le limits.includes progress.records.included) refl where
   by : (full : Bool) → nat_le limits.includes progress.records.included ≡ full
-      → cond full (Err (Faulty (At file line TooManyIncludes))) (with_next_text name (with_file (included limits levels) limits.room origin) (one_included progress) progress.texts)
+      → cond full (Err (Faulty (At file line TooManyIncludes))) (with_next_text name (with_include (included limits levels) limits.room origin) (one_included progress) progress.texts)
       ≡ Err (Faulty (At file line TooManyIncludes))
   by true e = refl
   by false e = absurd (grind (arith, nat_tests))
@@ -281,7 +281,7 @@ made_too_many held entry texts name origin e deep less =
 
 module _ (held new : Held) (entry : Entry) (name : List ℕ) (below : Labels) (may : MayOpen held entry name below) (opened : OpensFile below held new) where
   makes : (texts : List (List ℕ)) → entry_makes held entry texts
-      ≡ with_next_text name (with_file (included held.limits new.file.levels) held.limits.room below) (one_included (record { records = held.records; texts = texts })) texts
+      ≡ with_next_text name (with_include (included held.limits new.file.levels) held.limits.room below) (one_included (record { records = held.records; texts = texts })) texts
   makes texts =
       let progress : Progress = record { records = held.records; texts = texts } in
       let deep : held.file.levels ≡ suc new.file.levels = sym opened.levels ∙ add-one new.file.levels in
@@ -302,7 +302,7 @@ module _ (held new : Held) (entry : Entry) (name : List ℕ) (below : Labels) (m
       → Reads held.limits new.file (held.around ++ held.file ∷ []) new.records new.file.entries.items origin texts []
   unfolding with_rest
   goes_on_in origin texts before text others later all =
-      let within : Result Progress Unread = with_file (included held.limits new.file.levels) held.limits.room below text (record (one_included (record { records = held.records; texts = text ∷ later })) { texts = later }) in
+      let within : Result Progress Unread = with_include (included held.limits new.file.levels) held.limits.room below text (record (one_included (record { records = held.records; texts = text ∷ later })) { texts = later }) in
       let rest : Progress → Result Progress Unread = rest_of held.limits held.file held.file.entries.items held.file.fault in
       before (text ∷ later)
       ∙ ap (λ (r : Result Progress Unread). as_zone_text (r >>= rest_around held.limits held.around))

@@ -63,17 +63,17 @@ with_ttl front tokens stated = do
   Ok (record front { ttl = Some ttl; tokens = tokens })
 
 -- with this class, behind its token; a word that is no class's is left where it is
-abbrev pub with_class : Front → List Token → Option ClassWord → Result Front TextCause
-with_class front tokens (Some In) = Ok (record front { class = true; tokens = tokens })
-with_class front tokens (Some NotIn) = Err ClassNotIn
-with_class front tokens None = Ok front
+abbrev pub with_class_word : Front → List Token → Option ClassWord → Result Front TextCause
+with_class_word front tokens (Some In) = Ok (record front { class = true; tokens = tokens })
+with_class_word front tokens (Some NotIn) = Err ClassNotIn
+with_class_word front tokens None = Ok front
 
 -- the next token is taken, if it is a TTL or a class and none such was taken
 abbrev pub with_word : Front → Token → List Token → Result Front TextCause
 with_word front token tokens =
     if token.quoted then Ok front
     else (if is_none front.ttl && begins_with_digit token.raw then with_ttl front tokens (time_of token.raw)
-    else (if front.class then Ok front else with_class front tokens (class_word token.raw)))
+    else (if front.class then Ok front else with_class_word front tokens (class_word token.raw)))
 
 -- what stood in front with one token more, if there is a next token that may stand there
 abbrev pub with_next : Front → List Token → Result Front TextCause

@@ -108,8 +108,8 @@ with_rest include room file before entries fault progress = do
   ended file before fault more
 
 -- a file under an origin; as many files were opened before it as were included so far
-abbrev pub with_file : Include → ℕ → Labels → List ℕ → Progress → Result Progress Unread
-with_file include room origin text progress =
+abbrev pub with_include : Include → ℕ → Labels → List ℕ → Progress → Result Progress Unread
+with_include include room origin text progress =
     with_rest include room progress.records.included progress.records.context (text_entries text) (text_fault text)
     (in_context progress (under origin progress.records.context))
 
@@ -127,7 +127,7 @@ unfoldable pub included : Limits → ℕ → Include
 included limits zero file line name origin progress = Err (Faulty (At file line IncludeDepth))
 included limits (suc levels) file line name origin progress =
     if nat_le limits.includes progress.records.included then Err (Faulty (At file line TooManyIncludes))
-    else with_next_text name (with_file (included limits levels) limits.room origin) (one_included progress) progress.texts
+    else with_next_text name (with_include (included limits levels) limits.room origin) (one_included progress) progress.texts
 
 -- how many levels of included files may lie below a zone's file
 abbrev pub most_levels : ℕ
@@ -149,7 +149,7 @@ as_zone_text said = do
 unfoldable pub zone_text : Labels → ℕ → ℕ → List (List ℕ) → Result ZoneText Unread
 zone_text origin room includes [] = Ok (zone_text_of no_records)
 zone_text origin room includes (text ∷ texts) =
-    as_zone_text (with_file (included (record { room = room; includes = includes }) most_levels) room origin text (record { records = no_records; texts = texts }))
+    as_zone_text (with_include (included (record { room = room; includes = includes }) most_levels) room origin text (record { records = no_records; texts = texts }))
 
 -- the entries that are records and no directives
 abbrev pub record_entries : List Entry → List Entry

@@ -29,8 +29,8 @@ abbrev pub IsSameSeat : OtherRow → OtherRow → Type 0
 IsSameSeat old new = stealer_deque new.deque ≡ stealer_deque old.deque
 
 -- the seat took this ticket, and no other
-abbrev pub Took : SeatView → SeatView → ℕ → Type 0
-Took old new ticket = new.taken ≡ old.taken ++ ticket ∷ []
+abbrev pub TookTicket : SeatView → SeatView → ℕ → Type 0
+TookTicket old new ticket = new.taken ≡ old.taken ++ ticket ∷ []
 
 -- the seat took the first ticket, or at one moment the deque held nothing, or nothing was done
 abbrev pub TakesOne : SeatView → SeatView → Taken → Type 0

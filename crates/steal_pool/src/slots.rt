@@ -1,7 +1,7 @@
 //! The slots of the workers, and their run.
 
 ghost use Rattle.std.specs.Prelude.{◌≡◌, ◌+◌, ◌≤◌, ◌<◌, All, IfOk, OnOk, length, vec_len};
-ghost use Rattle.steal_pool.specs.Slots.{IsFresh, IsSettledSlot};
+ghost use Rattle.steal_pool.specs.Slots.{IsUnused, IsSettledSlot};
 
 use crate::laws::worker;
 use crate::locked::{Capped, LockedBook};
@@ -32,7 +32,7 @@ pub fn make_slots<A: Capped, B: Ledger, C: Ledger>(
     requires filed { (filed.old.parts ≡ workers + 1) × (filed.old.amount ≡ 0) }
     ensures len { IfOk result (λ slots. vec_len slots ≡ workers) }
     ensures rest { OnOk result ((given.new.parts ≡ 1) × (given.new.amount ≡ 0) × (filed.new.parts ≡ 1) × (filed.new.amount ≡ 0)) }
-    ensures fresh { IfOk result (λ slots. All IsFresh slots.items) }
+    ensures fresh { IfOk result (λ slots. All IsUnused slots.items) }
 {
     let mut rows = make_rows(alloc, workers)?;
     let mut seats = make_seats(alloc, rows.as_slice())?;
@@ -58,7 +58,7 @@ fn new_slot<A: Capped, B: Ledger, C: Ledger>(
     ensures asked { (asked.new.parts + 1 ≡ asked.old.parts) × (asked.new.amount ≡ 0) }
     ensures given { (given.new.parts + 1 ≡ given.old.parts) × (given.new.amount ≡ 0) }
     ensures filed { (filed.new.parts + 1 ≡ filed.old.parts) × (filed.new.amount ≡ 0) }
-    ensures fresh { IsFresh result }
+    ensures fresh { IsUnused result }
 {
     Slot {
         own,
@@ -122,7 +122,7 @@ pub fn run_slots<
     gate: &G,
 )
     requires some { 1 ≤ length slots.old }
-    requires fresh { All IsFresh slots.old }
+    requires fresh { All IsUnused slots.old }
     ensures len { length slots.new ≡ length slots.old }
     ensures settled { All (IsSettledSlot W.first_item W.children_of A.limit) slots.new }
 {
@@ -130,7 +130,7 @@ pub fn run_slots<
         return;
     }
     let each = |_place: usize, slot: &mut Slot<A, B, C>|
-        requires { IsFresh slot.now }
+        requires { IsUnused slot.now }
         ensures { IsSettledSlot W.first_item W.children_of A.limit slot.exit.now }
     { run_slot(rt, alloc, slot, book, work, gate) };
     let threads = slots.len();
@@ -139,8 +139,8 @@ pub fn run_slots<
 
 /// Pushes ticket 0 on a slot's deque: whether the deque took it.
 fn push_first<A: Capped, B: Ledger, C: Ledger>(slot: &mut Slot<A, B, C>) -> bool
-    requires { IsFresh slot.old }
-    ensures { IsFresh slot.new }
+    requires { IsUnused slot.old }
+    ensures { IsUnused slot.new }
 {
     slot.own.push(0).is_ok()
 }
@@ -154,7 +154,7 @@ fn run_slot<W: Work, A: Capped, B: Ledger, C: Ledger, G: Gate, R: Wait>(
     work: &W,
     gate: &G,
 )
-    requires fresh { IsFresh slot.old }
+    requires fresh { IsUnused slot.old }
     ensures settled { IsSettledSlot W.first_item W.children_of A.limit slot.new }
 {
     worker(rt, alloc, slot, book, work, gate)

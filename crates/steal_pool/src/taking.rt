@@ -1,7 +1,7 @@
 //! Which ticket a worker takes next.
 
 ghost use Rattle.std.specs.Prelude.{◌≡◌, ◌+◌, ◌<◌, ◌++◌, vec_len, sum_by, None, IfSome, option_to_list, true};
-ghost use Rattle.steal_pool.specs.Rows.{other_view, Took};
+ghost use Rattle.steal_pool.specs.Rows.{other_view, TookTicket};
 ghost use Rattle.steal_pool.specs.Slots.{taken_at, taken_in, one_if, TookAtOne, TookNext};
 
 use crate::row::{OtherRow, OwnRow, Taken};
@@ -58,7 +58,7 @@ fn steal_first(others: &mut [OtherRow]) -> Option<u32>
 /// A ticket of another deque. A steal that may be tried again gives none.
 fn steal_ticket(other: &mut OtherRow) -> Option<u32>
     ensures count { taken_at other.new ≡ taken_at other.old + one_if result }
-    ensures taken { IfSome result (Took (other_view other.old) (other_view other.new)) }
+    ensures taken { IfSome result (TookTicket (other_view other.old) (other_view other.new)) }
 {
     match other.steal() {
         Taken::Ticket(ticket) => Some(ticket),

@@ -17,7 +17,7 @@ use Rattle.net_model.specs.declared.walk.Hop.TheVariants.{Refer}
 use Rattle.net_model.specs.declared.walk.Leaf.TheVariants as leaves
 use Rattle.net_model.specs.declared.walk.State.{State}
 use Rattle.zone_lookup.specs.Sound.{IsSound}
-use Rattle.straight_walks.specs.Searching.{AreReferrals, Extends, IsReferral, IsSettingOf, cut_to, state_at, state_of, to_servers}
+use Rattle.straight_walks.specs.Searching.{AreReferrals, Extends, IsReferral, IsSettingOf, cut_to, state_at, queued_state, to_servers}
 use Rattle.straight_walks.specs.Straight.{EndsUnanswered, GoesTo}
 use Rattle.straight_walks.specs.declared.queue.Queued.{Queued}
 use Rattle.straight_walks.specs.declared.name_server.Referral.TheVariants as referral
@@ -99,15 +99,15 @@ module _ (config : Config) (deps : Deps) (query server : Labels) (zone : Zone) (
   pub refers_still : (names : List Labels) (before after : List Queued) → Extends before after → AreReferrals config deps query server zone cut names before
       → AreReferrals config deps query server zone cut names after
   refers_still names before after more so setting above of =
-      all_so (λ branch. EndsUnanswered setting.config deps branch ⊎ GoesTo setting.config deps (map (state_of config query) before) branch)
-      (λ branch. EndsUnanswered setting.config deps branch ⊎ GoesTo setting.config deps (map (state_of config query) after) branch)
+      all_so (λ branch. EndsUnanswered setting.config deps branch ⊎ GoesTo setting.config deps (map (queued_state config query) before) branch)
+      (λ branch. EndsUnanswered setting.config deps branch ⊎ GoesTo setting.config deps (map (queued_state config query) after) branch)
       (to_servers zone cut names setting (state_at config query server above)) weaker (so setting above of)
     where
-      weaker : (branch : Branch) → EndsUnanswered setting.config deps branch ⊎ GoesTo setting.config deps (map (state_of config query) before) branch
-          → EndsUnanswered setting.config deps branch ⊎ GoesTo setting.config deps (map (state_of config query) after) branch
+      weaker : (branch : Branch) → EndsUnanswered setting.config deps branch ⊎ GoesTo setting.config deps (map (queued_state config query) before) branch
+          → EndsUnanswered setting.config deps branch ⊎ GoesTo setting.config deps (map (queued_state config query) after) branch
       weaker branch (inl ends) = inl ends
       weaker branch (inr goes) =
-          inr (goes_still setting.config deps (map (state_of config query) before) (map (state_of config query) after) (still_queued (state_of config query) before after more) branch goes)
+          inr (goes_still setting.config deps (map (queued_state config query) before) (map (queued_state config query) after) (still_queued (queued_state config query) before after more) branch goes)
 
   module _ (names : List Labels) (ns : Labels) (queue : List Queued) (so : AreReferrals config deps query server zone cut names queue) where
     abbrev to : Cut
@@ -116,19 +116,19 @@ module _ (config : Config) (deps : Deps) (query server : Labels) (zone : Zone) (
     -- one name server more
     one_more : ((setting : Setting) (above : ℕ) → IsSettingOf config deps setting
         → EndsUnanswered setting.config deps (referred setting (state_at config query server above) to)
-        ⊎ GoesTo setting.config deps (map (state_of config query) queue) (referred setting (state_at config query server above) to))
+        ⊎ GoesTo setting.config deps (map (queued_state config query) queue) (referred setting (state_at config query server above) to))
         → AreReferrals config deps query server zone cut (names ++ ns ∷ []) queue
     one_more here setting above of =
-        subst (AllByRecursion (λ branch. EndsUnanswered setting.config deps branch ⊎ GoesTo setting.config deps (map (state_of config query) queue) branch))
+        subst (AllByRecursion (λ branch. EndsUnanswered setting.config deps branch ⊎ GoesTo setting.config deps (map (queued_state config query) queue) branch))
         (sym (map-append (λ name. referred setting (state_at config query server above) (cut_to server zone cut name)) names (ns ∷ [])))
-        (all_push (λ branch. EndsUnanswered setting.config deps branch ⊎ GoesTo setting.config deps (map (state_of config query) queue) branch)
+        (all_push (λ branch. EndsUnanswered setting.config deps branch ⊎ GoesTo setting.config deps (map (queued_state config query) queue) branch)
         (to_servers zone cut names setting (state_at config query server above)) (referred setting (state_at config query server above) to)
         (so setting above of) (here setting above of))
 
     pub one_that_ends : IsReferral config deps query to referral.Ends → AreReferrals config deps query server zone cut (names ++ ns ∷ []) queue
     one_that_ends ends = one_more (λ setting above of. inl (ends setting (state_at config query server above) of))
 
-    pub one_to_go_to : Contains (map (state_of config query) queue) (state_at config query ns (length cut)) → IsReferral config deps query to referral.GoesOn
+    pub one_to_go_to : Contains (map (queued_state config query) queue) (state_at config query ns (length cut)) → IsReferral config deps query to referral.GoesOn
         → AreReferrals config deps query server zone cut (names ++ ns ∷ []) queue
     one_to_go_to there goes =
         one_more (λ setting above of.
@@ -142,7 +142,7 @@ module _ (config : Config) (deps : Deps) (query server : Labels) (zone : Zone) (
 
   -- and where walks go on to it
   pub so_far_goes_on : (names : List Labels) (ns : Labels) (first before after : List Queued) → Extends first before × AreReferrals config deps query server zone cut names before → Extends before after
-      → Contains (map (state_of config query) after) (state_at config query ns (length cut)) → IsReferral config deps query (cut_to server zone cut ns) referral.GoesOn
+      → Contains (map (queued_state config query) after) (state_at config query ns (length cut)) → IsReferral config deps query (cut_to server zone cut ns) referral.GoesOn
       → Extends first after × AreReferrals config deps query server zone cut (names ++ ns ∷ []) after
   so_far_goes_on names ns first before after so more there goes =
       (extends_further first before after so.0 more, one_to_go_to names ns after (refers_still names before after more so.1) there goes)

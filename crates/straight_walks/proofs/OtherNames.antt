@@ -13,7 +13,7 @@ use Rattle.net_model.specs.declared.place.Cut.{Cut}
 use Rattle.net_model.specs.declared.walk.Hop.TheVariants.{Refer}
 use Rattle.net_model.specs.declared.walk.Leaf.TheVariants as leaves
 use Rattle.net_model.specs.declared.walk.State.{State}
-use Rattle.straight_walks.specs.Searching.{AreReferrals, cut_to, state_at, state_of, to_servers}
+use Rattle.straight_walks.specs.Searching.{AreReferrals, cut_to, state_at, queued_state, to_servers}
 use Rattle.straight_walks.specs.Straight.{EndsUnanswered, GoesTo}
 use Rattle.straight_walks.specs.declared.queue.Queued.{Queued}
 
@@ -56,19 +56,19 @@ module _ (config : Config) (deps : Deps) (one other : Labels) (same : (server : 
 
   -- a branch ends, or goes on to one of the states of a name
   abbrev Goes : List Queued → Setting → Labels → Branch → Type 0
-  Goes queue setting name branch = EndsUnanswered setting.config deps branch ⊎ GoesTo setting.config deps (map (state_of config name) queue) branch
+  Goes queue setting name branch = EndsUnanswered setting.config deps branch ⊎ GoesTo setting.config deps (map (queued_state config name) queue) branch
 
   goes_for : (queue : List Queued) (setting : Setting) (branch : Branch) → Goes queue setting one branch → Goes queue setting other (branch_for other branch)
   goes_for queue setting branch (inl (inl ends)) = inl (inl (ap (branch_for other) ends))
   goes_for queue setting branch (inl (inr (cut, sound, ends))) = inl (inr (cut, sound, ap (branch_for other) ends))
   goes_for queue setting branch (inr (cut, to, sound, goes, has)) =
-      let from = from_map (state_of config one) queue to has in
+      let from = from_map (queued_state config one) queue to has in
       inr (
         cut,
         for_name other to,
         sound,
         ap (branch_for other) goes,
-        subst (Contains (map (state_of config other) queue)) (state_for from.0.server.now from.0.cut ∙ ap (for_name other) from.2) (map_has (state_of config other) queue from.0 from.1),
+        subst (Contains (map (queued_state config other) queue)) (state_for from.0.server.now from.0.cut ∙ ap (for_name other) from.2) (map_has (queued_state config other) queue from.0 from.1),
       )
 
   -- a zone cut's branches

@@ -17,7 +17,7 @@ use Rattle.net_model.specs.declared.config.Config.{Config}
 use Rattle.net_model.specs.declared.walk.Leaf.{Leaf}
 use Rattle.net_model.specs.declared.walk.State.{State}
 use Rattle.zone_tree.specs.Tree.{ZoneTree, name_of}
-use Rattle.straight_walks.specs.Searching.{AreReferrals, Extends, IsReply, IsSettingOf, state_at, state_of}
+use Rattle.straight_walks.specs.Searching.{AreReferrals, Extends, IsReply, IsSettingOf, state_at, queued_state}
 use Rattle.straight_walks.specs.Regions.{IsLookedAt, IsNearestOrigin, IsPassed, IsSearchBelow}
 use Rattle.straight_walks.specs.Straight.{StepsStraight}
 use Rattle.straight_walks.specs.declared.queue.Queued.{Queued}
@@ -71,7 +71,7 @@ module _ (config : Config) (deps : Deps) (origin : Labels) where
   -- servers answer
   pub record AreLookedAt (queue : List Queued) (at : ℕ) (passed answering : List Queued) : Type 0 where
     pub within : at ≤ length queue
-    pub begins : (query : Labels) (state : State) → Contains (start config query) state → Contains (map (state_of config query) queue) state
+    pub begins : (query : Labels) (state : State) → Contains (start config query) state → Contains (map (queued_state config query) queue) state
     pub either : (one : Queued) → Contains (take at queue) one → Contains (passed ++ answering) one
     pub are_passed : AllByRecursion (λ one. IsPassed config deps origin one.server.now queue) passed
 
@@ -97,7 +97,7 @@ module _ (config : Config) (deps : Deps) (origin : Labels) where
   one_looked_at queue after at passed passed_after answering answering_after item within is so one =
       record {
         within = subst (λ (all : List Queued). at + 1 ≤ length all) (sym one.extends.1) (omega (arith, within, length-append queue one.extends.0));
-        begins = λ query state has. still_queued (state_of config query) queue after one.extends state (so.begins query state has);
+        begins = λ query state has. still_queued (queued_state config query) queue after one.extends state (so.begins query state has);
         either = λ other has. either other (so_far other (subst (λ (all : List Queued). Contains all other) passed_over has)) one.put;
         are_passed = are_passed one.put;
       }
@@ -130,7 +130,7 @@ module _ (config : Config) (deps : Deps) (origin : Labels) where
       still : AllByRecursion (λ (one : Queued). IsPassed config deps origin one.server.now after) passed
       still =
           all_so (λ (one : Queued). IsPassed config deps origin one.server.now queue) (λ (one : Queued). IsPassed config deps origin one.server.now after) passed
-          (λ other. past_still other.server.now queue after (λ query. still_queued (state_of config query) queue after one.extends)) so.are_passed
+          (λ other. past_still other.server.now queue after (λ query. still_queued (queued_state config query) queue after one.extends)) so.are_passed
 
       are_passed : ((passed_after ≡ passed ++ item ∷ []) × (answering_after ≡ answering) × IsPassed config deps origin item.server.now after)
           ⊎ ((passed_after ≡ passed) × (answering_after ≡ answering ++ item ∷ []))
@@ -143,7 +143,7 @@ module _ (config : Config) (deps : Deps) (origin : Labels) where
   -- what holds at states that are passed
   states_past : (query : Labels) → IsNearestOrigin config origin query → (setting : Setting) (answer : RrType → Leaf) → IsSettingOf config deps setting
       → (queue passed : List Queued) → AllByRecursion (λ (one : Queued). IsPassed config deps origin one.server.now queue) passed
-      → AllByRecursion (StepsStraight setting deps answer (map (state_of config query) queue)) (map (state_of config query) passed)
+      → AllByRecursion (StepsStraight setting deps answer (map (queued_state config query) queue)) (map (queued_state config query) passed)
   states_past query nearest setting answer of queue [] all = tt
   states_past query nearest setting answer of queue (one ∷ passed) all =
       (all.0 query nearest setting answer one.cut of, states_past query nearest setting answer of queue passed all.1)
@@ -157,17 +157,17 @@ module _ (config : Config) (deps : Deps) (origin : Labels) where
         begins = λ state has. among query state (so.begins query state has);
         inside = tt;
         passes = λ setting answer of each.
-            subst (λ (first : List Queued). AllByRecursion (StepsStraight setting deps answer (map (state_of config query) searched.queue.items)) (map (state_of config query) first)) (sym first_are)
+            subst (λ (first : List Queued). AllByRecursion (StepsStraight setting deps answer (map (queued_state config query) searched.queue.items)) (map (queued_state config query) first)) (sym first_are)
             (states_past query nearest setting answer of searched.queue.items passed
             (all_so (λ (one : Queued). IsPassed config deps origin one.server.now queue) (λ (one : Queued). IsPassed config deps origin one.server.now searched.queue.items) passed
             (λ one. past_still one.server.now queue searched.queue.items among) so.are_passed));
       }
     where
-      among : (other : Labels) (state : State) → Contains (map (state_of config other) queue) state → Contains (map (state_of config other) searched.queue.items) state
+      among : (other : Labels) (state : State) → Contains (map (queued_state config other) queue) state → Contains (map (queued_state config other) searched.queue.items) state
       among other state has =
-          let from = from_map (state_of config other) queue state has in
-          subst (Contains (map (state_of config other) searched.queue.items)) from.2
-          (map_has (state_of config other) searched.queue.items from.0
+          let from = from_map (queued_state config other) queue state has in
+          subst (Contains (map (queued_state config other) searched.queue.items)) from.2
+          (map_has (queued_state config other) searched.queue.items from.0
           (subst (λ (l : List Queued). Contains l from.0) (sym queue_is) (so.either from.0 (subst (λ (l : List Queued). Contains l from.0) (sym (take_all at queue all)) from.1))))
 
       first_are : take searched.passed searched.queue.items ≡ passed

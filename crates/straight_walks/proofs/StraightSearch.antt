@@ -20,8 +20,8 @@ use Rattle.net_model.specs.declared.walk.Leaf.{Leaf}
 use Rattle.net_model.specs.declared.walk.Leaf.TheVariants.{NoData}
 use Rattle.net_model.specs.declared.walk.State.{State}
 use Rattle.zone_tree.specs.Tree.{ZoneTree, name_of}
-use Rattle.straight_walks.specs.Searching.{AnswersAlike, AreReferrals, Extends, HasPassed, IsAnswer, IsInside, IsNextReferral, IsReply, IsSettingOf, leaf_by, leaf_of, leaf_with, sorted_data, state_at, state_of, to_servers}
-use Rattle.straight_walks.specs.Straight.{Answers, EndsUnanswered, GoesStraight, GoesTo, StepsStraight}
+use Rattle.straight_walks.specs.Searching.{AnswersAlike, AreReferrals, Extends, HasPassed, IsFirstAnswer, IsInside, IsNextReferral, IsReply, IsSettingOf, leaf_by, leaf_of, leaf_with, sorted_data, state_at, queued_state, to_servers}
+use Rattle.straight_walks.specs.Straight.{EndsInAnswer, EndsUnanswered, GoesStraight, GoesTo, StepsStraight}
 use Rattle.straight_walks.specs.declared.queue.Queued.{Queued}
 use Rattle.straight_walks.specs.declared.referring.NextReferral.TheVariants as referring
 use Rattle.straight_walks.specs.declared.server.Reply.TheVariants as reply
@@ -33,9 +33,9 @@ use Rattle.straight_walks.proofs.Replies.{outside_ends, refers_to}
 pub record Passes (config : Config) (deps : Deps) (query server : Labels) (before : List Queued) (first_before : Option (Bor ZoneTree)) (after : List Queued) (first_after : Option (Bor ZoneTree)) : Type 0 where
   pub extends : Extends before after
   pub inside : IfSome first_before (IsInside query) → IfSome first_after (IsInside query)
-  pub still : (leaf : RrType → Leaf) → IsAnswer query leaf first_after → IsAnswer query leaf first_before
-  pub steps : (setting : Setting) (leaf : RrType → Leaf) (above : ℕ) → IsSettingOf config deps setting → IsAnswer query leaf first_after
-      → StepsStraight setting deps leaf (map (state_of config query) after) (state_at config query server above)
+  pub still : (leaf : RrType → Leaf) → IsFirstAnswer query leaf first_after → IsFirstAnswer query leaf first_before
+  pub steps : (setting : Setting) (leaf : RrType → Leaf) (above : ℕ) → IsSettingOf config deps setting → IsFirstAnswer query leaf first_after
+      → StepsStraight setting deps leaf (map (queued_state config query) after) (state_at config query server above)
 
 -- what a zone answers it answers with authority
 data_answer : (found : List Rdata) → is_authoritative (leaf_with found) ≡ true
@@ -54,7 +54,7 @@ first_answer query None rtype = NoData
 first_answer query (Some tree) rtype = leaf_of query tree.now.zone rtype
 
 -- it answers that
-first_is_answer : (query : Labels) (first : Option (Bor ZoneTree)) → IsAnswer query (first_answer query first) first
+first_is_answer : (query : Labels) (first : Option (Bor ZoneTree)) → IsFirstAnswer query (first_answer query first) first
 first_is_answer query None = tt
 first_is_answer query (Some tree) = λ rtype. refl
 
@@ -62,11 +62,11 @@ module _ (config : Config) (deps : Deps) (query : Labels) where
   -- how a branch goes straight
   abbrev Straight : Setting → Leaf → List Queued → Branch → Type 0
   Straight setting leaf queue branch =
-      EndsUnanswered setting.config deps branch ⊎ (Answers leaf branch ⊎ GoesTo setting.config deps (map (state_of config query) queue) branch)
+      EndsUnanswered setting.config deps branch ⊎ (EndsInAnswer leaf branch ⊎ GoesTo setting.config deps (map (queued_state config query) queue) branch)
 
   -- the states at these servers are among those at the others
   abbrev pub AreAmong : List Queued → List Queued → Type 0
-  AreAmong before after = (state : State) → Contains (map (state_of config query) before) state → Contains (map (state_of config query) after) state
+  AreAmong before after = (state : State) → Contains (map (queued_state config query) before) state → Contains (map (queued_state config query) after) state
 
   -- a branch that goes straight where some states are queued does so where those and others are
   goes_straight_still : (setting : Setting) (leaf : Leaf) (before after : List Queued) → AreAmong before after → (branch : Branch) → Straight setting leaf before branch
@@ -74,10 +74,10 @@ module _ (config : Config) (deps : Deps) (query : Labels) where
   goes_straight_still setting leaf before after more branch (inl ends) = inl ends
   goes_straight_still setting leaf before after more branch (inr (inl alike)) = inr (inl alike)
   goes_straight_still setting leaf before after more branch (inr (inr goes)) =
-      inr (inr (goes_still setting.config deps (map (state_of config query) before) (map (state_of config query) after) more branch goes))
+      inr (inr (goes_still setting.config deps (map (queued_state config query) before) (map (queued_state config query) after) more branch goes))
 
   pub steps_still : (setting : Setting) (leaf : RrType → Leaf) (before after : List Queued) → AreAmong before after → (state : State)
-      → StepsStraight setting deps leaf (map (state_of config query) before) state → StepsStraight setting deps leaf (map (state_of config query) after) state
+      → StepsStraight setting deps leaf (map (queued_state config query) before) state → StepsStraight setting deps leaf (map (queued_state config query) after) state
   steps_still setting leaf before after more state so rtype =
       all_so (Straight setting (leaf rtype) before) (Straight setting (leaf rtype) after) (next setting rtype state) (goes_straight_still setting (leaf rtype) before after more) (so rtype)
 
@@ -96,7 +96,7 @@ module _ (config : Config) (deps : Deps) (query : Labels) where
         }
 
     -- whose zone answers as the first one does, or is the first
-    pub answer_passes : (tree : Bor ZoneTree) (after : Option (Bor ZoneTree)) → IsReply config query server (reply.Answers tree) → AnswersAlike query first tree.now.zone after
+    pub answer_passes : (tree : Bor ZoneTree) (after : Option (Bor ZoneTree)) → IsReply config query server (reply.EndsInAnswer tree) → AnswersAlike query first tree.now.zone after
         → Passes config deps query server queue first queue after
     answer_passes tree after so same =
         record {
@@ -125,13 +125,13 @@ module _ (config : Config) (deps : Deps) (query : Labels) where
           still = λ leaf is. is;
           steps = λ setting leaf above of is rtype.
               subst (AllByRecursion (Straight setting (leaf rtype) after)) (sym (refers_to config query server tree cut so setting rtype above of.config_is))
-              (all_so (λ branch. EndsUnanswered setting.config deps branch ⊎ GoesTo setting.config deps (map (state_of config query) after) branch)
+              (all_so (λ branch. EndsUnanswered setting.config deps branch ⊎ GoesTo setting.config deps (map (queued_state config query) after) branch)
               (Straight setting (leaf rtype) after)
               (to_servers tree.now.zone (name_of tree.now cut) (ns_names tree.now.zone (name_of tree.now cut)) setting (state_at config query server above))
               (goes_or_ends setting (leaf rtype)) (on setting above of));
         }
       where
-        goes_or_ends : (setting : Setting) (leaf : Leaf) (branch : Branch) → EndsUnanswered setting.config deps branch ⊎ GoesTo setting.config deps (map (state_of config query) after) branch
+        goes_or_ends : (setting : Setting) (leaf : Leaf) (branch : Branch) → EndsUnanswered setting.config deps branch ⊎ GoesTo setting.config deps (map (queued_state config query) after) branch
             → Straight setting leaf after branch
         goes_or_ends setting leaf branch (inl ends) = inl ends
         goes_or_ends setting leaf branch (inr goes) = inr (inr goes)
@@ -143,21 +143,21 @@ module _ (config : Config) (deps : Deps) (query : Labels) where
   one_passed queue after at first first_after item within is so one =
       record {
         within = subst (λ (all : List Queued). at + 1 ≤ length all) (sym one.extends.1) (omega (arith, within, length-append queue one.extends.0));
-        begins = λ state has. still_queued (state_of config query) queue after one.extends state (so.begins state has);
+        begins = λ state has. still_queued (queued_state config query) queue after one.extends state (so.begins state has);
         inside = one.inside so.inside;
         passes = λ setting leaf of answer.
-            subst (AllByRecursion (StepsStraight setting deps leaf (map (state_of config query) after))) (sym passed_over)
-            (all_push (StepsStraight setting deps leaf (map (state_of config query) after)) (map (state_of config query) (take at queue)) (state_of config query item)
-            (all_so (StepsStraight setting deps leaf (map (state_of config query) queue)) (StepsStraight setting deps leaf (map (state_of config query) after))
-            (map (state_of config query) (take at queue)) (steps_still setting leaf queue after (still_queued (state_of config query) queue after one.extends)) (so.passes setting leaf of (one.still leaf answer)))
+            subst (AllByRecursion (StepsStraight setting deps leaf (map (queued_state config query) after))) (sym passed_over)
+            (all_push (StepsStraight setting deps leaf (map (queued_state config query) after)) (map (queued_state config query) (take at queue)) (queued_state config query item)
+            (all_so (StepsStraight setting deps leaf (map (queued_state config query) queue)) (StepsStraight setting deps leaf (map (queued_state config query) after))
+            (map (queued_state config query) (take at queue)) (steps_still setting leaf queue after (still_queued (queued_state config query) queue after one.extends)) (so.passes setting leaf of (one.still leaf answer)))
             (one.steps setting leaf item.cut of answer));
       }
     where
-      passed_over : map (state_of config query) (take (at + 1) after) ≡ map (state_of config query) (take at queue) ++ state_of config query item ∷ []
+      passed_over : map (queued_state config query) (take (at + 1) after) ≡ map (queued_state config query) (take at queue) ++ queued_state config query item ∷ []
       passed_over =
-          ap (map (state_of config query))
+          ap (map (queued_state config query))
           (ap (take (at + 1)) one.extends.1 ∙ take-append-le (at + 1) queue one.extends.0 (omega (arith, within)) ∙ take_more queue at item within ∙ (λ j. take at queue ++ sym is j ∷ []))
-          ∙ map-append (state_of config query) (take at queue) (item ∷ [])
+          ∙ map-append (queued_state config query) (take at queue) (item ∷ [])
 
   -- up to a server that refers the name, and that server
   pub referral_passed : (queue after : List Queued) (before at : ℕ) (first first_after : Option (Bor ZoneTree)) (tree : Bor ZoneTree) (cut : ℕ) (item : Queued) → item ≡ get_or queue at item
@@ -177,16 +177,16 @@ module _ (config : Config) (deps : Deps) (query : Labels) where
       → (setting : Setting) → IsSettingOf config deps setting → GoesStraight setting deps most query
   all_passed queue at most first so all few setting of =
       record {
-        states = map (state_of config query) queue;
-        few = subst (λ (n : ℕ). n ≤ most) (sym (length-map queue (state_of config query))) few;
+        states = map (queued_state config query) queue;
+        few = subst (λ (n : ℕ). n ≤ most) (sym (length-map queue (queued_state config query))) few;
         answer = first_answer query first;
         begins = λ state has. so.begins state (subst (λ (c : Config). Contains (start c query) state) of.config_is has);
         not_rewritten = λ state has.
-            let from = from_map (state_of config query) queue state has in
+            let from = from_map (queued_state config query) queue state has in
             subst (λ (s : State). s.last ≡ None) from.2 refl;
         steps = λ state has.
-            each_along (StepsStraight setting deps (first_answer query first) (map (state_of config query) queue)) (map (state_of config query) queue)
-            (subst (λ (passed : List Queued). AllByRecursion (StepsStraight setting deps (first_answer query first) (map (state_of config query) queue)) (map (state_of config query) passed))
+            each_along (StepsStraight setting deps (first_answer query first) (map (queued_state config query) queue)) (map (queued_state config query) queue)
+            (subst (λ (passed : List Queued). AllByRecursion (StepsStraight setting deps (first_answer query first) (map (queued_state config query) queue)) (map (queued_state config query) passed))
             (take_all at queue all) (so.passes setting (first_answer query first) of (first_is_answer query first)))
             state has;
       }

@@ -21,7 +21,7 @@ use Rattle.net_model.specs.declared.walk.Walk.{Walk}
 use Rattle.net_model.proofs.Leads.{GoesOn, EndsBy, branch_taken}
 use Rattle.net_model.proofs.WalkEnds.{item}
 use Rattle.zone_lookup.specs.Sound.{IsSound}
-use Rattle.straight_walks.specs.Straight.{Answers, EndsUnanswered, GoesStraight, GoesTo}
+use Rattle.straight_walks.specs.Straight.{EndsInAnswer, EndsUnanswered, GoesStraight, GoesTo}
 
 -- the hop is a referral that shows no fault
 abbrev pub IsSoundHop : Config → Deps → Hop → Type 0
@@ -63,7 +63,7 @@ module _ (setting : Setting) (deps : Deps) (most : ℕ) (query : Labels) (straig
 
   -- where each branch of a state goes straight it goes so
   branch_so : (branch : Branch)
-      → EndsUnanswered setting.config deps branch ⊎ (Answers (straight.answer rtype) branch ⊎ GoesTo setting.config deps straight.states branch) → BranchSo branch
+      → EndsUnanswered setting.config deps branch ⊎ (EndsInAnswer (straight.answer rtype) branch ⊎ GoesTo setting.config deps straight.states branch) → BranchSo branch
   branch_so branch (inl (inl ends)) = subst BranchSo (sym ends) (tt, tt)
   branch_so branch (inl (inr (cut, sound, ends))) = subst BranchSo (sym ends) ((sound, tt), tt)
   branch_so branch (inr (inl (is, ends))) = subst BranchSo (sym ends) (tt, ends_answered (straight.answer rtype) is)

@@ -12,7 +12,7 @@ use Rattle.net_model.specs.declared.config.Config.{Config}
 use Rattle.net_model.specs.declared.config.Server.{Server}
 use Rattle.net_model.specs.declared.config.Zone.{Zone}
 use Rattle.net_model.specs.declared.walk.Leaf.{Leaf}
-use Rattle.straight_walks.specs.Searching.{Extends, IsSearch, IsSettingOf, state_at, state_of}
+use Rattle.straight_walks.specs.Searching.{Extends, IsSearch, IsSettingOf, state_at, queued_state}
 use Rattle.straight_walks.specs.Straight.{StepsStraight}
 use Rattle.straight_walks.specs.declared.queue.Queued.{Queued}
 use Rattle.straight_walks.specs.declared.searching.Search.{Search}
@@ -39,7 +39,7 @@ IsSearchBelow config deps origin searched = (query : Labels) → IsNearestOrigin
 abbrev pub IsPassed : Config → Deps → Labels → Labels → List Queued → Type 0
 IsPassed config deps origin server queue =
     (query : Labels) → IsNearestOrigin config origin query → (setting : Setting) (answer : RrType → Leaf) (above : ℕ) → IsSettingOf config deps setting
-    → StepsStraight setting deps answer (map (state_of config query) queue) (state_at config query server above)
+    → StepsStraight setting deps answer (map (queued_state config query) queue) (state_at config query server above)
 
 -- one more state is put at the end of those that are passed for each of the names, or of those whose servers answer
 pub record IsLookedAt (config : Config) (deps : Deps) (origin : Labels) (one : Queued) (before passed_before answering_before after passed_after answering_after : List Queued) : Type 0 where

@@ -50,8 +50,8 @@ state_at config query server cut =
       zone = option_map (λ zone. zone.origin) (nearest_of config server query);
     }
 
-abbrev pub state_of : Config → Labels → Queued → State
-state_of config query queue = state_at config query queue.server.now queue.cut
+abbrev pub queued_state : Config → Labels → Queued → State
+queued_state config query queue = state_at config query queue.server.now queue.cut
 
 -- the states after are those before, with some at the end
 abbrev pub Extends : List Queued → List Queued → Type 0
@@ -81,14 +81,14 @@ abbrev pub IsInside : Labels → Bor ZoneTree → Type 0
 IsInside query tree = is_prefix tree.now.zone.origin query ≡ true
 
 -- the zone that answered first, if there is one, answers this
-abbrev pub IsAnswer : Labels → (RrType → Leaf) → Option (Bor ZoneTree) → Type 0
-IsAnswer query leaf first = IfSome first (λ tree. (rtype : RrType) → leaf rtype ≡ leaf_of query tree.now.zone rtype)
+abbrev pub IsFirstAnswer : Labels → (RrType → Leaf) → Option (Bor ZoneTree) → Type 0
+IsFirstAnswer query leaf first = IfSome first (λ tree. (rtype : RrType) → leaf rtype ≡ leaf_of query tree.now.zone rtype)
 
 -- a zone answers as the first one does, or is the first
 pub record AnswersAlike (query : Labels) (before : Option (Bor ZoneTree)) (zone : Zone) (after : Option (Bor ZoneTree)) : Type 0 where
   pub inside : IfSome after (IsInside query)
-  pub still : (leaf : RrType → Leaf) → IsAnswer query leaf after → IsAnswer query leaf before
-  pub alike : (leaf : RrType → Leaf) → IsAnswer query leaf after → (rtype : RrType) → leaf rtype ≡ leaf_of query zone rtype
+  pub still : (leaf : RrType → Leaf) → IsFirstAnswer query leaf after → IsFirstAnswer query leaf before
+  pub alike : (leaf : RrType → Leaf) → IsFirstAnswer query leaf after → (rtype : RrType) → leaf rtype ≡ leaf_of query zone rtype
 
 -- ---- referrals
 
@@ -113,7 +113,7 @@ to_servers zone cut names setting state = map (λ ns. referred setting state (cu
 abbrev pub AreReferrals : Config → Deps → Labels → Labels → Zone → Labels → List Labels → List Queued → Type 0
 AreReferrals config deps query server zone cut names queue =
     (setting : Setting) (above : ℕ) → IsSettingOf config deps setting
-    → AllByRecursion (λ branch. EndsUnanswered setting.config deps branch ⊎ GoesTo setting.config deps (map (state_of config query) queue) branch)
+    → AllByRecursion (λ branch. EndsUnanswered setting.config deps branch ⊎ GoesTo setting.config deps (map (queued_state config query) queue) branch)
     (to_servers zone cut names setting (state_at config query server above))
 
 -- ---- servers
@@ -139,10 +139,10 @@ IsReply config query server reply.Unclear = Unit {0}
 -- answers there it answers as the first one does
 pub record HasPassed (config : Config) (deps : Deps) (query : Labels) (queue : List Queued) (passed : ℕ) (first : Option (Bor ZoneTree)) : Type 0 where
   pub within : passed ≤ length queue
-  pub begins : (state : State) → Contains (start config query) state → Contains (map (state_of config query) queue) state
+  pub begins : (state : State) → Contains (start config query) state → Contains (map (queued_state config query) queue) state
   pub inside : IfSome first (IsInside query)
-  pub passes : (setting : Setting) (leaf : RrType → Leaf) → IsSettingOf config deps setting → IsAnswer query leaf first
-      → AllByRecursion (StepsStraight setting deps leaf (map (state_of config query) queue)) (map (state_of config query) (take passed queue))
+  pub passes : (setting : Setting) (leaf : RrType → Leaf) → IsSettingOf config deps setting → IsFirstAnswer query leaf first
+      → AllByRecursion (StepsStraight setting deps leaf (map (queued_state config query) queue)) (map (queued_state config query) (take passed queue))
 
 -- the search is one for the name, and no zone has answered yet
 abbrev pub IsSearch : Config → Deps → Labels → Search → Type 0

@@ -21,8 +21,8 @@ EndsUnanswered config deps branch =
     (branch ≡ End None Outside) ⊎ ((cut : Cut) × IsSound config deps cut × (branch ≡ End (Some (Refer cut)) (Unhosted cut.ns)))
 
 -- the branch ends where a zone answers this
-abbrev pub Answers : Leaf → Branch → Type 0
-Answers leaf branch = (is_authoritative leaf ≡ true) × (branch ≡ End None leaf)
+abbrev pub EndsInAnswer : Leaf → Branch → Type 0
+EndsInAnswer leaf branch = (is_authoritative leaf ≡ true) × (branch ≡ End None leaf)
 
 -- the branch goes on by a referral to one of these states
 abbrev pub GoesTo : Config → Deps → List State → Branch → Type 0
@@ -31,7 +31,7 @@ GoesTo config deps states branch = (cut : Cut) × (to : State) × IsSound config
 -- with each type each branch of the state ends where no zone answers, ends with this answer, or goes on to one of the states
 abbrev pub StepsStraight : Setting → Deps → (RrType → Leaf) → List State → State → Type 0
 StepsStraight setting deps answer states state =
-    (rtype : RrType) → AllByRecursion (λ branch. EndsUnanswered setting.config deps branch ⊎ (Answers (answer rtype) branch ⊎ GoesTo setting.config deps states branch)) (next setting rtype state)
+    (rtype : RrType) → AllByRecursion (λ branch. EndsUnanswered setting.config deps branch ⊎ (EndsInAnswer (answer rtype) branch ⊎ GoesTo setting.config deps states branch)) (next setting rtype state)
 
 -- the walks of the query go straight: they reach at most so many states, to none of which a rewrite led, and with
 -- one type all zones that answer tell the same

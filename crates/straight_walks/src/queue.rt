@@ -4,7 +4,7 @@ ghost use Rattle.std.specs.Prelude.{◌≡◌, true, map, Contains, IfOk, OnOk};
 ghost use Rattle.dns_data.specs.Name.{Labels};
 ghost use Rattle.net_model.specs.Step.{start};
 ghost use Rattle.net_model.specs.declared.config.Config.{Config};
-ghost use Rattle.straight_walks.specs.Searching.{Extends, state_at, state_of};
+ghost use Rattle.straight_walks.specs.Searching.{Extends, state_at, queued_state};
 
 use dns_data::{Name, NoMemory};
 use std::alloc::Global;
@@ -37,7 +37,7 @@ pub(crate) fn start_states<'a>(
     hosts: &Hosts<'a>,
     name: &Name,
 ) -> Result<Vec<Queued<'a>>, NoMemory>
-    ensures { IfOk result (λ queue. (query : Labels) → map (state_of hosts.now query) queue.items ≡ start hosts.now query) }
+    ensures { IfOk result (λ queue. (query : Labels) → map (queued_state hosts.now query) queue.items ≡ start hosts.now query) }
 {
     let config = hosts.config();
     let mut queue = Vec::new(alloc);
@@ -57,7 +57,7 @@ pub(crate) fn enqueue<'a>(
     cut: u32,
 ) -> Result<(), NoMemory>
     ensures more { OnOk result (Extends queue.old.items queue.new.items) }
-    ensures there { OnOk result ((config : Config) (query : Labels) → Contains (map (state_of config query) queue.new.items) (state_at config query server.now cut)) }
+    ensures there { OnOk result ((config : Config) (query : Labels) → Contains (map (queued_state config query) queue.new.items) (state_at config query server.now cut)) }
 {
     if !is_queued(queue.as_slice(), server, cut) {
         queue.push(Queued::for_name(hosts, name, server, cut))?;
@@ -67,7 +67,7 @@ pub(crate) fn enqueue<'a>(
 
 /// Whether the state at a server to which a zone cut of so many labels led is in the queue.
 fn is_queued(queue: &[Queued<'_>], server: &Name, cut: u32) -> bool
-    ensures { result ≡ true → (config : Config) (query : Labels) → Contains (map (state_of config query) queue.now) (state_at config query server.now cut) }
+    ensures { result ≡ true → (config : Config) (query : Labels) → Contains (map (queued_state config query) queue.now) (state_at config query server.now cut) }
 {
     for one in queue {
         if one.cut == cut && one.server == server {

@@ -7,7 +7,7 @@ use Rattle.std.proofs.lemmas.List.Elements.{All-push, All-weaker, filter-append}
 use Rattle.std.proofs.lemmas.List.Quantifiers.{all_pairs_push}
 use Rattle.std.proofs.lemmas.List.Kept.{AllPairs-cons}
 use Rattle.dns_data.proofs.Membership.{all_from_contains, filter_has, map_has, pairs_first, pairs_rest}
-use Rattle.zone_rules.specs.Buckets.{bucket_with, is_used, is_taken, is_contested, place_of, bucket_of, has_rival, lower_half, lower_key, lower_keys, Marked, TellsRivals}
+use Rattle.zone_rules.specs.Buckets.{bucket_with, is_used, has_lone_item, is_contested, bucket_place, bucket_of, has_rival, lower_half, lower_key, lower_keys, Marked, TellsRivals}
 use Rattle.zone_rules.specs.declared.buckets.Bucket.{Bucket}
 use Rattle.zone_rules.specs.declared.buckets.Bucket.TheVariants.{Empty, Shared, Taken, Contested}
 
@@ -21,13 +21,13 @@ with-used Shared false = refl
 with-used Taken is_alone = refl
 with-used Contested is_alone = refl
 
-with-alone : (bucket : Bucket) → is_taken (bucket_with bucket true) ≡ true
+with-alone : (bucket : Bucket) → has_lone_item (bucket_with bucket true) ≡ true
 with-alone Empty = refl
 with-alone Shared = refl
 with-alone Taken = refl
 with-alone Contested = refl
 
-still-taken : (bucket : Bucket) (is_alone : Bool) → is_taken bucket ≡ true → is_taken (bucket_with bucket is_alone) ≡ true
+still-taken : (bucket : Bucket) (is_alone : Bool) → has_lone_item bucket ≡ true → has_lone_item (bucket_with bucket is_alone) ≡ true
 still-taken Empty is_alone e = cc
 still-taken Shared is_alone e = cc
 still-taken Taken is_alone e = refl
@@ -39,7 +39,7 @@ still-contested Shared is_alone e = cc
 still-contested Taken is_alone e = refl
 still-contested Contested is_alone e = refl
 
-now-contested : (bucket : Bucket) (was_alone is_alone : Bool) → is_used bucket ≡ true → (was_alone ≡ true → is_taken bucket ≡ true) → (was_alone || is_alone) ≡ true → is_contested (bucket_with bucket is_alone) ≡ true
+now-contested : (bucket : Bucket) (was_alone is_alone : Bool) → is_used bucket ≡ true → (was_alone ≡ true → has_lone_item bucket ≡ true) → (was_alone || is_alone) ≡ true → is_contested (bucket_with bucket is_alone) ≡ true
 now-contested Empty was_alone is_alone used taken one = cc
 now-contested Shared true is_alone used taken one = let e = taken refl in cc
 now-contested Shared false true used taken one = refl
@@ -48,10 +48,10 @@ now-contested Taken was_alone is_alone used taken one = refl
 now-contested Contested was_alone is_alone used taken one = refl
 
 -- ---- all buckets with one item more
-module _ (old new : List Bucket) (number : ℕ) (is_alone : Bool) (rise : (query : ℕ) → bucket_of new query ≡ cond (place_of old query == place_of old number) (bucket_with (bucket_of old query) is_alone) (bucket_of old query)) (here : bucket_of new number ≡ bucket_with (bucket_of old number) is_alone) where
+module _ (old new : List Bucket) (number : ℕ) (is_alone : Bool) (rise : (query : ℕ) → bucket_of new query ≡ cond (bucket_place old query == bucket_place old number) (bucket_with (bucket_of old query) is_alone) (bucket_of old query)) (here : bucket_of new number ≡ bucket_with (bucket_of old number) is_alone) where
   -- what holds of a bucket with one item more as well
   keeps : (holds : Bucket → Bool) → ((bucket : Bucket) → holds bucket ≡ true → holds (bucket_with bucket is_alone) ≡ true) → (query : ℕ) → holds (bucket_of old query) ≡ true → holds (bucket_of new query) ≡ true
-  keeps holds still query e = ap holds (rise query) ∙ by (place_of old query == place_of old number) where
+  keeps holds still query e = ap holds (rise query) ∙ by (bucket_place old query == bucket_place old number) where
     by : (b : Bool) → holds (cond b (bucket_with (bucket_of old query) is_alone) (bucket_of old query)) ≡ true
     by true = still (bucket_of old query) e
     by false = e
@@ -61,48 +61,48 @@ module _ (old new : List Bucket) (number : ℕ) (is_alone : Bool) (rise : (query
     used = All-push (λ key. is_used (bucket_of new key.0) ≡ true) keys (number, is_alone)
         (All-weaker (λ key. is_used (bucket_of old key.0) ≡ true) (λ key. is_used (bucket_of new key.0) ≡ true) (λ key e. keeps is_used (λ bucket _. with-used bucket is_alone) key.0 e) keys marked.used)
         (ap is_used here ∙ with-used (bucket_of old number) is_alone);
-    taken = All-push (λ key. key.1 ≡ true → is_taken (bucket_of new key.0) ≡ true) keys (number, is_alone)
-        (All-weaker (λ key. key.1 ≡ true → is_taken (bucket_of old key.0) ≡ true) (λ key. key.1 ≡ true → is_taken (bucket_of new key.0) ≡ true) (λ key had e. keeps is_taken (λ bucket t. still-taken bucket is_alone t) key.0 (had e)) keys marked.taken)
-        (λ e. ap is_taken (here ∙ ap (bucket_with (bucket_of old number)) e) ∙ with-alone (bucket_of old number));
+    taken = All-push (λ key. key.1 ≡ true → has_lone_item (bucket_of new key.0) ≡ true) keys (number, is_alone)
+        (All-weaker (λ key. key.1 ≡ true → has_lone_item (bucket_of old key.0) ≡ true) (λ key. key.1 ≡ true → has_lone_item (bucket_of new key.0) ≡ true) (λ key had e. keeps has_lone_item (λ bucket t. still-taken bucket is_alone t) key.0 (had e)) keys marked.taken)
+        (λ e. ap has_lone_item (here ∙ ap (bucket_with (bucket_of old number)) e) ∙ with-alone (bucket_of old number));
     contested = all_pairs_push (λ a b. a.0 ≡ b.0 → (a.1 || b.1) ≡ true → has_rival new b.0 ≡ true) keys (number, is_alone)
         (λ i j d below within same one. keeps is_contested (λ bucket t. still-contested bucket is_alone t) (get_or keys j d).0 (marked.contested i j d below within same one))
         (λ k d within same one.
         ap is_contested here
         ∙ now-contested (bucket_of old number) (get_or keys k d).1 is_alone
         (subst (λ n. is_used (bucket_of old n) ≡ true) same (marked.used k d within))
-        (λ e. subst (λ n. is_taken (bucket_of old n) ≡ true) same (marked.taken k d within e))
+        (λ e. subst (λ n. has_lone_item (bucket_of old n) ≡ true) same (marked.taken k d within e))
         one);
   }
 
 -- a row of buckets of which one got an item more
-module _ (old : List Bucket) (number i : ℕ) (filled : Bucket) (is_alone : Bool) (below : i < length old) (at : i ≡ place_of old number) (is : filled ≡ bucket_with (bucket_of old number) is_alone) where
+module _ (old : List Bucket) (number i : ℕ) (filled : Bucket) (is_alone : Bool) (below : i < length old) (at : i ≡ bucket_place old number) (is : filled ≡ bucket_with (bucket_of old number) is_alone) where
   -- the buckets of other places are as they were
-  read : (query : ℕ) (b : Bool) → (place_of old query == place_of old number) ≡ b → get_or (set old i filled) (place_of old query) Empty ≡ cond b (bucket_with (bucket_of old query) is_alone) (bucket_of old query)
+  read : (query : ℕ) (b : Bool) → (bucket_place old query == bucket_place old number) ≡ b → get_or (set old i filled) (bucket_place old query) Empty ≡ cond b (bucket_with (bucket_of old query) is_alone) (bucket_of old query)
   read query true e =
-      let same : place_of old query ≡ place_of old number = eqb-true (place_of old query) (place_of old number) e in
-      get_or-set_at old i (place_of old query) filled Empty (same ∙ sym at) below
+      let same : bucket_place old query ≡ bucket_place old number = eqb-true (bucket_place old query) (bucket_place old number) e in
+      get_or-set_at old i (bucket_place old query) filled Empty (same ∙ sym at) below
       ∙ (is ∙ ap (λ place. bucket_with (get_or old place Empty) is_alone) (sym same))
   read query false e =
-      get_or-set_other old i (place_of old query) filled Empty
-      (λ same. eqb-false (place_of old query) (place_of old number) e (same ∙ at))
+      get_or-set_other old i (bucket_place old query) filled Empty
+      (λ same. eqb-false (bucket_place old query) (bucket_place old number) e (same ∙ at))
 
   -- the bucket for a number
-  rise : (query : ℕ) → bucket_of (set old i filled) query ≡ cond (place_of old query == place_of old number) (bucket_with (bucket_of old query) is_alone) (bucket_of old query)
+  rise : (query : ℕ) → bucket_of (set old i filled) query ≡ cond (bucket_place old query == bucket_place old number) (bucket_with (bucket_of old query) is_alone) (bucket_of old query)
   rise query =
       ap (λ n. get_or (set old i filled) (query / 2 ^ 32 * n / 2 ^ 32) Empty) (length-set old i filled)
-      ∙ read query (place_of old query == place_of old number) refl
+      ∙ read query (bucket_place old query == bucket_place old number) refl
 
   -- the bucket that got it
   here : bucket_of (set old i filled) number ≡ bucket_with (bucket_of old number) is_alone
   here =
       ap (λ n. get_or (set old i filled) (number / 2 ^ 32 * n / 2 ^ 32) Empty) (length-set old i filled)
-      ∙ (get_or-set_at old i (place_of old number) filled Empty (sym at) below ∙ is)
+      ∙ (get_or-set_at old i (bucket_place old number) filled Empty (sym at) below ∙ is)
 
   pub set-marked : (keys : List (ℕ × Bool)) → Marked old keys → Marked (set old i filled) (keys ++ (number, is_alone) ∷ [])
   set-marked = put-marked old (set old i filled) number is_alone rise here
 
 -- a bucket that was read is the one for the number
-pub bucket-read : (buckets : List Bucket) (number i : ℕ) (bucket : Bucket) → i < length buckets → i ≡ place_of buckets number → bucket ≡ get_or buckets i bucket → bucket ≡ bucket_of buckets number
+pub bucket-read : (buckets : List Bucket) (number i : ℕ) (bucket : Bucket) → i < length buckets → i ≡ bucket_place buckets number → bucket ≡ get_or buckets i bucket → bucket ≡ bucket_of buckets number
 bucket-read buckets number i bucket below at is =
     is
     ∙ (get_or_default buckets i bucket Empty below

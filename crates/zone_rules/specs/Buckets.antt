@@ -21,11 +21,11 @@ is_used Taken = true
 is_used Contested = true
 
 -- an item fell in that has to stand alone
-abbrev pub is_taken : Bucket → Bool
-is_taken Empty = false
-is_taken Shared = false
-is_taken Taken = true
-is_taken Contested = true
+abbrev pub has_lone_item : Bucket → Bool
+has_lone_item Empty = false
+has_lone_item Shared = false
+has_lone_item Taken = true
+has_lone_item Contested = true
 
 -- an item fell in that has to stand alone, and another one
 abbrev pub is_contested : Bucket → Bool
@@ -35,12 +35,12 @@ is_contested Taken = false
 is_contested Contested = true
 
 -- where the bucket for this number of 64 bits stands: the rows of numbers for each bucket are equally long
-abbrev pub place_of : List Bucket → ℕ → ℕ
-place_of buckets number = number / 2 ^ 32 * length buckets / 2 ^ 32
+abbrev pub bucket_place : List Bucket → ℕ → ℕ
+bucket_place buckets number = number / 2 ^ 32 * length buckets / 2 ^ 32
 
 -- the bucket for this number
 abbrev pub bucket_of : List Bucket → ℕ → Bucket
-bucket_of buckets number = slice_index_or buckets (place_of buckets number) Empty
+bucket_of buckets number = slice_index_or buckets (bucket_place buckets number) Empty
 
 -- an item with this number may have a rival in its bucket
 abbrev pub has_rival : List Bucket → ℕ → Bool
@@ -49,7 +49,7 @@ has_rival buckets number = is_contested (bucket_of buckets number)
 -- items with these numbers were put in, of which each has to stand alone or may stand beside others
 pub record Marked (buckets : List Bucket) (keys : List (ℕ × Bool)) : Type 0 where
   pub used : All (λ key. is_used (bucket_of buckets key.0) ≡ true) keys
-  pub taken : All (λ key. key.1 ≡ true → is_taken (bucket_of buckets key.0) ≡ true) keys
+  pub taken : All (λ key. key.1 ≡ true → has_lone_item (bucket_of buckets key.0) ≡ true) keys
   pub contested : AllPairs (λ a b. a.0 ≡ b.0 → (a.1 || b.1) ≡ true → has_rival buckets b.0 ≡ true) keys
 
 -- the lower half of a number of 64 bits, in the place of the upper one

@@ -2,7 +2,7 @@
 
 ghost use Rattle.std.specs.Prelude.{◌≡◌, ◌<◌, ◌∷◌, ◌++◌, [], ◌&&◌, ℕ, Bool, List, length, map, IfOk, OnOk};
 ghost use Rattle.std.specs.List.{filter};
-ghost use Rattle.zone_rules.specs.Buckets.{bucket_with, has_rival, place_of, lower_half, lower_key, lower_keys, Marked, SaysRivals};
+ghost use Rattle.zone_rules.specs.Buckets.{bucket_with, has_rival, bucket_place, lower_half, lower_key, lower_keys, Marked, SaysRivals};
 
 use dns_data::NoMemory;
 use std::alloc::Global;
@@ -180,7 +180,7 @@ impl Buckets {
     /// The place of the bucket for this number.
     #[tactic(auto, using(crate::proofs::Places::place_within, crate::proofs::Places::scaled_fits))]
     fn place(&self, number: u64) -> usize
-        ensures place { result ≡ place_of self.now number }
+        ensures place { result ≡ bucket_place self.now number }
         ensures within { result < length self.now }
     {
         let high = number >> 32;

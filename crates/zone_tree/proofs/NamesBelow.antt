@@ -8,7 +8,7 @@ use Rattle.dns_data.proofs.NameFronts.{is_prefix_tells, is_prefix_told}
 use Rattle.net_model.specs.declared.config.Zone.{Zone}
 use Rattle.net_model.specs.Lookup.{deciding}
 use Rattle.net_model.proofs.Descent.{prefix_of_prefix}
-use Rattle.zone_tree.specs.Decider.{IsTailIf, at_end}
+use Rattle.zone_tree.specs.Decider.{IsTailIf, undecided}
 use Rattle.zone_tree.specs.FirstDecider.{Undecided}
 use Rattle.zone_tree.proofs.Descents.{records_decide, source_decides}
 
@@ -43,7 +43,7 @@ inside_below origin name below inside =
 
 -- where nothing decides along the name, its own records do, or its source of synthesis
 pub at_end_decides : (zone : Zone) (name : Labels) (open_below : Bool) (below : Labels) → IsTailIf zone name open_below below
-    → Undecided zone (name ++ below) name → deciding zone (name ++ below) ≡ at_end zone name open_below
+    → Undecided zone (name ++ below) name → deciding zone (name ++ below) ≡ undecided zone name open_below
 at_end_decides zone name false below none so_far =
     let itself : name ++ below ≡ name = ap (λ (b : Labels). name ++ b) none ∙ append-nil name in
     ap (deciding zone) itself ∙ records_decide zone name (subst (λ (x : Labels). Undecided zone x name) itself so_far)

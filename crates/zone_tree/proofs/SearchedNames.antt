@@ -12,7 +12,7 @@ use Rattle.dns_data.proofs.NameFronts.{is_prefix_told}
 use Rattle.dns_data.proofs.Names.{same_names}
 use Rattle.dns_data.proofs.NameOrder.{UpTo, Before, names_total, before_differs, behind_differs, prefix_up_to, up_to_before, between}
 use Rattle.dns_data.proofs.OrderedLists.{never_before_itself}
-use Rattle.zone_tree.specs.Names.{Ordered, IsBelow}
+use Rattle.zone_tree.specs.Names.{Ordered, StandsBelow}
 
 -- names in order rise
 pub rises : (names : List Labels) → Ordered names → IsSortedBy (λ a b. is_lt (name_cmp a b)) names
@@ -52,7 +52,7 @@ apart names i j ordered first second other =
 -- where the next name isn't below the one at a place, or there is none, no name is
 module _ (names : List Labels) (place : ℕ) (ordered : Ordered names) (within : place < length names)
     (apart : place + 1 < length names → is_prefix (get_or names place []) (get_or names (place + 1) []) ≡ false)
-    (name : Labels) (below : IsBelow name (get_or names place [])) (has : Contains names name) where
+    (name : Labels) (below : StandsBelow name (get_or names place [])) (has : Contains names name) where
   there : get_or names has.0 [] ≡ name
   there = get_or_default names has.0 [] name has.1 ∙ has.2
 

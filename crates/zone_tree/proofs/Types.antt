@@ -19,7 +19,7 @@ use Rattle.net_model.specs.Order.{in_order, put_in_order, beside}
 use Rattle.net_model.specs.Zone.{target_of, targets_at, data_cmp}
 use Rattle.net_model.specs.declared.config.Zone.{Zone}
 use Rattle.zone_tree.specs.declared.records.Set.{Set}
-use Rattle.zone_tree.specs.Records.{data_of, targets_of, all_of, all_in, data_in, first_in, first_of, IsSetOf, AreSets}
+use Rattle.zone_tree.specs.Records.{data_of, targets_of, all_of, all_in, data_in, first_in, first_of, IsRecordSetOf, AreRecordSets}
 use Rattle.zone_tree.proofs.NameData.{data_of_type}
 
 -- the type with a number
@@ -85,7 +85,7 @@ put_there first rdata (item ∷ items) = by (data_cmp rdata item) where
 module _ (all : List Rdata) where
   -- a set whose first data begin those of its type is theirs, if it keeps all of several
   pub set_of_several : (set : Set) (rest : List Rdata) → filter (has_type set.rtype) all ≡ set.first.now ∷ rest
-      → set.several ≡ in_order data_cmp (filter (has_type set.rtype) all) → IsSetOf all set
+      → set.several ≡ in_order data_cmp (filter (has_type set.rtype) all) → IsRecordSetOf all set
   set_of_several set rest begins several = record {
     first = ap first_of begins;
     whole = ap (all_of set.first.now) several
@@ -95,14 +95,14 @@ module _ (all : List Rdata) where
   }
 
   -- and one whose first data are alone
-  pub set_of_one : (set : Set) → filter (has_type set.rtype) all ≡ set.first.now ∷ [] → set.several ≡ [] → IsSetOf all set
+  pub set_of_one : (set : Set) → filter (has_type set.rtype) all ≡ set.first.now ∷ [] → set.several ≡ [] → IsRecordSetOf all set
   set_of_one set begins several = record {
     first = ap first_of begins;
     whole = ap (all_of set.first.now) several ∙ sym (ap (in_order data_cmp) begins);
   }
 
   -- before the first type there is no set
-  pub no_set : AreSets all types []
+  pub no_set : AreRecordSets all types []
   no_set = record {
     each = tt;
     every = λ rtype some. or_left (list_any (λ other. type_eq other rtype) types) false (among_types rtype);
@@ -110,7 +110,7 @@ module _ (all : List Rdata) where
 
   -- a type without data adds none
   pub skip_type : (rtype : RrType) (left : List RrType) (sets : List Set) → list_any (has_type rtype) all ≡ false
-      → AreSets all (rtype ∷ left) sets → AreSets all left sets
+      → AreRecordSets all (rtype ∷ left) sets → AreRecordSets all left sets
   skip_type rtype left sets none are = record {
     each = are.each;
     every = λ other some. by other (type_eq rtype other) refl some (are.every other some);
@@ -123,10 +123,10 @@ module _ (all : List Rdata) where
       by other false e some was = was
 
   -- and one with data its set
-  pub add_type : (rtype : RrType) (left : List RrType) (sets : List Set) (set : Set) → set.rtype ≡ rtype → IsSetOf all set
-      → AreSets all (rtype ∷ left) sets → AreSets all left (sets ++ set ∷ [])
+  pub add_type : (rtype : RrType) (left : List RrType) (sets : List Set) (set : Set) → set.rtype ≡ rtype → IsRecordSetOf all set
+      → AreRecordSets all (rtype ∷ left) sets → AreRecordSets all left (sets ++ set ∷ [])
   add_type rtype left sets set is own are = record {
-    each = all_push (IsSetOf all) sets set are.each own;
+    each = all_push (IsRecordSetOf all) sets set are.each own;
     every = λ other some.
         ap (λ (b : Bool). list_any (λ one. type_eq one other) left || b) (list_any-append (λ (one : Set). type_eq one.rtype other) sets (set ∷ []))
         ∙ by other (type_eq set.rtype other) (ap (λ (t : RrType). type_eq t other) is) (list_any (λ one. type_eq one other) left) (list_any (λ one. type_eq one.rtype other) sets)
@@ -144,7 +144,7 @@ module _ (all : List Rdata) where
         both false false was = was
 
   -- the data of a type among sets, where it has one
-  found_in : (sets : List Set) → AllByRecursion (IsSetOf all) sets → (rtype : RrType) → list_any (λ set. type_eq set.rtype rtype) sets ≡ true
+  found_in : (sets : List Set) → AllByRecursion (IsRecordSetOf all) sets → (rtype : RrType) → list_any (λ set. type_eq set.rtype rtype) sets ≡ true
       → (data_in sets rtype ≡ in_order data_cmp (filter (has_type rtype) all)) × (first_in sets rtype ≡ first_of (filter (has_type rtype) all))
   found_in [] each rtype some = cc
   found_in (set ∷ sets) each rtype some = by (type_eq set.rtype rtype) refl some (found_in sets each.1 rtype) where
@@ -167,7 +167,7 @@ module _ (all : List Rdata) where
       let parts = or_parts (type_eq set.rtype rtype) (list_any (λ one. type_eq one.rtype rtype) sets) none in rw (parts.0) (lacks sets rtype parts.1)
 
   -- so the sets of all types tell each type's data
-  pub sets_tell : (sets : List Set) → AreSets all [] sets → (rtype : RrType)
+  pub sets_tell : (sets : List Set) → AreRecordSets all [] sets → (rtype : RrType)
       → (data_in sets rtype ≡ in_order data_cmp (filter (has_type rtype) all)) × (first_in sets rtype ≡ first_of (filter (has_type rtype) all))
   sets_tell sets are rtype = by (list_any (λ set. type_eq set.rtype rtype) sets) refl (list_any (has_type rtype) all) refl where
     by : (there : Bool) → list_any (λ set. type_eq set.rtype rtype) sets ≡ there → (some : Bool) → list_any (has_type rtype) all ≡ some
@@ -207,7 +207,7 @@ module _ (rtype : RrType) (held : (rdata : Rdata) → has_type rtype rdata ≡ t
     by false e rest = rest
 
   -- so the sets of a name's data tell the first target that it owns
-  first_told : (zone : Zone) (name : Labels) (sets : List Set) (found : Option (Bor Rdata)) → AreSets (data_of zone.rrs name) [] sets
+  first_told : (zone : Zone) (name : Labels) (sets : List Set) (found : Option (Bor Rdata)) → AreRecordSets (data_of zone.rrs name) [] sets
       → option_map (λ (rdata : Bor Rdata). rdata.now) found ≡ first_in sets rtype
       → option_and_then target_of (option_map (λ (rdata : Bor Rdata). rdata.now) found) ≡ first_name (targets_at zone name rtype)
   first_told zone name sets found are is =
@@ -216,12 +216,12 @@ module _ (rtype : RrType) (held : (rdata : Rdata) → has_type rtype rdata ≡ t
       ∙ first_held all
       ∙ ap (λ (xs : List Rdata). first_name (filter_map target_of xs)) (sym (data_of_type name rtype zone.rrs))
 
-pub alias_told : (zone : Zone) (name : Labels) (sets : List Set) (found : Option (Bor Rdata)) → AreSets (data_of zone.rrs name) [] sets
+pub alias_told : (zone : Zone) (name : Labels) (sets : List Set) (found : Option (Bor Rdata)) → AreRecordSets (data_of zone.rrs name) [] sets
     → option_map (λ (rdata : Bor Rdata). rdata.now) found ≡ first_in sets Cname
     → option_and_then target_of (option_map (λ (rdata : Bor Rdata). rdata.now) found) ≡ first_name (targets_at zone name Cname)
 alias_told = first_told Cname cname_target
 
-pub redirection_told : (zone : Zone) (name : Labels) (sets : List Set) (found : Option (Bor Rdata)) → AreSets (data_of zone.rrs name) [] sets
+pub redirection_told : (zone : Zone) (name : Labels) (sets : List Set) (found : Option (Bor Rdata)) → AreRecordSets (data_of zone.rrs name) [] sets
     → option_map (λ (rdata : Bor Rdata). rdata.now) found ≡ first_in sets Dname
     → option_and_then target_of (option_map (λ (rdata : Bor Rdata). rdata.now) found) ≡ first_name (targets_at zone name Dname)
 redirection_told = first_told Dname dname_target

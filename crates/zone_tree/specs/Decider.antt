@@ -28,9 +28,9 @@ IsTailIf zone name false below = below ≡ []
 IsTailIf zone name true below = IsOpenTail zone name below
 
 -- what decides where nothing above does: an existing name's own records, or its source of synthesis below it
-abbrev pub at_end : Zone → Labels → Bool → Deciding
-at_end zone name false = ByRecords name
-at_end zone name true = synthesized zone (Some name)
+abbrev pub undecided : Zone → Labels → Bool → Deciding
+undecided zone name false = ByRecords name
+undecided zone name true = synthesized zone (Some name)
 
 -- a source of synthesis decides by its records
 abbrev pub by_source : Option ℕ → Decider

@@ -22,7 +22,7 @@ abbrev pub Ordered : List Labels → Type 0
 Ordered names = AllPairs (λ a b. name_cmp a b ≡ Less) names
 
 -- the first name stands below the second
-pub record IsBelow (name above : Labels) : Type 0 where
+pub record StandsBelow (name above : Labels) : Type 0 where
   pub first : List ℕ
   pub rest : Labels
   pub is : name ≡ above ++ first ∷ rest

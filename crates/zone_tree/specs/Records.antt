@@ -52,24 +52,24 @@ abbrev pub TellsTypes : List Rdata → List Bool → Type 0
 TellsTypes all types = (rtype : RrType) → has_bit types rtype ≡ list_any (has_type rtype) all
 
 -- the set is that of its type among all data
-pub record IsSetOf (all : List Rdata) (set : Set) : Type 0 where
+pub record IsRecordSetOf (all : List Rdata) (set : Set) : Type 0 where
   pub first : first_of (filter (has_type set.rtype) all) ≡ Some set.first.now
   pub whole : all_in set ≡ in_order data_cmp (filter (has_type set.rtype) all)
 
 -- the sets are those of their types, and each type that has data, but for the types left, has one
-pub record AreSets (all : List Rdata) (left : List RrType) (sets : List Set) : Type 0 where
-  pub each : AllByRecursion (IsSetOf all) sets
+pub record AreRecordSets (all : List Rdata) (left : List RrType) (sets : List Set) : Type 0 where
+  pub each : AllByRecursion (IsRecordSetOf all) sets
   pub every : (rtype : RrType) → list_any (has_type rtype) all ≡ true
       → (list_any (λ other. type_eq other rtype) left || list_any (λ set. type_eq set.rtype rtype) sets) ≡ true
 
 -- the records tell of all data of a name
-pub record Tells (all : List Rdata) (records : Records) : Type 0 where
+pub record TellsData (all : List Rdata) (records : Records) : Type 0 where
   pub types : TellsTypes all records.types
   pub servers : map (λ server. server.now) records.servers ≡ in_order name_cmp (targets_of all rr_type.Ns)
-  pub sets : AreSets all [] records.sets
+  pub sets : AreRecordSets all [] records.sets
 
 -- the names are those that exist in the zone, and beside each stands what tells of its data
 pub record IsTree (zone : Zone) (names : List Labels) (records : List Records) : Type 0 where
   pub existing : AreExisting zone names
   pub many : length records ≡ length names
-  pub each : (k : ℕ) (d : Records) → k < length names → Tells (data_of zone.rrs (slice_index_or names k [])) (slice_index_or records k d)
+  pub each : (k : ℕ) (d : Records) → k < length names → TellsData (data_of zone.rrs (slice_index_or names k [])) (slice_index_or records k d)

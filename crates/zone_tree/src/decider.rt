@@ -6,7 +6,7 @@ ghost use Rattle.dns_data.specs.TypeSet.{has_bit};
 ghost use Rattle.dns_data.specs.declared.rr_type.RrType.TheVariants as rr_type;
 ghost use Rattle.net_model.specs.Lookup.{deciding};
 ghost use Rattle.net_model.specs.OpenTail.{IsOpenTail};
-ghost use Rattle.zone_tree.specs.Decider.{deciding_by, IsOfTree, IsTailIf, at_end, by_source};
+ghost use Rattle.zone_tree.specs.Decider.{deciding_by, IsOfTree, IsTailIf, undecided, by_source};
 ghost use Rattle.zone_tree.specs.FirstDecider.{Undecided};
 ghost use Rattle.zone_tree.specs.Preceding.{IsPreceding};
 ghost use Rattle.zone_tree.specs.Tree.{IsNode, name_of};
@@ -114,7 +114,7 @@ fn decider_below(tree: &Tree<'_>, name: &Name, preceding: &Preceding, open_below
 fn at_its_end(tree: &Tree<'_>, name: NodeId, open_below: bool) -> Decider
     requires { IsNode tree.now name }
     ensures node { IsOfTree tree.now result }
-    ensures decides { at_end tree.now.zone (name_of tree.now name) open_below ≡ deciding_by tree.now result }
+    ensures decides { undecided tree.now.zone (name_of tree.now name) open_below ≡ deciding_by tree.now result }
 {
     if open_below {
         by_source(source_below(tree, name))

@@ -6,7 +6,7 @@ ghost use Rattle.dns_data.specs.Name.{name_cmp, is_prefix};
 ghost use Rattle.dns_data.specs.declared.rdata.Rr.{Rr};
 ghost use Rattle.zone_tree.specs.Names.{Ordered};
 ghost use Rattle.zone_tree.specs.Owners.{AreByOwner, leading};
-ghost use Rattle.zone_tree.specs.Records.{data_of, Tells};
+ghost use Rattle.zone_tree.specs.Records.{data_of, TellsData};
 
 use crate::records::{Records, records_of};
 use dns_data::{Name, NoMemory, Rr};
@@ -45,7 +45,7 @@ pub(crate) fn records_by_name<'a>(
     requires sorted { IsSorted name_cmp (map (λ rr. rr.owner) (map (λ rr. rr.now) rrs.now)) }
     requires among { (rr : Rr) → Contains (map (λ rr. rr.now) rrs.now) rr → Contains names.now rr.owner }
     ensures many { IfOk result (λ all. length all.items ≡ length names.now) }
-    ensures each { IfOk result (λ all. (k : ℕ) (d : _) → k < length names.now → Tells (data_of (map (λ rr. rr.now) rrs.now) (slice_index_or names.now k [])) (slice_index_or all.items k d)) }
+    ensures each { IfOk result (λ all. (k : ℕ) (d : _) → k < length names.now → TellsData (data_of (map (λ rr. rr.now) rrs.now) (slice_index_or names.now k [])) (slice_index_or all.items k d)) }
 {
     let mut all = Vec::with_capacity(alloc, names.len())?;
     let mut at = 0;

@@ -4,7 +4,7 @@ ghost use Rattle.std.specs.Prelude.{◌≡◌, ◌<◌, true, false, [], ◌∷�
 ghost use Rattle.std.specs.List.Sorted.{IsSearchInRange, IsBinarySearchResult};
 ghost use Rattle.std.specs.Ordering.{is_gt};
 ghost use Rattle.dns_data.specs.Name.{Labels, name_cmp};
-ghost use Rattle.zone_tree.specs.Names.{Ordered, IsBelow};
+ghost use Rattle.zone_tree.specs.Names.{Ordered, StandsBelow};
 ghost use Rattle.zone_tree.specs.Preceding.{IsLastUpTo};
 
 use crate::node::NodeId;
@@ -73,7 +73,7 @@ pub(crate) fn place_behind(names: &[Name], place: usize, labels: &Labels<'_>) ->
 pub(crate) fn is_leaf_at(names: &[Name], place: usize) -> bool
     requires ordered { Ordered names.now }
     requires within { place < length names.now }
-    ensures { result ≡ true → (name : Labels) → IsBelow name (slice_index_or names.now place []) → Contains names.now name → ⊥ }
+    ensures { result ≡ true → (name : Labels) → StandsBelow name (slice_index_or names.now place []) → Contains names.now name → ⊥ }
 {
     if place + 1 < names.len() {
         !names[place].is_prefix_of(&names[place + 1])

@@ -5,7 +5,7 @@ ghost use Rattle.std.specs.List.{filter};
 ghost use Rattle.std.specs.Option.{option_map};
 ghost use Rattle.dns_data.specs.Rdata.{has_type};
 ghost use Rattle.net_model.specs.Zone.{target_of};
-ghost use Rattle.zone_tree.specs.Records.{all_in, data_in, first_in, Tells, IsSetOf, AreSets, TellsTypes};
+ghost use Rattle.zone_tree.specs.Records.{all_in, data_in, first_in, TellsData, IsRecordSetOf, AreRecordSets, TellsTypes};
 
 use crate::few::Few;
 use crate::order::{servers_of, set_in_order};
@@ -44,7 +44,7 @@ impl<'a> Set<'a> {
 
 /// What tells of the records that a name owns, which are in file order.
 pub(crate) fn records_of<'a>(alloc: Global, own: &[&'a Rr]) -> Result<Records<'a>, NoMemory>
-    ensures { IfOk result (λ records. Tells (map (λ rr. rr.now.rdata) own.now) records) }
+    ensures { IfOk result (λ records. TellsData (map (λ rr. rr.now.rdata) own.now) records) }
 {
     let types = types_of(own);
     Ok(Records {
@@ -70,7 +70,7 @@ fn types_of(own: &[&Rr]) -> TypeSet
 /// The data of each of the types.
 fn sets_of<'a>(alloc: Global, own: &[&'a Rr], types: TypeSet) -> Result<Few<Set<'a>>, NoMemory>
     requires { TellsTypes (map (λ rr. rr.now.rdata) own.now) types }
-    ensures { IfOk result (λ sets. AreSets (map (λ rr. rr.now.rdata) own.now) [] sets) }
+    ensures { IfOk result (λ sets. AreRecordSets (map (λ rr. rr.now.rdata) own.now) [] sets) }
 {
     let mut sets = Few::new();
     for rtype in RrType::ALL {
@@ -94,7 +94,7 @@ fn set_of<'a>(
 ) -> Result<Set<'a>, NoMemory>
     requires { filter (has_type rtype) (map (λ rr. rr.now.rdata) own.now) ≡ first.now ∷ filter (has_type rtype) (map (λ rr. rr.now.rdata) later.now) }
     ensures rtype { IfOk result (λ set. set.rtype ≡ rtype) }
-    ensures data { IfOk result (λ set. IsSetOf (map (λ rr. rr.now.rdata) own.now) set) }
+    ensures data { IfOk result (λ set. IsRecordSetOf (map (λ rr. rr.now.rdata) own.now) set) }
 {
     let several = match first_of_type(later, rtype) {
         Some(_) => set_in_order(alloc, own, rtype)?,

@@ -11,9 +11,9 @@ ghost use Rattle.net_model.specs.Lookup.{first_name};
 ghost use Rattle.net_model.specs.Order.{in_order};
 ghost use Rattle.net_model.specs.Zone.{exists_in, owns, data_at, data_cmp, targets_at, ns_names, addresses};
 ghost use Rattle.zone_tree.specs.FirstDecider.{first_decider};
-ghost use Rattle.zone_tree.specs.Names.{IsBelow};
+ghost use Rattle.zone_tree.specs.Names.{StandsBelow};
 ghost use Rattle.zone_tree.specs.Preceding.{IsPreceding};
-ghost use Rattle.zone_tree.specs.Records.{data_of, Tells};
+ghost use Rattle.zone_tree.specs.Records.{data_of, TellsData};
 ghost use Rattle.zone_tree.specs.Tree.{IsNode, name_of};
 
 use crate::first_deciders::first_deciders;
@@ -156,7 +156,7 @@ impl<'a> Tree<'a> {
     /// Whether no existing name stands below a node's.
     pub(crate) fn is_leaf(&self, node: NodeId) -> bool
         requires { IsNode self.now node }
-        ensures { result ≡ true → (name : Labels) → IsBelow name (name_of self.now node) → exists_in self.now.zone name ≡ false }
+        ensures { result ≡ true → (name : Labels) → StandsBelow name (name_of self.now node) → exists_in self.now.zone name ≡ false }
     {
         is_leaf_at(self.names.as_slice(), node.place())
     }
@@ -251,7 +251,7 @@ impl<'a> Tree<'a> {
     /// What tells of all data of a node's name.
     fn records(&self, node: NodeId) -> &Records<'a>
         requires { IsNode self.now node }
-        ensures { Tells (data_of self.now.zone.rrs (name_of self.now node)) result.now }
+        ensures { TellsData (data_of self.now.zone.rrs (name_of self.now node)) result.now }
     {
         &self.records[node.place()]
     }

@@ -1,7 +1,7 @@
 use Rattle.std.proofs.Common.{◌≡◌, ◌*◌, ℕ, false, Bool, List, length, get_or, replicate, sym, ap, ◌∙◌, subst, Some, arith}
 use Rattle.std.specs.Prelude.{slice_get}
 use Rattle.std.proofs.lemmas.List.{length-replicate}
-use Rattle.graph_form.specs.FirstPath.{IsFirstAlong, branch_shows, mark_of}
+use Rattle.graph_form.specs.FirstPath.{IsFirstAlong, branch_shows, met_mark}
 use Rattle.graph_form.proofs.FirstPaths.{barren_start_more, first_along, none_along}
 use Rattle.graph_form.proofs.SearchStates.{none_met, item_at}
 use Rattle.graph_form.proofs.first_path.first_path.Goals as goal
@@ -13,7 +13,7 @@ loop-number-init c =
     c.as_mut_slice-met.ensures.value ∙ c.in_ok-marks.ensures.items_if_clones_equal (λ y is. is) in
     record {
       room = ap (λ (xs : List Bool). length xs) items ∙ (length-replicate size false ∙ ap (λ n. 2 * n) c.nodes.ensures);
-      barren = λ at taken e. absurd (none_met size (mark_of at taken) (ap (λ (xs : List Bool). slice_get xs (mark_of at taken)) (sym items) ∙ e));
+      barren = λ at taken e. absurd (none_met size (met_mark at taken) (ap (λ (xs : List Bool). slice_get xs (met_mark at taken)) (sym items) ∙ e));
       starts = λ k at less is. absurd (omega arith);
     }
 

@@ -34,4 +34,4 @@ returns-in-Err-clause-err c =
     let holds : list_all (λ (word : Bor (List ℕ)). is_in_form word.now) c.args.words.now ≡ true = search rules in
     let refused = refused_line c.args.command words c.in-Err.error (list_all-map is_in_form (λ (word : Bor (List ℕ)). word.now) c.args.words.now ∙ holds)
     (subst (λ app. HasKind (fault_of app words) c.in-Err.error) line_is (c.in-Err.ensures.kinds free)) in
-    rw (c.fault_by.ensures) refused
+    rw (c.refusal_by.ensures) refused

@@ -4,7 +4,7 @@ use Rattle.std.specs.Prelude.{Result, Ok, Err}
 use Rattle.dns_data.specs.Answers.{◌>>=◌}
 use Rattle.rdata_forms.specs.Times.{time_of}
 use Rattle.master_lex.specs.declared.entry.Token.{Token}
-use Rattle.master_read.specs.Entries.{Front, front_of, begins_with_digit, with_ttl, with_class, with_next, one_more, front_in}
+use Rattle.master_read.specs.Entries.{Front, front_of, begins_with_digit, with_ttl, with_class_word, with_next, one_more, front_in}
 use Rattle.master_read.specs.Words.{class_word}
 use Rattle.master_read.specs.declared.fault.TextCause.{TextCause}
 use Rattle.master_read.specs.declared.words.ClassWord.{ClassWord}
@@ -31,7 +31,7 @@ took_ttl f g tokens (Some seconds) none e =
     a_ttl seconds none (sym (ap (λ front. front.ttl) is)) (sym (ap (λ front. front.class) is))
 took_ttl f g tokens None none e = absurd cc
 
-took_class : (f g : Front) (tokens : List Token) (word : Option ClassWord) → f.class ≡ false → with_class f tokens word ≡ Ok g → Took f g
+took_class : (f g : Front) (tokens : List Token) (word : Option ClassWord) → f.class ≡ false → with_class_word f tokens word ≡ Ok g → Took f g
 took_class f g tokens (Some In) unset e =
     let is : record f { class = true; tokens = tokens } ≡ g = cc in
     a_class unset (sym (ap (λ front. front.class) is)) (sym (ap (λ front. front.ttl) is))
@@ -41,14 +41,14 @@ took_class f g tokens None unset e = nothing cc
 took_next : (f g : Front) (tokens : List Token) → with_next f tokens ≡ Ok g → Took f g
 took_next f g [] e = nothing cc
 took_next f g (token ∷ tokens) e =
-    let by_class : Result Front TextCause = if f.class then Ok f else with_class f tokens (class_word token.raw) in
+    let by_class : Result Front TextCause = if f.class then Ok f else with_class_word f tokens (class_word token.raw) in
     let is_ttl = is_none f.ttl && begins_with_digit token.raw in
     let unquoted : Result Front TextCause = if is_ttl then with_ttl f tokens (time_of token.raw) else by_class in
     elim (if_cases token.quoted (Ok f) unquoted (Ok g) e) [
       | inl quoted ↦ nothing cc
       | inr plain ↦ elim (if_cases is_ttl (with_ttl f tokens (time_of token.raw)) by_class (Ok g) plain.1) [
         | inl ttl ↦ took_ttl f g tokens (time_of token.raw) (none_is f.ttl (begins_with_digit token.raw) ttl.0) ttl.1
-        | inr other ↦ elim (if_cases f.class (Ok f) (with_class f tokens (class_word token.raw)) (Ok g) other.1) [
+        | inr other ↦ elim (if_cases f.class (Ok f) (with_class_word f tokens (class_word token.raw)) (Ok g) other.1) [
           | inl set ↦ nothing cc
           | inr unset ↦ took_class f g tokens (class_word token.raw) unset.0 unset.1
         ]

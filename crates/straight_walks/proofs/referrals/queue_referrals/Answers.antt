@@ -3,7 +3,7 @@ use Rattle.std.specs.Prelude.{Contains}
 use Rattle.dns_data.specs.Name.{Labels}
 use Rattle.net_model.specs.Zone.{ns_names}
 use Rattle.zone_tree.specs.Tree.{name_of}
-use Rattle.straight_walks.specs.Searching.{AreReferrals, Extends, IsReferral, cut_to, state_at, state_of}
+use Rattle.straight_walks.specs.Searching.{AreReferrals, Extends, IsReferral, cut_to, state_at, queued_state}
 use Rattle.straight_walks.specs.declared.queue.Queued.{Queued}
 use Rattle.straight_walks.proofs.GoingOn.{one_name_more, so_far_ends, so_far_goes_on}
 use Rattle.straight_walks.proofs.referrals.queue_referrals.Goals as goal
@@ -30,7 +30,7 @@ loop-ns-preserved c =
       | in-GoesOn+in_ok-enqueue-in-GoesOn w ↦
           subst (λ (all : Vec Queued Global). Extends first all.items × AreReferrals config deps query server zone cut (names ++ item.now ∷ []) all.items) (sym w.queue-is)
           (so_far_goes_on config deps query server zone cut names item.now first c.loop-ns.queue.items w.enqueue.new.queue.items c.loop-ns.invariant w.in_ok-enqueue-in-GoesOn.ensures.more
-          (subst (λ (n : ℕ). Contains (map (state_of config query) w.enqueue.new.queue.items) (state_at config query item.now n))
+          (subst (λ (n : ℕ). Contains (map (queued_state config query) w.enqueue.new.queue.items) (state_at config query item.now n))
           (w.len.ensures.value ∙ ap (λ (name : Labels). length name) w.name.ensures) (w.in_ok-enqueue-in-GoesOn.ensures.there config query))
           (subst (IsReferral config deps query (cut_to server zone cut item.now)) w.in-GoesOn.is c.in_ok-referral_to.ensures))
     ])

@@ -2,7 +2,7 @@ use Rattle.std.proofs.Common.{◌≡◌, ℕ, ◌+◌, ◌<◌, ◌++◌, Option
 use Rattle.std.proofs.lemmas.List.{take_all}
 use Rattle.dns_data.specs.Name.{Labels}
 use Rattle.net_model.specs.Lookup.{Deciding, ByRecords, ByNothing, synthesized}
-use Rattle.zone_tree.specs.Decider.{deciding_by, at_end, by_source}
+use Rattle.zone_tree.specs.Decider.{deciding_by, undecided, by_source}
 use Rattle.zone_tree.specs.FirstDecider.{Undecided}
 use Rattle.zone_tree.specs.Tree.{ZoneTree, name_of}
 use Rattle.zone_tree.proofs.Descents.{source_at}
@@ -22,7 +22,7 @@ returns-then-preceding-len-clause-decides c = λ below stands.
     let all : c.args.preceding.now.shared ≡ length name = omega (arith, c.if-preceding-len.true, c.len.ensures.value) in
     let whole : take c.args.preceding.now.shared name ≡ name = take_all c.args.preceding.now.shared name (omega (arith, all)) in
     at_end_decides zone name c.args.open_below below stands (subst (λ (x : Labels). Undecided zone (name ++ below) x) whole (c.requires.undecided below stands))
-    ∙ ap (λ (x : Labels). at_end zone x c.args.open_below) (sym (c.requires.preceding.itself all))
+    ∙ ap (λ (x : Labels). undecided zone x c.args.open_below) (sym (c.requires.preceding.itself all))
     ∙ c.at_its_end.ensures.decides
 
 pub returns-else-preceding-len-clause-decides : goal.returns-else-preceding-len-clause-decides

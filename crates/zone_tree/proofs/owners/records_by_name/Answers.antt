@@ -6,7 +6,7 @@ use Rattle.dns_data.specs.declared.rdata.Rdata.{Rdata}
 use Rattle.dns_data.specs.declared.rdata.Rr.{Rr}
 use Rattle.zone_tree.specs.declared.records.Records.{Records}
 use Rattle.zone_tree.specs.Owners.{leading}
-use Rattle.zone_tree.specs.Records.{data_of, Tells}
+use Rattle.zone_tree.specs.Records.{data_of, TellsData}
 use Rattle.zone_tree.proofs.Owned.{owner_of, rdata_of, now_of, data_leading, data_behind, order_behind, order_from_first, next_up_to, from_drop}
 use Rattle.zone_tree.proofs.Pairs.{each_pushed}
 use Rattle.zone_tree.proofs.SearchedNames.{apart}
@@ -56,14 +56,14 @@ loop-name-preserved c =
     ∙ ap (map rdata_of) (sym (take-map now_of c.leading.result (take (length c.args.rrs.now - at) (drop at c.args.rrs.now))) ∙ ap (take c.leading.result) left ∙ ap (λ (n : ℕ). take n rest) count)
     ∙ sym (data_leading name rest order)
     ∙ c.loop-name.invariant.left i (omega arith) c.loop-name-test.true in
-    let told : Tells (data_of rrs name) new = subst (λ (all : List Rdata). Tells all new) owned c.in_ok-records_of.ensures in
+    let told : TellsData (data_of rrs name) new = subst (λ (all : List Rdata). TellsData all new) owned c.in_ok-records_of.ensures in
     record {
       within =
           omega (arith, c.leading.ensures.within, c.split_at.ensures.front_len, ap (λ (xs : List (Bor Rr)). length xs) whole, length-drop at c.args.rrs.now, c.loop-name.invariant.within);
       many = omega (arith, c.in_ok-push.ensures.len, c.loop-name.invariant.many);
       each = λ k d below.
-          subst (λ (xs : List Records). Tells (data_of rrs (get_or names k [])) (get_or xs k d)) (sym c.in_ok-push.ensures.items)
-          (each_pushed (λ (j : ℕ) (records : Records). Tells (data_of rrs (get_or names j [])) records)
+          subst (λ (xs : List Records). TellsData (data_of rrs (get_or names k [])) (get_or xs k d)) (sym c.in_ok-push.ensures.items)
+          (each_pushed (λ (j : ℕ) (records : Records). TellsData (data_of rrs (get_or names j [])) records)
           c.loop-name.all.items i new c.loop-name.invariant.many c.loop-name.invariant.each told k d below);
       left = λ k later below.
           ap (λ (xs : List Rr). data_of xs (get_or names k [])) next

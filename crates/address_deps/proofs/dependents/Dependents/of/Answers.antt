@@ -2,7 +2,7 @@ use Rattle.std.proofs.Common.{◌≡◌, ℕ, List, length, ap, sym, ◌∙◌, 
 use Rattle.std.proofs.lemmas.Option.{slice_get-get_or}
 use Rattle.dns_data.specs.Name.{Labels}
 use Rattle.graph_form.specs.Graph.{PlainGraph}
-use Rattle.address_deps.specs.Dependents.{AreDependents, IsListed}
+use Rattle.address_deps.specs.Dependents.{AreDependents, IsListedFor}
 use Rattle.address_deps.proofs.Listing.{more_dependents, names_of, no_dependents, none_in_empty}
 use Rattle.address_deps.proofs.dependents.Dependents.of.Goals as goal
 
@@ -18,7 +18,7 @@ loop-place-preserved c =
     more_dependents c.args.hosts.now c.args.graphs.now place graph old new
     (slice_get-get_or c.args.graphs.now place graph c.loop-place-test.true ∙ ap (λ (g : PlainGraph). Some g) (sym c.index-graphs-place.is))
     c.loop-place.invariant
-    (subst (λ (xs : List Labels). IsListed place xs old new) (ap names_of c.as_slice.ensures.value ∙ c.in_ok-names.ensures) c.in_ok-put_all.ensures)
+    (subst (λ (xs : List Labels). IsListedFor place xs old new) (ap names_of c.as_slice.ensures.value ∙ c.in_ok-names.ensures) c.in_ok-put_all.ensures)
 
 pub returns : goal.returns
 returns c =

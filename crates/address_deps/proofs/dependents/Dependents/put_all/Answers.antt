@@ -2,7 +2,7 @@ use Rattle.std.proofs.Common.{List, ◌∷◌, [], ◌++◌, take, ap, sym, ◌�
 use Rattle.std.proofs.lemmas.List.{map-append, take_all, take_more}
 use denote.Bor.{Bor}
 use Rattle.dns_data.specs.Name.{Labels}
-use Rattle.address_deps.specs.Dependents.{IsListed}
+use Rattle.address_deps.specs.Dependents.{IsListedFor}
 use Rattle.address_deps.proofs.Listing.{listed_more, listed_none, names_of}
 use Rattle.address_deps.proofs.dependents.Dependents.put_all.Goals as goal
 
@@ -16,12 +16,12 @@ loop-name-preserved c =
     let name = c.name-item.result in
     let old = c.args.self.now.places in
     let new = c.put.new.self.places in
-    subst (λ (xs : List Labels). IsListed c.args.place xs old new)
+    subst (λ (xs : List Labels). IsListedFor c.args.place xs old new)
     (sym (ap names_of (take_more names i name c.loop-name-test.true ∙ ap (λ (x : Bor Labels). take i names ++ x ∷ []) (sym c.name-item.is))
     ∙ map-append (λ (x : Bor Labels). x.now) (take i names) (name ∷ [])))
     (listed_more c.args.place (names_of (take i names)) name.now old c.loop-name.self.places new c.loop-name.invariant c.in_ok-put.ensures)
 
 pub returns : goal.returns
 returns c =
-    subst (λ (xs : List (Bor Labels)). IsListed c.args.place (names_of xs) c.args.self.now.places c.loop-name.self.places)
+    subst (λ (xs : List (Bor Labels)). IsListedFor c.args.place (names_of xs) c.args.self.now.places c.loop-name.self.places)
     (take_all c.loop-name.name-index c.args.names.now c.loop-name-test.false) c.loop-name.invariant

@@ -1,7 +1,7 @@
 use Rattle.std.proofs.Common.{map, take}
-use Rattle.address_deps.specs.Dependents.{IsListed}
+use Rattle.address_deps.specs.Dependents.{IsListedFor}
 use Rattle.address_deps.proofs.dependents.Dependents.put_all.Given as goal
 
 -- listed for the names so far
 abbrev pub invariant-loop-name : goal.invariant-loop-name
-invariant-loop-name l = IsListed l.place (map (λ name. name.now) (take l.name-index l.names)) l.fn.self.places l.self.places
+invariant-loop-name l = IsListedFor l.place (map (λ name. name.now) (take l.name-index l.names)) l.fn.self.places l.self.places

@@ -1,5 +1,5 @@
 use Rattle.std.proofs.Common.{◌<◌, length, refl, arith}
-use Rattle.interp_graph.specs.Work.{IsSound}
+use Rattle.interp_graph.specs.Work.{IsSoundWork}
 use Rattle.interp_graph.proofs.Arming.{middle_within, middle_below, reached_passed, reached_sound, reached_advances, reached_still, reached_awaits, reached_drafts}
 use Rattle.interp_graph.proofs.Passing.{passed_on}
 use Rattle.interp_graph.proofs.Working.{took_length}
@@ -29,7 +29,7 @@ overflow_cast-result c =
     let middle : Work = record { keys = c.number.new.keys; drafts = c.number.new.drafts; stack = c.args.self.now.stack; pairs = c.args.self.now.pairs; limit = c.args.self.now.limit } in
     let below : c.in_ok-at.at < length middle.drafts.items =
     middle_below c.args.self.now middle c.in_ok-at.at c.args.state c.requires.sound c.in_ok-at.ensures.numbered c.in_ok-at.ensures.keyed c.in_ok-at.ensures.once refl refl refl in
-    let sound : IsSound c.want.new.self =
+    let sound : IsSoundWork c.want.new.self =
     reached_sound c.args.self.now middle c.in_ok-at.at c.args.state c.requires.sound c.in_ok-at.ensures.numbered c.in_ok-at.ensures.keyed c.in_ok-at.ensures.once refl refl refl
     c.want.new.self c.args.types c.in_ok-want.ensures.took c.requires.some in
     omega (arith, below, took_length middle c.want.new.self c.in_ok-at.at c.args.types c.in_ok-want.ensures.took, sound.some_each, sound.within.few, sound.within.fits)

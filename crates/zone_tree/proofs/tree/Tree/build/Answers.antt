@@ -7,7 +7,7 @@ use Rattle.net_model.specs.declared.config.Zone.{Zone}
 use Rattle.zone_tree.specs.FirstDecider.{AreFirstDeciders}
 use Rattle.zone_tree.specs.Names.{AreExisting}
 use Rattle.zone_tree.specs.Owners.{AreByOwner}
-use Rattle.zone_tree.specs.Records.{data_of, Tells, IsTree}
+use Rattle.zone_tree.specs.Records.{data_of, TellsData, IsTree}
 use Rattle.zone_tree.specs.declared.records.Records.{Records}
 use Rattle.zone_tree.proofs.Existing.{existing_within, owners_among}
 use Rattle.zone_tree.proofs.Owned.{now_of}
@@ -24,14 +24,14 @@ records_by_name-requires-clause-among c = λ rr has.
 -- the names with what they own
 told : (zone : Zone) (rrs : List Rr) (names slice : List Labels) (records : List Records) → slice ≡ names → AreByOwner zone rrs → AreExisting zone names
     → length records ≡ length slice
-    → ((k : ℕ) (d : Records) → k < length slice → Tells (data_of rrs (get_or slice k [])) (get_or records k d)) → IsTree zone names records
+    → ((k : ℕ) (d : Records) → k < length slice → TellsData (data_of rrs (get_or slice k [])) (get_or records k d)) → IsTree zone names records
 told zone rrs names slice records same are existing many each = record {
   existing = existing;
   many = many ∙ ap (λ (xs : List Labels). length xs) same;
   each = λ k d below.
       let name : Labels = get_or names k [] in
       let within : k < length slice = omega (arith, below, ap (λ (xs : List Labels). length xs) same) in
-      subst (λ (all : List Rdata). Tells all (get_or records k d))
+      subst (λ (all : List Rdata). TellsData all (get_or records k d))
       (ap (λ (xs : List Labels). data_of rrs (get_or xs k [])) same
       ∙ are.in_file_order name (existing_within zone name ((existing.all name).0 (Contains-get_or names k [] below))))
       (each k d within);
