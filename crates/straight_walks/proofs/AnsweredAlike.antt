@@ -1,10 +1,10 @@
 -- Answers of zones, where they are compared.
-use Rattle.std.proofs.Common.{◌≡◌, sym, ap, ◌∙◌}
+use Rattle.std.proofs.Common.{◌≡◌, ap, ◌∙◌}
 use Rattle.dns_data.specs.Name.{Labels}
 use Rattle.dns_data.specs.declared.rr_type.RrType.{RrType}
-use Rattle.net_model.specs.Lookup.{ByNothing, ByRecords, deciding}
+use Rattle.net_model.specs.Lookup.{ByRecords, deciding}
 use Rattle.net_model.specs.declared.config.Zone.{Zone}
-use Rattle.straight_walks.specs.Searching.{leaf_by, leaf_of, leaf_with, sorted_data}
+use Rattle.straight_walks.specs.Searching.{leaf_by, leaf_of}
 
 pub owner_decides : (query : Labels) (first second : Zone) (owner : Labels) → deciding first query ≡ ByRecords owner
     → ((rtype : RrType) → leaf_by first rtype (ByRecords owner) ≡ leaf_of query second rtype)

@@ -1,5 +1,5 @@
 -- A query whose walks go straight shows no fault.
-use Rattle.std.proofs.Common.{◌≡◌, ℕ, Bool, true, false, List, [], ◌∷◌, ◌++◌, refl, sym, ◌∙◌, subst, true≢false}
+use Rattle.std.proofs.Common.{◌≡◌, ℕ, true, List, [], ◌∷◌, sym, ◌∙◌, subst, true≢false}
 use Rattle.std.specs.Prelude.{Contains, Some, None}
 use Rattle.std.specs.List.{AllByRecursion}
 use Rattle.std.proofs.lemmas.List.Elements.{Contains-append_right}
@@ -12,7 +12,6 @@ use Rattle.graph_form.proofs.Taking.{taken, zones}
 use Rattle.net_model.specs.Shown.{FaultSetting, Refers, Shows, ShowsAnswers, LastRewriteAt, is_authoritative, with_lists}
 use Rattle.net_model.specs.Step.{Setting}
 use Rattle.net_model.specs.Walk.{IsWalk}
-use Rattle.net_model.specs.declared.config.Config.{Config}
 use Rattle.net_model.specs.declared.fault.Fault.{Fault}
 use Rattle.net_model.specs.declared.fault.Fault.TheVariants as faults
 use Rattle.net_model.specs.declared.place.Cut.{Cut}
