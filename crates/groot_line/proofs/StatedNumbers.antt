@@ -1,5 +1,5 @@
 -- The numbers of the job that words ask for are in their ranges.
-use Rattle.std.proofs.Common.{◌≡◌, ℕ, ◌<◌, ◌≤◌, Bool, true, false, cond, List, [], ◌∷◌, Option, Some, None, Result, Ok, Err, refl, subst, arith}
+use Rattle.std.proofs.Common.{◌≡◌, ℕ, ◌≤◌, Bool, true, false, cond, List, [], ◌∷◌, Option, Some, None, Result, Ok, Err, refl, subst, arith}
 use Rattle.std.specs.Prelude.{◌&&◌, nat_le, length, option_and_then, ok_or, ◌==◌, IfOk}
 use Rattle.std.proofs.lemmas.Bool.{eqb-false, leb-true}
 use Rattle.std.proofs.lemmas.Option.{same_Some}
@@ -8,7 +8,7 @@ use Rattle.dns_data.specs.Number.{is_digits, number_up_to}
 use Rattle.dns_data.specs.Octet.{digits_after}
 use Rattle.groot_line.specs.Arguments.{Arguments, arguments_of}
 use Rattle.groot_line.specs.Command.{command_of}
-use Rattle.groot_line.specs.Job.{asked, job_by, job_of}
+use Rattle.groot_line.specs.Job.{asked, job_by, job_of, InRange, AreInRange}
 use Rattle.groot_line.specs.LineOption.{most_of}
 use Rattle.groot_line.specs.Number.{unless_zero, number_to, number_by}
 use Rattle.groot_line.specs.Operands.{asked_meta, only_meta, asked_name, asked_type, drill_number}
@@ -17,7 +17,6 @@ use Rattle.groot_line.specs.declared.command.Command.TheVariants as commands
 use Rattle.groot_line.specs.declared.fault.LineFault.{LineFault}
 use Rattle.groot_line.specs.declared.fault.LineFault.TheVariants.{Usage}
 use Rattle.groot_line.specs.declared.job.Job.{Job}
-use Rattle.groot_line.specs.declared.job.Job.TheVariants.{Check, Ask, Classes, Drill}
 use Rattle.groot_line.specs.declared.line_option.LineOption.{LineOption}
 use Rattle.groot_line.specs.declared.line_option.LineOption.TheVariants as options
 
@@ -35,10 +34,6 @@ through Q (Err fault) next each = tt
 if_ok_or : {T E : Type 0} (P : T → Type 0) (o : Option T) (fault : E) → ((value : T) → o ≡ Some value → P value) → IfOk (ok_or o fault) P
 if_ok_or P None fault each = tt
 if_ok_or P (Some value) fault each = each value refl
-
--- a number from 1 up to the most
-abbrev pub InRange : ℕ → ℕ → Type 0
-InRange most n = (0 < n) × (n ≤ most)
 
 -- what a condition lets through holds with it
 let_through : (b : Bool) (value n : ℕ) (limit : Bool) → (cond (b && limit) (Some value) None ≡ Some n) → (limit ≡ true) × (value ≡ n)
@@ -70,17 +65,11 @@ option_in options.Classes None = (omega arith, omega arith)
 option_in options.Rewrites None = (omega arith, omega arith)
 option_in option (Some value) = if_ok_or (InRange (most_of option)) (number_to (most_of option) value) Usage (number_in_range (most_of option) value)
 
-abbrev IsInRange : Job → Type 0
-IsInRange (Check meta workers classes rewrites) = InRange 64 workers × InRange 1000000 classes × InRange 64 rewrites
-IsInRange (Ask meta name rtype) = Unit {0}
-IsInRange (Classes meta classes) = InRange 1000000 classes
-IsInRange (Drill n workers) = InRange 5000 n × InRange 64 workers
-
-asked_in : (operands : List (List ℕ)) → IfOk (asked operands) IsInRange
+asked_in : (operands : List (List ℕ)) → IfOk (asked operands) AreInRange
 asked_in [] = tt
 asked_in (meta ∷ []) = tt
 asked_in (meta ∷ name ∷ []) = tt
-asked_in (meta ∷ name ∷ rtype ∷ []) = through IsInRange (asked_meta meta) _ (λ m. through IsInRange (asked_name name) _ (λ n. through IsInRange (asked_type rtype) _ (λ t. tt)))
+asked_in (meta ∷ name ∷ rtype ∷ []) = through AreInRange (asked_meta meta) _ (λ m. through AreInRange (asked_name name) _ (λ n. through AreInRange (asked_type rtype) _ (λ t. tt)))
 asked_in (meta ∷ name ∷ rtype ∷ other ∷ rest) = tt
 
 drill_in : (operands : List (List ℕ)) → IfOk (drill_number operands) (InRange 5000)
@@ -88,34 +77,27 @@ drill_in [] = tt
 drill_in (word ∷ []) = if_ok_or (InRange 5000) (number_to 5000 word) Usage (number_in_range 5000 word)
 drill_in (word ∷ other ∷ rest) = tt
 
-job_by_in : (command : Command) (arguments : Arguments) → IfOk (job_by command arguments) IsInRange
+job_by_in : (command : Command) (arguments : Arguments) → IfOk (job_by command arguments) AreInRange
 job_by_in commands.Check arguments =
-    through IsInRange (only_meta arguments.operands) _
-    (λ meta. if_ok_then (InRange 64) IsInRange (number_by options.Workers arguments.workers) _ (option_in options.Workers arguments.workers)
-    (λ workers first. if_ok_then (InRange 1000000) IsInRange (number_by options.Classes arguments.classes) _ (option_in options.Classes arguments.classes)
-    (λ classes second. if_ok_then (InRange 64) IsInRange (number_by options.Rewrites arguments.rewrites) _ (option_in options.Rewrites arguments.rewrites)
+    through AreInRange (only_meta arguments.operands) _
+    (λ meta. if_ok_then (InRange 64) AreInRange (number_by options.Workers arguments.workers) _ (option_in options.Workers arguments.workers)
+    (λ workers first. if_ok_then (InRange 1000000) AreInRange (number_by options.Classes arguments.classes) _ (option_in options.Classes arguments.classes)
+    (λ classes second. if_ok_then (InRange 64) AreInRange (number_by options.Rewrites arguments.rewrites) _ (option_in options.Rewrites arguments.rewrites)
     (λ rewrites third. (first, second, third)))))
 job_by_in commands.Ask arguments = asked_in arguments.operands
 job_by_in commands.Classes arguments =
-    through IsInRange (only_meta arguments.operands) _
-    (λ meta. if_ok_then (InRange 1000000) IsInRange (number_by options.Classes arguments.classes) _ (option_in options.Classes arguments.classes) (λ classes within. within))
+    through AreInRange (only_meta arguments.operands) _
+    (λ meta. if_ok_then (InRange 1000000) AreInRange (number_by options.Classes arguments.classes) _ (option_in options.Classes arguments.classes) (λ classes within. within))
 job_by_in commands.Drill arguments =
-    if_ok_then (InRange 5000) IsInRange (drill_number arguments.operands) _ (drill_in arguments.operands)
-    (λ n within. if_ok_then (InRange 64) IsInRange (number_by options.Workers arguments.workers) _ (option_in options.Workers arguments.workers) (λ workers second. (within, second)))
+    if_ok_then (InRange 5000) AreInRange (drill_number arguments.operands) _ (drill_in arguments.operands)
+    (λ n within. if_ok_then (InRange 64) AreInRange (number_by options.Workers arguments.workers) _ (option_in options.Workers arguments.workers) (λ workers second. (within, second)))
 
 -- the numbers of the job that words ask for are in their ranges
-in_range : (words : List (List ℕ)) → IfOk (job_of words) IsInRange
+in_range : (words : List (List ℕ)) → IfOk (job_of words) AreInRange
 in_range [] = tt
 in_range (word ∷ words) =
-    through IsInRange (ok_or (command_of word) Usage) _
-    (λ command. through IsInRange (arguments_of command words) _ (λ arguments. job_by_in command arguments))
+    through AreInRange (ok_or (command_of word) Usage) _
+    (λ command. through AreInRange (arguments_of command words) _ (λ arguments. job_by_in command arguments))
 
-by_job : (words : List (List ℕ)) (job : Job) → job_of words ≡ Ok job → IsInRange job
-by_job words job e = subst (λ (said : Result Job LineFault). IfOk said IsInRange) e (in_range words)
-
-pub check_in_range : (words : List (List ℕ)) (meta : List ℕ) (workers classes rewrites : ℕ) → job_of words ≡ Ok (Check meta workers classes rewrites)
-    → InRange 64 workers × InRange 1000000 classes × InRange 64 rewrites
-check_in_range words meta workers classes rewrites = by_job words (Check meta workers classes rewrites)
-
-pub drill_in_range : (words : List (List ℕ)) (n workers : ℕ) → job_of words ≡ Ok (Drill n workers) → InRange 5000 n × InRange 64 workers
-drill_in_range words n workers = by_job words (Drill n workers)
+pub job_in_range : (words : List (List ℕ)) (job : Job) → job_of words ≡ Ok job → AreInRange job
+job_in_range words job e = subst (λ (said : Result Job LineFault). IfOk said AreInRange) e (in_range words)

@@ -1,5 +1,5 @@
 -- What the words of the command line ask for.
-use Rattle.std.specs.Prelude.{ℕ, List, [], ◌∷◌, ok_or, Result, Ok, Err}
+use Rattle.std.specs.Prelude.{ℕ, ◌<◌, ◌≤◌, List, [], ◌∷◌, ok_or, Result, Ok, Err}
 use Rattle.dns_data.specs.Answers.{◌>>=◌}
 use Rattle.groot_line.specs.Arguments.{Arguments, arguments_of}
 use Rattle.groot_line.specs.Command.{command_of}
@@ -47,3 +47,14 @@ job_of (word ∷ words) = do
   command ← ok_or (command_of word) Usage
   arguments ← arguments_of command words
   job_by command arguments
+
+-- a number from 1 up to the most
+abbrev pub InRange : ℕ → ℕ → Type 0
+InRange most n = (0 < n) × (n ≤ most)
+
+-- the numbers of a job are such as words may say
+abbrev pub AreInRange : Job → Type 0
+AreInRange (Check meta workers classes rewrites) = InRange 64 workers × InRange 1000000 classes × InRange 64 rewrites
+AreInRange (Ask meta name rtype) = Unit {0}
+AreInRange (Classes meta classes) = InRange 1000000 classes
+AreInRange (Drill n workers) = InRange 5000 n × InRange 64 workers

@@ -20,7 +20,7 @@ use Rattle.query_classes.specs.Rows.{tree_names, if_some, below_names}
 use Rattle.groot_run.specs.declared.ending.Ending.{Ending}
 use Rattle.groot_run.specs.declared.status.Status.TheVariants.{Clean}
 use Rattle.groot_run.specs.ClassList.{ListedClass, IsListed, AreListed, class_line, class_list_text}
-use Rattle.groot_run.specs.Outcome.{listed, ListsClasses}
+use Rattle.groot_run.specs.Outcome.{with_output, listed, ListsClasses}
 use Rattle.groot_run.specs.ClassRows.{class_below, classes_of_row, classes_of_rows, rows_text}
 use Rattle.dns_data.proofs.Membership.{none_in_nil, has_first, has_later, first_or_later, all_from_contains, map_has, from_map, flat_map_has, from_flat_map, pairs_first, pairs_rest}
 use Rattle.dns_data.proofs.NameOrder.{names_total}
@@ -30,7 +30,7 @@ use Rattle.query_classes.proofs.SameGrounds.{same_back, tree_same, below_same, b
 -- ---- the text
 
 -- the lines of rows are those of their classes
-pub text_by_rows : (rows : List ClassRow) → rows_text rows ≡ class_list_text (classes_of_rows rows)
+text_by_rows : (rows : List ClassRow) → rows_text rows ≡ class_list_text (classes_of_rows rows)
 text_by_rows [] = refl
 text_by_rows (row ∷ rows) =
     ap (λ (text : List ℕ). class_list_text (classes_of_row row) ++ text) (text_by_rows rows)
@@ -187,18 +187,11 @@ module _ (config : Config) (rows : List ClassRow) (tree : IsClassTree (ground_of
         );
       }
 
--- an ending with the lines of rows, and no line on err
-pub with_rows : (rows : List ClassRow) (text line : List ℕ) → text ≡ rows_text rows → line ≡ []
-    → ◌≡◌ {A = Ending} (record { status = Clean; out = text; err = line }) (listed (classes_of_rows rows))
-with_rows rows text line lines none =
-    let whole : text ≡ class_list_text (classes_of_rows rows) = lines ∙ text_by_rows rows in
-    cc
-
 -- so the rows of the class tree of a graph with the configuration's ground are what `classes` lists
 pub lists_classes : (config : Config) (limit : ℕ) (graph : Ground) (rows viewed : List ClassRow) (ending : Ending) → AreSame graph (ground_of config)
     → rows ≡ viewed → IsClassTree graph (tree_names viewed) → All (λ (row : ClassRow). IsBelow graph row.name row.below) viewed
     → AreBelowClasses graph (tree_names viewed) (below_names viewed) → (HasMoreThan (IsInTree graph) limit → ⊥)
-    → ending ≡ listed (classes_of_rows rows) → ListsClasses limit config ending
+    → ending ≡ with_output Clean (rows_text rows) → ListsClasses limit config ending
 lists_classes config limit graph rows viewed ending same is tree represented below few lists =
     inr (
       λ more. few (more_same (ground_of config) graph (same_back graph (ground_of config) same) limit more),
@@ -210,6 +203,6 @@ lists_classes config limit graph rows viewed ending same is tree represented bel
             (λ row has. below_same graph (ground_of config) same row.name row.below
             (All-contains (λ (r : ClassRow). IsBelow graph r.name r.below) viewed row represented has)))
             (below_classes_same graph (ground_of config) same (tree_names viewed) (below_names viewed) below);
-        as_text = lists ∙ ap (λ (rs : List ClassRow). listed (classes_of_rows rs)) is;
+        as_text = lists ∙ ap (λ (text : List ℕ). with_output Clean text) (text_by_rows rows) ∙ ap (λ (rs : List ClassRow). listed (classes_of_rows rs)) is;
       },
     )

@@ -1,60 +1,157 @@
--- What a task gives of the files that its words name is how the run of these words ends.
-use Rattle.std.proofs.Common.{◌≡◌, ℕ, List, Result, Ok, sym, ◌∙◌, subst, inl, inr}
-use Rattle.std.specs.Prelude.{◌⊎◌}
+-- How the run of a job ends is how the run of its words ends.
+use Rattle.std.proofs.Common.{◌≡◌, ◌≢◌, ℕ, List, [], ◌∷◌, Result, Ok, Err, sym, subst, inl, inr, refl}
+use Rattle.std.specs.Prelude.{◌⊎◌, IsTrue, codes}
 use Rattle.config_load.specs.Conf.{conf}
-use Rattle.config_load.specs.Load.{ReadingComesTo, NoReadFailed}
-use Rattle.config_load.specs.Reading.{Reading, Reads}
-use Rattle.dns_data.specs.Name.{Labels}
+use Rattle.config_load.specs.Faults.{FailedAt}
+use Rattle.config_load.specs.Load.{FailedWhereItCame, Gives, NoReadFailed}
+use Rattle.config_load.specs.Reading.{Reading, Reads, Refuses, Misses, Unknown}
+use Rattle.config_load.specs.declared.fault.LoadFault.{LoadFault}
+use Rattle.config_load.specs.declared.fault.LoadFault.TheVariants as load_faults
 use Rattle.dns_data.specs.declared.rr_type.RrType.{RrType}
+use Rattle.graph_form.specs.declared.report.ReportEntry.{ReportEntry}
 use Rattle.groot_line.specs.declared.fault.LineFault.{LineFault}
 use Rattle.groot_line.specs.declared.job.Job.{Job}
 use Rattle.groot_line.specs.declared.job.Job.TheVariants as jobs
 use Rattle.io_edges.specs.Counts.{Rose}
 use Rattle.io_edges.specs.Files.{FilesTold}
 use Rattle.net_model.specs.declared.config.Config.{Config}
+use Rattle.zone_maker.specs.Source.{drill_told}
 use Rattle.groot_run.specs.declared.ending.Ending.{Ending}
-use Rattle.groot_run.specs.Outcome.{Checks, Asks, OfReading, IsEnding, read_failed, no_memory}
+use Rattle.groot_run.specs.declared.status.Status.{Status}
+use Rattle.groot_run.specs.declared.status.Status.TheVariants.{Clean, Faults, ReadFault, WriteFault}
+use Rattle.groot_run.specs.JobEnds.{JobEnds, EndsOver, EndsWithout, IsNotLoaded}
+use Rattle.groot_run.specs.Outcome.{status_of, WithinNames, WithinStates, IsReported, Checks, ListsClasses, IsAnswerWith, Asks, IsDrilled, Drills, drill_names, drill_rewrites, OfReading, Outcome, IsEnding, JobComesTo, NoJobReadFailed, writes_nothing, no_memory}
 
--- how a run over the files of this metadata file ends
-abbrev pub EndsOver : FilesTold → (List ℕ → ℕ) → (List ℕ → ℕ) → (Config → Ending → Type 0) → List ℕ → Ending → Type 0
-EndsOver told before after of_config meta ending =
-    OfReading meta of_config (conf meta told) ending
-    ⊎ (((file : List ℕ) × (ending ≡ read_failed file) × ReadingComesTo meta told file × Rose (before file) (after file)) ⊎ (ending ≡ no_memory))
+-- ---- by what the files give
 
-module _ (told : FilesTold) (before after : List ℕ → ℕ) (said : Result Job LineFault) (own : List ℕ) (ending : Ending) where
-  -- of files that read, where no read failed, a check ends as the configuration says
-  pub check_ends : (meta : List ℕ) (workers classes rewrites : ℕ) → said ≡ Ok (jobs.Check meta workers classes rewrites) → own ≡ meta
-      → EndsOver told before after (Checks classes rewrites) own ending
-      → (meta' : List ℕ) (workers' classes' rewrites' : ℕ) (config : Config) → said ≡ Ok (jobs.Check meta' workers' classes' rewrites')
-      → conf meta' told ≡ Reads config → NoReadFailed meta' told before after
-      → Checks classes' rewrites' config ending ⊎ (ending ≡ no_memory)
-  check_ends meta workers classes rewrites is same over meta' workers' classes' rewrites' config also reads none =
-      by (subst (λ (m : List ℕ). EndsOver told before after (Checks classes rewrites) m ending) here over)
-    where
-      jobs_are : ◌≡◌ {A = Result Job LineFault} (Ok (jobs.Check meta workers classes rewrites)) (Ok (jobs.Check meta' workers' classes' rewrites'))
-      jobs_are = sym is ∙ also
+-- a fault of loading says how the run ends
+pub not_loaded : (told : FilesTold) (before after : List ℕ → ℕ) (meta : List ℕ) (fault : LoadFault) (ending : Ending)
+    → Gives {T = Config} (conf meta told) (Err fault) → FailedWhereItCame {T = Config} meta told (Err fault) → FailedAt {T = Config} before after (Err fault)
+    → IsNotLoaded meta fault ending ⊎ (ending ≡ no_memory) → EndsWithout meta told before after ending
+not_loaded told before after meta fault ending gives came failed (inr ran_out) = inr (inr ran_out)
+not_loaded told before after meta (load_faults.Read file) ending gives came failed (inl is) = inr (inl (file, is, came, failed))
+not_loaded told before after meta load_faults.NoMemory ending gives came failed (inl is) = inr (inr is)
+not_loaded told before after meta fault ending gives came failed (inl is) = inl (fault, gives, is)
 
-      here : own ≡ meta'
-      here = let metas : meta ≡ meta' = cc in same ∙ metas
+module _ (told : FilesTold) (before after : List ℕ → ℕ) (of_config : Config → Ending → Type 0) (own meta : List ℕ) (same : own ≡ meta) (ending : Ending) where
+  -- with the configuration, or without one
+  pub over_config : (config : Config) → conf own told ≡ Reads config → of_config config ending ⊎ (ending ≡ no_memory) → EndsOver meta of_config told before after ending
+  over_config config reads (inl gives) =
+      inl (subst (λ (m : List ℕ). OfReading m of_config (conf m told) ending) same
+      (subst (λ (read : Reading Config). OfReading own of_config read ending) (sym reads) gives))
+  over_config config reads (inr ran_out) = inr (inr ran_out)
 
-      by : EndsOver told before after (Checks classes rewrites) meta' ending → Checks classes' rewrites' config ending ⊎ (ending ≡ no_memory)
-      by (inl reading) =
-          let one : classes ≡ classes' = cc in
-          let other : rewrites ≡ rewrites' = cc in
-          inl (subst (λ (n : ℕ). Checks n rewrites' config ending) one
-          (subst (λ (n : ℕ). Checks classes n config ending) other
-          (subst (λ (read : Reading Config). OfReading meta' (Checks classes rewrites) read ending) reads reading)))
-      by (inr (inl (file, failed, comes, rose))) = absurd (none file comes rose)
-      by (inr (inr ran_out)) = inr ran_out
+  pub over_none : EndsWithout own told before after ending → EndsOver meta of_config told before after ending
+  over_none ends = subst (λ (m : List ℕ). EndsOver m of_config told before after ending) same (by ends) where
+    by : EndsWithout own told before after ending → EndsOver own of_config told before after ending
+    by (inl (fault, refuses, is)) = inl (subst (λ (read : Reading Config). OfReading own of_config read ending) (sym refuses) is)
+    by (inr failed) = inr failed
 
-  -- a query ends in its outcome, in a failed read or for want of memory
-  pub ask_ends : (meta : List ℕ) (name : Labels) (rtype : RrType) → said ≡ Ok (jobs.Ask meta name rtype) → own ≡ meta
-      → EndsOver told before after (Asks name rtype) own ending → IsEnding told said ending
-  ask_ends meta name rtype is same over =
-      subst (λ (job : Result Job LineFault). IsEnding told job ending) (sym is)
-      (by (subst (λ (m : List ℕ). EndsOver told before after (Asks name rtype) m ending) same over))
-    where
-      by : EndsOver told before after (Asks name rtype) meta ending → IsEnding told (Ok (jobs.Ask meta name rtype)) ending
-      by (inl reading) = inl reading
-      by (inr (inl (file, failed, comes, rose))) = inr (inl (file, failed))
-      by (inr (inr ran_out)) = inr (inr ran_out)
+-- ---- the clauses
+
+module _ (told : FilesTold) (said : Result Job LineFault) (before after : List ℕ → ℕ) where
+  -- What the status of a run says, and whether out gets something: a failed read is of a file to which the job comes and
+  -- whose count rose, and no output has failed.
+  abbrev Says : Status → List ℕ → Type 0
+  Says Clean out = Unit {0}
+  Says Faults out = Unit {0}
+  Says (ReadFault file) out = (JobComesTo told said file × Rose (before file) (after file)) × (out ≡ [])
+  Says WriteFault out = ⊥
+  Says other out = out ≡ []
+
+  abbrev Tells : Ending → Type 0
+  Tells ending = Says ending.status ending.out
+
+  of_entries : (entries : List ReportEntry) (out : List ℕ) → Says (status_of entries) out
+  of_entries [] out = tt
+  of_entries (entry ∷ entries) out = tt
+
+  within : (config : Config) (limit rewrites : ℕ) (P : Type 0) (ending : Ending) → (P → Tells ending)
+      → WithinNames config limit (WithinStates config rewrites P ending) ending → Tells ending
+  within config limit rewrites P ending of (inl (more, is)) = subst Tells (sym is) refl
+  within config limit rewrites P ending of (inr (few, inl (query, first, is))) = subst Tells (sym is) refl
+  within config limit rewrites P ending of (inr (few, inr (none, ends))) = of ends
+
+  a_list : (limit : ℕ) (config : Config) (ending : Ending) → ListsClasses limit config ending → Tells ending
+  a_list limit config ending (inl (more, is)) = subst Tells (sym is) refl
+  a_list limit config ending (inr (few, is)) = subst Tells (sym is.as_text) tt
+
+  an_answer : (name : List (List ℕ)) (rtype : RrType) (config : Config) (ending : Ending) → Asks name rtype config ending → Tells ending
+  an_answer name rtype config ending (inl (server, first, is)) = subst Tells (sym is) refl
+  an_answer name rtype config ending (inr answer) = by answer.answer where
+    by : IsAnswerWith config answer.followed name rtype ending → Tells ending
+    by (inl (more, is)) = subst Tells (sym is) refl
+    by (inr (few, are)) = subst Tells (sym are.as_text) tt
+
+  of_reading : (meta : List ℕ) (of_config : Config → Ending → Type 0) (ending : Ending) → ((config : Config) → of_config config ending → Tells ending)
+      → (reading : Reading Config) → OfReading meta of_config reading ending → Tells ending
+  of_reading meta of_config ending of (Reads config) ends = of config ends
+  of_reading meta of_config ending of (Refuses fault) is = subst Tells (sym is) refl
+  of_reading meta of_config ending of (Misses file) ends = absurd ends
+  of_reading meta of_config ending of (Unknown file) ends = absurd ends
+
+  of_outcome : (files : FilesTold) (job : Result Job LineFault) (ending : Ending) → Outcome files job ending → Tells ending
+  of_outcome files (Ok (jobs.Check meta workers classes rewrites)) ending =
+      of_reading meta (Checks classes rewrites) ending
+      (λ config. within config classes rewrites (IsReported config rewrites ending) ending (λ is. subst Tells (sym is.as_text) (of_entries is.report.entries _)))
+      (conf meta files)
+  of_outcome files (Ok (jobs.Classes meta classes)) ending =
+      of_reading meta (ListsClasses classes) ending (λ config. a_list classes config ending) (conf meta files)
+  of_outcome files (Ok (jobs.Ask meta name rtype)) ending =
+      of_reading meta (Asks name rtype) ending (λ config. an_answer name rtype config ending) (conf meta files)
+  of_outcome files (Ok (jobs.Drill zones workers)) ending =
+      of_reading (codes "meta.json") (Drills zones) ending
+      (λ config. within config drill_names drill_rewrites (IsDrilled zones config ending) ending (λ is. subst Tells (sym is.as_line) (of_entries is.report.entries _)))
+      (conf (codes "meta.json") (drill_told zones))
+  of_outcome files (Err fault) ending = λ is. subst Tells (sym is) refl
+
+  module _ (job : Job) (is_job : said ≡ Ok job) (ending : Ending) (ended : JobEnds told (Ok job) before after ending) where
+    ends : JobEnds told said before after ending
+    ends = subst (λ (other : Result Job LineFault). JobEnds told other before after ending) (sym is_job) ended
+
+    tells : Tells ending
+    tells = by ends where
+      by : JobEnds told said before after ending → Tells ending
+      by (inl outcome) = of_outcome told said ending outcome
+      by (inr (inl (file, is, comes, rose))) = subst Tells (sym is) ((comes, rose), refl)
+      by (inr (inr is)) = subst Tells (sym is) refl
+
+    pub complete : NoJobReadFailed told said before after → Outcome told said ending ⊎ (ending ≡ no_memory)
+    complete none = by ends where
+      by : JobEnds told said before after ending → Outcome told said ending ⊎ (ending ≡ no_memory)
+      by (inl outcome) = inl outcome
+      by (inr (inl (file, is, comes, rose))) = absurd (none file comes rose)
+      by (inr (inr is)) = inr is
+
+    pub headline : (meta : List ℕ) (workers classes rewrites : ℕ) (config : Config)
+        → said ≡ Ok (jobs.Check meta workers classes rewrites) → conf meta told ≡ Reads config → NoReadFailed meta told before after
+        → Checks classes rewrites config ending ⊎ (ending ≡ no_memory)
+    headline meta workers classes rewrites config is reads none =
+        by (complete (subst (λ (other : Result Job LineFault). NoJobReadFailed told other before after) (sym is) none)) where
+          by : Outcome told said ending ⊎ (ending ≡ no_memory) → Checks classes rewrites config ending ⊎ (ending ≡ no_memory)
+          by (inl outcome) =
+              inl (subst (λ (read : Reading Config). OfReading meta (Checks classes rewrites) read ending) reads
+              (subst (λ (other : Result Job LineFault). Outcome told other ending) is outcome))
+          by (inr ran_out) = inr ran_out
+
+    pub cause : IsEnding told said ending
+    cause = by ends where
+      by : JobEnds told said before after ending → IsEnding told said ending
+      by (inl outcome) = inl outcome
+      by (inr (inl (file, is, comes, rose))) = inr (inl (file, is))
+      by (inr (inr is)) = inr (inr is)
+
+    pub read_fault : (file : List ℕ) → ending.status ≡ ReadFault file → JobComesTo told said file × Rose (before file) (after file)
+    read_fault file is = (subst (λ (status : Status). Says status ending.out) is tells).0
+
+    pub no_write_fault : ending.status ≢ WriteFault
+    no_write_fault is = subst (λ (status : Status). Says status ending.out) is tells
+
+    pub silent : IsTrue (writes_nothing ending.status) → ending.out ≡ []
+    silent = by ending.status tells where
+      by : (status : Status) → Says status ending.out → IsTrue (writes_nothing status) → ending.out ≡ []
+      by Clean says nothing = absurd (cc)
+      by Faults says nothing = absurd (cc)
+      by (ReadFault file) says nothing = says.1
+      by WriteFault says nothing = absurd says
+      by other says nothing = says

@@ -1,12 +1,10 @@
 -- What the pool and the judge tell of a configuration is what a check tells.
-use Rattle.std.proofs.Common.{◌≡◌, ℕ, ◌<◌, ◌≤◌, List, [], length, map, Result, Ok, Err, sym, subst, arith}
-use Rattle.std.specs.Prelude.{◌↔◌, ◌^◌, IsErrAnd}
+use Rattle.std.proofs.Common.{◌≡◌, ℕ, ◌<◌, ◌≤◌, List, [], length, map, Ok, Err, inl, inr, sym, subst, arith}
+use Rattle.std.specs.Prelude.{◌⊎◌, ◌↔◌, ◌^◌}
 use Rattle.std.specs.declared.cmp.Ordering.{Ordering}
 use Rattle.std.proofs.lemmas.List.{length-map}
 use Rattle.class_judge.specs.Carried.{whole}
-use Rattle.class_judge.specs.Passed.{SomeClassPasses, IsFirstPassed, IsReportFault}
-use Rattle.class_judge.specs.declared.report.ReportFault.{ReportFault}
-use Rattle.class_judge.specs.declared.report.ReportFault.TheVariants.{StatesPassed as ReportStates, NoMemory as ReportNoMemory}
+use Rattle.class_judge.specs.Passed.{SomeClassPasses, IsFirstPassed}
 use Rattle.dns_data.specs.Name.{Labels}
 use Rattle.graph_form.specs.Report.{IsReport}
 use Rattle.graph_form.specs.declared.report.Report.{Report}
@@ -14,68 +12,49 @@ use Rattle.net_model.specs.declared.config.Config.{Config}
 use Rattle.net_model.specs.Reading.{ground_of}
 use Rattle.net_model.specs.Tree.{HasMoreThan}
 use Rattle.query_classes.specs.Children.{IsInTree}
-use Rattle.steal_pool.specs.Faults.{IsPoolFault}
-use Rattle.steal_pool.specs.declared.count.PoolFault.{PoolFault}
-use Rattle.steal_pool.specs.declared.count.PoolFault.TheVariants.{TooMany, NoMemory as PoolNoMemory}
 use Rattle.verdict_book.specs.Items.{ReachesMore}
 use Rattle.verdict_book.specs.Lists.{IsWholeTree}
 use Rattle.verdict_book.specs.declared.filed.Filed.{Filed}
-use Rattle.groot_run.specs.declared.judging.CheckFault.{CheckFault}
+use Rattle.groot_run.specs.declared.ending.Ending.{Ending}
 use Rattle.groot_run.specs.declared.judging.Limits.{Limits}
-use Rattle.groot_run.specs.Judged.{AreLimits, IsJudged, fault_of_pool, fault_of_report}
-use Rattle.groot_run.specs.Outcome.{HasMoreNames, most_states}
+use Rattle.groot_run.specs.Judged.{AreLimits, IsJudged}
+use Rattle.groot_run.specs.Outcome.{HasMoreNames, WithinNames, WithinStates, most_states, too_many_names, too_many_states, no_memory}
 use Rattle.groot_run.proofs.Budgets.{no_longer}
 
 -- how many names the class tree has, by the items of its judge
 abbrev TellsTree : Config → (Labels → List Labels) → Type 0
 TellsTree config children_of = (limit : ℕ) → ReachesMore [] children_of limit ↔ HasMoreThan (IsInTree (ground_of config)) limit
 
--- The judge goes under a name, whose configuration, rewrites and states are those that are given.
-module _ (own config : Config) (rewrites states : ℕ) (children_of : Labels → List Labels) (limits : Limits) (same : own ≡ config)
-    (same_rewrites : rewrites ≡ limits.rewrites) (same_states : states ≡ most_states) (tree : TellsTree own children_of) where
+module _ (config : Config) (rewrites states limit : ℕ) (children_of : Labels → List Labels) (same : most_states ≡ states) (tree : TellsTree config children_of) where
+  -- a run of the pool that passes its limit
+  pub pool_passes : (ending : Ending) → ReachesMore [] children_of limit → (ending ≡ too_many_names limit) ⊎ (ending ≡ no_memory)
+      → IsJudged limit rewrites config (Err ending)
+  pool_passes ending more (inl is) = inl (inl ((tree limit).0 more, is))
+  pool_passes ending more (inr ran_out) = inr ran_out
+
   -- where no more items are reached than the limit, there are no more names
-  few_names : (ReachesMore [] children_of limits.classes → ⊥) → HasMoreNames config limits.classes → ⊥
-  few_names few more = few ((tree limits.classes).1 (subst (λ (c : Config). HasMoreNames c limits.classes) (sym same) more))
+  few_names : (ReachesMore [] children_of limit → ⊥) → HasMoreNames config limit → ⊥
+  few_names few more = few ((tree limit).1 more)
 
-  pool_refuses : (fault : PoolFault) → IsPoolFault [] children_of limits.classes fault → IsJudged config limits (Err (fault_of_pool fault))
-  pool_refuses (TooMany most) (is, more) = subst (λ (c : Config). HasMoreNames c limits.classes) same ((tree limits.classes).0 more)
-  pool_refuses PoolNoMemory is = tt
+  -- a judge whose report is refused
+  pub states_pass : (ending : Ending) (query : Labels) → (ReachesMore [] children_of limit → ⊥) → IsFirstPassed config rewrites states query
+      → (ending ≡ too_many_states query) ⊎ (ending ≡ no_memory) → IsJudged limit rewrites config (Err ending)
+  states_pass ending query few first (inl is) =
+      inl (inr (few_names few, inl (query, subst (λ (n : ℕ). IsFirstPassed config rewrites n query) (sym same) first, is)))
+  states_pass ending query few first (inr ran_out) = inr ran_out
 
-  -- a run of the pool that gives no list
-  pub pool_ends : (fault : PoolFault) (result : Result Report CheckFault) → IsErrAnd result (λ passed. passed ≡ fault_of_pool fault)
-      → IsPoolFault [] children_of limits.classes fault → IsJudged config limits result
-  pool_ends fault (Ok report) passed is = absurd passed
-  pool_ends fault (Err passed) same_fault is = subst (λ (f : CheckFault). IsJudged config limits (Err f)) (sym same_fault) (pool_refuses fault is)
+  -- one that gives it
+  pub is_told : (ReachesMore [] children_of limit → ⊥) → (SomeClassPasses config rewrites states → ⊥)
+      → (report : Report) → IsReport (whole config rewrites) report → IsJudged limit rewrites config (Ok report)
+  is_told few none report is = (few_names few, subst (λ (n : ℕ). SomeClassPasses config rewrites n → ⊥) (sym same) none, is)
 
-  report_refuses : (ReachesMore [] children_of limits.classes → ⊥) → (fault : ReportFault) → IsReportFault own rewrites states fault
-      → IsJudged config limits (Err (fault_of_report fault))
-  report_refuses few (ReportStates query) first = (
-    few_names few,
-    subst (λ (c : Config). IsFirstPassed c limits.rewrites most_states query) same
-        (subst (λ (n : ℕ). IsFirstPassed own n most_states query) same_rewrites
-        (subst (λ (n : ℕ). IsFirstPassed own rewrites n query) same_states first)),
-  )
-  report_refuses few ReportNoMemory is = tt
-
-  -- a judge that gives no report
-  pub report_ends : (ReachesMore [] children_of limits.classes → ⊥) → (fault : ReportFault) (result : Result Report CheckFault)
-      → IsErrAnd result (λ passed. passed ≡ fault_of_report fault) → IsReportFault own rewrites states fault → IsJudged config limits result
-  report_ends few fault (Ok report) passed is = absurd passed
-  report_ends few fault (Err passed) same_fault is =
-      subst (λ (f : CheckFault). IsJudged config limits (Err f)) (sym same_fault) (report_refuses few fault is)
-
-  -- one that does
-  pub report_is_told : (ReachesMore [] children_of limits.classes → ⊥) → (SomeClassPasses own rewrites states → ⊥)
-      → (report : Report) → IsReport (whole own rewrites) report → IsJudged config limits (Ok report)
-  report_is_told few none report is = (
-    few_names few,
-    λ passes.
-        none (subst (λ (c : Config). SomeClassPasses c rewrites states) (sym same)
-        (subst (λ (n : ℕ). SomeClassPasses config n states) (sym same_rewrites)
-        (subst (λ (n : ℕ). SomeClassPasses config limits.rewrites n) (sym same_states) passes))),
-    subst (λ (c : Config). IsReport (whole c limits.rewrites) report) same
-        (subst (λ (n : ℕ). IsReport (whole own n) report) same_rewrites is),
-  )
+-- an ending without a report is one of a command, whatever it gives of a report
+pub without_report : (limit rewrites : ℕ) (config : Config) (P : Type 0) (ending : Ending) → IsJudged limit rewrites config (Err ending)
+    → WithinNames config limit (WithinStates config rewrites P ending) ending ⊎ (ending ≡ no_memory)
+without_report limit rewrites config P ending (inl (inl more)) = inl (inl more)
+without_report limit rewrites config P ending (inl (inr (few, inl first))) = inl (inr (few, inl first))
+without_report limit rewrites config P ending (inl (inr (few, inr (none, no_report)))) = absurd no_report
+without_report limit rewrites config P ending (inr ran_out) = inr ran_out
 
 -- the list of a run is short enough for a judge
 pub list_is_short : {W V : Type 0} (children_of : Labels → List Labels) (limits : Limits) (cmp : Labels → Labels → Ordering) (verdict_of : Labels → V) (list : List (Filed W Labels V))

@@ -8,3 +8,4 @@ pub mod OneClassList
 pub mod OneEntry
 pub mod OneOutcome
 pub mod OneReport
+mod PrintedLines

@@ -27,6 +27,7 @@ pub use Rattle.config_load.specs.Load
 pub use Rattle.config_load.specs.Reading as FileReading
 pub use Rattle.config_load.specs.Refusal
 pub use Rattle.groot_line.specs.Job
+pub use Rattle.groot_line.specs.LineOption
 pub use Rattle.groot_line.specs.Usage
 pub use Rattle.zone_maker.specs.Drill
 pub use Rattle.zone_maker.specs.Source
@@ -34,9 +35,8 @@ pub mod ClassList
 pub mod DrillLine
 pub mod Laws
 pub mod Outcome
-pub mod Task
 pub mod Writing
 pub mod Line
-pub mod NotLoaded
 pub mod Judged
 pub mod ClassRows
+pub mod JobEnds

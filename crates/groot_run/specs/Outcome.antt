@@ -1,6 +1,6 @@
 -- How a run ends: its status, the text for out and the line for err, by its job and by what is told of the files.
 use Rattle.std.specs.Prelude.{◌≡◌, ℕ, ◌⊎◌, Bool, true, false, List, [], ◌∷◌, ◌++◌, length, min, codes, decimal, Result, Ok}
-use Rattle.io_edges.specs.Counts.{last_count}
+use Rattle.io_edges.specs.Counts.{last_count, Rose}
 use Rattle.io_edges.specs.Files.{FilesTold}
 use Rattle.dns_data.specs.Name.{Labels}
 use Rattle.dns_data.specs.Spelling.{name_text}
@@ -14,7 +14,7 @@ use Rattle.net_model.specs.Reading.{ground_of}
 use Rattle.class_judge.specs.Carried.{whole}
 use Rattle.class_judge.specs.Passed.{SomeClassPasses, IsFirstPassed}
 use Rattle.config_load.specs.Conf.{conf}
-use Rattle.config_load.specs.Load.{ReadingComesTo, NoReadFailed}
+use Rattle.config_load.specs.Load.{ReadingComesTo}
 use Rattle.config_load.specs.Reading.{Reading, Reads, Refuses, Misses, Unknown}
 use Rattle.config_load.specs.Refusal.{refusal_line}
 use Rattle.config_load.specs.declared.fault.LoadFault.{LoadFault}
@@ -24,6 +24,7 @@ use Rattle.graph_form.specs.declared.report.ReportEntry.{ReportEntry}
 use Rattle.plain_resolver.specs.Passed.{HasMoreWalks, NoneInRounds, IsFirstWithTooMany}
 use Rattle.report_json.specs.Ask.{ask_text}
 use Rattle.report_json.specs.Report.{report_text}
+use Rattle.groot_line.specs.LineOption.{usual_names, usual_rewrites}
 use Rattle.groot_line.specs.Usage.{usage_line}
 use Rattle.groot_line.specs.declared.fault.LineFault.{LineFault}
 use Rattle.groot_line.specs.declared.job.Job.{Job}
@@ -57,6 +58,10 @@ status_of (entry ∷ entries) = Faults
 
 -- ---- the ways to end
 
+-- a text for out, and nothing for err
+abbrev pub with_output : Status → List ℕ → Ending
+with_output status text = record { status = status; out = text; err = [] }
+
 -- nothing for out, and a line for err
 abbrev pub without_output : Status → List ℕ → Ending
 without_output status line = record { status = status; out = []; err = line }
@@ -73,9 +78,14 @@ refused meta fault = without_output Refused (refusal_line meta fault)
 abbrev pub too_many_names : ℕ → Ending
 too_many_names limit = without_output Classes (codes "classes: more than " ++ (decimal limit ++ codes "\n"))
 
+-- how many pairs of state and type a query may reach
+abbrev pub most_states : ℕ
+most_states = 100000
+
 -- the query reaches more pairs of state and type than are looked at
 abbrev pub too_many_states : Labels → Ending
-too_many_states query = without_output States (codes "states: more than 100000 for " ++ (name_text query ++ codes "\n"))
+too_many_states query =
+    without_output States (codes "states: more than " ++ (decimal most_states ++ (codes " for " ++ (name_text query ++ codes "\n"))))
 
 -- a file could not be read
 abbrev pub read_failed : List ℕ → Ending
@@ -87,23 +97,32 @@ no_memory = without_output NoMemory (codes "no memory\n")
 
 -- a report
 abbrev pub reported : Report → Ending
-reported report = record { status = status_of report.entries; out = report_text report; err = [] }
+reported report = with_output (status_of report.entries) (report_text report)
 
 -- a list of classes
 abbrev pub listed : List ListedClass → Ending
-listed classes = record { status = Clean; out = class_list_text classes; err = [] }
+listed classes = with_output Clean (class_list_text classes)
 
 -- the answer of a query
 abbrev pub walks_written : Labels → RrType → List Walk → Ending
-walks_written name rtype walks = record { status = Clean; out = ask_text name rtype walks; err = [] }
+walks_written name rtype walks = with_output Clean (ask_text name rtype walks)
+
+-- how many walks of the query are written at most
+abbrev pub most_walks : ℕ
+most_walks = 1000
 
 -- the query has more walks than are written
 abbrev pub too_many_walks : Ending
-too_many_walks = without_output Walks (codes "walks: more than 1000\n")
+too_many_walks = without_output Walks (codes "walks: more than " ++ (decimal most_walks ++ codes "\n"))
+
+-- how many walks of a server's name, with type A or with type AAAA, are followed at most to learn its address
+abbrev pub most_learning_walks : ℕ
+most_learning_walks = 10000
 
 -- the server's name has more walks than are followed to learn its address
 abbrev pub too_many_to_learn : Labels → Ending
-too_many_to_learn server = without_output Walks (codes "walks: more than 10000 for " ++ (name_text server ++ codes "\n"))
+too_many_to_learn server =
+    without_output Walks (codes "walks: more than " ++ (decimal most_learning_walks ++ (codes " for " ++ (name_text server ++ codes "\n"))))
 
 -- ---- the outcome of a job
 
@@ -115,10 +134,6 @@ HasMoreNames config limit = HasMoreThan (IsInTree (ground_of config)) limit
 abbrev pub WithinNames : Config → ℕ → Type 0 → Ending → Type 0
 WithinNames config limit EndsSo ending =
     (HasMoreNames config limit × (ending ≡ too_many_names limit)) ⊎ ((HasMoreNames config limit → ⊥) × EndsSo)
-
--- how many pairs of state and type a query may reach
-abbrev pub most_states : ℕ
-most_states = 100000
 
 -- What a command gives that judges the classes: where no representative reaches more pairs of state and type than it may, the
 -- run ends so. Of those that do the first in class order is named.
@@ -151,15 +166,7 @@ ListsClasses limit config ending = WithinNames config limit (IsClassList config 
 
 -- how many rewrites a walk of `ask` may use
 abbrev pub ask_rewrites : ℕ
-ask_rewrites = 12
-
--- how many walks of the query are written at most
-abbrev pub most_walks : ℕ
-most_walks = 1000
-
--- how many walks of a server's name, with type A or with type AAAA, are followed at most to learn its address
-abbrev pub most_learning_walks : ℕ
-most_learning_walks = 10000
+ask_rewrites = usual_rewrites
 
 -- the run ends with all walks of the query, in order, while these servers are followed
 pub record AreWritten (config : Config) (followed : List Labels) (name : Labels) (rtype : RrType) (ending : Ending) : Type 0 where
@@ -190,18 +197,14 @@ Asks name rtype config ending =
 -- a drill with this report; a count of records ends at its last number
 abbrev pub drilled : ℕ → Config → Report → Ending
 drilled zones config report =
-    record {
-      status = status_of report.entries;
-      out = drill_line zones (min (records_of config.servers) last_count) report.names (length report.entries);
-      err = [];
-    }
+    with_output (status_of report.entries) (drill_line zones (min (records_of config.servers) last_count) report.names (length report.entries))
 
 -- how many rewrites a query may use, and how many names the class tree may have
 abbrev pub drill_rewrites : ℕ
-drill_rewrites = 12
+drill_rewrites = usual_rewrites
 
 abbrev pub drill_names : ℕ
-drill_names = 100000
+drill_names = usual_names
 
 -- the run ends with the line of the configuration's report
 pub record IsDrilled (zones : ℕ) (config : Config) (ending : Ending) : Type 0 where
@@ -250,12 +253,9 @@ JobComesTo told job file = ⊥
 abbrev pub JobOpensNoOther : FilesTold → FilesTold → Result Job LineFault → Type 0
 JobOpensNoOther before after job = (file : List ℕ) → (after file ≡ before file) ⊎ JobComesTo after job file
 
--- no count of a file that the job opens rose
+-- no count of a file rose to which the job comes
 abbrev pub NoJobReadFailed : FilesTold → Result Job LineFault → (List ℕ → ℕ) → (List ℕ → ℕ) → Type 0
-NoJobReadFailed told (Ok (jobs.Check meta workers classes rewrites)) before after = NoReadFailed meta told before after
-NoJobReadFailed told (Ok (jobs.Classes meta classes)) before after = NoReadFailed meta told before after
-NoJobReadFailed told (Ok (jobs.Ask meta name rtype)) before after = NoReadFailed meta told before after
-NoJobReadFailed told job before after = Unit {0}
+NoJobReadFailed told job before after = (file : List ℕ) → JobComesTo told job file → Rose (before file) (after file) → ⊥
 
 -- a status that says that nothing was written to out
 abbrev pub writes_nothing : Status → Bool

@@ -1,26 +1,23 @@
 //! The walks of a query.
 
 ghost use Rattle.std.specs.Prelude.{◌≡◌, ◌⊎◌};
-ghost use Rattle.groot_run.specs.Outcome.{Asks, IsAnswerWith, walks_written, no_memory};
+ghost use Rattle.groot_run.specs.Outcome.{Asks, IsAnswerWith, no_memory};
 
 use crate::ending::Ending;
-use crate::line::Line;
 use crate::status::Status;
 use dns_data::{List, Name, NoMemory, RrType};
-use net_model::{Config, Walk};
+use groot_line::USUAL_REWRITES;
+use net_model::Config;
 use plain_resolver::{LearntFault, ResolveFault, learnt_at, resolve_at};
 use report_json::ask_text;
 use std::alloc::Global;
 use zone_lookup::Hosts;
 
-/// How many rewrites a walk may use.
-const REWRITES: u32 = 12;
-
 /// How many walks are written at most.
-const MOST_WALKS: u32 = 1_000;
+pub(crate) const MOST_WALKS: u32 = 1_000;
 
 /// How many walks of a server's name with one type are followed at most to learn its address.
-const MOST_LEARNING_WALKS: u32 = 10_000;
+pub(crate) const MOST_LEARNING_WALKS: u32 = 10_000;
 
 /// All walks of the query, unless there are too many; or the first server whose name has too many to learn its address.
 pub(crate) fn ask(alloc: Global, config: &Config, name: &Name, rtype: RrType) -> Ending
@@ -32,12 +29,13 @@ pub(crate) fn ask(alloc: Global, config: &Config, name: &Name, rtype: RrType) ->
     }
 }
 
-/// The same with the trees of the configuration's zones.
+/// All walks of the query in a configuration whose zones' trees are built, unless there are too many; or the first server whose
+/// name has too many to learn its address.
 fn ask_at(alloc: Global, hosts: &Hosts<'_>, name: &Name, rtype: RrType) -> Ending
     ensures { Asks name.now rtype hosts.now result ⊎ (result ≡ no_memory) }
 {
     let none = List::new(alloc);
-    match learnt_at(alloc, hosts, REWRITES, &none, MOST_LEARNING_WALKS) {
+    match learnt_at(alloc, hosts, USUAL_REWRITES, &none, MOST_LEARNING_WALKS) {
         Ok(followed) => answer(alloc, hosts, followed.items(), name, rtype),
         Err(LearntFault::WalksPassed(server)) => Ending::too_many_to_learn(alloc, &server),
         Err(LearntFault::NoMemory) => Ending::no_memory(),
@@ -48,23 +46,17 @@ fn ask_at(alloc: Global, hosts: &Hosts<'_>, name: &Name, rtype: RrType) -> Endin
 fn answer(alloc: Global, hosts: &Hosts<'_>, followed: &[Name], name: &Name, rtype: RrType) -> Ending
     ensures { IsAnswerWith hosts.now followed.now name.now rtype result ⊎ (result ≡ no_memory) }
 {
-    match resolve_at(alloc, hosts, REWRITES, followed, name, rtype, MOST_WALKS) {
-        Ok(walks) => walks_written(alloc, name, rtype, walks.items()),
-        Err(ResolveFault::WalksPassed) => Ending::too_many_walks(),
+    match resolve_at(
+        alloc,
+        hosts,
+        USUAL_REWRITES,
+        followed,
+        name,
+        rtype,
+        MOST_WALKS,
+    ) {
+        Ok(walks) => Ending::written(Status::Clean, ask_text(alloc, name, rtype, walks.items())),
+        Err(ResolveFault::WalksPassed) => Ending::too_many_walks(alloc),
         Err(ResolveFault::NoMemory) => Ending::no_memory(),
-    }
-}
-
-/// The answer with these walks.
-fn walks_written(alloc: Global, name: &Name, rtype: RrType, walks: &[Walk]) -> Ending
-    ensures { (result ≡ walks_written name.now rtype walks.now) ⊎ (result ≡ no_memory) }
-{
-    match ask_text(alloc, name, rtype, walks) {
-        Ok(out) => Ending {
-            status: Status::Clean,
-            out,
-            err: Line::fixed(""),
-        },
-        Err(NoMemory) => Ending::no_memory(),
     }
 }

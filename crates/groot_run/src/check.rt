@@ -1,15 +1,13 @@
 //! What the check of a configuration gives.
 
-ghost use Rattle.std.specs.Prelude.{◌≡◌, ◌⊎◌, IfOk};
+ghost use Rattle.std.specs.Prelude.{◌≡◌, ◌⊎◌};
 ghost use Rattle.groot_run.specs.Judged.{AreLimits};
-ghost use Rattle.groot_run.specs.Outcome.{Checks, reported, status_of, no_memory};
+ghost use Rattle.groot_run.specs.Outcome.{Checks, status_of, no_memory};
 
 use crate::ending::Ending;
-use crate::judging::{CheckFault, Limits, report_of};
-use crate::line::Line;
+use crate::judging::{Limits, report_of};
 use crate::status::Status;
-use dns_data::NoMemory;
-use graph_form::{Report, ReportEntry};
+use graph_form::Report;
 use io_edges::Gate;
 use net_model::Config;
 use report_json::report_text;
@@ -30,32 +28,16 @@ pub(crate) fn check<G: Gate + Sync, R: Threads + Wait + Sync>(
     ensures { Checks limits.classes limits.rewrites config.now result ⊎ (result ≡ no_memory) }
 {
     match report_of(rt, alloc, config, limits, gate) {
-        Ok(report) => reported(alloc, &report),
-        Err(CheckFault::TooManyNames) => Ending::too_many_names(alloc, limits.classes),
-        Err(CheckFault::StatesPassed(query)) => Ending::too_many_states(alloc, &query),
-        Err(CheckFault::NoMemory) => Ending::no_memory(),
+        Ok(report) => Ending::written(status_of(&report), report_text(alloc, &report)),
+        Err(ending) => ending,
     }
 }
 
-/// The end of a run with this report.
-fn reported(alloc: Global, report: &Report) -> Ending
-    ensures { (result ≡ reported report.now) ⊎ (result ≡ no_memory) }
+/// The status of a report that is written whole.
+pub(crate) fn status_of(report: &Report) -> Status
+    ensures { result ≡ status_of report.now.entries }
 {
-    match report_text(alloc, report) {
-        Ok(out) => Ending {
-            status: status_of(report.entries.items()),
-            out,
-            err: Line::fixed(""),
-        },
-        Err(NoMemory) => Ending::no_memory(),
-    }
-}
-
-/// The status of a report with these entries.
-pub(crate) fn status_of(entries: &[ReportEntry]) -> Status
-    ensures { result ≡ status_of entries.now }
-{
-    match entries {
+    match report.entries.items() {
         [] => Status::Clean,
         _ => Status::Faults,
     }

@@ -3,11 +3,10 @@
 ghost use Rattle.std.specs.Prelude.{◌≡◌, ◌⊎◌, ◌++◌, IfOk, OnOk};
 ghost use Rattle.net_model.specs.declared.class.Class.TheVariants.{Exact, Below};
 ghost use Rattle.groot_run.specs.ClassList.{class_line, class_list_text};
-ghost use Rattle.groot_run.specs.ClassRows.{classes_of_row, classes_of_rows, rows_text};
-ghost use Rattle.groot_run.specs.Outcome.{ListsClasses, listed as ended_list, no_memory};
+ghost use Rattle.groot_run.specs.ClassRows.{classes_of_row, rows_text};
+ghost use Rattle.groot_run.specs.Outcome.{ListsClasses, no_memory};
 
 use crate::ending::Ending;
-use crate::line::Line;
 use crate::status::Status;
 use dns_data::{Name, NoMemory, Octets};
 use label_graph::LabelGraph;
@@ -19,34 +18,14 @@ use std::alloc::Global;
 pub(crate) fn list_classes(alloc: Global, config: &Config, limit: u32) -> Ending
     ensures { ListsClasses limit config.now result ⊎ (result ≡ no_memory) }
 {
-    match listed(alloc, config, limit) {
-        Ok(ending) => ending,
+    match LabelGraph::of_config(alloc, config) {
+        Ok(graph) => match class_tree(alloc, &graph, limit) {
+            Ok(rows) => Ending::written(Status::Clean, text_of(alloc, rows.items())),
+            Err(TreeFault::TooMany) => Ending::too_many_names(alloc, limit),
+            Err(TreeFault::NoMemory) => Ending::no_memory(),
+        },
         Err(NoMemory) => Ending::no_memory(),
     }
-}
-
-/// The list of the configuration's classes, unless its class tree has too many names.
-fn listed(alloc: Global, config: &Config, limit: u32) -> Result<Ending, NoMemory>
-    ensures { IfOk result (λ ending. ListsClasses limit config.now ending ⊎ (ending ≡ no_memory)) }
-{
-    let graph = LabelGraph::of_config(alloc, config)?;
-    match class_tree(alloc, &graph, limit) {
-        Ok(rows) => list_of(alloc, rows.items()),
-        Err(TreeFault::TooMany) => Ok(Ending::too_many_names(alloc, limit)),
-        Err(TreeFault::NoMemory) => Err(NoMemory),
-    }
-}
-
-/// The end of a run with a list of the classes of these rows.
-fn list_of(alloc: Global, rows: &[ClassRow]) -> Result<Ending, NoMemory>
-    ensures { IfOk result (λ ending. ending ≡ ended_list (classes_of_rows rows.now)) }
-{
-    let out = text_of(alloc, rows)?;
-    Ok(Ending {
-        status: Status::Clean,
-        out,
-        err: Line::fixed(""),
-    })
 }
 
 /// A line for each class of the rows.

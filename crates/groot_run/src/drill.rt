@@ -5,18 +5,16 @@ ghost use Rattle.config_load.specs.Conf.{conf};
 ghost use Rattle.groot_run.specs.DrillLine.{drill_line, records_of, zone_records};
 ghost use Rattle.groot_run.specs.Outcome.{Drills, OfReading, drilled, no_memory};
 ghost use Rattle.io_edges.specs.Counts.{last_count};
-ghost use Rattle.zone_maker.specs.Drill.{drill as made};
 ghost use Rattle.zone_maker.specs.Source.{drill_told};
 
 use crate::check::status_of;
 use crate::counts::put_count;
 use crate::ending::Ending;
-use crate::judging::{CheckFault, Limits, report_of};
-use crate::line::Line;
-use crate::load::not_loaded;
-use config_load::load;
+use crate::judging::{Limits, report_of};
+use crate::load::configuration;
 use dns_data::{NoMemory, Octets};
 use graph_form::Report;
+use groot_line::{USUAL_NAMES, USUAL_REWRITES};
 use io_edges::Gate;
 use net_model::{Config, Server, Zone};
 use std::alloc::Global;
@@ -24,13 +22,8 @@ use std::sync::Wait;
 use std::thread::Threads;
 use zone_maker::DrillFiles;
 
-/// How many names the class tree of a drill may have.
-const MOST_NAMES: u32 = 100_000;
-
-/// How many rewrites a query of a drill may use.
-const REWRITES: u32 = 12;
-
-/// A drill of so many zones: its files are made and read as any others, and the line tells what the check of them counts.
+/// A drill of so many zones: its files are made and read as any others, and the line tells what the check of them counts. Its
+/// limits are those of a check whose words say none.
 pub(crate) fn drill<G: Gate + Sync, R: Threads + Wait + Sync>(
     rt: &R,
     alloc: Global,
@@ -44,29 +37,11 @@ pub(crate) fn drill<G: Gate + Sync, R: Threads + Wait + Sync>(
     ensures { OfReading (codes "meta.json") (Drills zones) (conf (codes "meta.json") (drill_told zones)) result ⊎ (result ≡ no_memory) }
 {
     match DrillFiles::make(alloc, zones) {
-        Ok(files) => of_made(rt, alloc, files, zones, workers, gate),
+        Ok(mut files) => match configuration(alloc, &mut files, "meta.json") {
+            Ok(config) => of_config(rt, alloc, &config, zones, workers, gate),
+            Err(ending) => ending,
+        },
         Err(NoMemory) => Ending::no_memory(),
-    }
-}
-
-/// What a drill gives of its files.
-fn of_made<G: Gate + Sync, R: Threads + Wait + Sync>(
-    rt: &R,
-    alloc: Global,
-    files: DrillFiles,
-    zones: u32,
-    workers: u32,
-    gate: &G,
-) -> Ending
-    requires made { files ≡ made zones }
-    requires few { zones ≤ 5000 }
-    requires workers { 1 ≤ workers }
-    ensures { OfReading (codes "meta.json") (Drills zones) (conf (codes "meta.json") (drill_told zones)) result ⊎ (result ≡ no_memory) }
-{
-    let mut source = files;
-    match load(alloc, &mut source, "meta.json") {
-        Ok(config) => of_config(rt, alloc, &config, zones, workers, gate),
-        Err(fault) => not_loaded(alloc, "meta.json", fault),
     }
 }
 
@@ -79,38 +54,27 @@ fn of_config<G: Gate + Sync, R: Threads + Wait + Sync>(
     workers: u32,
     gate: &G,
 ) -> Ending
-    requires few { zones ≤ 5000 }
-    requires workers { 1 ≤ workers }
+    requires { 1 ≤ workers }
     ensures { Drills zones config.now result ⊎ (result ≡ no_memory) }
 {
     let limits = Limits {
         workers,
-        classes: MOST_NAMES,
-        rewrites: REWRITES,
+        classes: USUAL_NAMES,
+        rewrites: USUAL_REWRITES,
     };
     match report_of(rt, alloc, config, limits, gate) {
         Ok(report) => told(alloc, zones, config, &report),
-        Err(CheckFault::TooManyNames) => Ending::too_many_names(alloc, MOST_NAMES),
-        Err(CheckFault::StatesPassed(query)) => Ending::too_many_states(alloc, &query),
-        Err(CheckFault::NoMemory) => Ending::no_memory(),
+        Err(ending) => ending,
     }
 }
 
 /// The end of a drill with this report.
 fn told(alloc: Global, zones: u32, config: &Config, report: &Report) -> Ending
-    requires { zones ≤ 5000 }
     ensures { (result ≡ drilled zones config.now report.now) ⊎ (result ≡ no_memory) }
 {
-    let entries = report.entries.items();
-    let faults = entries.len() as u64;
-    match line_of(alloc, zones, records(config), report.names, faults) {
-        Ok(out) => Ending {
-            status: status_of(entries),
-            out,
-            err: Line::fixed(""),
-        },
-        Err(NoMemory) => Ending::no_memory(),
-    }
+    let faults = report.entries.len() as u64;
+    let line = line_of(alloc, zones, records(config), report.names, faults);
+    Ending::written(status_of(report), line)
 }
 
 /// The line of a drill.
@@ -121,7 +85,6 @@ fn line_of(
     names: u32,
     faults: u64,
 ) -> Result<Octets, NoMemory>
-    requires { zones ≤ 5000 }
     ensures { IfOk result (λ line. line ≡ drill_line zones records names faults) }
 {
     let mut line = Octets::new();

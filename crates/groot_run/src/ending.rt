@@ -1,10 +1,12 @@
 //! How a run ends, before anything is written.
 
-ghost use Rattle.std.specs.Prelude.{◌≡◌, ◌⊎◌, ◌++◌, codes, decimal, IfOk};
+ghost use Rattle.std.specs.Prelude.{◌≡◌, ◌⊎◌, ◌++◌, ℕ, List, codes, decimal, IfOk};
 ghost use Rattle.dns_data.specs.Spelling.{name_text};
 ghost use Rattle.config_load.specs.Refusal.{fields_line};
 ghost use Rattle.groot_run.specs.Outcome as outcome;
 
+use crate::ask::{MOST_LEARNING_WALKS, MOST_WALKS};
+use crate::judging::MOST_STATES;
 use crate::line::Line;
 use crate::status::Status;
 use config_load::LoadFault;
@@ -22,6 +24,20 @@ pub struct Ending {
 }
 
 impl Ending {
+    /// A text for out and no line, unless memory ran out for the text.
+    pub(crate) fn written(status: Status, text: Result<Octets, NoMemory>) -> Ending
+        ensures { (said : List ℕ) → IfOk text (λ out. out ≡ said) → (result ≡ outcome.with_output status said) ⊎ (result ≡ outcome.no_memory) }
+    {
+        match text {
+            Ok(out) => Ending {
+                status,
+                out,
+                err: Line::fixed(""),
+            },
+            Err(NoMemory) => Ending::no_memory(),
+        }
+    }
+
     /// The words are no job.
     pub(crate) fn usage() -> Ending
         ensures { result ≡ outcome.usage }
@@ -57,17 +73,20 @@ impl Ending {
     }
 
     /// The query has more walks than are written.
-    pub(crate) fn too_many_walks() -> Ending
-        ensures { result ≡ outcome.too_many_walks }
+    pub(crate) fn too_many_walks(alloc: Global) -> Ending
+        ensures { (result ≡ outcome.too_many_walks) ⊎ (result ≡ outcome.no_memory) }
     {
-        without_output(Status::Walks, Line::fixed("walks: more than 1000\n"))
+        match more_than(alloc, b"walks: more than ", MOST_WALKS) {
+            Ok(line) => without_output(Status::Walks, line),
+            Err(NoMemory) => Ending::no_memory(),
+        }
     }
 
     /// The server's name has more walks than are followed to learn its address.
     pub(crate) fn too_many_to_learn(alloc: Global, server: &Name) -> Ending
         ensures { (result ≡ outcome.too_many_to_learn server.now) ⊎ (result ≡ outcome.no_memory) }
     {
-        match line_for(alloc, b"walks: more than 10000 for ", server) {
+        match more_than_for(alloc, b"walks: more than ", MOST_LEARNING_WALKS, server) {
             Ok(line) => without_output(Status::Walks, line),
             Err(NoMemory) => Ending::no_memory(),
         }
@@ -77,7 +96,7 @@ impl Ending {
     pub(crate) fn too_many_states(alloc: Global, query: &Name) -> Ending
         ensures { (result ≡ outcome.too_many_states query.now) ⊎ (result ≡ outcome.no_memory) }
     {
-        match line_for(alloc, b"states: more than 100000 for ", query) {
+        match more_than_for(alloc, b"states: more than ", MOST_STATES, query) {
             Ok(line) => without_output(Status::States, line),
             Err(NoMemory) => Ending::no_memory(),
         }
@@ -87,9 +106,7 @@ impl Ending {
     pub(crate) fn too_many_names(alloc: Global, limit: u32) -> Ending
         ensures { (result ≡ outcome.too_many_names limit) ⊎ (result ≡ outcome.no_memory) }
     {
-        let mut digits = Buffer::new();
-        let number = digits.format(limit);
-        match Line::of_pieces(alloc, &[b"classes: more than ", number.as_bytes(), b"\n"]) {
+        match more_than(alloc, b"classes: more than ", limit) {
             Ok(line) => without_output(Status::Classes, line),
             Err(NoMemory) => Ending::no_memory(),
         }
@@ -107,12 +124,35 @@ fn without_output(status: Status, err: Line) -> Ending
     }
 }
 
-/// A line that ends with a name.
-fn line_for<'a>(alloc: Global, front: &'a [u8], name: &Name) -> Result<Line, NoMemory>
-    ensures { IfOk result (λ line. line ≡ front.now ++ (name_text name.now ++ codes "\n")) }
+/// A line that says what there is more of than a limit.
+fn more_than<'a>(alloc: Global, front: &'a [u8], limit: u32) -> Result<Line, NoMemory>
+    ensures { IfOk result (λ line. line ≡ front.now ++ (decimal limit ++ codes "\n")) }
 {
+    let mut digits = Buffer::new();
+    Line::of_pieces(alloc, &[front, digits.format(limit).as_bytes(), b"\n"])
+}
+
+/// A line that says what there is more of than a limit, and for which name.
+fn more_than_for<'a>(
+    alloc: Global,
+    front: &'a [u8],
+    limit: u32,
+    name: &Name,
+) -> Result<Line, NoMemory>
+    ensures { IfOk result (λ line. line ≡ front.now ++ (decimal limit ++ (codes " for " ++ (name_text name.now ++ codes "\n")))) }
+{
+    let mut digits = Buffer::new();
     let name = name.to_text(alloc)?;
-    Line::of_pieces(alloc, &[front, name.as_str().as_bytes(), b"\n"])
+    Line::of_pieces(
+        alloc,
+        &[
+            front,
+            digits.format(limit).as_bytes(),
+            b" for ",
+            name.as_str().as_bytes(),
+            b"\n",
+        ],
+    )
 }
 
 /// The line of a refusal.

@@ -11,7 +11,7 @@ ghost use Rattle.groot_run.specs.Outcome.{Outcome};
 ghost use Rattle.graph_form.specs.declared.report.Report.{Report};
 ghost use Rattle.graph_form.specs.Report.{Subject, IsReport};
 
-use class_judge::laws::classes_are_told;
+use class_judge::laws;
 
 /// A subject has at most one report.
 pub fn one_report()
@@ -22,7 +22,7 @@ pub fn one_report()
 pub fn query_classes()
     ensures { (config : Config) (rewrites : ℕ) → HasClasses config rewrites }
 {
-    classes_are_told();
+    laws::classes_are_told();
 }
 
 /// By what is told of the files, a job has at most one outcome.

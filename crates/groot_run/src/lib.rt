@@ -10,6 +10,7 @@ mod classes;
 mod counts;
 mod drill;
 mod ending;
+mod job;
 mod judging;
 mod laws;
 mod line;
@@ -17,7 +18,6 @@ mod load;
 mod output;
 mod run;
 mod status;
-mod task;
 
 pub use ending::Ending;
 pub use laws::{one_outcome, one_report, query_classes};

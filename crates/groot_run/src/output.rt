@@ -27,6 +27,6 @@ pub(crate) fn write_all<S: Sink>(sink: &mut S, text: &[u8]) -> Result<(), Failed
 pub(crate) fn tell<E: Sink>(err: &mut E, line: &[u8])
     ensures { TookLine (E.taken err.old) (E.taken err.new) (E.faults err.old) (E.faults err.new) line.now }
 {
-    let told = write_all(err, line);
-    let _ = told;
+    // Nowhere is left to tell of a failure.
+    let _ = write_all(err, line);
 }

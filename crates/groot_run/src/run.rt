@@ -15,15 +15,12 @@ ghost use Rattle.groot_run.specs.Laws.{HasClasses};
 ghost use Rattle.groot_run.specs.Outcome.{Outcome, Checks, IsEnding, JobComesTo, JobOpensNoOther, NoJobReadFailed, writes_nothing, no_memory};
 ghost use Rattle.groot_run.specs.Writing.{IsLeft, TookLine};
 
-use crate::drill::drill;
 use crate::ending::Ending;
-use crate::judging::Limits;
-use crate::laws::query_classes;
-use crate::load::of_files;
+use crate::job::of_job;
+use crate::laws;
 use crate::output::{tell, write_all};
 use crate::status::Status;
-use crate::task::Task;
-use groot_line::{Job, LineFault, read_words};
+use groot_line::{LineFault, read_words};
 use io_edges::{Failed, Files, Gate, Sink};
 use std::alloc::Global;
 use std::sync::Wait;
@@ -76,7 +73,7 @@ pub fn groot<F: Files, O: Sink, E: Sink, G: Gate + Sync, R: Threads + Wait + Syn
     ensures from_the_start { TellsAll (F.told files.old) → F.told files.new ≡ F.told files.old }
     ensures opens { JobOpensNoOther (F.told files.old) (F.told files.new) (job_of (map (λ word. word.now) words.now)) }
 {
-    query_classes();
+    laws::query_classes();
     let ending = run_words(rt, alloc, words, files, gate);
     match write_all(out, ending.out.items()) {
         Ok(()) => {
@@ -124,42 +121,7 @@ pub fn run_words<F: Files, G: Gate + Sync, R: Threads + Wait + Sync>(
     ensures opens { JobOpensNoOther (F.told files.old) (F.told files.new) (job_of (map (λ word. word.now) words.now)) }
 {
     match read_words(alloc, words) {
-        Ok(
-            Job::Check {
-                meta,
-                workers,
-                classes,
-                rewrites,
-            },
-        ) => {
-            let limits = Limits {
-                workers,
-                classes,
-                rewrites,
-            };
-            of_files(rt, alloc, files, meta.as_str(), &Task::Check(limits), gate)
-        }
-        Ok(Job::Classes { meta, classes }) => {
-            of_files(
-                rt,
-                alloc,
-                files,
-                meta.as_str(),
-                &Task::Classes(classes),
-                gate,
-            )
-        }
-        Ok(Job::Ask { meta, name, rtype }) => {
-            of_files(
-                rt,
-                alloc,
-                files,
-                meta.as_str(),
-                &Task::Ask { name, rtype },
-                gate,
-            )
-        }
-        Ok(Job::Drill { n, workers }) => drill(rt, alloc, n, workers, gate),
+        Ok(job) => of_job(rt, alloc, files, &job, gate),
         Err(LineFault::Usage) => Ending::usage(),
         Err(LineFault::NoMemory) => Ending::no_memory(),
     }

@@ -1,30 +1,22 @@
-use Rattle.std.proofs.Common.{Err, subst, inl, inr}
-use Rattle.groot_run.specs.declared.judging.CheckFault.{CheckFault}
-use Rattle.groot_run.specs.Judged.{IsJudged}
+use Rattle.std.proofs.Common.{◌∙◌, ap, inl, inr}
+use Rattle.report_json.specs.Report.{report_text}
+use Rattle.groot_run.specs.declared.status.Status.{Status}
+use Rattle.groot_run.specs.Outcome.{IsReported, with_output}
+use Rattle.groot_run.proofs.JudgedTrees.{without_report}
 use Rattle.groot_run.proofs.check.check.Goals as goal
 
 pub returns-in-Ok : goal.returns-in-Ok
 returns-in-Ok g c =
     let (few, none_passes, is_report) = c.in-Ok.ensures in
-    elim c.reported.ensures [
-      | inl is ↦ inl (inr (few, inr (none_passes, record { report = c.in-Ok.report; is_report = is_report; as_text = is })))
+    let text = report_text c.in-Ok.report in
+    elim (c.written.ensures text c.report_text.ensures) [
+      | inl is ↦ inl (inr (
+        few,
+        inr (none_passes, record { report = c.in-Ok.report; is_report = is_report; as_text = is ∙ ap (λ (status : Status). with_output status text) c.status_of.ensures }),
+      ))
       | inr ran_out ↦ inr ran_out
     ]
 
-pub returns-in-Err-TooManyNames : goal.returns-in-Err-TooManyNames
-returns-in-Err-TooManyNames g c =
-    let more =
-    subst (λ (fault : CheckFault). IsJudged c.args.config.now c.args.limits (Err fault)) c.in-Err-TooManyNames.field-0-is c.in-Err-TooManyNames.ensures in
-    elim c.too_many_names.ensures [
-      | inl is ↦ inl (inl (more, is))
-      | inr ran_out ↦ inr ran_out
-    ]
-
-pub returns-in-Err-StatesPassed : goal.returns-in-Err-StatesPassed
-returns-in-Err-StatesPassed g c =
-    let passed =
-    subst (λ (fault : CheckFault). IsJudged c.args.config.now c.args.limits (Err fault)) c.in-Err-StatesPassed.field-0-is c.in-Err-StatesPassed.ensures in
-    elim c.too_many_states.ensures [
-      | inl is ↦ inl (inr (passed.0, inl (c.in-Err-StatesPassed.query, passed.1, is)))
-      | inr ran_out ↦ inr ran_out
-    ]
+pub returns-in-Err : goal.returns-in-Err
+returns-in-Err g c =
+    without_report c.args.limits.classes c.args.limits.rewrites c.args.config.now (IsReported c.args.config.now c.args.limits.rewrites c.in-Err.ending) c.in-Err.ending c.in-Err.ensures

@@ -1,23 +1,25 @@
-use Rattle.std.proofs.Common.{◌≡◌, List, ℕ, [], length, ap, ◌∙◌, inl}
+use Rattle.std.proofs.Common.{◌≡◌, ◌∙◌, ℕ, length, ap, inl, inr}
 use Rattle.std.specs.Prelude.{min}
 use Rattle.graph_form.specs.declared.report.Report.{Report}
-use Rattle.graph_form.specs.declared.report.ReportEntry.{ReportEntry}
 use Rattle.io_edges.specs.Counts.{last_count}
 use Rattle.net_model.specs.declared.config.Config.{Config}
 use Rattle.groot_run.specs.DrillLine.{drill_line, records_of}
-use Rattle.groot_run.specs.declared.ending.Ending.{Ending}
 use Rattle.groot_run.specs.declared.status.Status.{Status}
-use Rattle.groot_run.specs.Outcome.{drilled, status_of}
+use Rattle.groot_run.specs.Outcome.{drilled, status_of, with_output}
 use Rattle.groot_run.proofs.drill.told.Goals as goal
 
--- an ending with a report's status and a drill's line, and nothing for err
-with_line : (zones : ℕ) (config : Config) (report : Report) (how : Status) (records faults : ℕ) (text line : List ℕ) → how ≡ status_of report.entries
-    → records ≡ min (records_of config.servers) last_count → faults ≡ length report.entries → text ≡ drill_line zones records report.names faults → line ≡ []
-    → ◌≡◌ {A = Ending} (record { status = how; out = text; err = line }) (drilled zones config report)
-with_line zones config report how records faults text line same counted many is none = cc
+-- an ending with a report's status and a drill's line
+with_line : (zones : ℕ) (config : Config) (report : Report) (how : Status) (records faults : ℕ) → how ≡ status_of report.entries
+    → records ≡ min (records_of config.servers) last_count → faults ≡ length report.entries
+    → with_output how (drill_line zones records report.names faults) ≡ drilled zones config report
+with_line zones config report how records faults same counted many =
+    ap (λ (s : Status). with_output s (drill_line zones records report.names faults)) same
+    ∙ ap (λ (n : ℕ). with_output (status_of report.entries) (drill_line zones n report.names faults)) counted
+    ∙ ap (λ (n : ℕ). with_output (status_of report.entries) (drill_line zones (min (records_of config.servers) last_count) report.names n)) many
 
-pub returns-in-Ok : goal.returns-in-Ok
-returns-in-Ok c =
-    inl (with_line c.args.zones c.args.config.now c.args.report.now _ _ _ _ _
-    (c.status_of.ensures ∙ ap status_of c.items-entries.ensures) c.records.ensures
-    (ap (λ (entries : List ReportEntry). length entries) c.items-entries.ensures) c.in-Ok.ensures c.fixed.ensures)
+pub returns : goal.returns
+returns c =
+    elim (c.written.ensures (drill_line c.args.zones c.records.result c.args.report.now.names c.len-faults.result) c.line_of-line.ensures) [
+      | inl is ↦ inl (is ∙ with_line c.args.zones c.args.config.now c.args.report.now c.status_of.result c.records.result c.len-faults.result c.status_of.ensures c.records.ensures c.len-faults.ensures)
+      | inr ran_out ↦ inr ran_out
+    ]

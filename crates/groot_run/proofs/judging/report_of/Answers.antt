@@ -1,5 +1,6 @@
 use Rattle.class_judge.proofs.TreeValues.{values}
+use Rattle.groot_run.specs.Outcome.{most_states}
 use Rattle.groot_run.proofs.judging.report_of.Goals as goal
 
 pub judged-requires-clause-values : goal.judged-requires-clause-values
-judged-requires-clause-values g c κs within = values c.args.config.now c.args.limits.rewrites 100000
+judged-requires-clause-values g c κs within = values c.args.config.now c.args.limits.rewrites most_states

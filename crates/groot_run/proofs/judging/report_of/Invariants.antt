@@ -1,6 +1,7 @@
 use Rattle.class_judge.proofs.NameVerdicts.{verdict_of}
 use Rattle.class_judge.proofs.TreeItems.{children_of}
 use Rattle.class_judge.proofs.TreeValues.{apart}
+use Rattle.groot_run.specs.Outcome.{most_states}
 use Rattle.groot_run.proofs.judging.report_of.Given as goal
 
 abbrev pub ghosts-judged : goal.ghosts-judged
@@ -8,8 +9,8 @@ ghosts-judged g a =
     record {
       config = a.config.now;
       rewrites = a.limits.rewrites;
-      states = 100000;
+      states = most_states;
       children_of = children_of a.config.now;
-      verdict_of = verdict_of a.config.now a.limits.rewrites 100000;
+      verdict_of = verdict_of a.config.now a.limits.rewrites most_states;
       apart = apart a.config.now;
     }

@@ -1,0 +1,62 @@
+//! What a job gives.
+
+ghost use Rattle.std.specs.Prelude.{◌≡◌, Ok};
+ghost use Rattle.io_edges.specs.Files.{TellsAll};
+ghost use Rattle.groot_line.specs.Job.{AreInRange};
+ghost use Rattle.groot_run.specs.JobEnds.{JobEnds};
+ghost use Rattle.groot_run.specs.Outcome.{JobOpensNoOther};
+
+use crate::ask::ask;
+use crate::check::check;
+use crate::classes::list_classes;
+use crate::drill::drill;
+use crate::ending::Ending;
+use crate::judging::Limits;
+use crate::load::configuration;
+use groot_line::Job;
+use io_edges::{Files, Gate};
+use std::alloc::Global;
+use std::sync::Wait;
+use std::thread::Threads;
+
+/// What a job gives. Each but a drill begins with the configuration of its metadata file. The gate is asked where workers judge.
+pub(crate) fn of_job<F: Files, G: Gate + Sync, R: Threads + Wait + Sync>(
+    rt: &R,
+    alloc: Global,
+    files: &mut F,
+    job: &Job,
+    gate: &G,
+) -> Ending
+    requires { AreInRange job.now }
+    ensures cause { JobEnds (F.told files.new) (Ok job.now) (F.faults files.old) (F.faults files.new) result }
+    ensures from_the_start { TellsAll (F.told files.old) → F.told files.new ≡ F.told files.old }
+    ensures opens { JobOpensNoOther (F.told files.old) (F.told files.new) (Ok job.now) }
+{
+    match job {
+        Job::Check {
+            meta,
+            workers,
+            classes,
+            rewrites,
+        } => match configuration(alloc, files, meta.as_str()) {
+            Ok(config) => {
+                let limits = Limits {
+                    workers: *workers,
+                    classes: *classes,
+                    rewrites: *rewrites,
+                };
+                check(rt, alloc, &config, limits, gate)
+            }
+            Err(ending) => ending,
+        },
+        Job::Classes { meta, classes } => match configuration(alloc, files, meta.as_str()) {
+            Ok(config) => list_classes(alloc, &config, *classes),
+            Err(ending) => ending,
+        },
+        Job::Ask { meta, name, rtype } => match configuration(alloc, files, meta.as_str()) {
+            Ok(config) => ask(alloc, &config, name, *rtype),
+            Err(ending) => ending,
+        },
+        Job::Drill { n, workers } => drill(rt, alloc, *n, *workers, gate),
+    }
+}
