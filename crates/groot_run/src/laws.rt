@@ -1,17 +1,19 @@
 //! What the definitions say of query names, of reports and of outcomes.
 
-ghost use Rattle.std.specs.Prelude.{◌≡◌, ℕ, Result};
+ghost use Rattle.std.specs.Prelude.{◌≡◌, ℕ, ◌≤◌, Result, Ok};
 ghost use Rattle.io_edges.specs.Files.{FilesTold};
 ghost use Rattle.net_model.specs.declared.config.Config.{Config};
 ghost use Rattle.groot_line.specs.declared.fault.LineFault.{LineFault};
 ghost use Rattle.groot_line.specs.declared.job.Job.{Job};
+ghost use Rattle.groot_line.specs.declared.job.Job.TheVariants as jobs;
 ghost use Rattle.groot_run.specs.declared.ending.Ending.{Ending};
 ghost use Rattle.groot_run.specs.Laws.{HasClasses};
-ghost use Rattle.groot_run.specs.Outcome.{Outcome};
+ghost use Rattle.groot_run.specs.Outcome.{Drills, Outcome};
 ghost use Rattle.graph_form.specs.declared.report.Report.{Report};
 ghost use Rattle.graph_form.specs.Report.{Subject, IsReport};
 
 use class_judge::laws;
+use drill_laws::drill_files_read;
 
 /// A subject has at most one report.
 pub fn one_report()
@@ -29,3 +31,12 @@ pub fn query_classes()
 pub fn one_outcome()
     ensures one { (told : FilesTold) (job : Result Job LineFault) (a b : Ending) → Outcome told job a → Outcome told job b → a ≡ b }
 {}
+
+/// The files of a drill of 1 to 5,000 zones are never refused: they give a configuration, and an outcome of the drill is what
+/// a drill gives of it.
+pub fn drills_read()
+    ensures { (zones workers : ℕ) → 1 ≤ zones → zones ≤ 5000
+        → (config : Config) × ((told : FilesTold) (ending : Ending) → Outcome told (Ok (jobs.Drill zones workers)) ending → Drills zones config ending) }
+{
+    drill_files_read();
+}

@@ -20,7 +20,7 @@ mod run;
 mod status;
 
 pub use ending::Ending;
-pub use laws::{one_outcome, one_report, query_classes};
+pub use laws::{drills_read, one_outcome, one_report, query_classes};
 pub use line::Line;
 pub use run::{groot, run_words};
 pub use status::Status;
