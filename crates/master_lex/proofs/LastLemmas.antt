@@ -9,7 +9,7 @@ use Rattle.master_lex.specs.declared.position.Mode.{Mode}
 use Rattle.master_lex.specs.declared.position.Mode.TheVariants.{Start, Between, Comment, InToken, Faulty}
 use Rattle.master_lex.specs.declared.position.Escape.TheVariants.{Outside, Begun, One, Two}
 use Rattle.master_lex.specs.Lists.{is_empty}
-use Rattle.master_lex.specs.States.{State, start_of, entry_of, Fits, IsTidy, paren_fault, fault_at_end, last_fault, whole_by, ended_entry}
+use Rattle.master_lex.specs.States.{State, start_of, entry_of, Fits, IsTidy, paren_fault, fault_at_end, last_fault, whole_by, whole}
 use Rattle.master_lex.specs.Lexer.{LastTaken}
 
 no_paren : (position : Position) → paren_fault position ≡ None → position.depth ≡ 0
@@ -44,10 +44,10 @@ end_by Comment s tidy none empty =
 end_by (InToken q e) s tidy none empty = absurd (not_nothing s.tokens _ empty)
 end_by (Faulty f) s tidy none empty = absurd cc
 
-end_here : (s : State) → IsTidy s → last_fault s.position ≡ None → is_empty (ended_entry s).tokens ≡ true → LastTaken s (ended_entry s) answers.End
+end_here : (s : State) → IsTidy s → last_fault s.position ≡ None → is_empty (whole s).tokens ≡ true → LastTaken s (whole s) answers.End
 end_here s tidy none empty = end_by s.position.mode s tidy none empty
 
-pub end_taken : (s w : State) → IsTidy s → last_fault s.position ≡ None → w ≡ ended_entry s → is_empty w.tokens ≡ true → LastTaken s w answers.End
+pub end_taken : (s w : State) → IsTidy s → last_fault s.position ≡ None → w ≡ whole s → is_empty w.tokens ≡ true → LastTaken s w answers.End
 end_taken s w tidy none e empty = rw e (end_here s tidy none (rw e at empty))
 
 entry_by : (m : Mode) (s : State) → Fits m s → fault_at_end m s.position ≡ None → is_empty (whole_by m (at m s)).tokens ≡ false
@@ -62,8 +62,8 @@ entry_by (InToken q (One a)) s tidy none some = absurd cc
 entry_by (InToken q (Two a b)) s tidy none some = absurd cc
 entry_by (Faulty f) s tidy none some = absurd cc
 
-entry_here : (s : State) → IsTidy s → last_fault s.position ≡ None → is_empty (ended_entry s).tokens ≡ false → LastTaken s (after_last (ended_entry s)) (answers.Entry (entry_of (ended_entry s)))
+entry_here : (s : State) → IsTidy s → last_fault s.position ≡ None → is_empty (whole s).tokens ≡ false → LastTaken s (after_last (whole s)) (answers.Entry (entry_of (whole s)))
 entry_here s tidy none some = entry_by s.position.mode s tidy none some
 
-pub entry_taken : (s w n : State) (entry : Entry) → IsTidy s → last_fault s.position ≡ None → w ≡ ended_entry s → is_empty w.tokens ≡ false → n ≡ after_last w → entry ≡ entry_of w → LastTaken s n (answers.Entry entry)
+pub entry_taken : (s w n : State) (entry : Entry) → IsTidy s → last_fault s.position ≡ None → w ≡ whole s → is_empty w.tokens ≡ false → n ≡ after_last w → entry ≡ entry_of w → LastTaken s n (answers.Entry entry)
 entry_taken s w n entry tidy none e some to is = rw (to, is, e) (entry_here s tidy none (rw e at some))

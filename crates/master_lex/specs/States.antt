@@ -224,7 +224,7 @@ ahead_by Start s text = contents_from (record (entry_so_far s) { blank_start = b
 ahead_by Between s text = contents_from (entry_so_far s) (pieces text)
 ahead_by Comment s text = contents_from (entry_so_far s) (comment text)
 ahead_by (InToken quoted escape) s text = contents_from (entry_so_far s) (before quoted s.raw (rest_of_token quoted escape text))
-ahead_by (Faulty fault) s text = record { ended_entry = []; last = []; fault = Some fault }
+ahead_by (Faulty fault) s text = record { whole = []; last = []; fault = Some fault }
 
 -- the whole entries that weren't taken, and behind them what a text holds that goes on from here
 abbrev pub ahead : State → List ℕ → Contents
@@ -256,8 +256,8 @@ whole_by (InToken quoted escape) s = token_ended s quoted
 whole_by _ s = s
 
 -- the tokens of the entry that ends with the text
-abbrev pub ended_entry : State → State
-ended_entry s = whole_by s.position.mode s
+abbrev pub whole : State → State
+whole s = whole_by s.position.mode s
 
 -- the entry that the tokens make, or none without a token
 abbrev pub made : State → List Entry
@@ -270,7 +270,7 @@ without_fault (Some fault) entries = []
 
 -- the entry that ends with the text, if the text ends here
 abbrev pub last_entry : State → List Entry
-last_entry s = without_fault (last_fault s.position) (made (ended_entry s))
+last_entry s = without_fault (last_fault s.position) (made (whole s))
 
 -- the stores hold the same
 pub record SameStores (old new : State) : Type 0 where

@@ -12,7 +12,7 @@ use Rattle.master_lex.specs.declared.taken.Taken.TheVariants as answers
 -- the entries of a text that has ended; else those that are whole, however it goes on
 abbrev pub entries_in : Bool → List ℕ → List Entry
 entries_in true text = text_entries text
-entries_in false text = (contents text).ended_entry
+entries_in false text = (contents text).whole
 
 -- the fault is that of the text that has ended; else the one that it has however it goes on, or there is no such
 abbrev pub IsFault : Bool → List ℕ → Option LexFault → Type 0

@@ -4,7 +4,7 @@ ghost use Rattle.std.specs.Prelude.{◌≡◌, OnOk, OnErr, IfOk, true};
 ghost use Rattle.master_lex.specs.Lists.{is_empty};
 ghost use Rattle.dns_data.specs.Answers.{AnswersOr};
 ghost use Rattle.master_lex.specs.declared.fault.TakeFault.TheVariants.{NoMemory as OutOfMemory};
-ghost use Rattle.master_lex.specs.States.{state_of, paren_fault, last_fault, ended_entry, last_entry, IsTidy};
+ghost use Rattle.master_lex.specs.States.{state_of, paren_fault, last_fault, whole, last_entry, IsTidy};
 ghost use Rattle.master_lex.specs.Taking.{left_answer};
 ghost use Rattle.master_lex.specs.Lexer.{LastTaken};
 
@@ -58,7 +58,7 @@ impl Position {
 impl Scanner {
     /// Ends the token under way, if there is one. After an error nothing has changed.
     fn end_last_token(&mut self) -> Result<(), NoMemory>
-        ensures ok { OnOk result (state_of self.new ≡ ended_entry (state_of self.old)) }
+        ensures ok { OnOk result (state_of self.new ≡ whole (state_of self.old)) }
         ensures err { OnErr result (state_of self.new ≡ state_of self.old) }
     {
         match self.position.mode {

@@ -96,7 +96,7 @@ module _ (config : Config) (deps : Deps) (query : Labels) where
         }
 
     -- whose zone answers as the first one does, or is the first
-    pub answer_passes : (tree : Bor ZoneTree) (after : Option (Bor ZoneTree)) → IsReply config query server (reply.EndsInAnswer tree) → AnswersAlike query first tree.now.zone after
+    pub answer_passes : (tree : Bor ZoneTree) (after : Option (Bor ZoneTree)) → IsReply config query server (reply.Answers tree) → AnswersAlike query first tree.now.zone after
         → Passes config deps query server queue first queue after
     answer_passes tree after so same =
         record {
