@@ -9,8 +9,8 @@ use Rattle.dns_data.specs.declared.rr_type.RrType.{RrType}
 use Rattle.dns_data.proofs.Membership.{from_map}
 use Rattle.dns_data.proofs.Names.{name_eq_decides}
 use Rattle.dns_data.proofs.Searches.{each_of_all, from_any}
-use Rattle.delegation_checks.specs.LearntSets.{IsSetOf}
-use Rattle.delegation_checks.specs.Referrals.{is_among}
+use Rattle.zone_lookup.specs.LearntSets.{IsSetOf}
+use Rattle.zone_lookup.specs.LearntSets.{is_among}
 use Rattle.graph_form.specs.Graph.{PlainGraph}
 use Rattle.graph_form.specs.GraphOf.{IsExactIn, IsGraphOf, TellsStep}
 use Rattle.net_model.specs.declared.deps.Deps.{Deps}

@@ -13,13 +13,14 @@ ghost use Rattle.net_model.specs.Step.{following};
 
 use crate::least::graph_in_least;
 use crate::setup::Setup;
-use delegation_checks::LearntSets;
+use delegation_checks::delegation_faults_with;
 use dns_data::{List, NoMemory};
 use graph_form::{Graph, Seen, first_types};
 use net_model::Class;
 use rewrite_checks::rewrite_faults;
 use std::alloc::Global;
 use std::collections::VecDeque;
+use zone_lookup::LearntSets;
 
 /// The faults that a query shows which represents the class, in fault order, each with its first type. The graph is that of
 /// its walks while every configured server is followed. Where the name of some server reaches too many pairs of state and
@@ -58,7 +59,7 @@ fn shown_in(
 {
     let alloc = setup.alloc;
     let of_rewrites = rewrite_faults(alloc, class, true, graph)?;
-    let of_delegations = sets.delegation_faults(alloc, &setup.trees, graph)?;
+    let of_delegations = delegation_faults_with(alloc, &setup.trees, sets, graph)?;
     let all = joined(of_rewrites, of_delegations)?;
     let shown = first_types(alloc, all)?;
     Ok(shown)

@@ -4,7 +4,7 @@ ghost use Rattle.std.specs.Prelude.{◌≡◌, ◌||◌, true, IfOk};
 ghost use Rattle.std.specs.BTreeSet as tree;
 ghost use Rattle.std.specs.List.{list_all};
 ghost use Rattle.class_judge.specs.Setup.{FollowsAll, IsSetup};
-ghost use Rattle.delegation_checks.specs.Referrals.{is_among};
+ghost use Rattle.zone_lookup.specs.LearntSets.{is_among};
 ghost use Rattle.dns_data.specs.Name.{Labels, name_cmp};
 ghost use Rattle.graph_form.specs.GraphOf.{IsExactIn, IsGraphOf};
 ghost use Rattle.interp_graph.specs.Asked.{IsBuilt};
@@ -12,13 +12,13 @@ ghost use Rattle.net_model.specs.Learnt.{IsLeast};
 ghost use Rattle.net_model.specs.Step.{following};
 
 use crate::setup::Setup;
-use delegation_checks::{LearntSets, set_of};
 use dns_data::{Name, NoMemory};
 use graph_form::Graph;
 use interp_graph::restrict;
 use net_model::{Config, Server};
 use std::alloc::Global;
 use std::collections::BTreeSet;
+use zone_lookup::{LearntSets, set_of};
 
 /// The graph of a query's walks while the servers of the least set are followed, from that of its walks while every
 /// configured server is. Where every configured server may be followed with the least set it is the same graph.

@@ -13,7 +13,6 @@ use crate::least::follows_all;
 use crate::naming::Naming;
 use crate::setup::Setup;
 use address_deps::dependencies_among;
-use delegation_checks::LearntSets;
 use dns_data::{List, Name, NoMemory};
 use graph_form::Graph;
 use interp_graph::{GraphFault, build};
@@ -22,7 +21,7 @@ use name_rules::SymName;
 use net_model::Config;
 use std::alloc::Global;
 use straight_walks::Regions;
-use zone_lookup::Hosts;
+use zone_lookup::{Hosts, LearntSets};
 
 impl<'a, N: Naming> Judge<'a, N> {
     /// The judge of the class tree of a configuration, whose queries may use so many rewrites, and of each of which no more

@@ -1,10 +1,9 @@
 //! What the classes of a configuration are judged with.
 
-use delegation_checks::LearntSets;
 use label_graph::LabelGraph;
 use std::alloc::Global;
 use straight_walks::Regions;
-use zone_lookup::Hosts;
+use zone_lookup::{Hosts, LearntSets};
 
 /// A configuration's servers with the trees of their zones, the graph of its names, how many rewrites a query may use, how
 /// many pairs of state and type it may reach, and the two sets of learnt addresses with the regions of names by which queries are

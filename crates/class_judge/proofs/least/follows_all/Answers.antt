@@ -1,6 +1,6 @@
 use Rattle.std.proofs.Common.{◌∙◌, List, ap, subst, sym}
 use Rattle.std.specs.List.{list_all}
-use Rattle.delegation_checks.specs.LearntSets.{IsSetOf}
+use Rattle.zone_lookup.specs.LearntSets.{IsSetOf}
 use Rattle.dns_data.specs.Name.{Labels}
 use Rattle.class_judge.proofs.FollowedAlike.{all_in, is_in}
 use Rattle.class_judge.proofs.least.follows_all.Goals as goal
