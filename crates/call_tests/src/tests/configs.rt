@@ -6,7 +6,7 @@ use graph_form::Graph;
 use interp_graph::{GraphFault, build};
 use io_edges::MemoryFiles;
 use name_rules::SymName;
-use net_model::Config;
+use net_model::{Config, Zone};
 use std::alloc::Global;
 use std::test::Fail;
 use zone_lookup::Hosts;
@@ -39,6 +39,11 @@ pub fn loaded(alloc: Global, metadata: &str, zones: &[(&str, &str)]) -> Result<C
 /// The configuration of the top server `ns.t.` alone, with a zone of this text.
 pub fn alone(alloc: Global, zone: &str) -> Result<Config, Fail> {
     loaded(alloc, ALONE, &[("t.zone", zone)])
+}
+
+/// The first server's first zone.
+pub fn first_zone(config: &Config) -> Option<&Zone> {
+    config.servers.items().first()?.zones.items().first()
 }
 
 /// The name that a text spells.

@@ -5,12 +5,12 @@ ghost use Rattle.interp_graph.specs.Asked.{IsAsked, IsOpenName};
 ghost use Rattle.name_rules.specs.SymName.{whole};
 ghost use Rattle.net_model.specs.Zone.{exists_in};
 
-use super::configs::{alone, name};
+use super::configs::{alone, first_zone, name};
 use dns_data::{JoinFault, Label, List, Name, NoMemory, TypeSet};
 use interp_graph::build;
 use label_graph::LabelGraph;
 use name_rules::{SymName, substitute_sym};
-use net_model::{Class, Config, Found, Zone};
+use net_model::{Class, Config, Found};
 use query_classes::class_of;
 use std::alloc::Global;
 use std::test::Fail;
@@ -82,11 +82,6 @@ fn answers(
     };
     let tree = Tree::build(alloc, zone)?;
     answers_in(alloc, &tree, name)
-}
-
-/// The first server's first zone.
-fn first_zone(config: &Config) -> Option<&Zone> {
-    config.servers.items().first()?.zones.items().first()
 }
 
 /// The answers of the tree's zone to a name that is below its origin, and with its tail is none of the zone.

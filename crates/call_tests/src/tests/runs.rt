@@ -46,33 +46,35 @@ fn run<G: Gate + Sync, R: Abort + Threads + Wait + Sync>(
     Ok(status)
 }
 
+/// Asserts how a check ends of which the read with this number fails, and whose output has so much room.
+fn ends<R: Abort + Threads + Wait + Sync>(
+    rt: &R,
+    alloc: Global,
+    fails: u32,
+    room: u32,
+    number: u8,
+    taken: &str,
+    line: &str,
+) -> Result<(), NoMemory> {
+    let words = ["check", "m.json"];
+    let mut files = source(alloc, ZONE, fails)?;
+    let mut out = sink(alloc, room)?;
+    let status = run(rt, alloc, &words, &mut files, &mut out, &FreeGate, line)?;
+    assert_eq!(rt; status.number(), number, "read {fails}, room {room}");
+    assert_eq!(rt; out.taken(), taken.as_bytes(), "read {fails}, room {room}");
+    Ok(())
+}
+
 // Reads 1 and 2 are of the metadata and its end, 3 and 4 of the zone file and its end. Out takes what fits, so it has
 // nothing of the report, or a front of it, or the whole.
 #[test]
 fn reads_and_writes_that_fail_are_told(rt: HostRuntime) -> Result<(), Fail> {
-    let cases = [
-        (1, 50, 5, "", "m.json: read failed\n"),
-        (4, 50, 5, "", "t.zone: read failed\n"),
-        (5, 50, 0, REPORT, ""),
-        (0, 10, 6, "{\"classes\"", "output failed\n"),
-        (0, 0, 6, "", "output failed\n"),
-    ];
-    let words = ["check", "m.json"];
-    for (fails, room, number, taken, line) in cases {
-        let mut files = source(rt.alloc(), ZONE, fails)?;
-        let mut out = sink(rt.alloc(), room)?;
-        let status = run(
-            &rt,
-            rt.alloc(),
-            &words,
-            &mut files,
-            &mut out,
-            &FreeGate,
-            line,
-        )?;
-        assert_eq!(rt; status.number(), number, "read {fails}, room {room}");
-        assert_eq!(rt; out.taken(), taken.as_bytes(), "read {fails}, room {room}");
-    }
+    let alloc = rt.alloc();
+    ends(&rt, alloc, 1, 50, 5, "", "m.json: read failed\n")?;
+    ends(&rt, alloc, 4, 50, 5, "", "t.zone: read failed\n")?;
+    ends(&rt, alloc, 5, 50, 0, REPORT, "")?;
+    ends(&rt, alloc, 0, 10, 6, "{\"classes\"", "output failed\n")?;
+    ends(&rt, alloc, 0, 0, 6, "", "output failed\n")?;
     Ok(())
 }
 
