@@ -1,5 +1,5 @@
 -- Names with an open tail: none of a zone, and not told apart by a configuration.
-use Rattle.std.proofs.Common.{◌≡◌, ◌∙◌, ◌≤◌, ◌++◌, ◌∷◌, [], false, List, ℕ, Option, Some, None, refl, sym, ap, subst}
+use Rattle.std.proofs.Common.{◌≡◌, ◌∙◌, ◌≤◌, ◌++◌, ◌∷◌, [], false, List, ℕ, Option, Some, None, refl, ap, subst}
 use Rattle.std.specs.Prelude.{IfSome}
 use Rattle.dns_data.specs.Name.{Labels, wire_octets}
 use Rattle.name_rules.specs.SymName.{tail_labels, whole}
