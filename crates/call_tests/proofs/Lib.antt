@@ -1,1 +1,2 @@
 pub mod NamedClasses
+pub mod OpenNames

@@ -1,5 +1,5 @@
 -- The name by which a class goes is named, where a name stands for the class.
-use Rattle.std.proofs.Common.{◌≡◌, ◌∷◌, List, subst, sym}
+use Rattle.std.proofs.Common.{subst, sym}
 use Rattle.dns_data.specs.Name.{Labels}
 use Rattle.net_model.specs.Class.{IsClassOf, class_name}
 use Rattle.net_model.specs.Reading.{Ground, IsNamed}

@@ -1,9 +1,13 @@
 //! The tests, a file for what they call.
 
+mod addresses;
 mod classes;
 mod configs;
 mod entries;
+mod open_tails;
 mod outputs;
 mod pool_machine;
+mod runs;
 mod values;
+mod walks;
 mod workers;

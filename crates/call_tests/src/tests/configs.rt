@@ -1,32 +1,61 @@
-//! What several tests begin with: configurations, from the texts of their files, and names.
+//! What several tests begin with: files, configurations, names and graphs.
 
 use config_load::load;
-use dns_data::{List, Name};
+use dns_data::{List, Name, NoMemory};
+use graph_form::Graph;
+use interp_graph::{GraphFault, build};
 use io_edges::MemoryFiles;
-use net_model::Config;
+use name_rules::SymName;
+use net_model::{Config, Zone};
 use std::alloc::Global;
 use std::test::Fail;
+use zone_lookup::Hosts;
 
-/// The configuration that the metadata give with these zone files, each a name and its text.
-pub fn loaded(alloc: Global, metadata: &str, zones: &[(&str, &str)]) -> Result<Config, Fail> {
-    let mut files = MemoryFiles::new(alloc, List::new(alloc));
+/// Metadata of the top server `ns.t.` alone, with one zone file.
+pub const ALONE: &str =
+    "{\"TopNameServers\":[\"ns.t.\"],\"ZoneFiles\":[{\"FileName\":\"t.zone\",\"NameServer\":\"ns.t.\"}]}";
+
+/// The metadata as `m.json` and zone files, each a name and its text. The reads with these numbers fail, counted from 1.
+pub fn files(
+    alloc: Global,
+    metadata: &str,
+    zones: &[(&str, &str)],
+    fails: List<u32>,
+) -> Result<MemoryFiles, NoMemory> {
+    let mut files = MemoryFiles::new(alloc, fails);
     files.add("m.json", metadata.as_bytes())?;
     for (file, text) in zones {
         files.add(file, text.as_bytes())?;
     }
+    Ok(files)
+}
+
+/// The configuration that the metadata give with these zone files.
+pub fn loaded(alloc: Global, metadata: &str, zones: &[(&str, &str)]) -> Result<Config, Fail> {
+    let mut files = files(alloc, metadata, zones, List::new(alloc))?;
     Ok(load(alloc, &mut files, "m.json")?)
 }
 
 /// The configuration of the top server `ns.t.` alone, with a zone of this text.
 pub fn alone(alloc: Global, zone: &str) -> Result<Config, Fail> {
-    loaded(
-        alloc,
-        "{\"TopNameServers\":[\"ns.t.\"],\"ZoneFiles\":[{\"FileName\":\"zone\",\"NameServer\":\"ns.t.\"}]}",
-        &[("zone", zone)],
-    )
+    loaded(alloc, ALONE, &[("t.zone", zone)])
+}
+
+/// The first server's first zone.
+pub fn first_zone(config: &Config) -> Option<&Zone> {
+    config.servers.items().first()?.zones.items().first()
 }
 
 /// The name that a text spells.
 pub fn name(alloc: Global, text: &str) -> Result<Name, Fail> {
     Ok(Name::from_text(alloc, text.as_bytes(), &Name::root())?)
+}
+
+/// The graph of a query's walks, while every configured server is followed.
+pub fn graph_of(alloc: Global, hosts: &Hosts<'_>, query: Name) -> Result<Graph, GraphFault> {
+    let asked = SymName {
+        known: query,
+        tail: None,
+    };
+    build(alloc, hosts, &asked, 12, 1000)
 }
