@@ -8,6 +8,7 @@ mod open_tails;
 mod outputs;
 mod pool_machine;
 mod runs;
+mod texts;
 mod values;
 mod walks;
 mod workers;

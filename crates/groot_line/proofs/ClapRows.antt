@@ -6,7 +6,7 @@ use Rattle.std.proofs.lemmas.Slice.Eq.{bytes_eq-Decides}
 use Rattle.clap.specs.Faults.{use_fault}
 use Rattle.clap.specs.Walk.{Row, Rule, Text, all_of, at_row, has_row, more_values, reading_by, used, without}
 use Rattle.clap.specs.declared.parser.matches.ValueSource.TheVariants.{CommandLine}
-use Rattle.groot_line.specs.Arguments.{Arguments, value_given, with_value, with_operand}
+use Rattle.groot_line.specs.Arguments.{Arguments, value_given, with_option_value, with_operand}
 use Rattle.groot_line.specs.LineOption.{option_name}
 use Rattle.groot_line.specs.declared.line_option.LineOption.{LineOption}
 use Rattle.groot_line.specs.declared.line_option.LineOption.TheVariants.{Workers, Classes, Rewrites}
@@ -74,7 +74,7 @@ pub record Says (rows : List Row) (a : Arguments) : Type 0 where
   pub of_operands : unwrap_or (all_of (codes "operands") rows) [] ≡ a.operands
 
 -- one option, or two with different names, of which one keeps its value
-apart : (o p : LineOption) (v : Text) (a : Arguments) → (o ≡ p) ⊎ ((bytes_eq (option_name o) (option_name p) ≡ false) × (value_given p (with_value o v a) ≡ value_given p a))
+apart : (o p : LineOption) (v : Text) (a : Arguments) → (o ≡ p) ⊎ ((bytes_eq (option_name o) (option_name p) ≡ false) × (value_given p (with_option_value o v a) ≡ value_given p a))
 apart Workers Workers v a = inl refl
 apart Workers Classes v a = inr (refl, refl)
 apart Workers Rewrites v a = inr (refl, refl)
@@ -85,12 +85,12 @@ apart Rewrites Workers v a = inr (refl, refl)
 apart Rewrites Classes v a = inr (refl, refl)
 apart Rewrites Rewrites v a = inl refl
 
-is_given : (o : LineOption) (v : Text) (a : Arguments) → value_given o (with_value o v a) ≡ Some v
+is_given : (o : LineOption) (v : Text) (a : Arguments) → value_given o (with_option_value o v a) ≡ Some v
 is_given Workers v a = refl
 is_given Classes v a = refl
 is_given Rewrites v a = refl
 
-keeps_operands : (o : LineOption) (v : Text) (a : Arguments) → (with_value o v a).operands ≡ a.operands
+keeps_operands : (o : LineOption) (v : Text) (a : Arguments) → (with_option_value o v a).operands ≡ a.operands
 keeps_operands Workers v a = refl
 keeps_operands Classes v a = refl
 keeps_operands Rewrites v a = refl
@@ -132,7 +132,7 @@ there o rows a says some = by (value_given o a) refl some where
 pub once_passes : (o : LineOption) (v : Text) (rows : List Row) (a : Arguments) → Says rows a → value_given o a ≡ None → use_fault false (option_built o) (v ∷ []) rows ≡ []
 once_passes o v rows a says none = rw (not_there o rows a says none) refl
 
-pub once_says : (o : LineOption) (v : Text) (rows : List Row) (a : Arguments) → Says rows a → value_given o a ≡ None → Says (used (option_built o) (v ∷ []) rows) (with_value o v a)
+pub once_says : (o : LineOption) (v : Text) (rows : List Row) (a : Arguments) → Says rows a → value_given o a ≡ None → Says (used (option_built o) (v ∷ []) rows) (with_option_value o v a)
 once_says o v rows a says none = record { of_option = of_option; of_operands = of_operands } where
   id : Text
   id = option_name o
@@ -146,17 +146,17 @@ once_says o v rows a says none = record { of_option = of_option; of_operands = o
   empty : all_of id rows ≡ None
   empty = says.of_option o ∙ ap (option_map (λ v. v ∷ [])) none
 
-  of_option : (p : LineOption) → all_of (option_name p) (more (without id rows)) ≡ option_map (λ v. v ∷ []) (value_given p (with_value o v a))
+  of_option : (p : LineOption) → all_of (option_name p) (more (without id rows)) ≡ option_map (λ v. v ∷ []) (value_given p (with_option_value o v a))
   of_option p = by (apart o p v a) where
-    by : (o ≡ p) ⊎ ((bytes_eq id (option_name p) ≡ false) × (value_given p (with_value o v a) ≡ value_given p a))
-        → all_of (option_name p) (more (without id rows)) ≡ option_map (λ v. v ∷ []) (value_given p (with_value o v a))
-    by (inl same) = subst (λ q. all_of (option_name q) (more (without id rows)) ≡ option_map (λ v. v ∷ []) (value_given q (with_value o v a))) same
+    by : (o ≡ p) ⊎ ((bytes_eq id (option_name p) ≡ false) × (value_given p (with_option_value o v a) ≡ value_given p a))
+        → all_of (option_name p) (more (without id rows)) ≡ option_map (λ v. v ∷ []) (value_given p (with_option_value o v a))
+    by (inl same) = subst (λ q. all_of (option_name q) (more (without id rows)) ≡ option_map (λ v. v ∷ []) (value_given q (with_option_value o v a))) same
         (ap (all_of id) clean ∙ at_same id (v ∷ []) (one_row (option_built o) v) (own_name o) refl rows
         ∙ ap (λ found. Some (unwrap_or found [] ++ v ∷ [])) empty ∙ sym (ap (option_map (λ v. v ∷ [])) (is_given o v a)))
     by (inr other) = ap (all_of (option_name p)) clean ∙ at_other id (option_name p) (v ∷ []) (one_row (option_built o) v) other.0 other.0 rows
         ∙ says.of_option p ∙ sym (ap (option_map (λ v. v ∷ [])) other.1)
 
-  of_operands : unwrap_or (all_of (codes "operands") (more (without id rows))) [] ≡ (with_value o v a).operands
+  of_operands : unwrap_or (all_of (codes "operands") (more (without id rows))) [] ≡ (with_option_value o v a).operands
   of_operands = ap (λ found. unwrap_or found [])
       (ap (all_of (codes "operands")) clean ∙ at_other id (codes "operands") (v ∷ []) (one_row (option_built o) v) (no_operands o) (no_operands o) rows)
       ∙ says.of_operands ∙ sym (keeps_operands o v a)

@@ -17,7 +17,7 @@ use Rattle.clap.specs.declared.parser.matches.ArgMatches.{ArgMatches}
 use Rattle.clap.proofs.FaultLemmas.{leaf_fault}
 use Rattle.clap.proofs.WalkLemmas.{both, first_value-rows, raw_values-rows}
 use Rattle.dns_data.specs.Answers.{◌>>=◌}
-use Rattle.groot_line.specs.Arguments.{Arguments, no_arguments, value_given, with_value, with_value, awaiting, with_operand, option_named, is_dashed, after_option, after_dash, after_word, after_words, arguments_of}
+use Rattle.groot_line.specs.Arguments.{Arguments, no_arguments, value_given, with_option_value, with_value, awaiting, with_operand, option_named, is_dashed, after_option, after_dash, after_word, after_words, arguments_of}
 use Rattle.groot_line.specs.Command.{has_option}
 use Rattle.groot_line.specs.Line.{command_line}
 use Rattle.groot_line.specs.LineOption.{option_name}
@@ -130,7 +130,7 @@ awaiting_says o rows a says = record {
   of_operands = says.of_operands;
 }
 
-given_awaits : (o : LineOption) (v : Text) (a : Arguments) → (with_value o v a).awaited ≡ None
+given_awaits : (o : LineOption) (v : Text) (a : Arguments) → (with_option_value o v a).awaited ≡ None
 given_awaits options.Workers v a = refl
 given_awaits options.Classes v a = refl
 given_awaits options.Rewrites v a = refl
@@ -196,11 +196,11 @@ module _ (command : Command) where
 
   -- a value for an option, which has none yet, or has one
   with_value_ends : (w : Walk) (word : Text) (words : List Text) (o : LineOption) (v : Text) (a : Arguments)
-      → (value_given o a ≡ None → Ends c w (word ∷ words) (after_words command words (with_value o v a)))
+      → (value_given o a ≡ None → Ends c w (word ∷ words) (after_words command words (with_option_value o v a)))
       → (is_some (value_given o a) ≡ true → total c w (word ∷ words) ≡ [] → ⊥)
       → Ends c w (word ∷ words) (with_value o v a >>= λ next. after_words command words next)
   with_value_ends w word words o v a first second = by (value_given o a) refl where
-    by : (value : Option Text) → value_given o a ≡ value → Ends c w (word ∷ words) (cond (is_some value) (Err Usage) (Ok (with_value o v a)) >>= λ next. after_words command words next)
+    by : (value : Option Text) → value_given o a ≡ value → Ends c w (word ∷ words) (cond (is_some value) (Err Usage) (Ok (with_option_value o v a)) >>= λ next. after_words command words next)
     by None e = first e
     by (Some x) e = (second (ap is_some e), refl)
 
@@ -228,9 +228,9 @@ module _ (command : Command) where
       fault_is : turn_fault (line_shape c) [] (walk_at rows pending (between b)) word ≡ use_fault false (option_built o) (v ∷ []) (settled_rows c pending rows)
       fault_is = valued_fault c o rows pending (between b) word name (found name o named) v e ∙ ap (λ k. or_else k (use_fault false (option_built o) (v ∷ []) (settled_rows c pending rows))) passes
 
-      first : value_given o a ≡ None → Ends c (walk_at rows pending (between b)) (word ∷ words) (after_words command words (with_value o v a))
+      first : value_given o a ≡ None → Ends c (walk_at rows pending (between b)) (word ∷ words) (after_words command words (with_option_value o v a))
       first free = goes_on c _ _ word words _ (fault_is ∙ once_passes o v _ a says free) (valued_walked c o rows pending (between b) word name (found name o named) v e)
-          (rest (used (option_built o) (v ∷ []) (settled_rows c pending rows)) None false (with_value o v a) refl (once_says o v _ a says free) (given_awaits o v a))
+          (rest (used (option_built o) (v ∷ []) (settled_rows c pending rows)) None false (with_option_value o v a) refl (once_says o v _ a says free) (given_awaits o v a))
 
       second : is_some (value_given o a) ≡ true → total c (walk_at rows pending (between b)) (word ∷ words) ≡ [] → ⊥
       second taken = refused c _ word words (λ none. twice_fails o v _ a says taken (sym fault_is ∙ none))
@@ -246,10 +246,10 @@ module _ (command : Command) where
     by false e = subst (Ends c w (word ∷ words)) (sym (next_said command word words a (with_value o word a) (value_said command word a o e some)))
         (with_value_ends w word words o word a first second)
       where
-        first : value_given o a ≡ None → Ends c w (word ∷ words) (after_words command words (with_value o word a))
+        first : value_given o a ≡ None → Ends c w (word ∷ words) (after_words command words (with_option_value o word a))
         first free = goes_on c w _ word words _ (value_passes command o rows word has e) (value_walked command o rows word has e)
-            (rest rows (option_held o word) false (with_value o word a) (option_settles o word rows has ∙ once_passes o word rows a says free)
-            (subst (λ r. Says r (with_value o word a)) (sym (option_rows o word rows has)) (once_says o word rows a says free)) (given_awaits o word a))
+            (rest rows (option_held o word) false (with_option_value o word a) (option_settles o word rows has ∙ once_passes o word rows a says free)
+            (subst (λ r. Says r (with_option_value o word a)) (sym (option_rows o word rows has)) (once_says o word rows a says free)) (given_awaits o word a))
 
         second : is_some (value_given o a) ≡ true → total c w (word ∷ words) ≡ [] → ⊥
         second taken none = stays_faulty rows (option_held o word) false words forms
@@ -370,7 +370,7 @@ after_word_usage command word a = by (is_dashed word) refl a.awaited refl where
 
   of_value : (o : LineOption) (v : Text) → IsUsage (with_value o v a)
   of_value o v = go (is_some (value_given o a)) where
-    go : (b : Bool) → IsUsage (cond b (Err Usage) (Ok (with_value o v a)))
+    go : (b : Bool) → IsUsage (cond b (Err Usage) (Ok (with_option_value o v a)))
     go true = refl
     go false = tt
 

@@ -31,15 +31,15 @@ value_given Classes arguments = arguments.classes
 value_given Rewrites arguments = arguments.rewrites
 
 -- with a value for an option, which is no longer awaited
-abbrev pub with_value : LineOption → List ℕ → Arguments → Arguments
-with_value Workers value arguments = record arguments { workers = Some value; awaited = None }
-with_value Classes value arguments = record arguments { classes = Some value; awaited = None }
-with_value Rewrites value arguments = record arguments { rewrites = Some value; awaited = None }
+abbrev pub with_option_value : LineOption → List ℕ → Arguments → Arguments
+with_option_value Workers value arguments = record arguments { workers = Some value; awaited = None }
+with_option_value Classes value arguments = record arguments { classes = Some value; awaited = None }
+with_option_value Rewrites value arguments = record arguments { rewrites = Some value; awaited = None }
 
 -- with a value for an option, which stands at most once
 abbrev pub with_value : LineOption → List ℕ → Arguments → Result Arguments LineFault
 with_value option value arguments =
-    if is_some (value_given option arguments) then Err Usage else Ok (with_value option value arguments)
+    if is_some (value_given option arguments) then Err Usage else Ok (with_option_value option value arguments)
 
 -- with an option whose value the next word is
 abbrev pub awaiting : LineOption → Arguments → Arguments
