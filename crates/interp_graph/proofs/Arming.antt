@@ -1,4 +1,4 @@
--- How the list of what is to be followed goes on: a state is reached, and a node gets an arm.
+-- How a graph in the making goes on: a state is reached, and a node gets an arm.
 use Rattle.std.proofs.Common.{◌≡◌, ◌≢◌, ℕ, ◌+◌, ◌<◌, ◌≤◌, Bool, true, false, not, List, [], ◌∷◌, ◌++◌, map, length, Some, refl, sym, ap, ◌∙◌, subst, inl, inr, true≢false, arith, length-append}
 use Rattle.std.specs.Prelude.{Contains, AllPairs, slice_get, set}
 use Rattle.std.specs.List.{AllZip}
@@ -18,27 +18,27 @@ use Rattle.graph_form.specs.declared.node.Branch.{Branch}
 use Rattle.graph_form.proofs.Places.{place_of_item}
 use Rattle.interp_graph.specs.Drafts.{Awaits, TellsBranch, IsMade, Comes, AreDrafts, Grows, states_of, size_of, pair_count}
 use Rattle.zone_lookup.specs.Steps.{branch_of}
-use Rattle.interp_graph.specs.Work.{HasNoType, IsWithin, IsSoundWork, Waits, StillWaits, Advances, ComesTo, ComeOn, HasMoreComing, IsForkAt, Numbered, TookTypes, TooMany, PutArm}
+use Rattle.interp_graph.specs.Growing.{HasNoType, IsWithin, IsSoundSoFar, Waits, StillWaits, Advances, ComesTo, ComeOn, HasMoreComing, IsForkAt, Numbered, TookTypes, TooMany, PutArm}
 use Rattle.interp_graph.specs.declared.draft.Draft.{Draft}
 use Rattle.interp_graph.specs.declared.step.Fork.{Fork}
-use Rattle.interp_graph.specs.declared.work.Work.{Work}
+use Rattle.interp_graph.specs.declared.growing.GrowingGraph.{GrowingGraph}
 use Rattle.interp_graph.proofs.Drafts.{IsLater, grows_not, grows_twice, grows_in_place, drafts_with_arm}
 use Rattle.interp_graph.proofs.ItemsByNumber.{item_below, pushed_there, from_set, set_there}
-use Rattle.interp_graph.proofs.Working.{one_there, numbered_grows, numbered_there, numbered_drafts, numbered_count, numbered_waits, numbered_still, states_in_place, took_grows, took_states, took_length, took_within, took_more, took_new, took_among, took_stays, took_listed, took_still, took_paid, took_awaits, took_drafts, too_many_come}
+use Rattle.interp_graph.proofs.Changes.{one_there, numbered_grows, numbered_there, numbered_drafts, numbered_count, numbered_waits, numbered_still, states_in_place, took_grows, took_states, took_length, took_within, took_more, took_new, took_among, took_stays, took_listed, took_still, took_paid, took_awaits, took_drafts, too_many_come}
 
 -- ---- one change after another
 
-pub advances_not : (work : Work) → Advances work work
-advances_not work =
+pub advances_not : (growing : GrowingGraph) → Advances growing growing
+advances_not growing =
     record {
-      grows = grows_not work.drafts.items;
+      grows = grows_not growing.drafts.items;
       limit = refl;
       stays = λ at has. has;
       listed = λ at rtype waits. inl waits;
       paid = omega arith;
     }
 
-pub advances_twice : (before between after : Work) → Advances before between → Advances between after → Advances before after
+pub advances_twice : (before between after : GrowingGraph) → Advances before between → Advances between after → Advances before after
 advances_twice before between after one other =
     record {
       grows = grows_twice before.drafts.items between.drafts.items after.drafts.items one.grows other.grows;
@@ -56,7 +56,7 @@ advances_twice before between after one other =
 
 -- ---- a state is reached: it is numbered, and types come to its draft
 
-module _ (before middle : Work) (at : ℕ) (state : State) (sound : IsSoundWork before)
+module _ (before middle : GrowingGraph) (at : ℕ) (state : State) (sound : IsSoundSoFar before)
     (num : Numbered before.drafts.items middle.drafts.items state at) (keyed : middle.keys.keys ≡ states_of middle.drafts.items)
     (once : AllPairs (λ a b. a ≢ b) (states_of middle.drafts.items)) (stack : middle.stack.items ≡ before.stack.items)
     (pairs : middle.pairs ≡ before.pairs) (limit : middle.limit ≡ before.limit) where
@@ -92,7 +92,7 @@ module _ (before middle : Work) (at : ℕ) (state : State) (sound : IsSoundWork 
       (numbered_drafts before.drafts.items middle.drafts.items state at num setting begin are) there.0 there.1
       (subst (ComesTo setting begin set_of) (sym there.2) come))
 
-  module _ (after : Work) (set_of : List Bool) (took : TookTypes middle after at set_of) (some : (rtype : RrType) × (has_bit set_of rtype ≡ true)) where
+  module _ (after : GrowingGraph) (set_of : List Bool) (took : TookTypes middle after at set_of) (some : (rtype : RrType) × (has_bit set_of rtype ≡ true)) where
     some_each : length after.drafts.items ≤ after.pairs
     some_each = elim num [
       | inl old ↦ omega (arith, took_length middle after at set_of took, ap (λ (ds : List Draft). length ds) old.1, sound.some_each, pairs, took_more middle after at set_of took)
@@ -114,7 +114,7 @@ module _ (before middle : Work) (at : ℕ) (state : State) (sound : IsSoundWork 
             ap (λ (ds : List Draft). slice_get ds at) new.1
             ∙ (ap (slice_get (before.drafts.items ++ new.0 ∷ [])) new.2 ∙ pushed_there before.drafts.items new.0)
 
-    pub reached_sound : IsSoundWork after
+    pub reached_sound : IsSoundSoFar after
     reached_sound =
         record {
           keyed = ap (λ k. k.keys) took.keys ∙ (keyed ∙ sym (took_states middle after at set_of took));
@@ -153,7 +153,7 @@ module _ (before middle : Work) (at : ℕ) (state : State) (sound : IsSoundWork 
 
 -- ---- a node gets an arm
 
-module _ (before after : Work) (at : ℕ) (arm : Arm) (put : PutArm before after at arm) where
+module _ (before after : GrowingGraph) (at : ℕ) (arm : Arm) (put : PutArm before after at arm) where
   later : IsLater put.old put.new
   later = record { same_state = put.gets.same_state; keeps = λ rtype has. ap (λ (w : List Bool). has_bit w rtype) put.gets.same_wanted ∙ has }
 
@@ -178,7 +178,7 @@ module _ (before after : Work) (at : ℕ) (arm : Arm) (put : PutArm before after
   put_length : length after.drafts.items ≡ length before.drafts.items
   put_length = ap (λ (ds : List Draft). length ds) put.drafts ∙ length-set before.drafts.items at put.new
 
-  pub put_sound : IsSoundWork before → IsSoundWork after
+  pub put_sound : IsSoundSoFar before → IsSoundSoFar after
   put_sound sound =
       record {
         keyed = ap (λ k. k.keys) put.keys ∙ (sound.keyed ∙ sym put_states);

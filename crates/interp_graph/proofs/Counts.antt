@@ -16,7 +16,7 @@ use Rattle.graph_form.proofs.Reached.{arm_differs}
 use Rattle.graph_form.specs.declared.node.Arm.{Arm}
 use Rattle.interp_graph.specs.Drafts.{Comes, AreDrafts, size_of, pair_count}
 use Rattle.interp_graph.specs.declared.draft.Draft.{Draft}
-use Rattle.interp_graph.specs.Work.{TakesTypes}
+use Rattle.interp_graph.specs.Growing.{TakesTypes}
 
 -- ---- of two sets without a common type
 

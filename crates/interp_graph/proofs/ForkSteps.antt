@@ -15,21 +15,21 @@ use Rattle.graph_form.specs.declared.node.Branch.{Branch}
 use Rattle.interp_graph.specs.Drafts.{TellsBranch, AreDrafts, Grows}
 use Rattle.zone_lookup.specs.Steps.{branch_of}
 use Rattle.interp_graph.specs.Steps.{IsFork, IsApart, AreSplit}
-use Rattle.interp_graph.specs.Work.{IsSoundWork, Waits, StillWaits, Advances, ComeOn, HasMoreComing, IsForkAt, AreForksAt, SplitWaiting}
+use Rattle.interp_graph.specs.Growing.{IsSoundSoFar, Waits, StillWaits, Advances, ComeOn, HasMoreComing, IsForkAt, AreForksAt, SplitWaiting}
 use Rattle.interp_graph.specs.declared.draft.Draft.{Draft}
 use Rattle.interp_graph.specs.declared.step.Fork.{Fork}
 use Rattle.zone_lookup.specs.declared.steps.Step.{Step}
-use Rattle.interp_graph.specs.declared.work.Work.{Work}
+use Rattle.interp_graph.specs.declared.growing.GrowingGraph.{GrowingGraph}
 use Rattle.interp_graph.proofs.Arming.{advances_not, advances_twice}
 use Rattle.interp_graph.proofs.Drafts.{zip_grows}
 use Rattle.interp_graph.proofs.ItemsByNumber.{beside_pushed, item_below}
-use Rattle.interp_graph.proofs.Working.{one_there}
+use Rattle.interp_graph.proofs.Changes.{one_there}
 
 -- ---- the steps of a fork
 
 -- so far: the branches tell the steps that aren't left
-pub record BranchesSoFar (before now : Work) (set_of : List Bool) (all left : List Step) (branches : List Branch) : Type 0 where
-  pub sound : IsSoundWork now
+pub record BranchesSoFar (before now : GrowingGraph) (set_of : List Bool) (all left : List Step) (branches : List Branch) : Type 0 where
+  pub sound : IsSoundSoFar now
   pub advances : Advances before now
   pub still : StillWaits before now
   pub done : List Step
@@ -38,7 +38,7 @@ pub record BranchesSoFar (before now : Work) (set_of : List Bool) (all left : Li
   pub drafts : (setting : Setting) (begin : List State) → AreDrafts setting begin before.drafts.items → ComeOn setting begin set_of (map branch_of all)
       → AreDrafts setting begin now.drafts.items
 
-module _ (before now : Work) (set_of : List Bool) (all left : List Step) (branches : List Branch) where
+module _ (before now : GrowingGraph) (set_of : List Bool) (all left : List Step) (branches : List Branch) where
   -- what comes on by all steps does so by one that is left
   one_comes : (one : Step) → BranchesSoFar before now set_of all (one ∷ left) branches → (setting : Setting) (begin : List State)
       → ComeOn setting begin set_of (map branch_of all) → ComeOn setting begin set_of (branch_of one ∷ [])
@@ -62,8 +62,8 @@ module _ (before now : Work) (set_of : List Bool) (all left : List Step) (branch
       subst (HasMoreComing setting begin) so.advances.limit
       (passed setting begin (so.drafts setting begin are come) (one_comes one so setting begin come))
 
-  pub branches_more : (one : Step) → BranchesSoFar before now set_of all (one ∷ left) branches → (after : Work) (branch : Branch)
-      → IsSoundWork after → Advances now after → StillWaits now after → TellsBranch after.drafts.items set_of branch (branch_of one)
+  pub branches_more : (one : Step) → BranchesSoFar before now set_of all (one ∷ left) branches → (after : GrowingGraph) (branch : Branch)
+      → IsSoundSoFar after → Advances now after → StillWaits now after → TellsBranch after.drafts.items set_of branch (branch_of one)
       → ((setting : Setting) (begin : List State) → AreDrafts setting begin now.drafts.items → ComeOn setting begin set_of (branch_of one ∷ [])
       → AreDrafts setting begin after.drafts.items)
       → BranchesSoFar before after set_of all left (branches ++ branch ∷ [])
@@ -99,8 +99,8 @@ still_below before after at grows below =
     slice_get_within after at later.draft later.is_draft
 
 -- so far: the types of the forks that are left wait, and of those that wait each is in one of them or came since
-pub record ForksSoFar (before now : Work) (at : ℕ) (all left : List Fork) : Type 0 where
-  pub sound : IsSoundWork now
+pub record ForksSoFar (before now : GrowingGraph) (at : ℕ) (all left : List Fork) : Type 0 where
+  pub sound : IsSoundSoFar now
   pub advances : Advances before now
   pub was_below : at < length before.drafts.items
   pub apart : AllPairs (λ a b. IsApart a.types b.types) left
@@ -111,7 +111,7 @@ pub record ForksSoFar (before now : Work) (at : ℕ) (all left : List Fork) : Ty
   pub drafts : (setting : Setting) (begin : List State) → AreDrafts setting begin before.drafts.items → AreForksAt setting before.drafts.items at all
       → AreDrafts setting begin now.drafts.items
 
-pub forks_begin : (before : Work) (at : ℕ) (all : List Fork) → IsSoundWork before → at < length before.drafts.items → SplitWaiting before.drafts.items at all
+pub forks_begin : (before : GrowingGraph) (at : ℕ) (all : List Fork) → IsSoundSoFar before → at < length before.drafts.items → SplitWaiting before.drafts.items at all
     → ForksSoFar before before at all all
 forks_begin before at all sound below split =
     let was = item_below before.drafts.items at below in
@@ -128,7 +128,7 @@ forks_begin before at all sound below split =
       drafts = λ setting begin are forks. are;
     }
 
-module _ (before now : Work) (at : ℕ) (all left : List Fork) (fork : Fork) (so : ForksSoFar before now at all (fork ∷ left)) where
+module _ (before now : GrowingGraph) (at : ℕ) (all left : List Fork) (fork : Fork) (so : ForksSoFar before now at all (fork ∷ left)) where
   pub now_below : at < length now.drafts.items
   now_below = still_below before.drafts.items now.drafts.items at so.advances.grows so.was_below
 
@@ -143,7 +143,7 @@ module _ (before now : Work) (at : ℕ) (all left : List Fork) (fork : Fork) (so
   forks_passed passed setting begin are forks =
       subst (HasMoreComing setting begin) so.advances.limit (passed setting begin (so.drafts setting begin are forks) (is_fork setting forks))
 
-  pub forks_more : (after : Work) → IsSoundWork after → Advances now after
+  pub forks_more : (after : GrowingGraph) → IsSoundSoFar after → Advances now after
       → ((rtype : RrType) → has_bit fork.types rtype ≡ true → Waits after.drafts.items at rtype → ⊥)
       → ((rtype : RrType) → has_bit fork.types rtype ≡ false → Waits now.drafts.items at rtype → Waits after.drafts.items at rtype)
       → ((setting : Setting) (begin : List State) → AreDrafts setting begin now.drafts.items → IsForkAt setting now.drafts.items at fork
@@ -181,7 +181,7 @@ module _ (before now : Work) (at : ℕ) (all left : List Fork) (fork : Fork) (so
         | inr behind ↦ inl (one, behind, typed)
       ]
 
-pub forks_end : (before now : Work) (at : ℕ) (all left : List Fork) → ForksSoFar before now at all left → left ≡ []
+pub forks_end : (before now : GrowingGraph) (at : ℕ) (all left : List Fork) → ForksSoFar before now at all left → left ≡ []
     → (rtype : RrType) → Waits now.drafts.items at rtype → Contains now.stack.items at
 forks_end before now at all left so none rtype waits = elim (so.rid rtype waits) [
   | inl fork ↦ absurd (none_in_nil fork.0 (subst (λ (forks : List Fork). Contains forks fork.0) none fork.1))

@@ -3,7 +3,7 @@ pub mod Drafts
 pub mod Finished
 pub mod Counts
 pub mod ToldForks
-pub mod Working
+pub mod Changes
 pub mod Arming
 pub mod ForkSteps
 pub mod NodePairs

@@ -7,26 +7,26 @@ use Rattle.dns_data.proofs.Membership.{none_in_nil, first_or_later}
 use Rattle.net_model.specs.Step.{Setting}
 use Rattle.net_model.specs.declared.walk.State.{State}
 use Rattle.interp_graph.specs.Drafts.{AreDrafts, Grows}
-use Rattle.interp_graph.specs.Work.{IsSoundWork, AreToFollow, IsRid, Waits, Advances, HasMoreComing}
+use Rattle.interp_graph.specs.Growing.{IsSoundSoFar, AreToFollow, IsRid, Waits, Advances, HasMoreComing}
 use Rattle.interp_graph.specs.declared.draft.Draft.{Draft}
-use Rattle.interp_graph.specs.declared.work.Work.{Work}
+use Rattle.interp_graph.specs.declared.growing.GrowingGraph.{GrowingGraph}
 use Rattle.interp_graph.proofs.Drafts.{grows_not, grows_twice}
 
 -- so far, in walks that are read so
-pub record TurnsSoFar (IsSo : Setting → List State → Type 0) (before now : Work) : Type 0 where
-  pub sound : IsSoundWork now
+pub record TurnsSoFar (IsSo : Setting → List State → Type 0) (before now : GrowingGraph) : Type 0 where
+  pub sound : IsSoundSoFar now
   pub limit : now.limit ≡ before.limit
   pub listed : AreToFollow now
   pub grows : Grows before.drafts.items now.drafts.items
   pub drafts : (setting : Setting) (begin : List State) → IsSo setting begin → AreDrafts setting begin before.drafts.items → AreDrafts setting begin now.drafts.items
 
 module _ (IsSo : Setting → List State → Type 0) where
-  pub turns_begin : (before : Work) → IsSoundWork before → AreToFollow before → TurnsSoFar IsSo before before
+  pub turns_begin : (before : GrowingGraph) → IsSoundSoFar before → AreToFollow before → TurnsSoFar IsSo before before
   turns_begin before sound listed =
       record { sound = sound; limit = refl; listed = listed; grows = grows_not before.drafts.items; drafts = λ setting begin so are. are }
 
   -- a node is taken
-  module _ (before now taken : Work) (at : ℕ) (so : TurnsSoFar IsSo before now) (stack : now.stack.items ≡ taken.stack.items ++ at ∷ [])
+  module _ (before now taken : GrowingGraph) (at : ℕ) (so : TurnsSoFar IsSo before now) (stack : now.stack.items ≡ taken.stack.items ++ at ∷ [])
       (drafts_same : taken.drafts.items ≡ now.drafts.items) (limit_same : taken.limit ≡ now.limit) (pairs_same : taken.pairs ≡ now.pairs) where
     pub turns_passed : ((setting : Setting) (begin : List State) → IsSo setting begin → AreDrafts setting begin taken.drafts.items → HasMoreComing setting begin taken.limit)
         → (setting : Setting) (begin : List State) → IsSo setting begin → AreDrafts setting begin before.drafts.items → HasMoreComing setting begin before.limit
@@ -34,7 +34,7 @@ module _ (IsSo : Setting → List State → Type 0) where
         subst (HasMoreComing setting begin) (limit_same ∙ so.limit)
         (passed setting begin is (subst (AreDrafts setting begin) (sym drafts_same) (so.drafts setting begin is are)))
 
-    module _ (after : Work) (sound : IsSoundWork after) (advances : Advances taken after) (rid : IsRid after at) where
+    module _ (after : GrowingGraph) (sound : IsSoundSoFar after) (advances : Advances taken after) (rid : IsRid after at) where
       pub turns_more : ((setting : Setting) (begin : List State) → IsSo setting begin → AreDrafts setting begin taken.drafts.items → AreDrafts setting begin after.drafts.items)
           → TurnsSoFar IsSo before after
       turns_more drafts =
@@ -69,6 +69,6 @@ module _ (IsSo : Setting → List State → Type 0) where
           of a b p q r s t u limits pairs paid one few was = omega (arith, limits, pairs, paid, one, few, was)
 
   -- at the end nothing waits
-  pub none_wait : (before now : Work) → TurnsSoFar IsSo before now → now.stack.items ≡ [] → (at : ℕ) (rtype : RrType) → Waits now.drafts.items at rtype → ⊥
+  pub none_wait : (before now : GrowingGraph) → TurnsSoFar IsSo before now → now.stack.items ≡ [] → (at : ℕ) (rtype : RrType) → Waits now.drafts.items at rtype → ⊥
   none_wait before now so none at rtype waits =
       none_in_nil at (subst (λ (ks : List ℕ). Contains ks at) none (so.listed at rtype waits))

@@ -12,13 +12,13 @@ ghost use Rattle.graph_form.specs.Graph.{pairs_of};
 ghost use Rattle.graph_form.specs.GraphOf.{IsExact, IsGraphOf};
 ghost use Rattle.interp_graph.specs.Asked.{IsAsked, StandsForOthers, ReachesMost};
 ghost use Rattle.interp_graph.specs.Drafts.{AreDrafts, Grows, node_of};
-ghost use Rattle.interp_graph.specs.Work.{IsSoundWork, AreToFollow, Waits, Advances, HasMoreComing, AwaitAll};
+ghost use Rattle.interp_graph.specs.Growing.{IsSoundSoFar, AreToFollow, Waits, Advances, HasMoreComing, AwaitAll};
 
 use crate::draft::Draft;
 use crate::fault::GraphFault;
 use crate::following::put_forks;
 use crate::forks::forks;
-use crate::work::Work;
+use crate::growing::GrowingGraph;
 use dns_data::{JoinFault, List, Name, NoMemory, TypeSet};
 use graph_form::{Graph, Node};
 use name_rules::SymName;
@@ -47,10 +47,10 @@ pub fn build(
     let query = whole_name(alloc, name)?;
     let walker = Walker::following_all(hosts, rewrites);
     let states = starts(alloc, hosts, &query)?;
-    let mut work = Work::new(alloc, limit);
-    let starts = begin(alloc, &mut work, states)?;
-    follow(alloc, &walker, &mut work)?;
-    Ok(graph_of(alloc, work, starts)?)
+    let mut growing = GrowingGraph::new(alloc, limit);
+    let starts = begin(alloc, &mut growing, states)?;
+    follow(alloc, &walker, &mut growing)?;
+    Ok(graph_of(alloc, growing, starts)?)
 }
 
 /// The known name with its tail.
@@ -72,56 +72,56 @@ fn whole_name(alloc: Global, name: &SymName) -> Result<Name, NoMemory>
 /// The numbers of the nodes of the states in which a query begins. All types come to them.
 pub(crate) fn begin(
     alloc: Global,
-    work: &mut Work,
+    growing: &mut GrowingGraph,
     states: List<State>,
 ) -> Result<List<u32>, GraphFault>
-    requires { IsSoundWork work.old }
-    ensures sound { OnOk result (IsSoundWork work.new) }
-    ensures advances { OnOk result (Advances work.old work.new) }
-    ensures starts { IfOk result (λ starts. AwaitAll work.new.drafts.items starts states) }
-    ensures drafts { OnOk result ((setting : Setting) → AreDrafts setting states work.old.drafts.items → AreDrafts setting states work.new.drafts.items) }
-    ensures passed { IsErrOf result GraphFault.StatesPassed → (setting : Setting) → AreDrafts setting states work.old.drafts.items → HasMoreComing setting states work.old.limit }
+    requires { IsSoundSoFar growing.old }
+    ensures sound { OnOk result (IsSoundSoFar growing.new) }
+    ensures advances { OnOk result (Advances growing.old growing.new) }
+    ensures starts { IfOk result (λ starts. AwaitAll growing.new.drafts.items starts states) }
+    ensures drafts { OnOk result ((setting : Setting) → AreDrafts setting states growing.old.drafts.items → AreDrafts setting states growing.new.drafts.items) }
+    ensures passed { IsErrOf result GraphFault.StatesPassed → (setting : Setting) → AreDrafts setting states growing.old.drafts.items → HasMoreComing setting states growing.old.limit }
 {
     let all = TypeSet::all();
     let mut starts = List::new(alloc);
     for state in states {
-        starts.push(work.reach(alloc, state, all)?)?;
+        starts.push(growing.reach(alloc, state, all)?)?;
     }
     Ok(starts)
 }
 
 /// Follows each type that waits at a node, while every configured server is followed.
-fn follow(alloc: Global, walker: &Walker<'_, '_>, work: &mut Work) -> Result<(), GraphFault>
-    requires sound { IsSoundWork work.old }
-    requires listed { AreToFollow work.old }
-    ensures sound { OnOk result (IsSoundWork work.new) }
-    ensures limit { OnOk result (work.new.limit ≡ work.old.limit) }
-    ensures grows { OnOk result (Grows work.old.drafts.items work.new.drafts.items) }
-    ensures none { OnOk result ((at : ℕ) (rtype : RrType) → Waits work.new.drafts.items at rtype → ⊥) }
-    ensures drafts { OnOk result ((begin : List State) → AreDrafts walker.now begin work.old.drafts.items → AreDrafts walker.now begin work.new.drafts.items) }
-    ensures passed { IsErrOf result GraphFault.StatesPassed → (begin : List State) → AreDrafts walker.now begin work.old.drafts.items → HasMoreComing walker.now begin work.old.limit }
+fn follow(alloc: Global, walker: &Walker<'_, '_>, growing: &mut GrowingGraph) -> Result<(), GraphFault>
+    requires sound { IsSoundSoFar growing.old }
+    requires listed { AreToFollow growing.old }
+    ensures sound { OnOk result (IsSoundSoFar growing.new) }
+    ensures limit { OnOk result (growing.new.limit ≡ growing.old.limit) }
+    ensures grows { OnOk result (Grows growing.old.drafts.items growing.new.drafts.items) }
+    ensures none { OnOk result ((at : ℕ) (rtype : RrType) → Waits growing.new.drafts.items at rtype → ⊥) }
+    ensures drafts { OnOk result ((begin : List State) → AreDrafts walker.now begin growing.old.drafts.items → AreDrafts walker.now begin growing.new.drafts.items) }
+    ensures passed { IsErrOf result GraphFault.StatesPassed → (begin : List State) → AreDrafts walker.now begin growing.old.drafts.items → HasMoreComing walker.now begin growing.old.limit }
 {
-    while let Some(at) = work.take() {
-        let draft = &work.drafts[at];
+    while let Some(at) = growing.take() {
+        let draft = &growing.drafts[at];
         let forks = forks(alloc, walker, &draft.state, draft.waiting)?;
-        put_forks(alloc, work, at, forks)?;
+        put_forks(alloc, growing, at, forks)?;
     }
     Ok(())
 }
 
 /// The graph whose nodes are made.
-pub(crate) fn graph_of(alloc: Global, work: Work, starts: List<u32>) -> Result<Graph, NoMemory>
-    requires sound { IsSoundWork work }
-    requires drafts { (setting : Setting) × (begin : List State) × AreDrafts setting begin work.drafts.items }
-    ensures { IfOk result (λ graph. graph ≡ record { nodes = map node_of work.drafts.items; starts = starts }) }
+pub(crate) fn graph_of(alloc: Global, growing: GrowingGraph, starts: List<u32>) -> Result<Graph, NoMemory>
+    requires sound { IsSoundSoFar growing }
+    requires drafts { (setting : Setting) × (begin : List State) × AreDrafts setting begin growing.drafts.items }
+    ensures { IfOk result (λ graph. graph ≡ record { nodes = map node_of growing.drafts.items; starts = starts }) }
 {
-    let Work {
+    let GrowingGraph {
         keys: _,
         drafts,
         stack: _,
         pairs: _,
         limit: _,
-    } = work;
+    } = growing;
     let nodes = nodes_of(alloc, List::from_vec(drafts))?;
     Ok(Graph::new(nodes, starts))
 }

@@ -7,6 +7,6 @@ use Rattle.interp_graph.proofs.building.graph_of.Goals as goal
 
 pub new-requires-clause-pairs : goal.new-requires-clause-pairs
 new-requires-clause-pairs c =
-    let few = few_pairs c.requires.drafts.0 c.requires.drafts.1 c.args.work.drafts.items c.args.starts c.requires.drafts.2 in
+    let few = few_pairs c.requires.drafts.0 c.requires.drafts.1 c.args.growing.drafts.items c.args.starts c.requires.drafts.2 in
     let same = ap (λ (nodes : List Node). length (pairs_of (record { nodes = nodes; starts = c.args.starts }))) (c.in_ok-nodes.ensures ∙ ap (map node_of) c.from_vec.ensures) in
     omega (arith, few, same, c.requires.sound.within.counted, c.requires.sound.within.few)

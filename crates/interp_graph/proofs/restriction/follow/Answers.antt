@@ -1,7 +1,7 @@
 use Rattle.std.proofs.Common.{◌≡◌, ◌<◌, Some, List, length, get_or, refl, subst, arith}
 use Rattle.net_model.specs.Step.{Setting}
 use Rattle.interp_graph.specs.Restricted.{IsRestriction}
-use Rattle.interp_graph.specs.Work.{Waits, AreForksAt}
+use Rattle.interp_graph.specs.Growing.{Waits, AreForksAt}
 use Rattle.interp_graph.specs.Steps.{AreSplit, IsFork}
 use Rattle.interp_graph.specs.declared.draft.Draft.{Draft}
 use Rattle.interp_graph.specs.declared.step.Fork.{Fork}
@@ -9,7 +9,7 @@ use Rattle.interp_graph.proofs.InGraph.{comes_in_graph}
 use Rattle.interp_graph.proofs.Numbering.{item_is}
 use Rattle.interp_graph.proofs.Passing.{passed_on, where_none}
 use Rattle.interp_graph.proofs.Turns.{turns_passed, turns_more, none_wait}
-use Rattle.interp_graph.proofs.Working.{one_there}
+use Rattle.interp_graph.proofs.Changes.{one_there}
 use Rattle.interp_graph.proofs.restriction.follow.Goals as goal
 use Rattle.std.specs.Prelude.{Contains, slice_get}
 
@@ -41,8 +41,8 @@ put_forks-requires-clause-split c = λ draft there.
 pub loop-at-preserved : goal.loop-at-preserved
 loop-at-preserved c =
     let below : c.in-Some.at < length c.take.new.self.drafts.items = omega (arith, c.in-Some.ensures.below, c.take.new.self.drafts.ok.0) in
-    turns_more (IsRestriction c.args.limited.now.hosts.now c.args.limited.now.graph.now c.args.limited.now.followed.now) c.args.work.now c.loop-at.work c.take.new.self c.in-Some.at
-    c.loop-at.invariant c.in-Some.ensures.some c.in-Some.ensures.drafts c.in-Some.ensures.limit c.in-Some.ensures.pairs c.put_forks.new.work
+    turns_more (IsRestriction c.args.limited.now.hosts.now c.args.limited.now.graph.now c.args.limited.now.followed.now) c.args.growing.now c.loop-at.growing c.take.new.self c.in-Some.at
+    c.loop-at.invariant c.in-Some.ensures.some c.in-Some.ensures.drafts c.in-Some.ensures.limit c.in-Some.ensures.pairs c.put_forks.new.growing
     c.in_ok-put_forks.ensures.sound c.in_ok-put_forks.ensures.advances c.in_ok-put_forks.ensures.rid
     (λ setting begin is are. c.in_ok-put_forks.ensures.drafts setting begin are
     (forks_at setting c.take.new.self.drafts.items c.in-Some.at c.index-draft.result.now c.in_ok-forks.forks below c.index-draft.ensures (c.in_ok-forks.ensures.tell setting begin is)))
@@ -50,7 +50,7 @@ loop-at-preserved c =
 pub returns-in_err-put_forks-clause-passed : goal.returns-in_err-put_forks-clause-passed
 returns-in_err-put_forks-clause-passed c = λ is.
     let below : c.in-Some.at < length c.take.new.self.drafts.items = omega (arith, c.in-Some.ensures.below, c.take.new.self.drafts.ok.0) in
-    turns_passed (IsRestriction c.args.limited.now.hosts.now c.args.limited.now.graph.now c.args.limited.now.followed.now) c.args.work.now c.loop-at.work c.take.new.self c.in-Some.at
+    turns_passed (IsRestriction c.args.limited.now.hosts.now c.args.limited.now.graph.now c.args.limited.now.followed.now) c.args.growing.now c.loop-at.growing c.take.new.self c.in-Some.at
     c.loop-at.invariant c.in-Some.ensures.some c.in-Some.ensures.drafts c.in-Some.ensures.limit c.in-Some.ensures.pairs
     (λ setting begin restriction are. c.in_err-put_forks.ensures.passed
     (passed_on c.from_residual-in_err-put_forks.result c.in_err-put_forks.field-0.0 _ c.from_residual-in_err-put_forks.ensures.1 is _ refl) setting begin are
@@ -58,6 +58,6 @@ returns-in_err-put_forks-clause-passed c = λ is.
 
 pub returns-clause-none : goal.returns-clause-none
 returns-clause-none c = λ at rtype waits.
-    none_wait (IsRestriction c.args.limited.now.hosts.now c.args.limited.now.graph.now c.args.limited.now.followed.now) c.args.work.now c.loop-at.work c.loop-at.invariant
+    none_wait (IsRestriction c.args.limited.now.hosts.now c.args.limited.now.graph.now c.args.limited.now.followed.now) c.args.growing.now c.loop-at.growing c.loop-at.invariant
     (where_none c.take.result _ c.take.ensures.none c.in_default.is) at rtype
     (subst (λ (drafts : List Draft). Waits drafts at rtype) c.take.ensures.drafts waits)

@@ -27,25 +27,25 @@ graph_of-requires-clause-drafts c = (
 
 pub returns-in-Ok-clause-graph : goal.returns-in-Ok-clause-graph
 returns-in-Ok-clause-graph c =
-    IfOk-weaker c.graph_of.result (λ graph. graph ≡ record { nodes = map node_of c.follow_all.new.work.drafts.items; starts = c.in-Ok.starts })
+    IfOk-weaker c.graph_of.result (λ graph. graph ≡ record { nodes = map node_of c.follow_all.new.growing.drafts.items; starts = c.in-Ok.starts })
     (λ restricted. (rewrites : ℕ) (query : Labels) → IsBuilt c.args.hosts.now rewrites query c.args.graph.now
     → IsGraphOf (following c.args.hosts.now rewrites c.args.followed.now) query restricted)
     (λ (graph : PlainGraph) same rewrites query built.
     let is = restriction c.args.hosts.now c.args.hosts.now rewrites query c.args.graph.now c.args.followed.now c.in_ok-states.states refl built c.in_ok-states.ensures in
     subst (IsGraphOf (following c.args.hosts.now rewrites c.args.followed.now) query) (sym same)
-    (restricted_graph (following c.args.hosts.now rewrites c.args.followed.now) query c.in_ok-states.states c.follow_all.new.work.drafts.items c.in-Ok.starts
+    (restricted_graph (following c.args.hosts.now rewrites c.args.followed.now) query c.in_ok-states.states c.follow_all.new.growing.drafts.items c.in-Ok.starts
     (restriction_begins c.args.hosts.now rewrites query c.args.graph.now c.in_ok-states.states built c.in_ok-states.ensures)
     (c.in-Ok.ensures.drafts (following c.args.hosts.now rewrites c.args.followed.now) is) c.in-Ok.ensures.none c.in-Ok.ensures.starts)) c.graph_of.ensures
 
 pub returns-in-Ok-clause-exact : goal.returns-in-Ok-clause-exact
 returns-in-Ok-clause-exact c =
-    IfOk-weaker c.graph_of.result (λ graph. graph ≡ record { nodes = map node_of c.follow_all.new.work.drafts.items; starts = c.in-Ok.starts })
+    IfOk-weaker c.graph_of.result (λ graph. graph ≡ record { nodes = map node_of c.follow_all.new.growing.drafts.items; starts = c.in-Ok.starts })
     (λ restricted. (rewrites : ℕ) (query : Labels) → IsBuilt c.args.hosts.now rewrites query c.args.graph.now
     → IsExactIn (following c.args.hosts.now rewrites c.args.followed.now) query restricted)
     (λ (graph : PlainGraph) same rewrites query built.
     let is = restriction c.args.hosts.now c.args.hosts.now rewrites query c.args.graph.now c.args.followed.now c.in_ok-states.states refl built c.in_ok-states.ensures in
     subst (IsExactIn (following c.args.hosts.now rewrites c.args.followed.now) query) (sym same)
-    (restricted_exact (following c.args.hosts.now rewrites c.args.followed.now) query c.in_ok-states.states c.follow_all.new.work.drafts.items c.in-Ok.starts
+    (restricted_exact (following c.args.hosts.now rewrites c.args.followed.now) query c.in_ok-states.states c.follow_all.new.growing.drafts.items c.in-Ok.starts
     (restriction_begins c.args.hosts.now rewrites query c.args.graph.now c.in_ok-states.states built c.in_ok-states.ensures)
     (c.in-Ok.ensures.drafts (following c.args.hosts.now rewrites c.args.followed.now) is) c.in-Ok.ensures.sound.once)) c.graph_of.ensures
 
@@ -53,5 +53,5 @@ pub unreachable-requires : goal.unreachable-requires
 unreachable-requires c = let setting = following c.args.hosts.now c.requires.0 c.args.followed.now in
     let is = restriction c.args.hosts.now c.args.hosts.now c.requires.0 c.requires.1 c.args.graph.now c.args.followed.now c.in_ok-states.states refl c.requires.2
     c.in_ok-states.ensures in
-    no_more_come c.args.hosts.now c.args.graph.now c.args.followed.now setting c.in_ok-states.states is c.new-work.result.limit (c.new-work.ensures.limit ∙ c.pairs.ensures)
+    no_more_come c.args.hosts.now c.args.graph.now c.args.followed.now setting c.in_ok-states.states is c.new-growing.result.limit (c.new-growing.ensures.limit ∙ c.pairs.ensures)
     (c.follow_all.ensures.passed (c.in-Err-StatesPassed.is ∙ ap Err c.in-Err-StatesPassed.field-0-is) setting is)

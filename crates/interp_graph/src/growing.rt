@@ -1,4 +1,4 @@
-//! The list of what is to be followed.
+//! A graph in the making, with the states that are still to be followed.
 
 ghost use Rattle.std.specs.Prelude.{◌≡◌, ◌≢◌, ◌<◌, ◌++◌, ◌∷◌, [], ℕ, List, true, vec_len, AllPairs, IfOk, OnOk, IfSome, IfNone, IsErrOf};
 ghost use Rattle.net_model.specs.Step.{Setting};
@@ -6,7 +6,7 @@ ghost use Rattle.net_model.specs.declared.walk.State.{State};
 ghost use Rattle.dns_data.specs.TypeSet.{has_bit};
 ghost use Rattle.dns_data.specs.declared.rr_type.RrType.{RrType};
 ghost use Rattle.interp_graph.specs.Drafts.{Awaits, AreDrafts, states_of};
-ghost use Rattle.interp_graph.specs.Work.{IsSoundWork, AreToFollow, Advances, StillWaits, ComesTo, HasMoreComing, HasNoType, IsWithin, Numbered, TookTypes, TooMany, PutArm};
+ghost use Rattle.interp_graph.specs.Growing.{IsSoundSoFar, AreToFollow, Advances, StillWaits, ComesTo, HasMoreComing, HasNoType, IsWithin, Numbered, TookTypes, TooMany, PutArm};
 
 use crate::draft::Draft;
 use crate::fault::GraphFault;
@@ -20,7 +20,7 @@ use std::alloc::Global;
 /// A graph in the making: the states of its nodes, by which they are numbered, the nodes, those to which types came since
 /// they were followed, and how many pairs of state and type there are, of how many that are allowed.
 #[derive(Drop)]
-pub(crate) struct Work {
+pub(crate) struct GrowingGraph {
     pub keys: IndexSet<Key>,
     pub drafts: Vec<Draft>,
     pub stack: Vec<usize>,
@@ -28,15 +28,15 @@ pub(crate) struct Work {
     pub limit: u32,
 }
 
-impl Work {
+impl GrowingGraph {
     /// A graph without a node, which may have so many pairs.
-    pub fn new(alloc: Global, limit: u32) -> Work
-        ensures sound { IsSoundWork result }
+    pub fn new(alloc: Global, limit: u32) -> GrowingGraph
+        ensures sound { IsSoundSoFar result }
         ensures drafts { result.drafts.items ≡ [] }
         ensures stack { result.stack.items ≡ [] }
         ensures limit { result.limit ≡ limit }
     {
-        Work {
+        GrowingGraph {
             keys: IndexSet::new(alloc),
             drafts: Vec::new(alloc),
             stack: Vec::new(alloc),
@@ -47,8 +47,8 @@ impl Work {
 
     /// Takes a node to which types came, or `None` where there is none.
     pub fn take(&mut self) -> Option<usize>
-        requires { IsSoundWork self.old }
-        ensures sound { IsSoundWork self.new }
+        requires { IsSoundSoFar self.old }
+        ensures sound { IsSoundSoFar self.new }
         ensures drafts { self.new.drafts.items ≡ self.old.drafts.items }
         ensures limit { self.new.limit ≡ self.old.limit }
         ensures pairs { self.new.pairs ≡ self.old.pairs }
@@ -62,9 +62,9 @@ impl Work {
     /// The number of the node of a state to which types come. They wait there, but for those that came before. It is
     /// `StatesPassed` where there are more pairs then than are allowed.
     pub fn reach(&mut self, alloc: Global, state: State, types: TypeSet) -> Result<u32, GraphFault>
-        requires sound { IsSoundWork self.old }
+        requires sound { IsSoundSoFar self.old }
         requires some { (rtype : RrType) × (has_bit types rtype ≡ true) }
-        ensures sound { OnOk result (IsSoundWork self.new) }
+        ensures sound { OnOk result (IsSoundSoFar self.new) }
         ensures advances { OnOk result (Advances self.old self.new) }
         ensures still { OnOk result (StillWaits self.old self.new) }
         ensures awaits { IfOk result (λ at. Awaits self.new.drafts.items types at state) }

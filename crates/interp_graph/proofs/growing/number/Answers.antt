@@ -8,8 +8,8 @@ use Rattle.interp_graph.specs.Drafts.{states_of}
 use Rattle.interp_graph.specs.StateKey.{state_eq}
 use Rattle.interp_graph.specs.declared.draft.Draft.{Draft}
 use Rattle.interp_graph.proofs.Numbering.{distinct_states, stored_there, key_behind, number_behind, keys_stay, draft_there}
-use Rattle.interp_graph.proofs.Working.{one_there}
-use Rattle.interp_graph.proofs.work.number.Goals as goal
+use Rattle.interp_graph.proofs.Changes.{one_there}
+use Rattle.interp_graph.proofs.growing.number.Goals as goal
 
 -- the state of a new draft
 new_state : (keys : List State) (at : _) (value index made : State) → slice_get keys at ≡ Some value → slice_get keys at ≡ Some index → made ≡ index → made ≡ value

@@ -3,7 +3,7 @@ use Rattle.std.specs.Prelude.{Contains}
 use Rattle.std.specs.Option.{option_to_list}
 use Rattle.std.proofs.lemmas.List.Elements.{Contains-append_left}
 use Rattle.interp_graph.proofs.Numbering.{taken_below}
-use Rattle.interp_graph.proofs.work.Work.take.Goals as goal
+use Rattle.interp_graph.proofs.growing.GrowingGraph.take.Goals as goal
 
 pub returns-clause-sound : goal.returns-clause-sound
 returns-clause-sound c =

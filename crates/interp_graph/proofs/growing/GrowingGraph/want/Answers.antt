@@ -4,8 +4,8 @@ use Rattle.dns_data.specs.TypeSet.{has_bit}
 use Rattle.dns_data.specs.declared.rr_type.RrType.{RrType}
 use Rattle.interp_graph.specs.declared.draft.Draft.{Draft}
 use Rattle.interp_graph.proofs.Numbering.{item_is, only_asked, none_new, takes_new, all_wanted, too_many}
-use Rattle.interp_graph.proofs.Working.{one_there}
-use Rattle.interp_graph.proofs.work.Work.want.Goals as goal
+use Rattle.interp_graph.proofs.Changes.{one_there}
+use Rattle.interp_graph.proofs.growing.GrowingGraph.want.Goals as goal
 
 pub returns-then-more-eq0-clause-took : goal.returns-then-more-eq0-clause-took
 returns-then-more-eq0-clause-took c =

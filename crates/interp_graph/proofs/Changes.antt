@@ -1,4 +1,4 @@
--- What the single changes of the list of what is to be followed do.
+-- What the single changes of a graph in the making do.
 use Rattle.std.proofs.Common.{◌≡◌, ◌≢◌, ℕ, ◌+◌, ◌<◌, ◌≤◌, Bool, true, false, List, [], ◌∷◌, ◌++◌, length, filter, Some, zero, suc, refl, sym, ap, ◌∙◌, subst, inl, inr, true≢false, arith, length-append}
 use Rattle.std.specs.Prelude.{◌⊎◌, Contains, AllPairs, slice_get, set}
 use Rattle.std.proofs.lemmas.Bool.{or_cases, or_left}
@@ -13,9 +13,9 @@ use Rattle.dns_data.proofs.Membership.{none_in_nil, has_first, first_or_later}
 use Rattle.net_model.specs.Step.{Setting}
 use Rattle.net_model.specs.declared.walk.State.{State}
 use Rattle.interp_graph.specs.Drafts.{Awaits, Comes, AreDrafts, Grows, states_of, size_of, pair_count}
-use Rattle.interp_graph.specs.Work.{TakesTypes, IsWithin, Waits, ComesTo, HasMoreComing, Numbered, TookTypes, TooMany}
+use Rattle.interp_graph.specs.Growing.{TakesTypes, IsWithin, Waits, ComesTo, HasMoreComing, Numbered, TookTypes, TooMany}
 use Rattle.interp_graph.specs.declared.draft.Draft.{Draft}
-use Rattle.interp_graph.specs.declared.work.Work.{Work}
+use Rattle.interp_graph.specs.declared.growing.GrowingGraph.{GrowingGraph}
 use Rattle.interp_graph.proofs.Counts.{more_types, more_reached}
 use Rattle.interp_graph.proofs.Drafts.{grows_not, grows_behind, drafts_with_new, grows_in_place, takes_later, drafts_with_types}
 use Rattle.interp_graph.proofs.ItemsByNumber.{from_pushed, in_front, pushed_there, from_set, set_there, set_elsewhere, pairs_from_images}
@@ -100,7 +100,7 @@ module _ (drafts : List Draft) (at : ℕ) (old new : Draft) (is : slice_get draf
 
 -- ---- types come to a draft
 
-module _ (before after : Work) (at : ℕ) (set_of : List Bool) (took : TookTypes before after at set_of) where
+module _ (before after : GrowingGraph) (at : ℕ) (set_of : List Bool) (took : TookTypes before after at set_of) where
   pub took_grows : Grows before.drafts.items after.drafts.items
   took_grows = elim took.change [
     | inl same ↦ subst (Grows before.drafts.items) (sym same.drafts) (grows_not before.drafts.items)
@@ -248,15 +248,15 @@ module _ (before after : Work) (at : ℕ) (set_of : List Bool) (took : TookTypes
   ]
 
 -- where types would make too many pairs, more come from where the query begins
-pub too_many_come : (work : Work) (at : ℕ) (set_of : List Bool) → TooMany work at set_of → IsWithin work
-    → AllPairs (λ a b. a ≢ b) (states_of work.drafts.items) → (setting : Setting) (begin : List State) → AreDrafts setting begin work.drafts.items
-    → (draft : Draft) → slice_get work.drafts.items at ≡ Some draft → ComesTo setting begin set_of draft.state → HasMoreComing setting begin work.limit
-too_many_come work at set_of many within once setting begin are draft is come =
-    more_reached setting begin (set work.drafts.items at many.new) work.limit
-    (drafts_with_types many.old many.new many.newly many.takes setting begin work.drafts.items at many.is_old are
-    (λ rtype new. subst (Comes setting begin rtype) (ap (λ (d : Draft). d.state) (one_there work.drafts.items at draft many.old is many.is_old))
+pub too_many_come : (growing : GrowingGraph) (at : ℕ) (set_of : List Bool) → TooMany growing at set_of → IsWithin growing
+    → AllPairs (λ a b. a ≢ b) (states_of growing.drafts.items) → (setting : Setting) (begin : List State) → AreDrafts setting begin growing.drafts.items
+    → (draft : Draft) → slice_get growing.drafts.items at ≡ Some draft → ComesTo setting begin set_of draft.state → HasMoreComing setting begin growing.limit
+too_many_come growing at set_of many within once setting begin are draft is come =
+    more_reached setting begin (set growing.drafts.items at many.new) growing.limit
+    (drafts_with_types many.old many.new many.newly many.takes setting begin growing.drafts.items at many.is_old are
+    (λ rtype new. subst (Comes setting begin rtype) (ap (λ (d : Draft). d.state) (one_there growing.drafts.items at draft many.old is many.is_old))
     (come rtype (many.only rtype new))))
-    (pairs_from_images (λ (d : Draft). d.state) (λ a b. a ≢ b) (set work.drafts.items at many.new)
-    (subst (AllPairs (λ (a b : State). a ≢ b)) (sym (states_in_place work.drafts.items at many.old many.new many.is_old many.takes.same_state)) once))
-    (omega (arith, count_in_place work.drafts.items at many.old many.new many.is_old many.newly many.takes, within.counted, many.more))
+    (pairs_from_images (λ (d : Draft). d.state) (λ a b. a ≢ b) (set growing.drafts.items at many.new)
+    (subst (AllPairs (λ (a b : State). a ≢ b)) (sym (states_in_place growing.drafts.items at many.old many.new many.is_old many.takes.same_state)) once))
+    (omega (arith, count_in_place growing.drafts.items at many.old many.new many.is_old many.newly many.takes, within.counted, many.more))
     (λ (pair : State × RrType). Comes setting begin pair.1 pair.0) (λ pair come. come)
