@@ -5,7 +5,7 @@ ghost use Rattle.dns_data.specs.Name.{wire_octets};
 ghost use Rattle.dns_data.specs.declared.rr_type.RrType.{RrType};
 ghost use Rattle.name_rules.specs.SymName.{whole};
 ghost use Rattle.net_model.specs.Nearest.{server_names};
-ghost use Rattle.net_model.specs.Step.{Setting, following};
+ghost use Rattle.net_model.specs.Step.{Setting, following, start};
 ghost use Rattle.net_model.specs.Tree.{IsReached, HasMoreThan};
 ghost use Rattle.net_model.specs.declared.walk.State.{State};
 ghost use Rattle.graph_form.specs.Graph.{pairs_of};
@@ -44,13 +44,25 @@ pub fn build(
     ensures stands_for { OnOk result (StandsForOthers hosts.now name.now name.now.tail) }
     ensures reaches_most { OnOk result (ReachesMost hosts.now rewrites name.now limit name.now.tail) }
 {
-    let query = whole_name(alloc, name)?;
     let walker = Walker::following_all(hosts, rewrites);
-    let states = starts(alloc, hosts, &query)?;
+    let states = first_states(alloc, hosts, name)?;
     let mut growing = GrowingGraph::new(alloc, limit);
     let starts = begin(alloc, &mut growing, states)?;
     follow(alloc, &walker, &mut growing)?;
     Ok(graph_of(alloc, growing, starts)?)
+}
+
+/// The states in which the walks of the known name with its tail begin.
+fn first_states(
+    alloc: Global,
+    hosts: &Hosts<'_>,
+    name: &SymName,
+) -> Result<List<State>, NoMemory>
+    requires { IfSome name.now.tail (λ label. wire_octets (name.now.known ++ label ∷ []) ≤ 255) }
+    ensures { IfOk result (λ states. states ≡ start hosts.now (whole name.now)) }
+{
+    let query = whole_name(alloc, name)?;
+    starts(alloc, hosts, &query)
 }
 
 /// The known name with its tail.

@@ -42,9 +42,21 @@ pub fn restrict(
         followed,
         numbers: numbers_of(alloc, graph)?,
     };
-    let states = starts_of(alloc, graph)?;
-    let mut growing = GrowingGraph::new(alloc, graph.pairs());
-    match follow_all(alloc, &limited, &mut growing, states) {
+    restricted(alloc, &limited)
+}
+
+/// Of a graph that was built, the graph of the same query's walks while some servers are followed.
+fn restricted(alloc: Global, limited: &Limited<'_, '_>) -> Result<Graph, NoMemory>
+    requires numbered { IsNumbered limited.now.numbers.keys limited.now.graph.now }
+    requires built { (rewrites : ℕ) × (query : Labels) × IsBuilt limited.now.hosts.now rewrites query limited.now.graph.now }
+    ensures graph { IfOk result (λ restricted. (rewrites : ℕ) (query : Labels) → IsBuilt limited.now.hosts.now rewrites query limited.now.graph.now
+        → IsGraphOf (following limited.now.hosts.now rewrites limited.now.followed.now) query restricted) }
+    ensures exact { IfOk result (λ restricted. (rewrites : ℕ) (query : Labels) → IsBuilt limited.now.hosts.now rewrites query limited.now.graph.now
+        → IsExactIn (following limited.now.hosts.now rewrites limited.now.followed.now) query restricted) }
+{
+    let states = starts_of(alloc, limited.graph)?;
+    let mut growing = GrowingGraph::new(alloc, limited.graph.pairs());
+    match follow_all(alloc, limited, &mut growing, states) {
         Ok(starts) => graph_of(alloc, growing, starts),
         Err(GraphFault::NoMemory) => Err(NoMemory),
         Err(GraphFault::StatesPassed) => unreachable!(),

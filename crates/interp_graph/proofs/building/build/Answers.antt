@@ -10,13 +10,13 @@ use Rattle.interp_graph.proofs.OpenNames.{stands_for, reaches_most}
 use Rattle.interp_graph.proofs.Passing.{passed_on}
 use Rattle.interp_graph.proofs.building.build.Goals as goal
 
-pub whole_name-requires : goal.whole_name-requires
-whole_name-requires c = asked_short c.args.hosts.now c.args.name.now c.requires
+pub first_states-requires : goal.first_states-requires
+first_states-requires c = asked_short c.args.hosts.now c.args.name.now c.requires
 
 pub returns-in_err-starts-clause-passed : goal.returns-in_err-starts-clause-passed
 returns-in_err-starts-clause-passed c = λ is.
-    more_there c.args.hosts.now c.args.rewrites (whole c.args.name.now) c.following_all-walker.result c.in_ok-query.query c.in_ok-states.states
-    c.following_all-walker.ensures c.in_ok-query.ensures c.in_ok-states.ensures c.new-growing.result.limit c.args.limit c.new-growing.ensures.limit
+    more_there c.args.hosts.now c.args.rewrites (whole c.args.name.now) c.following_all-walker.result (whole c.args.name.now) c.in_ok-states.states
+    c.following_all-walker.ensures refl c.in_ok-states.ensures c.new-growing.result.limit c.args.limit c.new-growing.ensures.limit
     (c.in_err-starts.ensures.passed (passed_on c.from_residual-in_err-starts.result c.in_err-starts.field-0.0 _ c.from_residual-in_err-starts.ensures.1 is _ refl)
     c.following_all-walker.result (no_drafts c.following_all-walker.result c.in_ok-states.states c.new-growing.result.drafts.items c.new-growing.ensures.drafts))
 
@@ -29,8 +29,8 @@ follow-requires-clause-listed c = λ at rtype waits.
 
 pub returns-in_err-follow-clause-passed : goal.returns-in_err-follow-clause-passed
 returns-in_err-follow-clause-passed c = λ is.
-    more_there c.args.hosts.now c.args.rewrites (whole c.args.name.now) c.following_all-walker.result c.in_ok-query.query c.in_ok-states.states
-    c.following_all-walker.ensures c.in_ok-query.ensures c.in_ok-states.ensures c.begin.new.growing.limit c.args.limit
+    more_there c.args.hosts.now c.args.rewrites (whole c.args.name.now) c.following_all-walker.result (whole c.args.name.now) c.in_ok-states.states
+    c.following_all-walker.ensures refl c.in_ok-states.ensures c.begin.new.growing.limit c.args.limit
     (c.in_ok-starts.ensures.advances.limit ∙ c.new-growing.ensures.limit)
     (c.in_err-follow.ensures.passed (passed_on c.from_residual-in_err-follow.result c.in_err-follow.field-0.0 _ c.from_residual-in_err-follow.ensures.1 is _ refl)
     c.in_ok-states.states (c.in_ok-starts.ensures.drafts c.following_all-walker.result
@@ -49,8 +49,8 @@ returns-clause-graph c =
     let are = c.in_ok-follow.ensures.drafts c.in_ok-states.states (c.in_ok-starts.ensures.drafts c.following_all-walker.result
     (no_drafts c.following_all-walker.result c.in_ok-states.states c.new-growing.result.drafts.items c.new-growing.ensures.drafts)) in
     subst (IsGraphOf (following c.args.hosts.now c.args.rewrites (server_names c.args.hosts.now)) (whole c.args.name.now)) (sym c.in_ok-graph_of.ensures)
-    (graph_there c.args.hosts.now c.args.rewrites (whole c.args.name.now) c.following_all-walker.result c.in_ok-query.query c.in_ok-states.states
-    c.following_all-walker.ensures c.in_ok-query.ensures c.in_ok-states.ensures c.follow.new.growing.drafts.items c.in_ok-starts.starts are c.in_ok-follow.ensures.none
+    (graph_there c.args.hosts.now c.args.rewrites (whole c.args.name.now) c.following_all-walker.result (whole c.args.name.now) c.in_ok-states.states
+    c.following_all-walker.ensures refl c.in_ok-states.ensures c.follow.new.growing.drafts.items c.in_ok-starts.starts are c.in_ok-follow.ensures.none
     (still_await c.begin.new.growing.drafts.items c.follow.new.growing.drafts.items c.in_ok-starts.starts c.in_ok-states.states c.in_ok-follow.ensures.grows c.in_ok-starts.ensures.starts))
 
 pub returns-clause-exact : goal.returns-clause-exact
@@ -59,8 +59,8 @@ returns-clause-exact c =
     (no_drafts c.following_all-walker.result c.in_ok-states.states c.new-growing.result.drafts.items c.new-growing.ensures.drafts)) in
     subst (IsExact c.args.hosts.now c.args.rewrites (whole c.args.name.now)) (sym c.in_ok-graph_of.ensures)
     (built_exact c.args.hosts.now c.args.rewrites (whole c.args.name.now) c.follow.new.growing.drafts.items c.in_ok-starts.starts
-    (drafts_there c.args.hosts.now c.args.rewrites (whole c.args.name.now) c.following_all-walker.result c.in_ok-query.query c.in_ok-states.states
-    c.following_all-walker.ensures c.in_ok-query.ensures c.in_ok-states.ensures c.follow.new.growing.drafts.items are) c.in_ok-follow.ensures.sound.once)
+    (drafts_there c.args.hosts.now c.args.rewrites (whole c.args.name.now) c.following_all-walker.result (whole c.args.name.now) c.in_ok-states.states
+    c.following_all-walker.ensures refl c.in_ok-states.ensures c.follow.new.growing.drafts.items are) c.in_ok-follow.ensures.sound.once)
 
 pub returns-clause-pairs : goal.returns-clause-pairs
 returns-clause-pairs c =
