@@ -10,6 +10,7 @@ pub mod NodePairs
 pub mod Beginning
 pub mod Turns
 pub mod Numbering
+pub mod Paired
 pub mod Passing
 pub mod Standing
 pub mod Built

@@ -19,10 +19,9 @@ use Rattle.net_model.specs.declared.walk.State.{State}
 use Rattle.graph_form.proofs.Reached.{every_type}
 use Rattle.indexmap.specs.IndexSet.{insert_key}
 use Rattle.graph_form.proofs.Places.{item_there}
-use Rattle.interp_graph.specs.Drafts.{states_of, size_of}
+use Rattle.interp_graph.specs.Drafts.{states_of, size_of, Draft}
 use Rattle.interp_graph.specs.StateKey.{state_eq, state_decides}
-use Rattle.interp_graph.specs.Growing.{TakesTypes, TookTypes, TooMany}
-use Rattle.interp_graph.specs.declared.draft.Draft.{Draft}
+use Rattle.interp_graph.specs.Growing.{TakesTypes, TookTypes, TooMany, drafts_in}
 use Rattle.interp_graph.specs.declared.growing.GrowingGraph.{GrowingGraph}
 use Rattle.interp_graph.proofs.ItemsByNumber.{from_pushed, from_mapped}
 
@@ -97,7 +96,7 @@ bits test rr.Srv = refl
 bits test rr.Dname = refl
 bits test rr.Caa = refl
 
-module _ (growing : GrowingGraph) (at : ℕ) (set_of newly : List Bool) (old : Draft) (is : slice_get growing.drafts.items at ≡ Some old)
+module _ (growing : GrowingGraph) (at : ℕ) (set_of newly : List Bool) (old : Draft) (is : slice_get (drafts_in growing) at ≡ Some old)
     (minus : (rtype : RrType) → has_bit newly rtype ≡ (has_bit set_of rtype && not (has_bit old.wanted rtype))) where
   pub only_asked : (rtype : RrType) → has_bit newly rtype ≡ true → has_bit set_of rtype ≡ true
   only_asked rtype new = (and_parts (has_bit set_of rtype) (not (has_bit old.wanted rtype)) (sym (minus rtype) ∙ new)).0
@@ -110,7 +109,7 @@ module _ (growing : GrowingGraph) (at : ℕ) (set_of newly : List Bool) (old : D
   pub none_new : size_of newly ≡ 0 → TookTypes growing growing at set_of
   none_new none =
       record {
-        keys = refl;
+        paired = λ paired. paired;
         limit = refl;
         change = inl (record { draft = old; is_draft = is; came = λ rtype typed. came rtype typed (has_bit old.wanted rtype) refl; drafts = refl; stack = refl; pairs = refl });
       }

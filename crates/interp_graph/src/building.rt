@@ -11,16 +11,18 @@ ghost use Rattle.net_model.specs.declared.walk.State.{State};
 ghost use Rattle.graph_form.specs.Graph.{pairs_of};
 ghost use Rattle.graph_form.specs.GraphOf.{IsExact, IsGraphOf};
 ghost use Rattle.interp_graph.specs.Asked.{IsAsked, StandsForOthers, ReachesMost};
-ghost use Rattle.interp_graph.specs.Drafts.{AreDrafts, Grows, node_of};
-ghost use Rattle.interp_graph.specs.Growing.{IsSoundSoFar, AreToFollow, Waits, Advances, HasMoreComing, AwaitAll};
+ghost use Rattle.interp_graph.specs.Drafts.{AreDrafts, Grows, drafts_of, node_of};
+ghost use Rattle.interp_graph.specs.Growing.{IsSoundSoFar, AreToFollow, Waits, Advances, HasMoreComing, AwaitAll, drafts_in};
 
-use crate::draft::Draft;
 use crate::fault::GraphFault;
 use crate::following::put_forks;
 use crate::forks::forks;
 use crate::growing::GrowingGraph;
+use crate::key::Key;
+use crate::node_types::NodeTypes;
 use dns_data::{JoinFault, List, Name, NoMemory, TypeSet};
 use graph_form::{Graph, Node};
+use indexmap::IndexSet;
 use name_rules::SymName;
 use net_model::State;
 use std::alloc::Global;
@@ -90,9 +92,9 @@ pub(crate) fn begin(
     requires { IsSoundSoFar growing.old }
     ensures sound { OnOk result (IsSoundSoFar growing.new) }
     ensures advances { OnOk result (Advances growing.old growing.new) }
-    ensures starts { IfOk result (λ starts. AwaitAll growing.new.drafts.items starts states) }
-    ensures drafts { OnOk result ((setting : Setting) → AreDrafts setting states growing.old.drafts.items → AreDrafts setting states growing.new.drafts.items) }
-    ensures passed { IsErrOf result GraphFault.StatesPassed → (setting : Setting) → AreDrafts setting states growing.old.drafts.items → HasMoreComing setting states growing.old.limit }
+    ensures starts { IfOk result (λ starts. AwaitAll (drafts_in growing.new) starts states) }
+    ensures drafts { OnOk result ((setting : Setting) → AreDrafts setting states (drafts_in growing.old) → AreDrafts setting states (drafts_in growing.new)) }
+    ensures passed { IsErrOf result GraphFault.StatesPassed → (setting : Setting) → AreDrafts setting states (drafts_in growing.old) → HasMoreComing setting states growing.old.limit }
 {
     let all = TypeSet::all();
     let mut starts = List::new(alloc);
@@ -108,14 +110,13 @@ fn follow(alloc: Global, walker: &Walker<'_, '_>, growing: &mut GrowingGraph) ->
     requires listed { AreToFollow growing.old }
     ensures sound { OnOk result (IsSoundSoFar growing.new) }
     ensures limit { OnOk result (growing.new.limit ≡ growing.old.limit) }
-    ensures grows { OnOk result (Grows growing.old.drafts.items growing.new.drafts.items) }
-    ensures none { OnOk result ((at : ℕ) (rtype : RrType) → Waits growing.new.drafts.items at rtype → ⊥) }
-    ensures drafts { OnOk result ((begin : List State) → AreDrafts walker.now begin growing.old.drafts.items → AreDrafts walker.now begin growing.new.drafts.items) }
-    ensures passed { IsErrOf result GraphFault.StatesPassed → (begin : List State) → AreDrafts walker.now begin growing.old.drafts.items → HasMoreComing walker.now begin growing.old.limit }
+    ensures grows { OnOk result (Grows (drafts_in growing.old) (drafts_in growing.new)) }
+    ensures none { OnOk result ((at : ℕ) (rtype : RrType) → Waits (drafts_in growing.new) at rtype → ⊥) }
+    ensures drafts { OnOk result ((begin : List State) → AreDrafts walker.now begin (drafts_in growing.old) → AreDrafts walker.now begin (drafts_in growing.new)) }
+    ensures passed { IsErrOf result GraphFault.StatesPassed → (begin : List State) → AreDrafts walker.now begin (drafts_in growing.old) → HasMoreComing walker.now begin growing.old.limit }
 {
     while let Some(at) = growing.take() {
-        let draft = &growing.drafts[at];
-        let forks = forks(alloc, walker, &draft.state, draft.waiting)?;
+        let forks = forks(alloc, walker, growing.key(at).state(), growing.waiting(at))?;
         put_forks(alloc, growing, at, forks)?;
     }
     Ok(())
@@ -124,30 +125,38 @@ fn follow(alloc: Global, walker: &Walker<'_, '_>, growing: &mut GrowingGraph) ->
 /// The graph whose nodes are made.
 pub(crate) fn graph_of(alloc: Global, growing: GrowingGraph, starts: List<u32>) -> Result<Graph, NoMemory>
     requires sound { IsSoundSoFar growing }
-    requires drafts { (setting : Setting) × (begin : List State) × AreDrafts setting begin growing.drafts.items }
-    ensures { IfOk result (λ graph. graph ≡ record { nodes = map node_of growing.drafts.items; starts = starts }) }
+    requires drafts { (setting : Setting) × (begin : List State) × AreDrafts setting begin (drafts_in growing) }
+    ensures { IfOk result (λ graph. graph ≡ record { nodes = map node_of (drafts_in growing); starts = starts }) }
 {
     let GrowingGraph {
-        keys: _,
-        drafts,
+        states,
+        nodes,
         stack: _,
         pairs: _,
         limit: _,
     } = growing;
-    let nodes = nodes_of(alloc, List::from_vec(drafts))?;
+    let nodes = nodes_of(alloc, states, List::from_vec(nodes))?;
     Ok(Graph::new(nodes, starts))
 }
 
-/// The nodes that drafts become.
-fn nodes_of(alloc: Global, drafts: List<Draft>) -> Result<List<Node>, NoMemory>
-    ensures { IfOk result (λ nodes. nodes ≡ map node_of drafts) }
+/// The nodes of states, each with the arms of its types.
+fn nodes_of(
+    alloc: Global,
+    states: IndexSet<Key>,
+    types: List<NodeTypes>,
+) -> Result<List<Node>, NoMemory>
+    ensures { IfOk result (λ nodes. nodes ≡ map node_of (drafts_of states.keys types)) }
 {
     let mut nodes = List::new(alloc);
-    for draft in drafts {
-        nodes.push(Node {
-            state: draft.state,
-            arms: draft.arms,
-        })?;
+    let mut left = types.into_iter();
+    for key in states {
+        match left.next() {
+            Some(of_node) => nodes.push(Node {
+                state: key.into_state(),
+                arms: of_node.arms,
+            })?,
+            None => return Ok(nodes),
+        }
     }
     Ok(nodes)
 }

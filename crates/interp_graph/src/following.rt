@@ -1,6 +1,6 @@
 //! How the steps of a state are followed.
 
-ghost use Rattle.std.specs.Prelude.{◌≡◌, ◌<◌, ◌∷◌, [], List, true, false, map, vec_len, IfOk, OnOk, IsErrOf};
+ghost use Rattle.std.specs.Prelude.{◌≡◌, ◌<◌, ◌∷◌, [], List, true, false, map, length, IfOk, OnOk, IsErrOf};
 ghost use Rattle.std.specs.List.{AllZip};
 ghost use Rattle.dns_data.specs.TypeSet.{has_bit};
 ghost use Rattle.dns_data.specs.declared.rr_type.RrType.{RrType};
@@ -8,7 +8,7 @@ ghost use Rattle.net_model.specs.Step.{Setting};
 ghost use Rattle.net_model.specs.declared.walk.State.{State};
 ghost use Rattle.zone_lookup.specs.Steps.{branch_of};
 ghost use Rattle.interp_graph.specs.Drafts.{TellsBranch, AreDrafts};
-ghost use Rattle.interp_graph.specs.Growing.{IsSoundSoFar, Advances, StillWaits, Waits, ComeOn, HasMoreComing, IsForkAt, AreForksAt, SplitWaiting, IsRid};
+ghost use Rattle.interp_graph.specs.Growing.{IsSoundSoFar, Advances, StillWaits, Waits, ComeOn, HasMoreComing, IsForkAt, AreForksAt, SplitWaiting, IsRid, drafts_in};
 
 use crate::fault::GraphFault;
 use crate::growing::GrowingGraph;
@@ -27,15 +27,15 @@ pub(crate) fn put_forks(
     forks: List<Fork>,
 ) -> Result<(), GraphFault>
     requires sound { IsSoundSoFar growing.old }
-    requires there { at < vec_len growing.old.drafts }
-    requires split { SplitWaiting growing.old.drafts.items at forks }
+    requires there { at < length (drafts_in growing.old) }
+    requires split { SplitWaiting (drafts_in growing.old) at forks }
     ensures sound { OnOk result (IsSoundSoFar growing.new) }
     ensures advances { OnOk result (Advances growing.old growing.new) }
     ensures rid { OnOk result (IsRid growing.new at) }
-    ensures drafts { OnOk result ((setting : Setting) (begin : List State) → AreDrafts setting begin growing.old.drafts.items
-        → AreForksAt setting growing.old.drafts.items at forks → AreDrafts setting begin growing.new.drafts.items) }
+    ensures drafts { OnOk result ((setting : Setting) (begin : List State) → AreDrafts setting begin (drafts_in growing.old)
+        → AreForksAt setting (drafts_in growing.old) at forks → AreDrafts setting begin (drafts_in growing.new)) }
     ensures passed { IsErrOf result GraphFault.StatesPassed → (setting : Setting) (begin : List State)
-        → AreDrafts setting begin growing.old.drafts.items → AreForksAt setting growing.old.drafts.items at forks
+        → AreDrafts setting begin (drafts_in growing.old) → AreForksAt setting (drafts_in growing.old) at forks
         → HasMoreComing setting begin growing.old.limit }
 {
     for fork in forks {
@@ -47,16 +47,16 @@ pub(crate) fn put_forks(
 /// Gives a node the arm that one fork of its state tells.
 fn put_fork(alloc: Global, growing: &mut GrowingGraph, at: usize, fork: Fork) -> Result<(), GraphFault>
     requires sound { IsSoundSoFar growing.old }
-    requires there { at < vec_len growing.old.drafts }
-    requires waits { (rtype : RrType) → has_bit fork.types rtype ≡ true → Waits growing.old.drafts.items at rtype }
+    requires there { at < length (drafts_in growing.old) }
+    requires waits { (rtype : RrType) → has_bit fork.types rtype ≡ true → Waits (drafts_in growing.old) at rtype }
     ensures sound { OnOk result (IsSoundSoFar growing.new) }
     ensures advances { OnOk result (Advances growing.old growing.new) }
-    ensures done { OnOk result ((rtype : RrType) → has_bit fork.types rtype ≡ true → Waits growing.new.drafts.items at rtype → ⊥) }
-    ensures others { OnOk result ((rtype : RrType) → has_bit fork.types rtype ≡ false → Waits growing.old.drafts.items at rtype → Waits growing.new.drafts.items at rtype) }
-    ensures drafts { OnOk result ((setting : Setting) (begin : List State) → AreDrafts setting begin growing.old.drafts.items
-        → IsForkAt setting growing.old.drafts.items at fork → AreDrafts setting begin growing.new.drafts.items) }
+    ensures done { OnOk result ((rtype : RrType) → has_bit fork.types rtype ≡ true → Waits (drafts_in growing.new) at rtype → ⊥) }
+    ensures others { OnOk result ((rtype : RrType) → has_bit fork.types rtype ≡ false → Waits (drafts_in growing.old) at rtype → Waits (drafts_in growing.new) at rtype) }
+    ensures drafts { OnOk result ((setting : Setting) (begin : List State) → AreDrafts setting begin (drafts_in growing.old)
+        → IsForkAt setting (drafts_in growing.old) at fork → AreDrafts setting begin (drafts_in growing.new)) }
     ensures passed { IsErrOf result GraphFault.StatesPassed → (setting : Setting) (begin : List State)
-        → AreDrafts setting begin growing.old.drafts.items → IsForkAt setting growing.old.drafts.items at fork
+        → AreDrafts setting begin (drafts_in growing.old) → IsForkAt setting (drafts_in growing.old) at fork
         → HasMoreComing setting begin growing.old.limit }
 {
     let types = fork.types;
@@ -80,11 +80,11 @@ pub(crate) fn branches(
     ensures sound { OnOk result (IsSoundSoFar growing.new) }
     ensures advances { OnOk result (Advances growing.old growing.new) }
     ensures still { OnOk result (StillWaits growing.old growing.new) }
-    ensures told { IfOk result (λ branches. AllZip (TellsBranch growing.new.drafts.items types) branches (map branch_of steps)) }
-    ensures drafts { OnOk result ((setting : Setting) (begin : List State) → AreDrafts setting begin growing.old.drafts.items
-        → ComeOn setting begin types (map branch_of steps) → AreDrafts setting begin growing.new.drafts.items) }
+    ensures told { IfOk result (λ branches. AllZip (TellsBranch (drafts_in growing.new) types) branches (map branch_of steps)) }
+    ensures drafts { OnOk result ((setting : Setting) (begin : List State) → AreDrafts setting begin (drafts_in growing.old)
+        → ComeOn setting begin types (map branch_of steps) → AreDrafts setting begin (drafts_in growing.new)) }
     ensures passed { IsErrOf result GraphFault.StatesPassed → (setting : Setting) (begin : List State)
-        → AreDrafts setting begin growing.old.drafts.items → ComeOn setting begin types (map branch_of steps)
+        → AreDrafts setting begin (drafts_in growing.old) → ComeOn setting begin types (map branch_of steps)
         → HasMoreComing setting begin growing.old.limit }
 {
     let mut branches = List::new(alloc);
@@ -101,11 +101,11 @@ fn branch(alloc: Global, growing: &mut GrowingGraph, types: TypeSet, step: Step)
     ensures sound { OnOk result (IsSoundSoFar growing.new) }
     ensures advances { OnOk result (Advances growing.old growing.new) }
     ensures still { OnOk result (StillWaits growing.old growing.new) }
-    ensures told { IfOk result (λ branch. TellsBranch growing.new.drafts.items types branch (branch_of step)) }
-    ensures drafts { OnOk result ((setting : Setting) (begin : List State) → AreDrafts setting begin growing.old.drafts.items
-        → ComeOn setting begin types (branch_of step ∷ []) → AreDrafts setting begin growing.new.drafts.items) }
+    ensures told { IfOk result (λ branch. TellsBranch (drafts_in growing.new) types branch (branch_of step)) }
+    ensures drafts { OnOk result ((setting : Setting) (begin : List State) → AreDrafts setting begin (drafts_in growing.old)
+        → ComeOn setting begin types (branch_of step ∷ []) → AreDrafts setting begin (drafts_in growing.new)) }
     ensures passed { IsErrOf result GraphFault.StatesPassed → (setting : Setting) (begin : List State)
-        → AreDrafts setting begin growing.old.drafts.items → ComeOn setting begin types (branch_of step ∷ [])
+        → AreDrafts setting begin (drafts_in growing.old) → ComeOn setting begin types (branch_of step ∷ [])
         → HasMoreComing setting begin growing.old.limit }
 {
     match step {

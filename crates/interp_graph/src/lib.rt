@@ -11,13 +11,13 @@
 #![tactic(auto)]
 
 mod building;
-mod draft;
 mod fault;
 mod following;
 mod forks;
 mod growing;
 mod key;
 mod limited;
+mod node_types;
 mod restriction;
 mod step;
 

@@ -39,7 +39,7 @@ impl<'g, 'a> Limited<'g, 'a> {
     pub fn forks(
         &self,
         alloc: Global,
-        state: &State,
+        state: &Key,
         types: TypeSet,
     ) -> Result<List<Fork>, NoMemory>
         requires numbered { IsNumbered self.now.numbers.keys self.now.graph.now }
@@ -52,8 +52,7 @@ impl<'g, 'a> Limited<'g, 'a> {
     {
         // The number of nodes is read, so that it is known here that it is a u32.
         let _ = self.graph.nodes();
-        let key = Key::new(state.copy(alloc)?);
-        match self.numbers.get_index_of(&key) {
+        match self.numbers.get_index_of(state) {
             Some(at) => self.node_forks(alloc, self.graph.node(at as u32), types),
             None => Ok(List::new(alloc)),
         }

@@ -9,7 +9,7 @@ ghost use Rattle.graph_form.specs.GraphOf.{IsExactIn, IsGraphOf};
 ghost use Rattle.interp_graph.specs.Asked.{IsBuilt};
 ghost use Rattle.interp_graph.specs.Drafts.{AreDrafts, Grows};
 ghost use Rattle.interp_graph.specs.Restricted.{IsNumbered, IsRestriction};
-ghost use Rattle.interp_graph.specs.Growing.{IsSoundSoFar, AreToFollow, Waits, HasMoreComing, AwaitAll};
+ghost use Rattle.interp_graph.specs.Growing.{IsSoundSoFar, AreToFollow, Waits, HasMoreComing, AwaitAll, drafts_in};
 
 use crate::building::{begin, graph_of};
 use crate::fault::GraphFault;
@@ -71,14 +71,14 @@ fn follow_all(
     states: List<State>,
 ) -> Result<List<u32>, GraphFault>
     requires sound { IsSoundSoFar growing.old }
-    requires none { growing.old.drafts.items ≡ [] }
+    requires none { (drafts_in growing.old) ≡ [] }
     requires numbered { IsNumbered limited.now.numbers.keys limited.now.graph.now }
     requires built { (setting : Setting) × IsRestriction limited.now.hosts.now limited.now.graph.now limited.now.followed.now setting states }
     ensures sound { OnOk result (IsSoundSoFar growing.new) }
-    ensures starts { IfOk result (λ starts. AwaitAll growing.new.drafts.items starts states) }
-    ensures none { OnOk result ((at : ℕ) (rtype : RrType) → Waits growing.new.drafts.items at rtype → ⊥) }
+    ensures starts { IfOk result (λ starts. AwaitAll (drafts_in growing.new) starts states) }
+    ensures none { OnOk result ((at : ℕ) (rtype : RrType) → Waits (drafts_in growing.new) at rtype → ⊥) }
     ensures drafts { OnOk result ((setting : Setting)
-        → IsRestriction limited.now.hosts.now limited.now.graph.now limited.now.followed.now setting states → AreDrafts setting states growing.new.drafts.items) }
+        → IsRestriction limited.now.hosts.now limited.now.graph.now limited.now.followed.now setting states → AreDrafts setting states (drafts_in growing.new)) }
     ensures passed { IsErrOf result GraphFault.StatesPassed → (setting : Setting)
         → IsRestriction limited.now.hosts.now limited.now.graph.now limited.now.followed.now setting states → HasMoreComing setting states growing.old.limit }
 {
@@ -93,21 +93,20 @@ fn follow(alloc: Global, limited: &Limited<'_, '_>, growing: &mut GrowingGraph) 
     requires listed { AreToFollow growing.old }
     requires numbered { IsNumbered limited.now.numbers.keys limited.now.graph.now }
     requires built { (setting : Setting) × (begin : List State)
-        × IsRestriction limited.now.hosts.now limited.now.graph.now limited.now.followed.now setting begin × AreDrafts setting begin growing.old.drafts.items }
+        × IsRestriction limited.now.hosts.now limited.now.graph.now limited.now.followed.now setting begin × AreDrafts setting begin (drafts_in growing.old) }
     ensures sound { OnOk result (IsSoundSoFar growing.new) }
     ensures limit { OnOk result (growing.new.limit ≡ growing.old.limit) }
-    ensures grows { OnOk result (Grows growing.old.drafts.items growing.new.drafts.items) }
-    ensures none { OnOk result ((at : ℕ) (rtype : RrType) → Waits growing.new.drafts.items at rtype → ⊥) }
+    ensures grows { OnOk result (Grows (drafts_in growing.old) (drafts_in growing.new)) }
+    ensures none { OnOk result ((at : ℕ) (rtype : RrType) → Waits (drafts_in growing.new) at rtype → ⊥) }
     ensures drafts { OnOk result ((setting : Setting) (begin : List State)
         → IsRestriction limited.now.hosts.now limited.now.graph.now limited.now.followed.now setting begin
-        → AreDrafts setting begin growing.old.drafts.items → AreDrafts setting begin growing.new.drafts.items) }
+        → AreDrafts setting begin (drafts_in growing.old) → AreDrafts setting begin (drafts_in growing.new)) }
     ensures passed { IsErrOf result GraphFault.StatesPassed → (setting : Setting) (begin : List State)
         → IsRestriction limited.now.hosts.now limited.now.graph.now limited.now.followed.now setting begin
-        → AreDrafts setting begin growing.old.drafts.items → HasMoreComing setting begin growing.old.limit }
+        → AreDrafts setting begin (drafts_in growing.old) → HasMoreComing setting begin growing.old.limit }
 {
     while let Some(at) = growing.take() {
-        let draft = &growing.drafts[at];
-        let forks = limited.forks(alloc, &draft.state, draft.waiting)?;
+        let forks = limited.forks(alloc, growing.key(at), growing.waiting(at))?;
         put_forks(alloc, growing, at, forks)?;
     }
     Ok(())

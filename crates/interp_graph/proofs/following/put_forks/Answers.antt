@@ -2,18 +2,17 @@ use Rattle.std.proofs.Common.{◌<◌, length, refl, subst, sym, arith}
 use Rattle.interp_graph.proofs.ForkSteps.{ForksSoFar, forks_begin, now_below, forks_passed, forks_more, forks_end}
 use Rattle.interp_graph.proofs.Passing.{passed_on}
 use Rattle.interp_graph.proofs.following.put_forks.Goals as goal
+use Rattle.interp_graph.specs.Growing.{drafts_in}
 
 pub loop-fork-init : goal.loop-fork-init
 loop-fork-init c =
-    let below : c.args.at < length c.args.growing.now.drafts.items = omega (arith, c.requires.there, c.args.growing.now.drafts.ok.0) in
     subst (ForksSoFar c.args.growing.now c.args.growing.now c.args.at c.args.forks) (sym c.into_iter-fork-iterator.ensures.into_iter_gives.0)
-    (forks_begin c.args.growing.now c.args.at c.args.forks c.requires.sound below c.requires.split)
+    (forks_begin c.args.growing.now c.args.at c.args.forks c.requires.sound c.requires.there c.requires.split)
 
 pub put_fork-requires-clause-there : goal.put_fork-requires-clause-there
 put_fork-requires-clause-there c =
     let so = subst (ForksSoFar c.args.growing.now c.loop-fork.growing c.args.at c.args.forks) c.in-Some.ensures.steps c.loop-fork.invariant in
-    let below : c.args.at < length c.loop-fork.growing.drafts.items = now_below c.args.growing.now c.loop-fork.growing c.args.at c.args.forks c.next.new.self c.in-Some.fork so in
-    omega (arith, below, c.loop-fork.growing.drafts.ok.0)
+    now_below c.args.growing.now c.loop-fork.growing c.args.at c.args.forks c.next.new.self c.in-Some.fork so
 
 pub loop-fork-preserved : goal.loop-fork-preserved
 loop-fork-preserved c =

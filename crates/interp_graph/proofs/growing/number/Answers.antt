@@ -1,61 +1,75 @@
-use Rattle.std.proofs.Common.{◌≡◌, ◌≢◌, true, false, List, [], ◌∷◌, ◌++◌, Some, refl, sym, ap, ◌∙◌, subst, inl, inr}
-use Rattle.std.specs.Prelude.{AllPairs, slice_get}
+use Rattle.std.proofs.Common.{◌≡◌, ◌≢◌, true, false, List, [], ◌∷◌, ◌++◌, length, refl, sym, ap, ◌∙◌, subst, inl, inr, arith, length-append}
+use Rattle.std.specs.Prelude.{AllPairs}
 use Rattle.std.specs.List.{list_any}
-use Rattle.std.proofs.lemmas.List.{map-append}
 use Rattle.std.proofs.lemmas.Bool.{not-true, not-false}
 use Rattle.net_model.specs.declared.walk.State.{State}
-use Rattle.interp_graph.specs.Drafts.{states_of}
+use Rattle.interp_graph.specs.Drafts.{draft_of, drafts_of}
 use Rattle.interp_graph.specs.StateKey.{state_eq}
-use Rattle.interp_graph.specs.declared.draft.Draft.{Draft}
-use Rattle.interp_graph.proofs.Numbering.{distinct_states, stored_there, key_behind, number_behind, keys_stay, draft_there}
-use Rattle.interp_graph.proofs.Changes.{one_there}
+use Rattle.interp_graph.specs.declared.node_types.NodeTypes.{NodeTypes}
+use Rattle.interp_graph.proofs.Numbering.{distinct_states, key_behind, number_behind, keys_stay, draft_there}
+use Rattle.interp_graph.proofs.Paired.{draft_behind, states_stand}
 use Rattle.interp_graph.proofs.growing.number.Goals as goal
 
--- the state of a new draft
-new_state : (keys : List State) (at : _) (value index made : State) → slice_get keys at ≡ Some value → slice_get keys at ≡ Some index → made ≡ index → made ≡ value
-new_state keys at value index made one other same = same ∙ one_there keys at index value other one
-
-pub returns-in_ok-push-clause-keyed : goal.returns-in_ok-push-clause-keyed
-returns-in_ok-push-clause-keyed c =
-    let none : list_any (state_eq c.new.result) c.args.keys.now.keys ≡ false = not-true _ (sym c.in_ok-at.ensures.added ∙ c.if-is_new.true) in
-    let stored = stored_there c.args.keys.now.keys c.insert_full.new.self.keys c.args.drafts.now.items c.new.result c.in_ok-at.at c.requires.keyed c.in_ok-at.ensures.keys c.in_ok-at.ensures.stored in
-    let made : c.new_draft.result.state ≡ c.new.result =
-    new_state c.insert_full.new.self.keys c.in_ok-at.at c.new.result c.index.result.now c.new_draft.result.state stored c.index.ensures
-    (c.new_draft.ensures.state ∙ (c.in_ok-state.ensures ∙ c.state.ensures)) in
-    key_behind c.args.keys.now.keys c.insert_full.new.self.keys c.args.drafts.now.items c.new.result c.in_ok-at.at c.requires.keyed c.in_ok-at.ensures.keys c.in_ok-at.ensures.stored none
-    ∙ (ap (λ (ks : List State). ks ++ c.new.result ∷ []) c.requires.keyed
-    ∙ (ap (λ (s : State). states_of c.args.drafts.now.items ++ s ∷ []) (sym made)
-    ∙ (sym (map-append (λ (d : Draft). d.state) c.args.drafts.now.items (c.new_draft.result ∷ []))
-    ∙ ap states_of (sym c.in_ok-push.ensures.items))))
+pub returns-in_ok-push-clause-paired : goal.returns-in_ok-push-clause-paired
+returns-in_ok-push-clause-paired c =
+    let states = c.args.states.now.keys in
+    let all = c.args.nodes.now.items in
+    let none : list_any (state_eq c.new.result) states ≡ false = not-true _ (sym c.in_ok-at.ensures.added ∙ c.if-is_new.true) in
+    let behind = key_behind states c.insert_full.new.self.keys (drafts_of states all) c.new.result c.in_ok-at.at (states_stand states all c.requires.paired)
+    c.in_ok-at.ensures.keys c.in_ok-at.ensures.stored none in
+    omega (
+      arith,
+      c.requires.paired,
+      ap (λ (ss : List State). length ss) behind,
+      length-append states (c.new.result ∷ []),
+      ap (λ (ts : List NodeTypes). length ts) c.in_ok-push.ensures.items,
+      length-append all (c.no_types.result ∷ []),
+    )
 
 pub returns-in_ok-push-clause-once : goal.returns-in_ok-push-clause-once
 returns-in_ok-push-clause-once c =
-    subst (AllPairs (λ (a b : State). a ≢ b)) (returns-in_ok-push-clause-keyed c) (distinct_states c.insert_full.new.self.keys c.in_ok-at.ensures.unique)
+    subst (AllPairs (λ (a b : State). a ≢ b))
+    (states_stand c.insert_full.new.self.keys c.push.new.self.items (returns-in_ok-push-clause-paired c))
+    (distinct_states c.insert_full.new.self.keys c.in_ok-at.ensures.unique)
 
 pub returns-in_ok-push-clause-numbered : goal.returns-in_ok-push-clause-numbered
 returns-in_ok-push-clause-numbered c =
-    let none : list_any (state_eq c.new.result) c.args.keys.now.keys ≡ false = not-true _ (sym c.in_ok-at.ensures.added ∙ c.if-is_new.true) in
-    let stored = stored_there c.args.keys.now.keys c.insert_full.new.self.keys c.args.drafts.now.items c.new.result c.in_ok-at.at c.requires.keyed c.in_ok-at.ensures.keys c.in_ok-at.ensures.stored in
-    let made : c.new_draft.result.state ≡ c.new.result =
-    new_state c.insert_full.new.self.keys c.in_ok-at.at c.new.result c.index.result.now c.new_draft.result.state stored c.index.ensures
-    (c.new_draft.ensures.state ∙ (c.in_ok-state.ensures ∙ c.state.ensures)) in
+    let states = c.args.states.now.keys in
+    let all = c.args.nodes.now.items in
+    let keyed = states_stand states all c.requires.paired in
+    let none : list_any (state_eq c.new.result) states ≡ false = not-true _ (sym c.in_ok-at.ensures.added ∙ c.if-is_new.true) in
+    let behind = key_behind states c.insert_full.new.self.keys (drafts_of states all) c.new.result c.in_ok-at.at keyed c.in_ok-at.ensures.keys c.in_ok-at.ensures.stored none in
     inr (
-      c.new_draft.result,
-      c.in_ok-push.ensures.items,
-      number_behind c.args.keys.now.keys c.insert_full.new.self.keys c.args.drafts.now.items c.new.result c.in_ok-at.at c.requires.keyed c.in_ok-at.ensures.keys c.in_ok-at.ensures.stored none,
-      c.new_draft.ensures.fresh,
-      made ∙ c.new.ensures,
+      draft_of c.new.result c.no_types.result,
+      ap (λ (ss : List State). drafts_of ss c.push.new.self.items) behind
+          ∙ (ap (λ (ts : List NodeTypes). drafts_of (states ++ c.new.result ∷ []) ts) c.in_ok-push.ensures.items
+          ∙ draft_behind states all c.requires.paired c.new.result c.no_types.result),
+      number_behind states c.insert_full.new.self.keys (drafts_of states all) c.new.result c.in_ok-at.at keyed c.in_ok-at.ensures.keys c.in_ok-at.ensures.stored none,
+      c.no_types.ensures c.new.result,
+      c.new.ensures,
     )
+
+pub returns-else-is_new-clause-paired : goal.returns-else-is_new-clause-paired
+returns-else-is_new-clause-paired c =
+    let states = c.args.states.now.keys in
+    let all = c.args.nodes.now.items in
+    let there : list_any (state_eq c.new.result) states ≡ true = not-false _ (sym c.in_ok-at.ensures.added ∙ c.if-is_new.false) in
+    ap (λ (ss : List State). length ss)
+    (keys_stay states c.insert_full.new.self.keys (drafts_of states all) c.new.result c.in_ok-at.at (states_stand states all c.requires.paired)
+    c.in_ok-at.ensures.keys c.in_ok-at.ensures.stored there) ∙ c.requires.paired
 
 pub returns-else-is_new-clause-once : goal.returns-else-is_new-clause-once
 returns-else-is_new-clause-once c =
-    let there : list_any (state_eq c.new.result) c.args.keys.now.keys ≡ true = not-false _ (sym c.in_ok-at.ensures.added ∙ c.if-is_new.false) in
     subst (AllPairs (λ (a b : State). a ≢ b))
-    (keys_stay c.args.keys.now.keys c.insert_full.new.self.keys c.args.drafts.now.items c.new.result c.in_ok-at.at c.requires.keyed c.in_ok-at.ensures.keys c.in_ok-at.ensures.stored there ∙ c.requires.keyed)
+    (states_stand c.insert_full.new.self.keys c.args.nodes.now.items (returns-else-is_new-clause-paired c))
     (distinct_states c.insert_full.new.self.keys c.in_ok-at.ensures.unique)
 
 pub returns-else-is_new-clause-numbered : goal.returns-else-is_new-clause-numbered
 returns-else-is_new-clause-numbered c =
-    let there : list_any (state_eq c.new.result) c.args.keys.now.keys ≡ true = not-false _ (sym c.in_ok-at.ensures.added ∙ c.if-is_new.false) in
-    let draft = draft_there c.args.keys.now.keys c.insert_full.new.self.keys c.args.drafts.now.items c.new.result c.in_ok-at.at c.requires.keyed c.in_ok-at.ensures.keys c.in_ok-at.ensures.stored there in
-    inl (draft.0, refl, draft.1, draft.2 ∙ c.new.ensures)
+    let states = c.args.states.now.keys in
+    let all = c.args.nodes.now.items in
+    let keyed = states_stand states all c.requires.paired in
+    let there : list_any (state_eq c.new.result) states ≡ true = not-false _ (sym c.in_ok-at.ensures.added ∙ c.if-is_new.false) in
+    let stay = keys_stay states c.insert_full.new.self.keys (drafts_of states all) c.new.result c.in_ok-at.at keyed c.in_ok-at.ensures.keys c.in_ok-at.ensures.stored there in
+    let draft = draft_there states c.insert_full.new.self.keys (drafts_of states all) c.new.result c.in_ok-at.at keyed c.in_ok-at.ensures.keys c.in_ok-at.ensures.stored there in
+    inl (draft.0, ap (λ (ss : List State). drafts_of ss all) stay, draft.1, draft.2 ∙ c.new.ensures)

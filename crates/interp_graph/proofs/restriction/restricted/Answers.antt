@@ -6,6 +6,7 @@ use Rattle.graph_form.specs.Graph.{PlainGraph}
 use Rattle.graph_form.specs.GraphOf.{IsExactIn, IsGraphOf}
 use Rattle.interp_graph.specs.Asked.{IsBuilt}
 use Rattle.interp_graph.specs.Drafts.{node_of}
+use Rattle.interp_graph.specs.Growing.{drafts_in}
 use Rattle.interp_graph.proofs.RestrictedGraph.{restriction, restriction_begins, restricted_graph, restricted_exact, no_more_come}
 use Rattle.interp_graph.proofs.restriction.restricted.Goals as goal
 
@@ -27,25 +28,25 @@ graph_of-requires-clause-drafts c = (
 
 pub returns-in-Ok-clause-graph : goal.returns-in-Ok-clause-graph
 returns-in-Ok-clause-graph c =
-    IfOk-weaker c.graph_of.result (λ graph. graph ≡ record { nodes = map node_of c.follow_all.new.growing.drafts.items; starts = c.in-Ok.starts })
+    IfOk-weaker c.graph_of.result (λ graph. graph ≡ record { nodes = map node_of (drafts_in c.follow_all.new.growing); starts = c.in-Ok.starts })
     (λ restricted. (rewrites : ℕ) (query : Labels) → IsBuilt c.args.limited.now.hosts.now rewrites query c.args.limited.now.graph.now
     → IsGraphOf (following c.args.limited.now.hosts.now rewrites c.args.limited.now.followed.now) query restricted)
     (λ (graph : PlainGraph) same rewrites query built.
     let is = restriction c.args.limited.now.hosts.now c.args.limited.now.hosts.now rewrites query c.args.limited.now.graph.now c.args.limited.now.followed.now c.in_ok-states.states refl built c.in_ok-states.ensures in
     subst (IsGraphOf (following c.args.limited.now.hosts.now rewrites c.args.limited.now.followed.now) query) (sym same)
-    (restricted_graph (following c.args.limited.now.hosts.now rewrites c.args.limited.now.followed.now) query c.in_ok-states.states c.follow_all.new.growing.drafts.items c.in-Ok.starts
+    (restricted_graph (following c.args.limited.now.hosts.now rewrites c.args.limited.now.followed.now) query c.in_ok-states.states (drafts_in c.follow_all.new.growing) c.in-Ok.starts
     (restriction_begins c.args.limited.now.hosts.now rewrites query c.args.limited.now.graph.now c.in_ok-states.states built c.in_ok-states.ensures)
     (c.in-Ok.ensures.drafts (following c.args.limited.now.hosts.now rewrites c.args.limited.now.followed.now) is) c.in-Ok.ensures.none c.in-Ok.ensures.starts)) c.graph_of.ensures
 
 pub returns-in-Ok-clause-exact : goal.returns-in-Ok-clause-exact
 returns-in-Ok-clause-exact c =
-    IfOk-weaker c.graph_of.result (λ graph. graph ≡ record { nodes = map node_of c.follow_all.new.growing.drafts.items; starts = c.in-Ok.starts })
+    IfOk-weaker c.graph_of.result (λ graph. graph ≡ record { nodes = map node_of (drafts_in c.follow_all.new.growing); starts = c.in-Ok.starts })
     (λ restricted. (rewrites : ℕ) (query : Labels) → IsBuilt c.args.limited.now.hosts.now rewrites query c.args.limited.now.graph.now
     → IsExactIn (following c.args.limited.now.hosts.now rewrites c.args.limited.now.followed.now) query restricted)
     (λ (graph : PlainGraph) same rewrites query built.
     let is = restriction c.args.limited.now.hosts.now c.args.limited.now.hosts.now rewrites query c.args.limited.now.graph.now c.args.limited.now.followed.now c.in_ok-states.states refl built c.in_ok-states.ensures in
     subst (IsExactIn (following c.args.limited.now.hosts.now rewrites c.args.limited.now.followed.now) query) (sym same)
-    (restricted_exact (following c.args.limited.now.hosts.now rewrites c.args.limited.now.followed.now) query c.in_ok-states.states c.follow_all.new.growing.drafts.items c.in-Ok.starts
+    (restricted_exact (following c.args.limited.now.hosts.now rewrites c.args.limited.now.followed.now) query c.in_ok-states.states (drafts_in c.follow_all.new.growing) c.in-Ok.starts
     (restriction_begins c.args.limited.now.hosts.now rewrites query c.args.limited.now.graph.now c.in_ok-states.states built c.in_ok-states.ensures)
     (c.in-Ok.ensures.drafts (following c.args.limited.now.hosts.now rewrites c.args.limited.now.followed.now) is) c.in-Ok.ensures.sound.once)) c.graph_of.ensures
 
