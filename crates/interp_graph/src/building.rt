@@ -55,11 +55,7 @@ pub fn build(
 }
 
 /// The states in which the walks of the known name with its tail begin.
-fn first_states(
-    alloc: Global,
-    hosts: &Hosts<'_>,
-    name: &SymName,
-) -> Result<List<State>, NoMemory>
+fn first_states(alloc: Global, hosts: &Hosts<'_>, name: &SymName) -> Result<List<State>, NoMemory>
     requires { IfSome name.now.tail (λ label. wire_octets (name.now.known ++ label ∷ []) ≤ 255) }
     ensures { IfOk result (λ states. states ≡ start hosts.now (whole name.now)) }
 {
@@ -105,7 +101,11 @@ pub(crate) fn begin(
 }
 
 /// Follows each type that waits at a node, while every configured server is followed.
-fn follow(alloc: Global, walker: &Walker<'_, '_>, growing: &mut GrowingGraph) -> Result<(), GraphFault>
+fn follow(
+    alloc: Global,
+    walker: &Walker<'_, '_>,
+    growing: &mut GrowingGraph,
+) -> Result<(), GraphFault>
     requires sound { IsSoundSoFar growing.old }
     requires listed { AreToFollow growing.old }
     ensures sound { OnOk result (IsSoundSoFar growing.new) }
@@ -123,7 +123,11 @@ fn follow(alloc: Global, walker: &Walker<'_, '_>, growing: &mut GrowingGraph) ->
 }
 
 /// The graph whose nodes are made.
-pub(crate) fn graph_of(alloc: Global, growing: GrowingGraph, starts: List<u32>) -> Result<Graph, NoMemory>
+pub(crate) fn graph_of(
+    alloc: Global,
+    growing: GrowingGraph,
+    starts: List<u32>,
+) -> Result<Graph, NoMemory>
     requires sound { IsSoundSoFar growing }
     requires drafts { (setting : Setting) × (begin : List State) × AreDrafts setting begin (drafts_in growing) }
     ensures { IfOk result (λ graph. graph ≡ record { nodes = map node_of (drafts_in growing); starts = starts }) }

@@ -45,7 +45,12 @@ pub(crate) fn put_forks(
 }
 
 /// Gives a node the arm that one fork of its state tells.
-fn put_fork(alloc: Global, growing: &mut GrowingGraph, at: usize, fork: Fork) -> Result<(), GraphFault>
+fn put_fork(
+    alloc: Global,
+    growing: &mut GrowingGraph,
+    at: usize,
+    fork: Fork,
+) -> Result<(), GraphFault>
     requires sound { IsSoundSoFar growing.old }
     requires there { at < length (drafts_in growing.old) }
     requires waits { (rtype : RrType) → has_bit fork.types rtype ≡ true → Waits (drafts_in growing.old) at rtype }
@@ -95,7 +100,12 @@ pub(crate) fn branches(
 }
 
 /// The branch for some types by one step of a state.
-fn branch(alloc: Global, growing: &mut GrowingGraph, types: TypeSet, step: Step) -> Result<Branch, GraphFault>
+fn branch(
+    alloc: Global,
+    growing: &mut GrowingGraph,
+    types: TypeSet,
+    step: Step,
+) -> Result<Branch, GraphFault>
     requires sound { IsSoundSoFar growing.old }
     requires some { (rtype : RrType) × (has_bit types rtype ≡ true) }
     ensures sound { OnOk result (IsSoundSoFar growing.new) }

@@ -36,12 +36,7 @@ pub(crate) struct Limited<'g, 'a> {
 
 impl<'g, 'a> Limited<'g, 'a> {
     /// What a state of the graph leads to for these types, each of which its node has.
-    pub fn forks(
-        &self,
-        alloc: Global,
-        state: &Key,
-        types: TypeSet,
-    ) -> Result<List<Fork>, NoMemory>
+    pub fn forks(&self, alloc: Global, state: &Key, types: TypeSet) -> Result<List<Fork>, NoMemory>
         requires numbered { IsNumbered self.now.numbers.keys self.now.graph.now }
         requires built { (setting : Setting) × (begin : List State) × IsRestriction self.now.hosts.now self.now.graph.now self.now.followed.now setting begin }
         requires has { HasTypes self.now.graph.now types state.now }

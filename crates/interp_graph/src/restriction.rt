@@ -88,7 +88,11 @@ fn follow_all(
 }
 
 /// Follows each type that waits at a node, while some servers are followed.
-fn follow(alloc: Global, limited: &Limited<'_, '_>, growing: &mut GrowingGraph) -> Result<(), GraphFault>
+fn follow(
+    alloc: Global,
+    limited: &Limited<'_, '_>,
+    growing: &mut GrowingGraph,
+) -> Result<(), GraphFault>
     requires sound { IsSoundSoFar growing.old }
     requires listed { AreToFollow growing.old }
     requires numbered { IsNumbered limited.now.numbers.keys limited.now.graph.now }

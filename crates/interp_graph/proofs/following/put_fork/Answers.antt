@@ -1,4 +1,4 @@
-use Rattle.std.proofs.Common.{refl, length, arith, ◌<◌}
+use Rattle.std.proofs.Common.{refl}
 use Rattle.interp_graph.proofs.Arming.{advances_twice, put_sound, put_done, put_others, put_advances, put_drafts, fork_comes, fork_made}
 use Rattle.interp_graph.proofs.ForkSteps.{still_below}
 use Rattle.interp_graph.proofs.Passing.{passed_on}

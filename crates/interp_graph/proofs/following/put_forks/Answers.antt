@@ -1,8 +1,7 @@
-use Rattle.std.proofs.Common.{◌<◌, length, refl, subst, sym, arith}
+use Rattle.std.proofs.Common.{refl, subst, sym}
 use Rattle.interp_graph.proofs.ForkSteps.{ForksSoFar, forks_begin, now_below, forks_passed, forks_more, forks_end}
 use Rattle.interp_graph.proofs.Passing.{passed_on}
 use Rattle.interp_graph.proofs.following.put_forks.Goals as goal
-use Rattle.interp_graph.specs.Growing.{drafts_in}
 
 pub loop-fork-init : goal.loop-fork-init
 loop-fork-init c =

@@ -1,4 +1,4 @@
-use Rattle.std.proofs.Common.{◌≡◌, refl, sym, ◌∙◌}
+use Rattle.std.proofs.Common.{refl, sym, ◌∙◌, arith}
 use Rattle.std.proofs.lemmas.List.{length-set}
 use Rattle.interp_graph.specs.Drafts.{draft_of}
 use Rattle.interp_graph.specs.declared.node_types.NodeTypes.{NodeTypes}
@@ -6,6 +6,11 @@ use Rattle.interp_graph.proofs.ItemsByNumber.{item_below}
 use Rattle.interp_graph.proofs.Numbering.{item_is}
 use Rattle.interp_graph.proofs.Paired.{both_below, draft_at, draft_changed}
 use Rattle.interp_graph.proofs.growing.GrowingGraph.put_arm.Goals as goal
+
+pub index_mut-node-requires : goal.index_mut-node-requires
+index_mut-node-requires c =
+    let below = both_below c.args.self.now.states.keys c.args.self.now.nodes.items c.args.at c.requires in
+    omega (arith, below.1, c.args.self.now.nodes.ok.0)
 
 pub returns : goal.returns
 returns c =

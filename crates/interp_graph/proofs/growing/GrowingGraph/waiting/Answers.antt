@@ -1,10 +1,15 @@
-use Rattle.std.proofs.Common.{◌≡◌, ap, ◌∙◌}
+use Rattle.std.proofs.Common.{ap, ◌∙◌, arith}
 use Rattle.interp_graph.specs.Drafts.{Draft}
 use Rattle.interp_graph.specs.declared.node_types.NodeTypes.{NodeTypes}
 use Rattle.interp_graph.proofs.Changes.{one_there}
 use Rattle.interp_graph.proofs.Numbering.{item_is}
 use Rattle.interp_graph.proofs.Paired.{both_below, parts_there}
 use Rattle.interp_graph.proofs.growing.GrowingGraph.waiting.Goals as goal
+
+pub index-requires : goal.index-requires
+index-requires c =
+    let below = both_below c.args.self.now.states.keys c.args.self.now.nodes.items c.args.at c.requires in
+    omega (arith, below.1, c.args.self.now.nodes.ok.0)
 
 pub returns : goal.returns
 returns c = λ draft there.

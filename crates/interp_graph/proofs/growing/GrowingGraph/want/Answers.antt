@@ -1,16 +1,25 @@
-use Rattle.std.proofs.Common.{◌≡◌, ◌+◌, ◌<◌, Some, not, refl, sym, ap, ◌∙◌, subst, inr, arith, length}
-use Rattle.std.specs.Prelude.{◌&&◌, slice_get}
+use Rattle.std.proofs.Common.{◌≡◌, ◌+◌, not, refl, sym, ap, ◌∙◌, subst, inr, arith}
+use Rattle.std.specs.Prelude.{◌&&◌}
 use Rattle.dns_data.specs.TypeSet.{has_bit}
 use Rattle.dns_data.specs.declared.rr_type.RrType.{RrType}
 use Rattle.std.proofs.lemmas.List.{length-set}
 use Rattle.interp_graph.specs.Drafts.{draft_of}
-use Rattle.interp_graph.specs.Growing.{drafts_in}
 use Rattle.interp_graph.specs.declared.node_types.NodeTypes.{NodeTypes}
 use Rattle.interp_graph.proofs.ItemsByNumber.{item_below}
 use Rattle.interp_graph.proofs.Numbering.{item_is, only_asked, none_new, takes_new, all_wanted, too_many}
 use Rattle.interp_graph.proofs.Changes.{one_there}
 use Rattle.interp_graph.proofs.Paired.{both_below, draft_at, draft_changed}
 use Rattle.interp_graph.proofs.growing.GrowingGraph.want.Goals as goal
+
+pub index-requires : goal.index-requires
+index-requires c =
+    let below = both_below c.args.self.now.states.keys c.args.self.now.nodes.items c.args.at c.requires.there in
+    omega (arith, below.1, c.args.self.now.nodes.ok.0)
+
+pub index_mut-node-requires : goal.index_mut-node-requires
+index_mut-node-requires c =
+    let below = both_below c.args.self.now.states.keys c.args.self.now.nodes.items c.args.at c.requires.there in
+    omega (arith, below.1, c.args.self.now.nodes.ok.0)
 
 pub returns-then-more-eq0-clause-took : goal.returns-then-more-eq0-clause-took
 returns-then-more-eq0-clause-took c =

@@ -40,8 +40,8 @@ returns-in-Some-clause-tell c =
     (forks_tell c.args.self.now.hosts.now c.args.self.now.graph.now c.args.self.now.followed.now setting begin restriction
     c.in-Some.at c.node.result.now c.args.types forks c.node.ensures cut fork has)) c.node_forks.ensures
 
-pub returns-clause-split : goal.returns-clause-split
-returns-clause-split c =
+pub returns-in-None-clause-split : goal.returns-in-None-clause-split
+returns-in-None-clause-split c =
     subst (AreSplit c.args.types) (sym c.new.ensures)
     (none_split c.args.self.now.graph.now c.args.self.now.numbers.keys c.requires.numbered c.args.types c.args.state.now c.requires.has
     (sym c.in-None.ensures.found))
