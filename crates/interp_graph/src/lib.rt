@@ -11,15 +11,15 @@
 #![tactic(auto)]
 
 mod building;
-mod draft;
 mod fault;
 mod following;
 mod forks;
+mod growing;
 mod key;
 mod limited;
+mod node_types;
 mod restriction;
 mod step;
-mod work;
 
 pub use building::build;
 pub use fault::GraphFault;

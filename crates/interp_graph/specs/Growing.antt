@@ -1,4 +1,4 @@
--- How the list of what is to be followed changes. The contracts of inner calls alone cite it.
+-- How a graph in the making changes. The contracts of inner calls alone cite it.
 use Rattle.std.specs.Prelude.{◌≡◌, ◌≢◌, ◌⊎◌, ℕ, ◌+◌, ◌^◌, ◌<◌, ◌≤◌, Bool, true, false, not, ◌&&◌, ◌||◌, List, [], ◌∷◌, ◌++◌, length, Some, slice_get, set, Contains, AllPairs}
 use Rattle.std.specs.List.{AllZip}
 use Rattle.dns_data.specs.TypeSet.{has_bit}
@@ -9,11 +9,18 @@ use Rattle.net_model.specs.Tree.{HasMoreThan}
 use Rattle.net_model.specs.declared.walk.Hop.{Hop}
 use Rattle.net_model.specs.declared.walk.State.{State}
 use Rattle.graph_form.specs.declared.node.Arm.{Arm}
-use Rattle.interp_graph.specs.Drafts.{Awaits, Comes, Grows, states_of, size_of, pair_count}
-use Rattle.interp_graph.specs.declared.draft.Draft.{Draft}
+use Rattle.interp_graph.specs.Drafts.{Awaits, Comes, Grows, states_of, size_of, pair_count, Draft, drafts_of}
 use Rattle.interp_graph.specs.declared.step.Fork.{Fork}
-use Rattle.interp_graph.specs.declared.work.Work.{Work}
+use Rattle.interp_graph.specs.declared.growing.GrowingGraph.{GrowingGraph}
 use Rattle.interp_graph.specs.Steps.{IsFork, AreSplit}
+
+-- the drafts of a graph in the making
+abbrev pub drafts_in : GrowingGraph → List Draft
+drafts_in growing = drafts_of growing.states.keys growing.nodes.items
+
+-- each node has a state and types
+abbrev pub IsPaired : GrowingGraph → Type 0
+IsPaired growing = length growing.states.keys ≡ length growing.nodes.items
 
 -- no type comes to the draft yet
 pub record HasNoType (draft : Draft) : Type 0 where
@@ -36,21 +43,21 @@ pub record HasArm (before after : Draft) (arm : Arm) : Type 0 where
   pub arms : after.arms ≡ before.arms ++ arm ∷ []
   pub waiting : (rtype : RrType) → has_bit after.waiting rtype ≡ (has_bit before.waiting rtype && not (has_bit arm.types rtype))
 
--- ---- the list
+-- ---- the graph in the making
 
 -- the pairs are counted, and are no more than are allowed
-pub record IsWithin (work : Work) : Type 0 where
-  pub counted : pair_count work.drafts.items ≡ work.pairs
-  pub few : work.pairs ≤ work.limit
-  pub fits : work.limit < 2 ^ 32
+pub record IsWithin (growing : GrowingGraph) : Type 0 where
+  pub counted : pair_count (drafts_in growing) ≡ growing.pairs
+  pub few : growing.pairs ≤ growing.limit
+  pub fits : growing.limit < 2 ^ 32
 
--- the drafts are numbered by their states, there are no more of them than pairs, and what is to be followed is among them
-pub record IsSoundWork (work : Work) : Type 0 where
-  pub keyed : work.keys.keys ≡ states_of work.drafts.items
-  pub once : AllPairs (λ a b. a ≢ b) (states_of work.drafts.items)
-  pub within : IsWithin work
-  pub some_each : length work.drafts.items ≤ work.pairs
-  pub among : (at : ℕ) → Contains work.stack.items at → at < length work.drafts.items
+-- each draft has another state, there are no more of them than pairs, and what is to be followed is among them
+pub record IsSoundSoFar (growing : GrowingGraph) : Type 0 where
+  pub paired : IsPaired growing
+  pub once : AllPairs (λ a b. a ≢ b) (states_of (drafts_in growing))
+  pub within : IsWithin growing
+  pub some_each : length (drafts_in growing) ≤ growing.pairs
+  pub among : (at : ℕ) → Contains growing.stack.items at → at < length (drafts_in growing)
 
 -- a type waits at the draft with this number
 pub record Waits (drafts : List Draft) (at : ℕ) (rtype : RrType) : Type 0 where
@@ -59,21 +66,21 @@ pub record Waits (drafts : List Draft) (at : ℕ) (rtype : RrType) : Type 0 wher
   pub waits : has_bit draft.waiting rtype ≡ true
 
 -- each draft at which a type waits is to be followed
-abbrev pub AreToFollow : Work → Type 0
-AreToFollow work = (at : ℕ) (rtype : RrType) → Waits work.drafts.items at rtype → Contains work.stack.items at
+abbrev pub AreToFollow : GrowingGraph → Type 0
+AreToFollow growing = (at : ℕ) (rtype : RrType) → Waits (drafts_in growing) at rtype → Contains growing.stack.items at
 
 -- what waits still does
-abbrev pub StillWaits : Work → Work → Type 0
-StillWaits before after = (at : ℕ) (rtype : RrType) → Waits before.drafts.items at rtype → Waits after.drafts.items at rtype
+abbrev pub StillWaits : GrowingGraph → GrowingGraph → Type 0
+StillWaits before after = (at : ℕ) (rtype : RrType) → Waits (drafts_in before) at rtype → Waits (drafts_in after) at rtype
 
 -- Drafts only grow, what is to be followed stays so, and so does what newly waits. For each draft that is listed there is
 -- at least one pair more.
-pub record Advances (before after : Work) : Type 0 where
-  pub grows : Grows before.drafts.items after.drafts.items
+pub record Advances (before after : GrowingGraph) : Type 0 where
+  pub grows : Grows (drafts_in before) (drafts_in after)
   pub limit : after.limit ≡ before.limit
   pub stays : (at : ℕ) → Contains before.stack.items at → Contains after.stack.items at
-  pub listed : (at : ℕ) (rtype : RrType) → Waits after.drafts.items at rtype
-      → Waits before.drafts.items at rtype ⊎ Contains after.stack.items at
+  pub listed : (at : ℕ) (rtype : RrType) → Waits (drafts_in after) at rtype
+      → Waits (drafts_in before) at rtype ⊎ Contains after.stack.items at
   pub paid : length after.stack.items + before.pairs ≤ length before.stack.items + after.pairs
 
 -- the state comes from where the query begins, with each of these types
@@ -100,8 +107,8 @@ abbrev pub SplitWaiting : List Draft → ℕ → List Fork → Type 0
 SplitWaiting drafts at forks = (draft : Draft) → slice_get drafts at ≡ Some draft → AreSplit draft.waiting forks
 
 -- where a type waits at the draft with this number, it is to be followed
-abbrev pub IsRid : Work → ℕ → Type 0
-IsRid work at = (rtype : RrType) → Waits work.drafts.items at rtype → Contains work.stack.items at
+abbrev pub IsRid : GrowingGraph → ℕ → Type 0
+IsRid growing at = (rtype : RrType) → Waits (drafts_in growing) at rtype → Contains growing.stack.items at
 
 -- all types come to the drafts of the states
 pub record AwaitAll (drafts : List Draft) (starts : List ℕ) (states : List State) : Type 0 where
@@ -118,52 +125,52 @@ Numbered before after state at =
     ⊎ ((draft : Draft) × (after ≡ before ++ draft ∷ []) × (at ≡ length before) × HasNoType draft × (draft.state ≡ state))
 
 -- types come to the draft with this number, and there is one pair more for each that is new
-pub record Changes (before after : Work) (at : ℕ) (types : List Bool) : Type 0 where
+pub record Changes (before after : GrowingGraph) (at : ℕ) (types : List Bool) : Type 0 where
   pub old : Draft
   pub new : Draft
   pub newly : List Bool
-  pub is_old : slice_get before.drafts.items at ≡ Some old
+  pub is_old : slice_get (drafts_in before) at ≡ Some old
   pub takes : TakesTypes old new newly
   pub all_come : (rtype : RrType) → has_bit types rtype ≡ true → has_bit new.wanted rtype ≡ true
   pub only : (rtype : RrType) → has_bit newly rtype ≡ true → has_bit types rtype ≡ true
-  pub drafts : after.drafts.items ≡ set before.drafts.items at new
+  pub drafts : drafts_in after ≡ set (drafts_in before) at new
   pub stack : after.stack.items ≡ before.stack.items ++ at ∷ []
   pub pairs : after.pairs ≡ before.pairs + size_of newly
   pub some : 0 < size_of newly
   pub few : after.pairs ≤ after.limit
 
 -- or all of them came before
-pub record Stays (before after : Work) (at : ℕ) (types : List Bool) : Type 0 where
+pub record Stays (before after : GrowingGraph) (at : ℕ) (types : List Bool) : Type 0 where
   pub draft : Draft
-  pub is_draft : slice_get before.drafts.items at ≡ Some draft
+  pub is_draft : slice_get (drafts_in before) at ≡ Some draft
   pub came : (rtype : RrType) → has_bit types rtype ≡ true → has_bit draft.wanted rtype ≡ true
-  pub drafts : after.drafts.items ≡ before.drafts.items
+  pub drafts : drafts_in after ≡ drafts_in before
   pub stack : after.stack.items ≡ before.stack.items
   pub pairs : after.pairs ≡ before.pairs
 
-pub record TookTypes (before after : Work) (at : ℕ) (types : List Bool) : Type 0 where
-  pub keys : after.keys ≡ before.keys
+pub record TookTypes (before after : GrowingGraph) (at : ℕ) (types : List Bool) : Type 0 where
+  pub paired : IsPaired before → IsPaired after
   pub limit : after.limit ≡ before.limit
   pub change : Stays before after at types ⊎ Changes before after at types
 
 -- with the types there would be more pairs than are allowed
-pub record TooMany (work : Work) (at : ℕ) (types : List Bool) : Type 0 where
+pub record TooMany (growing : GrowingGraph) (at : ℕ) (types : List Bool) : Type 0 where
   pub old : Draft
   pub new : Draft
   pub newly : List Bool
-  pub is_old : slice_get work.drafts.items at ≡ Some old
+  pub is_old : slice_get (drafts_in growing) at ≡ Some old
   pub takes : TakesTypes old new newly
   pub only : (rtype : RrType) → has_bit newly rtype ≡ true → has_bit types rtype ≡ true
-  pub more : work.limit < work.pairs + size_of newly
+  pub more : growing.limit < growing.pairs + size_of newly
 
 -- the draft with this number gets an arm
-pub record PutArm (before after : Work) (at : ℕ) (arm : Arm) : Type 0 where
+pub record PutArm (before after : GrowingGraph) (at : ℕ) (arm : Arm) : Type 0 where
   pub old : Draft
   pub new : Draft
-  pub is_old : slice_get before.drafts.items at ≡ Some old
+  pub is_old : slice_get (drafts_in before) at ≡ Some old
   pub gets : HasArm old new arm
-  pub drafts : after.drafts.items ≡ set before.drafts.items at new
-  pub keys : after.keys ≡ before.keys
+  pub drafts : drafts_in after ≡ set (drafts_in before) at new
+  pub paired : IsPaired before → IsPaired after
   pub stack : after.stack.items ≡ before.stack.items
   pub pairs : after.pairs ≡ before.pairs
   pub limit : after.limit ≡ before.limit

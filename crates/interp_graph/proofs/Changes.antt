@@ -1,4 +1,4 @@
--- What the single changes of the list of what is to be followed do.
+-- What the single changes of a graph in the making do.
 use Rattle.std.proofs.Common.{◌≡◌, ◌≢◌, ℕ, ◌+◌, ◌<◌, ◌≤◌, Bool, true, false, List, [], ◌∷◌, ◌++◌, length, filter, Some, zero, suc, refl, sym, ap, ◌∙◌, subst, inl, inr, true≢false, arith, length-append}
 use Rattle.std.specs.Prelude.{◌⊎◌, Contains, AllPairs, slice_get, set}
 use Rattle.std.proofs.lemmas.Bool.{or_cases, or_left}
@@ -12,10 +12,9 @@ use Rattle.dns_data.specs.declared.rr_type.RrType.{RrType}
 use Rattle.dns_data.proofs.Membership.{none_in_nil, has_first, first_or_later}
 use Rattle.net_model.specs.Step.{Setting}
 use Rattle.net_model.specs.declared.walk.State.{State}
-use Rattle.interp_graph.specs.Drafts.{Awaits, Comes, AreDrafts, Grows, states_of, size_of, pair_count}
-use Rattle.interp_graph.specs.Work.{TakesTypes, IsWithin, Waits, ComesTo, HasMoreComing, Numbered, TookTypes, TooMany}
-use Rattle.interp_graph.specs.declared.draft.Draft.{Draft}
-use Rattle.interp_graph.specs.declared.work.Work.{Work}
+use Rattle.interp_graph.specs.Drafts.{Awaits, Comes, AreDrafts, Grows, states_of, size_of, pair_count, Draft}
+use Rattle.interp_graph.specs.Growing.{TakesTypes, IsWithin, Waits, ComesTo, HasMoreComing, Numbered, TookTypes, TooMany, drafts_in}
+use Rattle.interp_graph.specs.declared.growing.GrowingGraph.{GrowingGraph}
 use Rattle.interp_graph.proofs.Counts.{more_types, more_reached}
 use Rattle.interp_graph.proofs.Drafts.{grows_not, grows_behind, drafts_with_new, grows_in_place, takes_later, drafts_with_types}
 use Rattle.interp_graph.proofs.ItemsByNumber.{from_pushed, in_front, pushed_there, from_set, set_there, set_elsewhere, pairs_from_images}
@@ -100,25 +99,25 @@ module _ (drafts : List Draft) (at : ℕ) (old new : Draft) (is : slice_get draf
 
 -- ---- types come to a draft
 
-module _ (before after : Work) (at : ℕ) (set_of : List Bool) (took : TookTypes before after at set_of) where
-  pub took_grows : Grows before.drafts.items after.drafts.items
+module _ (before after : GrowingGraph) (at : ℕ) (set_of : List Bool) (took : TookTypes before after at set_of) where
+  pub took_grows : Grows (drafts_in before) (drafts_in after)
   took_grows = elim took.change [
-    | inl same ↦ subst (Grows before.drafts.items) (sym same.drafts) (grows_not before.drafts.items)
-    | inr changes ↦ subst (Grows before.drafts.items) (sym changes.drafts)
-        (grows_in_place before.drafts.items at changes.old changes.new changes.is_old (takes_later changes.old changes.new changes.newly changes.takes))
+    | inl same ↦ subst (Grows (drafts_in before)) (sym same.drafts) (grows_not (drafts_in before))
+    | inr changes ↦ subst (Grows (drafts_in before)) (sym changes.drafts)
+        (grows_in_place (drafts_in before) at changes.old changes.new changes.is_old (takes_later changes.old changes.new changes.newly changes.takes))
   ]
 
-  pub took_states : states_of after.drafts.items ≡ states_of before.drafts.items
+  pub took_states : states_of (drafts_in after) ≡ states_of (drafts_in before)
   took_states = elim took.change [
     | inl same ↦ ap states_of same.drafts
     | inr changes ↦ ap states_of changes.drafts
-        ∙ states_in_place before.drafts.items at changes.old changes.new changes.is_old changes.takes.same_state
+        ∙ states_in_place (drafts_in before) at changes.old changes.new changes.is_old changes.takes.same_state
   ]
 
-  pub took_length : length after.drafts.items ≡ length before.drafts.items
+  pub took_length : length (drafts_in after) ≡ length (drafts_in before)
   took_length = elim took.change [
     | inl same ↦ ap (λ (ds : List Draft). length ds) same.drafts
-    | inr changes ↦ ap (λ (ds : List Draft). length ds) changes.drafts ∙ length-set before.drafts.items at changes.new
+    | inr changes ↦ ap (λ (ds : List Draft). length ds) changes.drafts ∙ length-set (drafts_in before) at changes.new
   ]
 
   pub took_within : IsWithin before → IsWithin after
@@ -130,7 +129,7 @@ module _ (before after : Work) (at : ℕ) (set_of : List Bool) (took : TookTypes
     }
     | inr changes ↦ record {
       counted = ap pair_count changes.drafts
-          ∙ (count_in_place before.drafts.items at changes.old changes.new changes.is_old changes.newly changes.takes
+          ∙ (count_in_place (drafts_in before) at changes.old changes.new changes.is_old changes.newly changes.takes
           ∙ (ap (λ n. n + size_of changes.newly) within.counted ∙ sym changes.pairs));
       few = changes.few;
       fits = omega (arith, within.fits, took.limit);
@@ -144,16 +143,16 @@ module _ (before after : Work) (at : ℕ) (set_of : List Bool) (took : TookTypes
   ]
 
   -- where a type is new there is a pair more
-  pub took_new : (draft : Draft) (rtype : RrType) → slice_get before.drafts.items at ≡ Some draft → has_bit draft.wanted rtype ≡ false
+  pub took_new : (draft : Draft) (rtype : RrType) → slice_get (drafts_in before) at ≡ Some draft → has_bit draft.wanted rtype ≡ false
       → has_bit set_of rtype ≡ true → before.pairs + 1 ≤ after.pairs
   took_new draft rtype is wanted typed = elim took.change [
     | inl same ↦ absurd (true≢false (sym (same.came rtype typed)
-        ∙ (ap (λ (d : Draft). has_bit d.wanted rtype) (one_there before.drafts.items at same.draft draft same.is_draft is) ∙ wanted)))
+        ∙ (ap (λ (d : Draft). has_bit d.wanted rtype) (one_there (drafts_in before) at same.draft draft same.is_draft is) ∙ wanted)))
     | inr changes ↦ omega (arith, changes.pairs, changes.some)
   ]
 
-  pub took_among : ((k : ℕ) → Contains before.stack.items k → k < length before.drafts.items) → at < length before.drafts.items
-      → (k : ℕ) → Contains after.stack.items k → k < length after.drafts.items
+  pub took_among : ((k : ℕ) → Contains before.stack.items k → k < length (drafts_in before)) → at < length (drafts_in before)
+      → (k : ℕ) → Contains after.stack.items k → k < length (drafts_in after)
   took_among among there k has = elim took.change [
     | inl same ↦ omega (arith, among k (subst (λ (ks : List ℕ). Contains ks k) same.stack has), took_length)
     | inr changes ↦ elim (Contains-append_cases before.stack.items (at ∷ []) k (subst (λ (ks : List ℕ). Contains ks k) changes.stack has)) [
@@ -171,13 +170,13 @@ module _ (before after : Work) (at : ℕ) (set_of : List Bool) (took : TookTypes
     | inr changes ↦ subst (λ (ks : List ℕ). Contains ks k) (sym changes.stack) (Contains-append_left before.stack.items (at ∷ []) k has)
   ]
 
-  pub took_listed : (k : ℕ) (rtype : RrType) → Waits after.drafts.items k rtype → Waits before.drafts.items k rtype ⊎ Contains after.stack.items k
+  pub took_listed : (k : ℕ) (rtype : RrType) → Waits (drafts_in after) k rtype → Waits (drafts_in before) k rtype ⊎ Contains after.stack.items k
   took_listed k rtype waits = elim took.change [
     | inl same ↦ inl (subst (λ (ds : List Draft). Waits ds k rtype) same.drafts waits)
-    | inr changes ↦ elim (from_set before.drafts.items at k changes.new waits.draft (ap (λ (ds : List Draft). slice_get ds k) (sym changes.drafts) ∙ waits.is_draft)) [
+    | inr changes ↦ elim (from_set (drafts_in before) at k changes.new waits.draft (ap (λ (ds : List Draft). slice_get ds k) (sym changes.drafts) ∙ waits.is_draft)) [
       | inl same ↦ elim (or_cases (has_bit changes.old.waiting rtype) (has_bit changes.newly rtype)
           (sym (changes.takes.waiting rtype) ∙ (ap (λ (d : Draft). has_bit d.waiting rtype) same.1 ∙ waits.waits))) [
-            | inl old ↦ inl (record { draft = changes.old; is_draft = ap (slice_get before.drafts.items) same.0 ∙ changes.is_old; waits = old })
+            | inl old ↦ inl (record { draft = changes.old; is_draft = ap (slice_get (drafts_in before)) same.0 ∙ changes.is_old; waits = old })
             | inr new ↦ inr (subst (Contains after.stack.items) (sym same.0) (subst (λ (ks : List ℕ). Contains ks at) (sym changes.stack)
                 (Contains-append_right before.stack.items (at ∷ []) at (has_first at []))))
           ]
@@ -185,7 +184,7 @@ module _ (before after : Work) (at : ℕ) (set_of : List Bool) (took : TookTypes
     ]
   ]
 
-  pub took_still : (k : ℕ) (rtype : RrType) → Waits before.drafts.items k rtype → Waits after.drafts.items k rtype
+  pub took_still : (k : ℕ) (rtype : RrType) → Waits (drafts_in before) k rtype → Waits (drafts_in after) k rtype
   took_still k rtype waits = elim took.change [
     | inl same ↦ subst (λ (ds : List Draft). Waits ds k rtype) (sym same.drafts) waits
     | inr changes ↦ subst (λ (ds : List Draft). Waits ds k rtype) (sym changes.drafts) (in_place changes.old changes.new changes.newly changes.is_old changes.takes (same_or_other k at))
@@ -200,19 +199,19 @@ module _ (before after : Work) (at : ℕ) (set_of : List Bool) (took : TookTypes
         | inr other ↦ inr (λ h. other (let g : k ≡ i = omega (arith, h) in g))
       ]
 
-      in_place : (old new : Draft) (newly : List Bool) → slice_get before.drafts.items at ≡ Some old → TakesTypes old new newly
-          → (k ≡ at) ⊎ (k ≢ at) → Waits (set before.drafts.items at new) k rtype
+      in_place : (old new : Draft) (newly : List Bool) → slice_get (drafts_in before) at ≡ Some old → TakesTypes old new newly
+          → (k ≡ at) ⊎ (k ≢ at) → Waits (set (drafts_in before) at new) k rtype
       in_place old new newly is takes (inl same) =
           record {
             draft = new;
-            is_draft = ap (slice_get (set before.drafts.items at new)) same ∙ set_there before.drafts.items at new old is;
+            is_draft = ap (slice_get (set (drafts_in before) at new)) same ∙ set_there (drafts_in before) at new old is;
             waits = takes.waiting rtype
                 ∙ or_left (has_bit old.waiting rtype) (has_bit newly rtype)
                 (ap (λ (d : Draft). has_bit d.waiting rtype)
-                (one_there before.drafts.items at old waits.draft is (ap (slice_get before.drafts.items) (sym same) ∙ waits.is_draft)) ∙ waits.waits);
+                (one_there (drafts_in before) at old waits.draft is (ap (slice_get (drafts_in before)) (sym same) ∙ waits.is_draft)) ∙ waits.waits);
           }
       in_place old new newly is takes (inr other) =
-          record { draft = waits.draft; is_draft = set_elsewhere before.drafts.items at k new waits.draft other waits.is_draft; waits = waits.waits }
+          record { draft = waits.draft; is_draft = set_elsewhere (drafts_in before) at k new waits.draft other waits.is_draft; waits = waits.waits }
 
   pub took_paid : length after.stack.items + before.pairs ≤ length before.stack.items + after.pairs
   took_paid = elim took.change [
@@ -220,43 +219,43 @@ module _ (before after : Work) (at : ℕ) (set_of : List Bool) (took : TookTypes
     | inr changes ↦ omega (arith, ap (λ (ks : List ℕ). length ks) changes.stack, length-append before.stack.items (at ∷ []), changes.pairs, changes.some)
   ]
 
-  pub took_awaits : (draft : Draft) → slice_get before.drafts.items at ≡ Some draft → Awaits after.drafts.items set_of at draft.state
+  pub took_awaits : (draft : Draft) → slice_get (drafts_in before) at ≡ Some draft → Awaits (drafts_in after) set_of at draft.state
   took_awaits draft is = elim took.change [
     | inl same ↦ record {
       draft = same.draft;
       is_draft = ap (λ (ds : List Draft). slice_get ds at) same.drafts ∙ same.is_draft;
-      has_state = ap (λ (d : Draft). d.state) (one_there before.drafts.items at same.draft draft same.is_draft is);
+      has_state = ap (λ (d : Draft). d.state) (one_there (drafts_in before) at same.draft draft same.is_draft is);
       wants = same.came;
     }
     | inr changes ↦ record {
       draft = changes.new;
-      is_draft = ap (λ (ds : List Draft). slice_get ds at) changes.drafts ∙ set_there before.drafts.items at changes.new changes.old changes.is_old;
-      has_state = changes.takes.same_state ∙ ap (λ (d : Draft). d.state) (one_there before.drafts.items at changes.old draft changes.is_old is);
+      is_draft = ap (λ (ds : List Draft). slice_get ds at) changes.drafts ∙ set_there (drafts_in before) at changes.new changes.old changes.is_old;
+      has_state = changes.takes.same_state ∙ ap (λ (d : Draft). d.state) (one_there (drafts_in before) at changes.old draft changes.is_old is);
       wants = changes.all_come;
     }
   ]
 
-  pub took_drafts : (setting : Setting) (begin : List State) → AreDrafts setting begin before.drafts.items
-      → (draft : Draft) → slice_get before.drafts.items at ≡ Some draft → ComesTo setting begin set_of draft.state
-      → AreDrafts setting begin after.drafts.items
+  pub took_drafts : (setting : Setting) (begin : List State) → AreDrafts setting begin (drafts_in before)
+      → (draft : Draft) → slice_get (drafts_in before) at ≡ Some draft → ComesTo setting begin set_of draft.state
+      → AreDrafts setting begin (drafts_in after)
   took_drafts setting begin are draft is come = elim took.change [
     | inl same ↦ subst (AreDrafts setting begin) (sym same.drafts) are
     | inr changes ↦ subst (AreDrafts setting begin) (sym changes.drafts)
-        (drafts_with_types changes.old changes.new changes.newly changes.takes setting begin before.drafts.items at changes.is_old are
-        (λ rtype new. subst (Comes setting begin rtype) (ap (λ (d : Draft). d.state) (one_there before.drafts.items at draft changes.old is changes.is_old))
+        (drafts_with_types changes.old changes.new changes.newly changes.takes setting begin (drafts_in before) at changes.is_old are
+        (λ rtype new. subst (Comes setting begin rtype) (ap (λ (d : Draft). d.state) (one_there (drafts_in before) at draft changes.old is changes.is_old))
         (come rtype (changes.only rtype new))))
   ]
 
 -- where types would make too many pairs, more come from where the query begins
-pub too_many_come : (work : Work) (at : ℕ) (set_of : List Bool) → TooMany work at set_of → IsWithin work
-    → AllPairs (λ a b. a ≢ b) (states_of work.drafts.items) → (setting : Setting) (begin : List State) → AreDrafts setting begin work.drafts.items
-    → (draft : Draft) → slice_get work.drafts.items at ≡ Some draft → ComesTo setting begin set_of draft.state → HasMoreComing setting begin work.limit
-too_many_come work at set_of many within once setting begin are draft is come =
-    more_reached setting begin (set work.drafts.items at many.new) work.limit
-    (drafts_with_types many.old many.new many.newly many.takes setting begin work.drafts.items at many.is_old are
-    (λ rtype new. subst (Comes setting begin rtype) (ap (λ (d : Draft). d.state) (one_there work.drafts.items at draft many.old is many.is_old))
+pub too_many_come : (growing : GrowingGraph) (at : ℕ) (set_of : List Bool) → TooMany growing at set_of → IsWithin growing
+    → AllPairs (λ a b. a ≢ b) (states_of (drafts_in growing)) → (setting : Setting) (begin : List State) → AreDrafts setting begin (drafts_in growing)
+    → (draft : Draft) → slice_get (drafts_in growing) at ≡ Some draft → ComesTo setting begin set_of draft.state → HasMoreComing setting begin growing.limit
+too_many_come growing at set_of many within once setting begin are draft is come =
+    more_reached setting begin (set (drafts_in growing) at many.new) growing.limit
+    (drafts_with_types many.old many.new many.newly many.takes setting begin (drafts_in growing) at many.is_old are
+    (λ rtype new. subst (Comes setting begin rtype) (ap (λ (d : Draft). d.state) (one_there (drafts_in growing) at draft many.old is many.is_old))
     (come rtype (many.only rtype new))))
-    (pairs_from_images (λ (d : Draft). d.state) (λ a b. a ≢ b) (set work.drafts.items at many.new)
-    (subst (AllPairs (λ (a b : State). a ≢ b)) (sym (states_in_place work.drafts.items at many.old many.new many.is_old many.takes.same_state)) once))
-    (omega (arith, count_in_place work.drafts.items at many.old many.new many.is_old many.newly many.takes, within.counted, many.more))
+    (pairs_from_images (λ (d : Draft). d.state) (λ a b. a ≢ b) (set (drafts_in growing) at many.new)
+    (subst (AllPairs (λ (a b : State). a ≢ b)) (sym (states_in_place (drafts_in growing) at many.old many.new many.is_old many.takes.same_state)) once))
+    (omega (arith, count_in_place (drafts_in growing) at many.old many.new many.is_old many.newly many.takes, within.counted, many.more))
     (λ (pair : State × RrType). Comes setting begin pair.1 pair.0) (λ pair come. come)
