@@ -11,8 +11,8 @@ use Rattle.std.proofs.lemmas.List.{length-map, map-append, length-set}
 use Rattle.std.proofs.lemmas.List.Sums.{count_by-le-length}
 use Rattle.std.proofs.Math.Bool.{or-true, or-false}
 use Rattle.std.proofs.lemmas.Bool.{cases_eq, ne_eqb, eq-eqb, and_parts, and_from, lt-ltb, leb-true, le-leb, le-ltb}
-use Rattle.pool_core.specs.declared.entry.Entry.{Entry}
-use Rattle.pool_core.specs.declared.entry.Entry.TheVariants.{Claim, File, Stop}
+use Rattle.pool_core.specs.declared.history.HistoryEntry.{HistoryEntry}
+use Rattle.pool_core.specs.declared.history.HistoryEntry.TheVariants.{Claim, File, Stop}
 use Rattle.pool_core.specs.declared.event.StopCause.{StopCause}
 use Rattle.pool_core.specs.declared.event.StopCause.TheVariants.{Full}
 use Rattle.pool_core.specs.History.{issued_in, is_claimed_in, is_filed_in, first_stop, may_come_next, all_may_follow}
@@ -34,7 +34,7 @@ use Rattle.verdict_book.proofs.Places.{get_cases, get_map, map_set_same, some_sa
 use Rattle.verdict_book.proofs.Items.{Known, step, walk, begins, are_reached}
 
 -- these pages
-abbrev pub pages_of : ℕ → List Entry → Pages
+abbrev pub pages_of : ℕ → List HistoryEntry → Pages
 pages_of limit h = record { limit = limit; history = h }
 
 -- the row of a ticket in a later state
@@ -80,7 +80,7 @@ claimed_means KeptClaimed is = refl
 claimed_means KeptFiled is = absurd cc
 
 -- a history with no cause has no stop
-no_stop : (h : List Entry) → first_stop h ≡ None → count_by is_stop h ≡ 0
+no_stop : (h : List HistoryEntry) → first_stop h ≡ None → count_by is_stop h ≡ 0
 no_stop [] none = refl
 no_stop (Claim t ∷ h) none = omega (arith, count_by-cons is_stop (Claim t) h, no_stop h none)
 no_stop (File t n ∷ h) none = omega (arith, count_by-cons is_stop (File t n) h, no_stop h none)
@@ -124,15 +124,15 @@ module _ {I V : Type 0} where
       taken_are_filed rows (omega (arith, e, count_by-cons filed_row x rows, count_by-cons taken_row x rows, filed_in_taken x.state, filed_at_most_taken rows)) k r at is
 
 module _ {I V : Type 0} (first : I) (children : I → List I) (verdict_of : I → V) where
-  items_push : (items : List I) (h : List Entry) (e : Entry) → items_from first children items (h ++ e ∷ []) ≡ item_step first children (items_from first children items h) e
+  items_push : (items : List I) (h : List HistoryEntry) (e : HistoryEntry) → items_from first children items (h ++ e ∷ []) ≡ item_step first children (items_from first children items h) e
   items_push items [] e = refl
   items_push items (x ∷ h) e = items_push (item_step first children items x) h e
 
-  counts_push : (items : List I) (h : List Entry) (e : Entry) → AllCountRight first children items h → CountsRight first children (items_from first children items h) e → AllCountRight first children items (h ++ e ∷ [])
+  counts_push : (items : List I) (h : List HistoryEntry) (e : HistoryEntry) → AllCountRight first children items h → CountsRight first children (items_from first children items h) e → AllCountRight first children items (h ++ e ∷ [])
   counts_push items [] e all one = (one, tt)
   counts_push items (x ∷ h) e all one = (all.0, counts_push (item_step first children items x) h e all.1 one)
 
-  module _ (apart : ParentsApart first children) (limit : ℕ) (h : List Entry) (rows : List (Row I V)) (stopped : Option StopCause) (filed places : ℕ) (kept : IsBookAfter first children verdict_of (pages_of limit h) rows stopped filed places) where
+  module _ (apart : ParentsApart first children) (limit : ℕ) (h : List HistoryEntry) (rows : List (Row I V)) (stopped : Option StopCause) (filed places : ℕ) (kept : IsBookAfter first children verdict_of (pages_of limit h) rows stopped filed places) where
     parts : (all_may_follow [] h ≡ true) × (nat_le (issued_in h) limit ≡ true)
     parts = and_parts (all_may_follow [] h) (nat_le (issued_in h) limit) kept.right.legal
 
@@ -172,7 +172,7 @@ module _ {I V : Type 0} (first : I) (children : I → List I) (verdict_of : I �
     claims_few = let le = count_by-le-length (λ (r : Row I V). is_taken r.state) rows in omega (arith, le, kept.claimed_rows, within)
 
     -- more room keeps the book
-    pub room_keeps : (h' : List Entry) (places' : ℕ) → h' ≡ h → places ≤ places' → IsBookAfter first children verdict_of (pages_of limit h') rows stopped filed places'
+    pub room_keeps : (h' : List HistoryEntry) (places' : ℕ) → h' ≡ h → places ≤ places' → IsBookAfter first children verdict_of (pages_of limit h') rows stopped filed places'
     room_keeps h' places' same more =
         subst (λ l. IsBookAfter first children verdict_of (pages_of limit l) rows stopped filed places') (sym same)
         (record {
@@ -400,7 +400,7 @@ module _ {I V : Type 0} (first : I) (children : I → List I) (verdict_of : I �
         (there.0, there.1, there.2, sym item_is ∙ same _ _ ((Equal-is _).0 p.1))
 
     -- a filing of a claim that is kept, with the verdict and the children of its item, keeps the book
-    pub filing_keeps : (cmp : I → I → Ordering) (same : (x y : I) → cmp x y ≡ Equal → x ≡ y) (claim : ClaimedTicket I) (verdict : V) (kids : List I) (before after : List (Row I V)) (h' : List Entry) (places' : ℕ)
+    pub filing_keeps : (cmp : I → I → Ordering) (same : (x y : I) → cmp x y ≡ Equal → x ≡ y) (claim : ClaimedTicket I) (verdict : V) (kids : List I) (before after : List (Row I V)) (h' : List HistoryEntry) (places' : ℕ)
         → keeps_claim cmp first children h claim ≡ true → issued_in h + length kids ≤ limit → verdict ≡ verdict_of claim.item → kids ≡ children claim.item
         → before ≡ rows → IfSome (slice_get before claim.ticket) (λ row. after ≡ rows_filed before claim.ticket verdict kids row)
         → h' ≡ h ++ File claim.ticket (length kids) ∷ [] → length h + 2 ≤ places'

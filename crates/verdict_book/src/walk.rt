@@ -1,7 +1,7 @@
 //! The whole tree of a work, in the caller's thread.
 
 ghost use Rattle.std.specs.Prelude.{◌≡◌, ◌≤◌, ◌∷◌, [], ◌++◌, length, IfOk, IfErr, OnOk, None};
-ghost use Rattle.pool_core.specs.declared.entry.Entry.TheVariants.{Claim as ClaimOf, File as FileOf};
+ghost use Rattle.pool_core.specs.declared.history.HistoryEntry.TheVariants.{Claim as ClaimOf, File as FileOf};
 ghost use Rattle.pool_core.specs.History.{issued_in};
 ghost use Rattle.verdict_book.specs.Books.{unfiled_in};
 ghost use Rattle.verdict_book.specs.Items.{ReachesMore, item_of};

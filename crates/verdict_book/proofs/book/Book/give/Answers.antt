@@ -1,7 +1,7 @@
 use Rattle.std.proofs.Common.{◌∷◌, [], ◌++◌, ◌+◌, ◌≤◌, length, set, sym, refl, ◌∙◌, ap, subst, arith}
 use Rattle.std.specs.Vec.{vec_capacity}
 use Rattle.std.proofs.lemmas.Option.{slice_get_within, get_or_from_slice_get}
-use Rattle.pool_core.specs.declared.entry.Entry.TheVariants.{Claim as ClaimOf}
+use Rattle.pool_core.specs.declared.history.HistoryEntry.TheVariants.{Claim as ClaimOf}
 use Rattle.verdict_book.specs.Books.{Pages, claims_in}
 use Rattle.verdict_book.specs.Refusals.{claim_refusal}
 use Rattle.verdict_book.specs.Items.{Reached, items_of, item_of}
