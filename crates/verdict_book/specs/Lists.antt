@@ -7,8 +7,8 @@ use Rattle.verdict_book.specs.Books.{Pages}
 use Rattle.verdict_book.specs.declared.walk.WalkFault.{WalkFault}
 use Rattle.verdict_book.specs.declared.walk.WalkFault.TheVariants.{TooMany, NoMemory}
 use Rattle.verdict_book.specs.declared.filed.Filed.{Filed}
-use Rattle.verdict_book.specs.declared.row.State.{State}
-use Rattle.verdict_book.specs.declared.row.State.TheVariants.{Issued, Claimed, Filed as FiledState}
+use Rattle.verdict_book.specs.declared.row.TicketState.{TicketState}
+use Rattle.verdict_book.specs.declared.row.TicketState.TheVariants.{Issued, Claimed, Filed as FiledState}
 use Rattle.verdict_book.specs.declared.row.Row.{Row}
 
 -- the verdict is that of the item
@@ -16,7 +16,7 @@ abbrev pub Judges : {W I V : Type 0} → (I → V) → Filed W I V → Type 0
 Judges verdict_of filed = filed.verdict ≡ verdict_of filed.item
 
 -- the state is that of a filed ticket, with the verdict of its item
-abbrev pub JudgesState : {I V : Type 0} → (I → V) → I → State V → Type 0
+abbrev pub JudgesState : {I V : Type 0} → (I → V) → I → TicketState V → Type 0
 JudgesState verdict_of item Issued = ⊥
 JudgesState verdict_of item Claimed = ⊥
 JudgesState verdict_of item (FiledState verdict) = verdict ≡ verdict_of item

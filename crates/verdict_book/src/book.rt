@@ -14,7 +14,7 @@ ghost use Rattle.verdict_book.specs.Refusals.{claim_refusal, file_refusal, keeps
 use crate::claim::{Claim, ClaimFault, Kept, is_claimed};
 use crate::filed::{Filed, list_rows};
 use crate::filing::{Back, FileFault, Issued};
-use crate::row::{Row, State, file_row, kept_at, sort_rows};
+use crate::row::{Row, TicketState, file_row, kept_at, sort_rows};
 use crate::work::Work;
 use dns_data::{List, NoMemory};
 use pool_core::{HistoryEntry, StopCause};
@@ -62,7 +62,7 @@ impl<W: Work> Book<W> {
         let item = work.first()?;
         rows.push(Row {
             item,
-            state: State::Issued,
+            state: TicketState::Issued,
         })?;
         history.reserve(1)?;
         Ok(Book {
@@ -126,7 +126,7 @@ impl<W: Work> Book<W> {
         let place = ticket as usize;
         let item = work.copy_item(&self.rows[place].item)?;
         self.history.reserve(2)?;
-        self.rows[place].state = State::Claimed;
+        self.rows[place].state = TicketState::Claimed;
         self.history.push_reserved(HistoryEntry::Claim { ticket });
         Ok(Claim { ticket, item })
     }
