@@ -19,7 +19,7 @@ mod turn;
 
 pub use count::{PoolCount, PoolFault};
 pub use locked::{Capped, LockedBook};
-pub use row::{OtherRow, OwnRow, Taken};
+pub use row::{OtherRow, OwnRow, StealOutcome};
 pub use rule::SeatView;
 pub use run::{run_tree, run_tree_counted};
 pub use slot::{Ended, Slot};
