@@ -3,11 +3,11 @@
 ghost use Rattle.std.specs.Prelude.{◌≡◌, ◌++◌, length, IfOk, OnOk};
 ghost use Rattle.serde.specs.Event.{WritesEach};
 ghost use Rattle.serde_json.specs.Events.{SendsValue};
-ghost use Rattle.report_json.specs.Walks.{hop_value, hop_values, leaf_value, end_values, absence_value, stop_value, unmade_value, walk_value, walk_text, rewrite_word};
+ghost use Rattle.report_json.specs.Walks.{hop_value, hop_values, leaf_value, end_values, answer_value, absence_value, stop_value, unmade_value, walk_value, walk_text, rewrite_word};
 
 use crate::object::{name, send_object, texts, word};
 use crate::written::{Written, compact_text};
-use dns_data::{Name, NoMemory, Octets};
+use dns_data::{Name, NoMemory, Octets, Rdata};
 use net_model::{Hop, Leaf, Place, State, Walk};
 use serde::Serializer;
 use std::alloc::Global;
@@ -135,15 +135,7 @@ fn send_leaf<S: Serializer>(
     ensures { OnOk result (SendsValue (leaf_value state.now leaf.now) (S.written out.old) (S.written out.new)) }
 {
     match leaf {
-        Leaf::Answer(rdata) => {
-            let members = [
-                word("did", "answer"),
-                name("name", &state.name),
-                texts("rdata", rdata.items()),
-                name("server", &state.server),
-            ];
-            send_object(alloc, members.as_slice(), state.zone.as_ref(), out)
-        }
+        Leaf::Answer(rdata) => send_answer(alloc, state, rdata.items(), out),
         Leaf::NoData => send_absence(alloc, state, "nodata", out),
         Leaf::NxDomain => send_absence(alloc, state, "nxdomain", out),
         Leaf::Outside => send_absence(alloc, state, "outside", out),
@@ -153,6 +145,24 @@ fn send_leaf<S: Serializer>(
         Leaf::Overlong(place) => send_unmade(alloc, state, "overlong", place, out),
         Leaf::NoAddress(ns) => send_stop(alloc, state, "no-address", ns, out),
     }
+}
+
+/// Writes that a server answers with data.
+fn send_answer<S: Serializer>(
+    alloc: Global,
+    state: &State,
+    rdata: &[Rdata],
+    out: &mut S,
+) -> Result<(), S::Error>
+    ensures { OnOk result (SendsValue (answer_value state.now rdata.now) (S.written out.old) (S.written out.new)) }
+{
+    let members = [
+        word("did", "answer"),
+        name("name", &state.name),
+        texts("rdata", rdata),
+        name("server", &state.server),
+    ];
+    send_object(alloc, members.as_slice(), state.zone.as_ref(), out)
 }
 
 /// Writes that there is nothing at the state's name.
