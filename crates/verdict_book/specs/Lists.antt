@@ -4,8 +4,8 @@ use Rattle.std.specs.List.Sorted.{IsSortedByKey}
 use Rattle.std.specs.declared.cmp.Ordering.{Ordering}
 use Rattle.verdict_book.specs.Items.{AreReachedItems, ReachesMore}
 use Rattle.verdict_book.specs.Books.{Pages}
-use Rattle.verdict_book.specs.declared.walk.WalkFault.{WalkFault}
-use Rattle.verdict_book.specs.declared.walk.WalkFault.TheVariants.{TooMany, NoMemory}
+use Rattle.verdict_book.specs.declared.walk.PoolFault.{PoolFault}
+use Rattle.verdict_book.specs.declared.walk.PoolFault.TheVariants.{TooMany, NoMemory}
 use Rattle.verdict_book.specs.declared.filed.Filed.{Filed}
 use Rattle.verdict_book.specs.declared.row.TicketState.{TicketState}
 use Rattle.verdict_book.specs.declared.row.TicketState.TheVariants.{Issued, Claimed, Filed as FiledState}
@@ -32,10 +32,10 @@ pub record IsWholeTree {W I V : Type 0} (cmp : I → I → Ordering) (first : I)
   pub sorted : IsSortedByKey (λ (f : Filed W I V). f.item) cmp list
   pub verdicts : All (Judges verdict_of) list
 
--- what a refused walk says: more items are reached than the limit, which it carries; or memory ran out
-abbrev pub IsWalkFault : {I : Type 0} → I → (I → List I) → ℕ → WalkFault → Type 0
-IsWalkFault first children limit (TooMany most) = (most ≡ limit) × ReachesMore first children limit
-IsWalkFault first children limit NoMemory = Unit {0}
+-- what is said where there is no list: more items are reached than the limit, which it carries; or memory ran out
+abbrev pub IsPoolFault : {I : Type 0} → I → (I → List I) → ℕ → PoolFault → Type 0
+IsPoolFault first children limit (TooMany most) = (most ≡ limit) × ReachesMore first children limit
+IsPoolFault first children limit NoMemory = Unit {0}
 
 -- no entry stands in the book
 abbrev pub IsNewBook : Pages → Type 0
