@@ -5,7 +5,7 @@ use Rattle.std.proofs.lemmas.Bool.{and_parts}
 use Rattle.std.proofs.lemmas.Bool.Decides.{nat_tests}
 use Rattle.std.proofs.lemmas.Fmt.{digits_decimal, length-decimal-le}
 use Rattle.std.proofs.lemmas.List.Folds.{list_all-append}
-use Rattle.std.proofs.lemmas.Str.Parse.{IsNumeralModel, numerals_by_fold}
+use Rattle.std.proofs.lemmas.Str.Parse.{numerals_by_fold}
 use Rattle.dns_data.specs.Octet.{is_digit, digits_after, escaped_as}
 use Rattle.dns_data.specs.Label.{is_label_octet}
 use Rattle.dns_data.specs.Spelling.{is_special, octet_text}
@@ -20,12 +20,9 @@ pub record IsNumber (octets : List ℕ) : Type 0 where
   pub digits : list_all is_digit octets ≡ true
   pub short : length octets ≤ 4
 
-own : IsNumeralModel (λ ds. list_all is_digit ds ≡ true) (digits_after 0)
-own = numerals_by_fold _ (search rules) digits_after (search rules)
-
 pub number_of : (n : ℕ) → n < 10000 → IsNumber (decimal n)
 number_of n small = record {
-  digits = digits_decimal own n (omega arith);
+  digits = digits_decimal (numerals_by_fold (λ ds. list_all is_digit ds ≡ true) (search rules) digits_after (search rules)) n (omega arith);
   short = length-decimal-le 4 n (omega arith) small (omega arith);
 }
 

@@ -12,12 +12,12 @@ use Rattle.verdict_book.specs.Items.{NoneTwice, AreReachedItems, ReachesMore}
 use Rattle.verdict_book.specs.Lists.{Judges, JudgesState, IsWholeTree}
 use Rattle.verdict_book.specs.declared.filed.Filed.{Filed}
 use Rattle.verdict_book.specs.declared.row.Row.{Row}
-use Rattle.verdict_book.specs.declared.row.State.{State}
-use Rattle.verdict_book.specs.declared.row.State.TheVariants.{Issued, Claimed, Filed as FiledState}
+use Rattle.verdict_book.specs.declared.row.TicketState.{TicketState}
+use Rattle.verdict_book.specs.declared.row.TicketState.TheVariants.{Issued, Claimed, Filed as FiledState}
 use Rattle.verdict_book.proofs.Places.{none_twice_permuted, items_permuted, sorted_alike}
 
 -- a state that isn't that of a filed ticket has no verdict
-pub not_judged : {I V : Type 0} (verdict_of : I → V) (item : I) (state : State V) → JudgesState verdict_of item state → ((v : V) → state ≡ FiledState v → ⊥) → ⊥
+pub not_judged : {I V : Type 0} (verdict_of : I → V) (item : I) (state : TicketState V) → JudgesState verdict_of item state → ((v : V) → state ≡ FiledState v → ⊥) → ⊥
 not_judged verdict_of item Issued right none = right
 not_judged verdict_of item Claimed right none = right
 not_judged verdict_of item (FiledState v) right none = none v refl

@@ -9,7 +9,7 @@ use io_edges::FreeGate;
 use std::alloc::Global;
 use std::sync::atomic::{AtomicU64, Ordering};
 use std::test::Fail;
-use steal_pool::{OwnRow, PoolCount, PoolFault, Taken, run_tree_counted};
+use steal_pool::{OwnRow, PoolCount, PoolFault, StealOutcome, run_tree_counted};
 use verdict_book::{Filed, JudgeShare, Work, walk_tree};
 
 /// The items 0 to 6: each below 3 has two children. The verdict is half the item. It counts its judging calls, and at one
@@ -132,10 +132,10 @@ fn tickets_leave_a_deque_in_their_order(rt: HostRuntime) -> Result<(), Fail> {
         assert!(rt; own.push(ticket).is_ok());
     }
     let mut thief = own.other()?;
-    assert_eq!(rt; thief.steal(), Taken::Ticket(0));
+    assert_eq!(rt; thief.steal(), StealOutcome::Ticket(0));
     assert_eq!(rt; own.pop(), Some(1));
     let mut split = own.split()?;
-    assert_eq!(rt; split.steal(), Taken::Ticket(2));
+    assert_eq!(rt; split.steal(), StealOutcome::Ticket(2));
     own.join(split);
     assert_eq!(rt; own.held(), 1);
     Ok(())

@@ -13,44 +13,44 @@ use std::marker::Model;
 
 /// A file: its octets, and how many calls failed at it.
 #[derive(Drop)]
-pub(crate) struct Kept {
+pub(crate) struct StoredFile {
     pub octets: Octets,
     pub failures: u64,
 }
 
 /// Files by name.
 #[derive(Drop)]
-pub(crate) struct Shelf {
+pub(crate) struct NamedFiles {
     alloc: Global,
-    files: BTreeMap<String, Kept>,
+    files: BTreeMap<String, StoredFile>,
 }
 
-impl Model for Shelf {
+impl Model for NamedFiles {
     ghost use Rattle.io_edges.specs.MemoryFiles.{FileMap, file_map_code};
-    ghost use Rattle.io_edges.specs.Shelf.{shelf_of};
+    ghost use Rattle.io_edges.specs.NamedFiles.{files_by_name};
 
     ghost Value = { FileMap };
 
     ghost coded = { file_map_code };
 
-    ghost view = { λ shelf. shelf_of shelf.files.entries };
+    ghost view = { λ all. files_by_name all.files.entries };
 }
 
-impl Shelf {
-    ghost use Rattle.io_edges.specs.Shelf.{stored};
+impl NamedFiles {
+    ghost use Rattle.io_edges.specs.NamedFiles.{stored};
 
     /// No file.
-    pub fn new(alloc: Global) -> Shelf
+    pub fn new(alloc: Global) -> NamedFiles
         ensures { result ≡ map.empty }
     {
-        Shelf {
+        NamedFiles {
             alloc,
             files: BTreeMap::new(alloc),
         }
     }
 
     /// The file with this name, if there is one.
-    pub fn get(&self, name: &str) -> Option<&Kept>
+    pub fn get(&self, name: &str) -> Option<&StoredFile>
         ensures { option_map stored (option_copied result) ≡ map.get self.now name.now }
     {
         self.files.get(name)
@@ -62,8 +62,8 @@ impl Shelf {
         ensures counted { self.new ≡ with_failure self.old name.now }
     {
         match self.files.get_mut(name) {
-            Some(kept) => {
-                kept.failures = raise(kept.failures);
+            Some(file) => {
+                file.failures = raise(file.failures);
                 true
             }
             None => false,
@@ -87,7 +87,7 @@ impl Shelf {
         ensures err { OnErr result (self.new ≡ self.old) }
     {
         let name = String::from_str(self.alloc, name)?;
-        self.files.insert(name, Kept { octets, failures })?;
+        self.files.insert(name, StoredFile { octets, failures })?;
         Ok(())
     }
 }

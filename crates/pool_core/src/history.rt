@@ -4,7 +4,7 @@ use crate::event::StopCause;
 
 /// An entry in the history of the verdict book, which knows no worker.
 #[derive(Clone, Copy, Debug, PartialEq, Eq)]
-pub enum Entry {
+pub enum HistoryEntry {
     /// The ticket was claimed.
     Claim { ticket: u32 },
     /// The ticket was filed, and the next `children` numbers were issued.

@@ -1,7 +1,7 @@
 use Rattle.std.proofs.Common.{◌≡◌, take, All}
 use Rattle.label_graph.specs.Graphs.{IsLiveBelow}
 use Rattle.label_graph.proofs.NextNames.{labels_of}
-use Rattle.label_graph.proofs.next.next_of_all.Given as goal
+use Rattle.label_graph.proofs.next.next_names.Given as goal
 
 -- the labels passed were put, with what is live there
 abbrev pub invariant-loop-label : goal.invariant-loop-label

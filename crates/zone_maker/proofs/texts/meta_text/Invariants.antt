@@ -3,7 +3,7 @@ use Rattle.std.proofs.Common.{◌≡◌, ◌++◌, codes, flat_map}
 use Rattle.std.specs.List.{range_with_len}
 use Rattle.std.specs.String.{string_bytes}
 use Rattle.zone_maker.specs.Drill.{meta_row}
-use Rattle.zone_maker.proofs.texts.meta_rows.Given as goal
+use Rattle.zone_maker.proofs.texts.meta_text.Given as goal
 
 abbrev pub invariant-loop-i : goal.invariant-loop-i
 invariant-loop-i l =
