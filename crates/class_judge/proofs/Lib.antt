@@ -9,7 +9,6 @@ pub mod FiledRows
 pub mod FirstFound
 pub mod FirstWalksShow
 pub mod FollowedAlike
-pub mod FoundNothing
 pub mod FoundRight
 pub mod JudgedItems
 pub mod LiveInEach
@@ -22,6 +21,7 @@ pub mod ReportEntry
 pub mod ReportPassed
 pub mod ReportSetup
 pub mod ReportSize
+pub mod Rising
 pub mod ServerGraphs
 pub mod ShowsDecided
 pub mod StraightVerdicts

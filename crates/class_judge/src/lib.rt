@@ -14,24 +14,18 @@
 
 mod classes;
 mod entries;
-mod faults;
-mod filed_verdict;
-mod found;
 mod judge;
 pub mod laws;
-mod least;
 mod naming;
 mod passed;
 mod prepare;
 mod report;
-mod rows;
 mod setup;
 mod tree_name;
 mod verdict;
 
-pub use filed_verdict::FiledVerdict;
 pub use judge::Judge;
 pub use naming::Naming;
 pub use report::ReportFault;
 pub use tree_name::TreeName;
-pub use verdict::{ClassVerdict, NameVerdict};
+pub use verdict::{ClassVerdict, FiledVerdict, NameVerdict};

@@ -1,8 +1,23 @@
-use Rattle.std.proofs.Common.{sym, subst}
-use Rattle.class_judge.specs.Entries.{IsEntryOf}
+use Rattle.std.proofs.Common.{List, Some, sym, subst}
+use Rattle.std.specs.Prelude.{slice_get}
+use Rattle.net_model.specs.Step.{following}
+use Rattle.net_model.specs.declared.walk.Walk.{Walk}
+use Rattle.class_judge.proofs.ReportEntry.{fault_shown, is_entry}
 use Rattle.class_judge.proofs.entries.entry_of.Goals as goal
 
-pub returns-in-Ok : goal.returns-in-Ok
-returns-in-Ok c =
+pub trails-requires-clause-of_query : goal.trails-requires-clause-of_query
+trails-requires-clause-of_query c =
+    let of = c.requires.walked.of_query in
+    (following c.args.setup.now.trees c.args.setup.now.rewrites of.followed, c.args.walked.now.query, of.is_graph)
+
+pub trails-requires-clause-shown : goal.trails-requires-clause-shown
+trails-requires-clause-shown c =
     let setup = c.args.setup.now in
-    subst (IsEntryOf setup.trees setup.rewrites c.args.found) (sym c.entry_with.ensures) c.in-Ok.ensures
+    fault_shown setup.trees setup.rewrites c.args.found c.requires.right c.args.walked.now c.requires.walked c.requires.class
+
+pub returns : goal.returns
+returns c =
+    let setup = c.args.setup.now in
+    is_entry setup.trees setup.rewrites c.args.found c.requires.right c.args.walked.now c.requires.walked c.requires.class
+    c.in_ok-repeats.repeats c.in_ok-walks.walks c.in_ok-walks.ensures
+    (λ first at. c.in_ok-repeats.ensures first (subst (λ (walks : List Walk). slice_get walks 0 ≡ Some first) (sym c.items.ensures) at))
