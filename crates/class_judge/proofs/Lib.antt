@@ -9,6 +9,7 @@ pub mod FiledRows
 pub mod FirstFound
 pub mod FirstWalksShow
 pub mod FollowedAlike
+pub mod FoundNothing
 pub mod FoundRight
 pub mod JudgedItems
 pub mod LiveInEach

@@ -4,6 +4,7 @@ use Rattle.std.specs.List.{AllZip, AllByRecursion}
 use Rattle.std.specs.Ordering.{is_lt}
 use Rattle.std.specs.declared.cmp.Ordering.TheVariants.{Less}
 use Rattle.class_judge.specs.Carried.{whole, SomeClassShows}
+use Rattle.class_judge.specs.declared.entries.EntryParts.{EntryParts}
 use Rattle.class_judge.specs.declared.entries.Found.{Found}
 use Rattle.class_judge.specs.declared.entries.Walked.{Walked}
 use Rattle.dns_data.specs.Name.{Labels}
@@ -50,6 +51,10 @@ IsFirstClass config rewrites found =
 pub record IsEntryOf (config : Config) (rewrites : ℕ) (found : Found) (entry : ReportEntry) : Type 0 where
   pub seen_is : entry.seen ≡ found.seen
   pub is_entry : IsFirstClass config rewrites found → IsEntry (whole config rewrites) entry
+
+-- the entry of a fault with these parts
+abbrev pub entry_with : Found → EntryParts → ReportEntry
+entry_with found parts = record { seen = found.seen; query = parts.query; repeats = parts.repeats; walks = parts.walks }
 
 -- one for each, in turn
 abbrev pub AreEntriesOf : Config → ℕ → List Found → List ReportEntry → Type 0

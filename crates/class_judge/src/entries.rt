@@ -4,7 +4,7 @@ ghost use Rattle.std.specs.Prelude.{◌≡◌, ◌++◌, All, IfOk, IfSome, IsPe
 ghost use Rattle.std.specs.List.Sorted.{IsSortedBy};
 ghost use Rattle.std.proofs.lemmas.Cmp.{on_total};
 ghost use Rattle.class_judge.specs.Carried.{whole};
-ghost use Rattle.class_judge.specs.Entries.{AreEntries, AreEntriesOf, IsEntryOf, IsLeastGraph, IsRightFound, IsWalked, is_before};
+ghost use Rattle.class_judge.specs.Entries.{AreEntries, AreEntriesOf, IsEntryOf, IsLeastGraph, IsRightFound, IsWalked, entry_with, is_before};
 ghost use Rattle.class_judge.specs.Passed.{SomeClassPasses};
 ghost use Rattle.class_judge.specs.Rows.{AreRows, class_rank, found_at, found_fault, found_in, found_of};
 ghost use Rattle.class_judge.specs.Setup.{IsSetup};
@@ -17,22 +17,22 @@ ghost use Rattle.net_model.specs.declared.walk.Walk.{Walk as WalkValue};
 ghost use Rattle.net_model.proofs.FaultOrder.{classes_total};
 
 use crate::classes::{graph_in_least, graph_of, representative_below};
-use crate::judge::Judge;
 use crate::naming::Naming;
 use crate::setup::Setup;
-use crate::verdict::{ClassVerdict, NameVerdict};
+use crate::tree_name::TreeName;
+use crate::verdict::{ClassVerdict, FiledVerdict, NameVerdict};
 use dns_data::{List, Name, NoMemory};
 use graph_form::{Graph, OfFault, ReportEntry, Seen, first_of_each, repeats, trails};
 use interp_graph::GraphFault;
 use net_model::{Class, Fault, Walk};
 use std::alloc::Global;
 use std::cmp::Ordering;
-use verdict_book::Filed;
+use verdict_book::{Filed, Work};
 
 /// The entries of the faults that the classes of the names show, in fault order, where no class passes the limit.
-pub(crate) fn entries_of<N: Naming + Send>(
+pub(crate) fn entries_of<N: Naming, W: Work<Item = TreeName<N>, Verdict = FiledVerdict>>(
     setup: &Setup<'_>,
-    filed: List<Filed<Judge<'_, N>>>,
+    filed: List<Filed<W>>,
 ) -> Result<List<ReportEntry>, NoMemory>
     requires setup { IsSetup setup.now }
     requires rows { AreRows setup.now.trees setup.now.rewrites setup.now.states filed }
@@ -71,24 +71,38 @@ impl OfFault for Found {
 }
 
 /// The faults of the names, each with its class.
-fn found_of<N: Naming + Send>(
+fn found_of<N: Naming, W: Work<Item = TreeName<N>, Verdict = FiledVerdict>>(
     alloc: Global,
-    filed: List<Filed<Judge<'_, N>>>,
+    filed: List<Filed<W>>,
 ) -> Result<List<Found>, NoMemory>
-    ensures { IfOk result (λ found. found ≡ found_of filed.entry) }
+    ensures { IfOk result (λ found. found ≡ found_of filed) }
 {
     let mut found = List::new(alloc);
     for one in filed {
         let Filed { item, verdict } = one;
-        if let Some(told) = verdict.into_told() {
-            put_name(alloc, item.into_name(), told, &mut found)?;
-        }
+        put_name(alloc, item.into_name(), verdict, &mut found)?;
     }
     Ok(found)
 }
 
 /// Puts the faults of the classes of a name at the end.
+#[tactic(auto, using(crate::proofs::FoundNothing::none_found))]
 fn put_name(
+    alloc: Global,
+    name: Name,
+    verdict: FiledVerdict,
+    found: &mut List<Found>,
+) -> Result<(), NoMemory>
+    ensures { OnOk result (found.new ≡ found.old ++ found_at name verdict) }
+{
+    match verdict.into_told() {
+        Some(verdict) => put_classes(alloc, name, verdict, found),
+        None => Ok(()),
+    }
+}
+
+/// Puts the faults of the class of a name alone and of the class below it at the end.
+fn put_classes(
     alloc: Global,
     name: Name,
     verdict: NameVerdict,
@@ -142,6 +156,7 @@ struct Walked {
 
 /// The entries of faults with their classes, one for each. A graph is made where the class is another than that of the fault
 /// before: once for each class, if the faults of one class stand together.
+#[tactic(none)]
 fn entries_by_class(setup: &Setup<'_>, found: List<Found>) -> Result<List<ReportEntry>, NoMemory>
     requires setup { IsSetup setup.now }
     requires none_passes { SomeClassPasses setup.now.trees setup.now.rewrites setup.now.states → ⊥ }
@@ -152,8 +167,8 @@ fn entries_by_class(setup: &Setup<'_>, found: List<Found>) -> Result<List<Report
     let mut last = None;
     for one in found {
         let walked = walked_for(setup, last, &one.class)?;
-        let entry = entry_of(setup, &walked, one)?;
-        entries.push(entry)?;
+        let parts = parts_of(setup, &walked, &one)?;
+        entries.push(entry_with(one, parts))?;
         last = Some(walked);
     }
     Ok(entries)
@@ -224,22 +239,41 @@ fn least_graph(setup: &Setup<'_>, query: &Name) -> Result<Graph, NoMemory>
     }
 }
 
-/// The entry of a fault with a class that shows it, whose walks these are.
-fn entry_of(setup: &Setup<'_>, walked: &Walked, found: Found) -> Result<ReportEntry, NoMemory>
+/// What an entry has beside its fault.
+#[derive(Drop)]
+struct EntryParts {
+    query: Name,
+    repeats: bool,
+    walks: List<Walk>,
+}
+
+/// What the entry of a fault has beside it, from the walks of the class that shows it.
+fn parts_of(setup: &Setup<'_>, walked: &Walked, found: &Found) -> Result<EntryParts, NoMemory>
     requires walked { IsWalked setup.now.trees setup.now.rewrites walked.now }
-    requires class { walked.now.class ≡ found.class }
-    requires right { IsRightFound setup.now.trees setup.now.rewrites found }
-    ensures { IfOk result (IsEntryOf setup.now.trees setup.now.rewrites found) }
+    requires class { walked.now.class ≡ found.now.class }
+    requires right { IsRightFound setup.now.trees setup.now.rewrites found.now }
+    ensures { IfOk result (λ parts. IsEntryOf setup.now.trees setup.now.rewrites found.now (entry_with found.now parts)) }
 {
     let query = walked.query.copy(setup.alloc)?;
     let walks = trails(setup.alloc, &walked.graph, &found.seen)?;
     let repeats = repeated(setup.alloc, walks.items())?;
-    Ok(ReportEntry {
-        seen: found.seen,
+    Ok(EntryParts {
         query,
         repeats,
         walks,
     })
+}
+
+/// The entry of a fault with these parts.
+fn entry_with(found: Found, parts: EntryParts) -> ReportEntry
+    ensures { result ≡ entry_with found parts }
+{
+    ReportEntry {
+        seen: found.seen,
+        query: parts.query,
+        repeats: parts.repeats,
+        walks: parts.walks,
+    }
 }
 
 /// Whether the first of the walks comes to a server twice with one name.

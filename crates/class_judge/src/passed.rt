@@ -9,17 +9,17 @@ ghost use Rattle.net_model.specs.Reading.{ground_of};
 ghost use Rattle.query_classes.specs.Children.{IsInTree};
 
 use crate::classes::representative_below;
-use crate::judge::Judge;
 use crate::naming::Naming;
 use crate::setup::Setup;
+use crate::tree_name::TreeName;
 use crate::verdict::FiledVerdict;
 use dns_data::{Name, NoMemory};
-use verdict_book::Filed;
+use verdict_book::{Filed, Work};
 
 /// The first representative that reaches more pairs, or `None` where none does.
-pub(crate) fn first_passed<N: Naming + Send>(
+pub(crate) fn first_passed<N: Naming, W: Work<Item = TreeName<N>, Verdict = FiledVerdict>>(
     setup: &Setup<'_>,
-    filed: &[Filed<Judge<'_, N>>],
+    filed: &[Filed<W>],
 ) -> Result<Option<Name>, NoMemory>
     requires setup { IsSetup setup.now }
     requires rows { AreRows setup.now.trees setup.now.rewrites setup.now.states filed.now }

@@ -14,10 +14,12 @@ use crate::judge::Judge;
 use crate::naming::Naming;
 use crate::passed::first_passed;
 use crate::setup::Setup;
+use crate::tree_name::TreeName;
+use crate::verdict::FiledVerdict;
 use dns_data::{List, Name, NoMemory};
 use graph_form::Report;
 use thiserror::Error;
-use verdict_book::Filed;
+use verdict_book::{Filed, Work};
 
 /// Why a report isn't given.
 #[derive(Debug, Drop, Error)]
@@ -55,9 +57,9 @@ impl<'a, N: Naming + Send> Judge<'a, N> {
 }
 
 /// The report from the names of the class tree with their verdicts.
-fn report_of<N: Naming + Send>(
+fn report_of<N: Naming, W: Work<Item = TreeName<N>, Verdict = FiledVerdict>>(
     setup: &Setup<'_>,
-    filed: List<Filed<Judge<'_, N>>>,
+    filed: List<Filed<W>>,
 ) -> Result<Report, ReportFault>
     requires setup { IsSetup setup.now }
     requires rows { AreRows setup.now.trees setup.now.rewrites setup.now.states filed }
@@ -73,9 +75,9 @@ fn report_of<N: Naming + Send>(
 }
 
 /// The report from the names of the class tree with their verdicts, where no class passes the limit.
-fn report_with<N: Naming + Send>(
+fn report_with<N: Naming, W: Work<Item = TreeName<N>, Verdict = FiledVerdict>>(
     setup: &Setup<'_>,
-    filed: List<Filed<Judge<'_, N>>>,
+    filed: List<Filed<W>>,
 ) -> Result<Report, NoMemory>
     requires setup { IsSetup setup.now }
     requires rows { AreRows setup.now.trees setup.now.rewrites setup.now.states filed }
@@ -95,7 +97,9 @@ fn report_with<N: Naming + Send>(
 }
 
 /// How many of the classes below the names aren't empty.
-fn below_count<N: Naming + Send>(filed: &[Filed<Judge<'_, N>>]) -> usize
+fn below_count<N: Naming, W: Work<Item = TreeName<N>, Verdict = FiledVerdict>>(
+    filed: &[Filed<W>],
+) -> usize
     ensures value { result ≡ below_count filed.now }
     ensures within { result ≤ length filed.now }
 {

@@ -1,4 +1,5 @@
 use Rattle.std.proofs.Common.{List, sym, subst}
+use Rattle.class_judge.specs.Entries.{IsEntryOf}
 use Rattle.class_judge.specs.declared.entries.Found.{Found}
 use Rattle.class_judge.proofs.ReportEntry.{IsListing, listing_step, listing_ends, next_right}
 use Rattle.class_judge.proofs.entries.entries_by_class.Goals as goal
@@ -17,8 +18,8 @@ walked_for-requires-clause-some c =
     (subst (λ (left : List Found). IsListing setup.trees setup.rewrites c.args.found left c.loop-one.entries) c.in-Some.ensures.steps c.loop-one.invariant.listed) c.requires.right in
     (right.query, right.shows.represents)
 
-pub entry_of-requires-clause-right : goal.entry_of-requires-clause-right
-entry_of-requires-clause-right c =
+pub parts_of-requires-clause-right : goal.parts_of-requires-clause-right
+parts_of-requires-clause-right c =
     let setup = c.args.setup.now in
     next_right setup.trees setup.rewrites c.args.found c.next.new.self c.in-Some.one c.loop-one.entries
     (subst (λ (left : List Found). IsListing setup.trees setup.rewrites c.args.found left c.loop-one.entries) c.in-Some.ensures.steps c.loop-one.invariant.listed) c.requires.right
@@ -29,9 +30,9 @@ loop-one-preserved c =
     record {
       listed =
           subst (IsListing setup.trees setup.rewrites c.args.found c.next.new.self) (sym c.in_ok-push.ensures.ok)
-          (listing_step setup.trees setup.rewrites c.args.found c.next.new.self c.in-Some.one c.loop-one.entries c.in_ok-entry.entry
+          (listing_step setup.trees setup.rewrites c.args.found c.next.new.self c.in-Some.one c.loop-one.entries c.entry_with.result
           (subst (λ (left : List Found). IsListing setup.trees setup.rewrites c.args.found left c.loop-one.entries) c.in-Some.ensures.steps c.loop-one.invariant.listed)
-          c.in_ok-entry.ensures);
+          (subst (IsEntryOf setup.trees setup.rewrites c.in-Some.one) (sym c.entry_with.ensures) c.in_ok-parts.ensures));
       last = c.in_ok-walked.ensures.walked;
     }
 

@@ -7,6 +7,12 @@ use Rattle.class_judge.specs.Entries.{IsLeastGraph}
 use Rattle.class_judge.proofs.PassingNames.{sets_are}
 use Rattle.class_judge.proofs.entries.least_graph.Goals as goal
 
+pub unreachable-requires : goal.unreachable-requires
+unreachable-requires c =
+    let setup = c.args.setup.now in
+    let (deps, is, sets) = sets_are setup.trees setup.rewrites setup.states setup.sets c.requires.setup.sets c.requires.none_passes in
+    c.in_default.not-Some deps is
+
 pub graph_in_least-requires-clause-least : goal.graph_in_least-requires-clause-least
 graph_in_least-requires-clause-least c =
     let setup = c.args.setup.now in

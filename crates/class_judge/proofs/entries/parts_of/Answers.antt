@@ -1,9 +1,9 @@
-use Rattle.std.proofs.Common.{List, Some, sym, subst}
+use Rattle.std.proofs.Common.{◌≡◌, List, Some, sym, subst}
 use Rattle.std.specs.Prelude.{slice_get}
 use Rattle.net_model.specs.Step.{following}
 use Rattle.net_model.specs.declared.walk.Walk.{Walk}
 use Rattle.class_judge.proofs.ReportEntry.{fault_shown, is_entry}
-use Rattle.class_judge.proofs.entries.entry_of.Goals as goal
+use Rattle.class_judge.proofs.entries.parts_of.Goals as goal
 
 pub trails-requires-clause-of_query : goal.trails-requires-clause-of_query
 trails-requires-clause-of_query c =
@@ -13,11 +13,11 @@ trails-requires-clause-of_query c =
 pub trails-requires-clause-shown : goal.trails-requires-clause-shown
 trails-requires-clause-shown c =
     let setup = c.args.setup.now in
-    fault_shown setup.trees setup.rewrites c.args.found c.requires.right c.args.walked.now c.requires.walked c.requires.class
+    fault_shown setup.trees setup.rewrites c.args.found.now c.requires.right c.args.walked.now c.requires.walked c.requires.class
 
 pub returns : goal.returns
 returns c =
     let setup = c.args.setup.now in
-    is_entry setup.trees setup.rewrites c.args.found c.requires.right c.args.walked.now c.requires.walked c.requires.class
+    rw c.in_ok-query.ensures (is_entry setup.trees setup.rewrites c.args.found.now c.requires.right c.args.walked.now c.requires.walked c.requires.class
     c.in_ok-repeats.repeats c.in_ok-walks.walks c.in_ok-walks.ensures
-    (λ first at. c.in_ok-repeats.ensures first (subst (λ (walks : List Walk). slice_get walks 0 ≡ Some first) (sym c.items.ensures) at))
+    (λ first at. c.in_ok-repeats.ensures first (subst (λ (walks : List Walk). slice_get walks 0 ≡ Some first) (sym c.items.ensures) at)))
