@@ -184,11 +184,28 @@ fn walked_for(setup: &Setup<'_>, last: Option<Walked>, class: &Class) -> Result<
     ensures walked { IfOk result (IsWalked setup.now.trees setup.now.rewrites) }
     ensures class { IfOk result (λ walked. walked.class ≡ class.now) }
 {
-    if let Some(walked) = last {
-        if walked.class.compare(class).is_eq() {
-            return Ok(walked);
+    match last {
+        Some(walked) => {
+            if walked.class.compare(class).is_eq() {
+                Ok(walked)
+            } else {
+                drop(walked);
+                walked_of(setup, class)
+            }
         }
+        None => walked_of(setup, class),
     }
+}
+
+/// The walks of the representative of a class.
+fn walked_of(setup: &Setup<'_>, class: &Class) -> Result<Walked, NoMemory>
+    requires setup { IsSetup setup.now }
+    requires none_passes { SomeClassPasses setup.now.trees setup.now.rewrites setup.now.states → ⊥ }
+    requires is_class { IsClass (whole setup.now.trees setup.now.rewrites) class.now }
+    requires some { (query : Labels) × IsRepresentative (ground_of setup.now.trees) class.now query }
+    ensures walked { IfOk result (IsWalked setup.now.trees setup.now.rewrites) }
+    ensures class { IfOk result (λ walked. walked.class ≡ class.now) }
+{
     let query = query_of(setup, class)?;
     let graph = least_graph(setup, &query)?;
     let class = class.copy(setup.alloc)?;

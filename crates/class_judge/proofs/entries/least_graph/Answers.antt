@@ -1,6 +1,5 @@
-use Rattle.std.proofs.Common.{◌≡◌, ◌∙◌, List, sym, ap, subst}
+use Rattle.std.proofs.Common.{◌∙◌, sym, ap, subst}
 use Rattle.std.proofs.lemmas.Result.{IfOk-weaker}
-use Rattle.dns_data.specs.Name.{Labels}
 use Rattle.net_model.specs.Learnt.{IsLeast}
 use Rattle.net_model.specs.declared.deps.Deps.{Deps}
 use Rattle.class_judge.specs.Entries.{IsLeastGraph}

@@ -1,4 +1,4 @@
-use Rattle.std.proofs.Common.{◌≡◌, ◌∙◌, ℕ, ◌+◌, ◌≤◌, [], length, refl, sym, ap, subst, arith}
+use Rattle.std.proofs.Common.{◌+◌, ◌≤◌, [], length, refl, subst, arith}
 use Rattle.graph_form.specs.Report.{IsTreeSize}
 use Rattle.net_model.specs.Reading.{ground_of}
 use Rattle.class_judge.specs.Rows.{below_count}
