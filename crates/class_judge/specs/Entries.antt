@@ -1,5 +1,5 @@
 -- The entries of a report, each by the fault and the class for which it stands: for the contracts of inner calls alone.
-use Rattle.std.specs.Prelude.{◌≡◌, ◌≢◌, ℕ, ◌≤◌, Bool, List, map, Contains, AllPairs}
+use Rattle.std.specs.Prelude.{◌≡◌, ◌≢◌, ℕ, ◌≤◌, Bool, List, [], ◌∷◌, ◌++◌, map, Contains, AllPairs}
 use Rattle.std.specs.List.{AllZip, AllByRecursion}
 use Rattle.std.specs.Ordering.{is_lt}
 use Rattle.std.specs.declared.cmp.Ordering.TheVariants.{Less}
@@ -55,6 +55,10 @@ pub record IsEntryOf (config : Config) (rewrites : ℕ) (found : Found) (entry :
 -- the entry of a fault with these parts
 abbrev pub entry_with : Found → EntryParts → ReportEntry
 entry_with found parts = record { seen = found.seen; query = parts.query; repeats = parts.repeats; walks = parts.walks }
+
+-- the entry of the fault is put at the end
+abbrev pub IsPut : Config → ℕ → Found → List ReportEntry → List ReportEntry → Type 0
+IsPut config rewrites found old new = (entry : ReportEntry) × IsEntryOf config rewrites found entry × (new ≡ old ++ entry ∷ [])
 
 -- one for each, in turn
 abbrev pub AreEntriesOf : Config → ℕ → List Found → List ReportEntry → Type 0

@@ -4,7 +4,7 @@ ghost use Rattle.std.specs.Prelude.{◌≡◌, ◌++◌, All, IfOk, IfSome, IsPe
 ghost use Rattle.std.specs.List.Sorted.{IsSortedBy};
 ghost use Rattle.std.proofs.lemmas.Cmp.{on_total};
 ghost use Rattle.class_judge.specs.Carried.{whole};
-ghost use Rattle.class_judge.specs.Entries.{AreEntries, AreEntriesOf, IsEntryOf, IsLeastGraph, IsRightFound, IsWalked, entry_with, is_before};
+ghost use Rattle.class_judge.specs.Entries.{AreEntries, AreEntriesOf, IsEntryOf, IsLeastGraph, IsPut, IsRightFound, IsWalked, entry_with, is_before};
 ghost use Rattle.class_judge.specs.Passed.{SomeClassPasses};
 ghost use Rattle.class_judge.specs.Rows.{AreRows, class_rank, found_at, found_fault, found_in, found_of};
 ghost use Rattle.class_judge.specs.Setup.{IsSetup};
@@ -156,7 +156,6 @@ struct Walked {
 
 /// The entries of faults with their classes, one for each. A graph is made where the class is another than that of the fault
 /// before: once for each class, if the faults of one class stand together.
-#[tactic(none)]
 fn entries_by_class(setup: &Setup<'_>, found: List<Found>) -> Result<List<ReportEntry>, NoMemory>
     requires setup { IsSetup setup.now }
     requires none_passes { SomeClassPasses setup.now.trees setup.now.rewrites setup.now.states → ⊥ }
@@ -166,12 +165,30 @@ fn entries_by_class(setup: &Setup<'_>, found: List<Found>) -> Result<List<Report
     let mut entries = List::new(setup.alloc);
     let mut last = None;
     for one in found {
-        let walked = walked_for(setup, last, &one.class)?;
-        let parts = parts_of(setup, &walked, &one)?;
-        entries.push(entry_with(one, parts))?;
+        let walked = put_entry(setup, last, one, &mut entries)?;
         last = Some(walked);
     }
     Ok(entries)
+}
+
+/// Puts the entry of a fault with its class at the end, and gives the walks of that class, for the next one.
+fn put_entry(
+    setup: &Setup<'_>,
+    last: Option<Walked>,
+    found: Found,
+    entries: &mut List<ReportEntry>,
+) -> Result<Walked, NoMemory>
+    requires setup { IsSetup setup.now }
+    requires none_passes { SomeClassPasses setup.now.trees setup.now.rewrites setup.now.states → ⊥ }
+    requires last { IfSome last (IsWalked setup.now.trees setup.now.rewrites) }
+    requires right { IsRightFound setup.now.trees setup.now.rewrites found }
+    ensures walked { IfOk result (IsWalked setup.now.trees setup.now.rewrites) }
+    ensures put { OnOk result (IsPut setup.now.trees setup.now.rewrites found entries.old entries.new) }
+{
+    let walked = walked_for(setup, last, &found.class)?;
+    let parts = parts_of(setup, &walked, &found)?;
+    entries.push(entry_with(found, parts))?;
+    Ok(walked)
 }
 
 /// The walks of the representative of a class: the last ones, where these are of this class, or else new ones.
