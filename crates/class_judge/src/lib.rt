@@ -9,7 +9,8 @@
 //! be judged, and judging copies neither the name nor its live set. Judging a name makes a graph for each of its classes, which
 //! is dropped when its faults are found: a verdict keeps no walk, and takes no memory of its own where no class of the name
 //! shows a fault. No graph is made where the representative's walks are seen to go straight to their ends, and it is restricted
-//! to the least set of learnt addresses only where some configured server is neither in that set nor a top server.
+//! to the least set of learnt addresses only where some configured server is neither in that set nor a top server. The report
+//! makes one graph more for each class that is the first to show some fault, and finds the first walks of all these faults in it.
 #![tactic(auto)]
 
 mod classes;
