@@ -103,5 +103,11 @@ fn below_count<N: Naming, W: Work<Item = TreeName<N>, Verdict = FiledVerdict>>(
     ensures value { result ≡ below_count filed.now }
     ensures within { result ≤ length filed.now }
 {
-    filed.iter().filter(|one| one.verdict.has_below()).count()
+    let mut count = 0;
+    for one in filed {
+        if one.verdict.has_below() {
+            count += 1;
+        }
+    }
+    count
 }
