@@ -1,5 +1,5 @@
 -- The entry of a fault with the walks of a class that shows it.
-use Rattle.std.proofs.Common.{◌≡◌, ◌∙◌, ℕ, ◌≤◌, List, [], ◌∷◌, ◌++◌, All, Contains, Some, sym, refl, subst, append_assoc, append-nil}
+use Rattle.std.proofs.Common.{◌≡◌, ◌∙◌, ℕ, ◌≤◌, List, [], ◌∷◌, ◌++◌, All, Contains, Some, sym, ap, refl, subst, append_assoc, append-nil}
 use Rattle.std.specs.Prelude.{slice_get, Bool}
 use Rattle.std.proofs.lemmas.List.Elements.{All-contains, Contains-append_right}
 use Rattle.dns_data.specs.Name.{Labels}
@@ -18,7 +18,7 @@ use Rattle.net_model.specs.Reading.{ground_of}
 use Rattle.net_model.specs.Shown.{Shows, ShowsIn, with_sets}
 use Rattle.net_model.specs.Step.{Setting, following}
 use Rattle.net_model.proofs.TrialOrder.{one_representative}
-use Rattle.class_judge.specs.Entries.{AreEntriesOf, IsEntryOf, IsRightFound, IsWalked}
+use Rattle.class_judge.specs.Entries.{AreEntriesOf, IsEntryOf, IsPut, IsRightFound, IsWalked}
 use Rattle.class_judge.specs.declared.entries.Found.{Found}
 use Rattle.class_judge.specs.declared.entries.Walked.{Walked}
 use Rattle.class_judge.proofs.FirstWalksShow.{AreFirstWalks, shows_with, graph_shows, first_walks}
@@ -76,22 +76,26 @@ pub record IsListing (config : Config) (rewrites : ℕ) (all left : List Found) 
   pub is : all ≡ done ++ left
   pub are : AreEntriesOf config rewrites done entries
 
-module _ (config : Config) (rewrites : ℕ) (all : List Found) where
-  pub listing_step : (left : List Found) (found : Found) (entries : List ReportEntry) (entry : ReportEntry) → IsListing config rewrites all (found ∷ left) entries
-      → IsEntryOf config rewrites found entry → IsListing config rewrites all left (entries ++ entry ∷ [])
-  listing_step left found entries entry listing is =
+module _ (config : Config) (rewrites : ℕ) (all left rest : List Found) (found : Found) (entries : List ReportEntry)
+    (next : left ≡ found ∷ rest) (listing : IsListing config rewrites all left entries) where
+  pub listing_step : (more : List ReportEntry) → IsPut config rewrites found entries more → IsListing config rewrites all rest more
+  listing_step more (entry, is, put) =
       record {
         done = listing.done ++ found ∷ [];
-        is = listing.is ∙ sym (append_assoc listing.done (found ∷ []) left);
-        are = beside_pushed (IsEntryOf config rewrites) listing.done entries found entry listing.are is;
+        is = listing.is ∙ ap (λ (l : List Found). listing.done ++ l) next ∙ sym (append_assoc listing.done (found ∷ []) rest);
+        are =
+            subst (AreEntriesOf config rewrites (listing.done ++ found ∷ [])) (sym put)
+            (beside_pushed (IsEntryOf config rewrites) listing.done entries found entry listing.are is);
       }
 
   -- the next is one of them
-  pub next_right : (left : List Found) (found : Found) (entries : List ReportEntry) → IsListing config rewrites all (found ∷ left) entries
-      → All (IsRightFound config rewrites) all → IsRightFound config rewrites found
-  next_right left found entries listing right =
+  pub next_right : All (IsRightFound config rewrites) all → IsRightFound config rewrites found
+  next_right right =
       All-contains (IsRightFound config rewrites) all found right
-      (subst (λ (l : List Found). Contains l found) (sym listing.is) (Contains-append_right listing.done (found ∷ left) found (has_first found left)))
+      (subst (λ (l : List Found). Contains l found) (sym (listing.is ∙ ap (λ (l : List Found). listing.done ++ l) next))
+      (Contains-append_right listing.done (found ∷ rest) found (has_first found rest)))
 
-  pub listing_ends : (entries : List ReportEntry) → IsListing config rewrites all [] entries → AreEntriesOf config rewrites all entries
-  listing_ends entries listing = subst (λ (l : List Found). AreEntriesOf config rewrites l entries) (sym (listing.is ∙ append-nil listing.done)) listing.are
+pub listing_ends : (config : Config) (rewrites : ℕ) (all left : List Found) (entries : List ReportEntry) → left ≡ [] → IsListing config rewrites all left entries
+    → AreEntriesOf config rewrites all entries
+listing_ends config rewrites all left entries none listing =
+    subst (λ (l : List Found). AreEntriesOf config rewrites l entries) (sym (listing.is ∙ ap (λ (l : List Found). listing.done ++ l) none ∙ append-nil listing.done)) listing.are
