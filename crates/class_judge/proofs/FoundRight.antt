@@ -25,7 +25,7 @@ use Rattle.class_judge.specs.Passed.{SomeClassPasses}
 use Rattle.class_judge.specs.Rows.{AreRows, Row, found_at, found_below, found_in, found_of}
 use Rattle.class_judge.specs.Setup.{AreSets}
 use Rattle.class_judge.specs.Verdict.{PassesStates, AreFaultsOf, IsClassVerdict, IsBelowVerdict, IsNameVerdict}
-use Rattle.class_judge.specs.declared.entries.Found.{Found}
+use Rattle.class_judge.specs.declared.entries.ClassFault.{ClassFault}
 use Rattle.class_judge.specs.declared.verdict.ClassVerdict.{ClassVerdict}
 use Rattle.class_judge.specs.declared.verdict.ClassVerdict.TheVariants.{Faults, StatesPassed}
 use Rattle.class_judge.proofs.FirstWalksShow.{shows_with}
@@ -36,10 +36,10 @@ module _ {W : Type 0} (config : Config) (rewrites states : ℕ) (rows : List (Ro
   followed = deps.least
 
   -- the faults of the classes of a row
-  abbrev told_at : Row W → List Found
+  abbrev told_at : Row W → List ClassFault
   told_at row = found_at row.item row.verdict
 
-  abbrev found : Class → Seen → Found
+  abbrev found : Class → Seen → ClassFault
   found class seen = record { seen = seen; class = class }
 
   shown_of : (query : Labels) (shown : List Seen) → AreFaultsOf config rewrites states query shown
@@ -54,7 +54,7 @@ module _ {W : Type 0} (config : Config) (rewrites states : ℕ) (rows : List (Ro
 
   right_in : (class : Class) (query : Labels) (verdict : ClassVerdict) → IsClass (whole config rewrites) class
       → IsRepresentative (ground_of config) class query → IsClassVerdict config rewrites states query verdict
-      → (one : Found) → Contains (found_in class verdict) one → IsRightFound config rewrites one
+      → (one : ClassFault) → Contains (found_in class verdict) one → IsRightFound config rewrites one
   right_in class query StatesPassed is_class represents is one has = absurd (none_in_nil one has)
   right_in class query (Faults shown) is_class represents (few, faults) one has =
       let (seen, among, same) = from_map (found class) shown one has in
@@ -88,7 +88,7 @@ module _ {W : Type 0} (config : Config) (rewrites states : ℕ) (rows : List (Ro
       let named = (are.tree.all row.item).0 (map_has (λ (r : Row W). r.item) rows row has) in
       record { named = named.0; is_name = named.1; within = refl }
 
-  pub found_is_right : (one : Found) → Contains (found_of rows) one → IsRightFound config rewrites one
+  pub found_is_right : (one : ClassFault) → Contains (found_of rows) one → IsRightFound config rewrites one
   found_is_right one has = by (from_flat_map told_at rows one has) where
     of_below : (row : Row W) → Contains rows row → (below : Option ClassVerdict) → IsBelowVerdict config rewrites states row.item below
         → Contains (found_below row.item below) one → IsRightFound config rewrites one
@@ -106,18 +106,18 @@ module _ {W : Type 0} (config : Config) (rewrites states : ℕ) (rows : List (Ro
   -- ---- what is shown is found
 
   abbrev IsIn : Class → Fault → Type 0
-  IsIn class fault = (one : Found) × Contains (found_of rows) one × ((one.seen.fault ≡ fault) × (one.class ≡ class))
+  IsIn class fault = (one : ClassFault) × Contains (found_of rows) one × ((one.seen.fault ≡ fault) × (one.class ≡ class))
 
   found_for : (class : Class) (query : Labels) (rtype : RrType) (fault : Fault) (verdict : ClassVerdict) → (PassesStates config rewrites states query → ⊥)
       → IsClassVerdict config rewrites states query verdict → ShowsIn config rewrites query rtype fault
-      → (one : Found) × Contains (found_in class verdict) one × ((one.seen.fault ≡ fault) × (one.class ≡ class))
+      → (one : ClassFault) × Contains (found_in class verdict) one × ((one.seen.fault ≡ fault) × (one.class ≡ class))
   found_for class query rtype fault StatesPassed few passes shows = absurd (few passes)
   found_for class query rtype fault (Faults shown) few (also, faults) shows =
       let all = shown_of query shown faults in
       let (seen, among, same) = from_map (λ (s : Seen). s.fault) shown fault (all.all_shown fault rtype refl (shows_in query rtype fault shows)) in
       (found class seen, map_has (found class) shown seen among, (same, refl))
 
-  in_rows : (row : Row W) → Contains rows row → (one : Found) → Contains (told_at row) one → Contains (found_of rows) one
+  in_rows : (row : Row W) → Contains rows row → (one : ClassFault) → Contains (told_at row) one → Contains (found_of rows) one
   in_rows row has one inside = flat_map_has told_at rows row one has inside
 
   pub shown_is_found : (class : Class) (query : Labels) (rtype : RrType) (fault : Fault)
@@ -142,7 +142,7 @@ module _ {W : Type 0} (config : Config) (rewrites states : ℕ) (rows : List (Ro
     where
       by : (row : Row W) → Contains rows row → row.item ≡ name → IsRepresentative (ground_of config) (Below row.item) query
           → (below : Option ClassVerdict) → IsBelowVerdict config rewrites states row.item below
-          → ((one : Found) → Contains (found_below row.item below) one → Contains (found_of rows) one) → IsIn (Below name) fault
+          → ((one : ClassFault) → Contains (found_below row.item below) one → Contains (found_of rows) one) → IsIn (Below name) fault
       by row has same represents None empty within = absurd (empty query represents)
       by row has same represents (Some verdict) (own, stands, is) within =
           let query_is : query ≡ own = one_representative (ground_of config) (Below row.item) query own represents stands in

@@ -19,11 +19,11 @@ use Rattle.net_model.specs.Shown.{Shows, ShowsIn, with_sets}
 use Rattle.net_model.specs.Step.{Setting, following}
 use Rattle.net_model.proofs.TrialOrder.{one_representative}
 use Rattle.class_judge.specs.Entries.{AreEntriesOf, IsEntryOf, IsPut, IsRightFound, IsWalked}
-use Rattle.class_judge.specs.declared.entries.Found.{Found}
+use Rattle.class_judge.specs.declared.entries.ClassFault.{ClassFault}
 use Rattle.class_judge.specs.declared.entries.Walked.{Walked}
 use Rattle.class_judge.proofs.FirstWalksShow.{AreFirstWalks, shows_with, graph_shows, first_walks}
 
-module _ (config : Config) (rewrites : ℕ) (found : Found) (right : IsRightFound config rewrites found)
+module _ (config : Config) (rewrites : ℕ) (found : ClassFault) (right : IsRightFound config rewrites found)
     (walked : Walked) (is : IsWalked config rewrites walked) (same : walked.class ≡ found.class) where
   abbrev setting : Setting
   setting = following config rewrites is.of_query.followed
@@ -71,18 +71,18 @@ module _ (config : Config) (rewrites : ℕ) (found : Found) (right : IsRightFoun
 -- ---- the entries
 
 -- of what was passed over these are the entries
-pub record IsListing (config : Config) (rewrites : ℕ) (all left : List Found) (entries : List ReportEntry) : Type 0 where
-  pub done : List Found
+pub record IsListing (config : Config) (rewrites : ℕ) (all left : List ClassFault) (entries : List ReportEntry) : Type 0 where
+  pub done : List ClassFault
   pub is : all ≡ done ++ left
   pub are : AreEntriesOf config rewrites done entries
 
-module _ (config : Config) (rewrites : ℕ) (all left rest : List Found) (found : Found) (entries : List ReportEntry)
+module _ (config : Config) (rewrites : ℕ) (all left rest : List ClassFault) (found : ClassFault) (entries : List ReportEntry)
     (next : left ≡ found ∷ rest) (listing : IsListing config rewrites all left entries) where
   pub listing_step : (more : List ReportEntry) → IsPut config rewrites found entries more → IsListing config rewrites all rest more
   listing_step more (entry, is, put) =
       record {
         done = listing.done ++ found ∷ [];
-        is = listing.is ∙ ap (λ (l : List Found). listing.done ++ l) next ∙ sym (append_assoc listing.done (found ∷ []) rest);
+        is = listing.is ∙ ap (λ (l : List ClassFault). listing.done ++ l) next ∙ sym (append_assoc listing.done (found ∷ []) rest);
         are =
             subst (AreEntriesOf config rewrites (listing.done ++ found ∷ [])) (sym put)
             (beside_pushed (IsEntryOf config rewrites) listing.done entries found entry listing.are is);
@@ -92,10 +92,10 @@ module _ (config : Config) (rewrites : ℕ) (all left rest : List Found) (found 
   pub next_right : All (IsRightFound config rewrites) all → IsRightFound config rewrites found
   next_right right =
       All-contains (IsRightFound config rewrites) all found right
-      (subst (λ (l : List Found). Contains l found) (sym (listing.is ∙ ap (λ (l : List Found). listing.done ++ l) next))
+      (subst (λ (l : List ClassFault). Contains l found) (sym (listing.is ∙ ap (λ (l : List ClassFault). listing.done ++ l) next))
       (Contains-append_right listing.done (found ∷ rest) found (has_first found rest)))
 
-pub listing_ends : (config : Config) (rewrites : ℕ) (all left : List Found) (entries : List ReportEntry) → left ≡ [] → IsListing config rewrites all left entries
+pub listing_ends : (config : Config) (rewrites : ℕ) (all left : List ClassFault) (entries : List ReportEntry) → left ≡ [] → IsListing config rewrites all left entries
     → AreEntriesOf config rewrites all entries
 listing_ends config rewrites all left entries none listing =
-    subst (λ (l : List Found). AreEntriesOf config rewrites l entries) (sym (listing.is ∙ ap (λ (l : List Found). listing.done ++ l) none ∙ append-nil listing.done)) listing.are
+    subst (λ (l : List ClassFault). AreEntriesOf config rewrites l entries) (sym (listing.is ∙ ap (λ (l : List ClassFault). listing.done ++ l) none ∙ append-nil listing.done)) listing.are

@@ -25,23 +25,23 @@ use Rattle.verdict_book.proofs.Places.{none_twice_permuted}
 use Rattle.class_judge.specs.Carried.{whole, SomeClassShows}
 use Rattle.class_judge.specs.Entries.{AreEntries, AreEntriesOf, IsEntryOf, IsFirstClass, is_before}
 use Rattle.class_judge.specs.Rows.{class_rank, found_fault}
-use Rattle.class_judge.specs.declared.entries.Found.{Found}
+use Rattle.class_judge.specs.declared.entries.ClassFault.{ClassFault}
 use Rattle.class_judge.proofs.Carrying.{whole_by_classes}
 use Rattle.class_judge.proofs.NameVerdicts.{in_class}
 use Rattle.class_judge.proofs.Rising.{none_twice, one_item, rises}
 
-module _ (config : Config) (rewrites : ℕ) (all first : List Found) (firsts : AreFirsts found_fault class_rank all first)
+module _ (config : Config) (rewrites : ℕ) (all first : List ClassFault) (firsts : AreFirsts found_fault class_rank all first)
     (complete : (class : Class) (query : Labels) (rtype : RrType) (fault : Fault) → ClassShows (whole config rewrites) class query rtype fault
-    → (one : Found) × Contains all one × ((one.seen.fault ≡ fault) × (one.class ≡ class))) where
+    → (one : ClassFault) × Contains all one × ((one.seen.fault ≡ fault) × (one.class ≡ class))) where
   -- no class before that of the first one shows the fault
-  first_class : (one : Found) → Contains first one → IsFirstClass config rewrites one
+  first_class : (one : ClassFault) → Contains first one → IsFirstClass config rewrites one
   first_class one has other query rtype shows =
       let (found, among, (fault_is, class_is)) = complete other query rtype one.seen.fault shows in
       let by : IsRanked found_fault class_rank first found = firsts.covers found among in
       let same : by.by ≡ one = one_item found_fault fault_cmp faults_total one_fault first firsts.ordered by.by one by.has has (by.fault_is ∙ fault_is) in
-      subst (λ (c : Class). class_cmp c one.class ≢ Less) class_is (subst (λ (f : Found). class_cmp found.class f.class ≢ Less) same by.not_later)
+      subst (λ (c : Class). class_cmp c one.class ≢ Less) class_is (subst (λ (f : ClassFault). class_cmp found.class f.class ≢ Less) same by.not_later)
 
-  faults_are : (some : List Found) (entries : List ReportEntry) → AreEntriesOf config rewrites some entries
+  faults_are : (some : List ClassFault) (entries : List ReportEntry) → AreEntriesOf config rewrites some entries
       → map (λ (e : ReportEntry). e.seen.fault) entries ≡ map found_fault some
   faults_are [] [] are = refl
   faults_are [] (entry ∷ entries) are = absurd are
@@ -51,7 +51,7 @@ module _ (config : Config) (rewrites : ℕ) (all first : List Found) (firsts : A
       ∙ ap (λ rest. one.seen.fault ∷ rest) (faults_are some entries are)
 
   -- the entries of the first ones were made in some order, and then put in fault order
-  module _ (some : List Found) (same : IsPermutation first some) (made : List ReportEntry) (are : AreEntriesOf config rewrites some made)
+  module _ (some : List ClassFault) (same : IsPermutation first some) (made : List ReportEntry) (are : AreEntriesOf config rewrites some made)
       (entries : List ReportEntry) (moved : IsPermutation made entries) (sorted : IsSortedBy is_before entries) where
     abbrev fault_of : ReportEntry → Fault
     fault_of entry = entry.seen.fault

@@ -5,7 +5,7 @@ use Rattle.std.specs.Ordering.{is_lt}
 use Rattle.std.specs.declared.cmp.Ordering.TheVariants.{Less}
 use Rattle.class_judge.specs.Carried.{whole, SomeClassShows}
 use Rattle.class_judge.specs.declared.entries.EntryParts.{EntryParts}
-use Rattle.class_judge.specs.declared.entries.Found.{Found}
+use Rattle.class_judge.specs.declared.entries.ClassFault.{ClassFault}
 use Rattle.class_judge.specs.declared.entries.Walked.{Walked}
 use Rattle.dns_data.specs.Name.{Labels}
 use Rattle.dns_data.specs.RrType.{number_of}
@@ -25,7 +25,7 @@ use Rattle.net_model.specs.Shown.{ShowsIn}
 use Rattle.net_model.specs.Step.{following}
 
 -- the class's representative shows the fault, first with this type
-pub record IsRightFound (config : Config) (rewrites : ℕ) (found : Found) : Type 0 where
+pub record IsRightFound (config : Config) (rewrites : ℕ) (found : ClassFault) : Type 0 where
   pub query : Labels
   pub shows : ClassShows (whole config rewrites) found.class query found.seen.rtype found.seen.fault
   pub first_type : (rtype : RrType) → ShowsIn config rewrites query rtype found.seen.fault → number_of found.seen.rtype ≤ number_of rtype
@@ -42,26 +42,26 @@ pub record IsWalked (config : Config) (rewrites : ℕ) (walked : Walked) : Type 
   pub of_query : IsLeastGraph config rewrites walked.query walked.graph
 
 -- no class before this one shows the fault
-abbrev pub IsFirstClass : Config → ℕ → Found → Type 0
+abbrev pub IsFirstClass : Config → ℕ → ClassFault → Type 0
 IsFirstClass config rewrites found =
     (other : Class) (query : Labels) (rtype : RrType) → ClassShows (whole config rewrites) other query rtype found.seen.fault
     → class_cmp other found.class ≢ Less
 
 -- the entry is that of the fault, where the class is the first that shows it
-pub record IsEntryOf (config : Config) (rewrites : ℕ) (found : Found) (entry : ReportEntry) : Type 0 where
+pub record IsEntryOf (config : Config) (rewrites : ℕ) (found : ClassFault) (entry : ReportEntry) : Type 0 where
   pub seen_is : entry.seen ≡ found.seen
   pub is_entry : IsFirstClass config rewrites found → IsEntry (whole config rewrites) entry
 
 -- the entry of a fault with these parts
-abbrev pub entry_with : Found → EntryParts → ReportEntry
+abbrev pub entry_with : ClassFault → EntryParts → ReportEntry
 entry_with found parts = record { seen = found.seen; query = parts.query; repeats = parts.repeats; walks = parts.walks }
 
 -- the entry of the fault is put at the end
-abbrev pub IsPut : Config → ℕ → Found → List ReportEntry → List ReportEntry → Type 0
+abbrev pub IsPut : Config → ℕ → ClassFault → List ReportEntry → List ReportEntry → Type 0
 IsPut config rewrites found old new = (entry : ReportEntry) × IsEntryOf config rewrites found entry × (new ≡ old ++ entry ∷ [])
 
 -- one for each, in turn
-abbrev pub AreEntriesOf : Config → ℕ → List Found → List ReportEntry → Type 0
+abbrev pub AreEntriesOf : Config → ℕ → List ClassFault → List ReportEntry → Type 0
 AreEntriesOf config rewrites found entries = AllZip (IsEntryOf config rewrites) found entries
 
 -- the one's fault is before that of the other

@@ -5,7 +5,7 @@ use Rattle.std.specs.declared.cmp.Ordering.{Ordering}
 use Rattle.std.specs.declared.cmp.Ordering.TheVariants.{Less}
 use Rattle.class_judge.specs.Passed.{ClassPasses}
 use Rattle.class_judge.specs.Verdict.{IsNameVerdict}
-use Rattle.class_judge.specs.declared.entries.Found.{Found}
+use Rattle.class_judge.specs.declared.entries.ClassFault.{ClassFault}
 use Rattle.class_judge.specs.declared.verdict.ClassVerdict.{ClassVerdict}
 use Rattle.class_judge.specs.declared.verdict.ClassVerdict.TheVariants.{Faults, StatesPassed}
 use Rattle.class_judge.specs.declared.verdict.NameVerdict.{NameVerdict}
@@ -69,30 +69,30 @@ IsPassedAt config rewrites states name found =
     MatchOption found (NonePassesAt config rewrites states name) (IsFirstPassedAt config rewrites states name)
 
 -- faults with their class
-abbrev pub with_class : Class → List Seen → List Found
+abbrev pub with_class : Class → List Seen → List ClassFault
 with_class class shown = map (λ seen. record { seen = seen; class = class }) shown
 
 -- the faults of a class
-abbrev pub found_in : Class → ClassVerdict → List Found
+abbrev pub found_in : Class → ClassVerdict → List ClassFault
 found_in class (Faults shown) = with_class class shown
 found_in class StatesPassed = []
 
-abbrev pub found_below : Labels → Option ClassVerdict → List Found
+abbrev pub found_below : Labels → Option ClassVerdict → List ClassFault
 found_below name None = []
 found_below name (Some verdict) = found_in (Below name) verdict
 
 -- those of the classes of a name
-abbrev pub found_at : Labels → NameVerdict → List Found
+abbrev pub found_at : Labels → NameVerdict → List ClassFault
 found_at name verdict = found_in (Exact name) verdict.exact ++ found_below name verdict.below
 
 -- those of all classes
-abbrev pub found_of : {W : Type 0} → List (Row W) → List Found
+abbrev pub found_of : {W : Type 0} → List (Row W) → List ClassFault
 found_of rows = flat_map (λ row. found_at row.item row.verdict) rows
 
 -- the fault
-abbrev pub found_fault : Found → Fault
+abbrev pub found_fault : ClassFault → Fault
 found_fault found = found.seen.fault
 
 -- the order of the classes that show one fault
-abbrev pub class_rank : Found → Found → Ordering
+abbrev pub class_rank : ClassFault → ClassFault → Ordering
 class_rank a b = class_cmp a.class b.class

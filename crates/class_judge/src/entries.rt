@@ -49,12 +49,12 @@ pub(crate) fn entries_of<N: Naming, W: Work<Item = TreeName<N>, Verdict = FiledV
 
 /// A fault with its first type, and a class that shows it.
 #[derive(Drop)]
-struct Found {
+struct ClassFault {
     seen: Seen,
     class: Class,
 }
 
-impl OfFault for Found {
+impl OfFault for ClassFault {
     ghost fault_of = { found_fault };
 
     ghost rank = { class_rank };
@@ -63,7 +63,7 @@ impl OfFault for Found {
         &self.seen.fault
     }
 
-    fn compare_rank(&self, other: &Found) -> Ordering {
+    fn compare_rank(&self, other: &ClassFault) -> Ordering {
         self.class.compare(&other.class)
     }
 
@@ -74,7 +74,7 @@ impl OfFault for Found {
 fn found_of<N: Naming, W: Work<Item = TreeName<N>, Verdict = FiledVerdict>>(
     alloc: Global,
     filed: List<Filed<W>>,
-) -> Result<List<Found>, NoMemory>
+) -> Result<List<ClassFault>, NoMemory>
     ensures { IfOk result (λ found. found ≡ found_of filed) }
 {
     let mut found = List::new(alloc);
@@ -91,7 +91,7 @@ fn put_name(
     alloc: Global,
     name: Name,
     verdict: FiledVerdict,
-    found: &mut List<Found>,
+    found: &mut List<ClassFault>,
 ) -> Result<(), NoMemory>
     ensures { OnOk result (found.new ≡ found.old ++ found_at name verdict) }
 {
@@ -106,7 +106,7 @@ fn put_classes(
     alloc: Global,
     name: Name,
     verdict: NameVerdict,
-    found: &mut List<Found>,
+    found: &mut List<ClassFault>,
 ) -> Result<(), NoMemory>
     ensures { OnOk result (found.new ≡ found.old ++ found_at name verdict) }
 {
@@ -124,21 +124,21 @@ fn put_class(
     alloc: Global,
     class: &Class,
     verdict: ClassVerdict,
-    found: &mut List<Found>,
+    found: &mut List<ClassFault>,
 ) -> Result<(), NoMemory>
     ensures { OnOk result (found.new ≡ found.old ++ found_in class.now verdict) }
 {
     if let ClassVerdict::Faults(shown) = verdict {
         for seen in shown {
             let class = class.copy(alloc)?;
-            found.push(Found { seen, class })?;
+            found.push(ClassFault { seen, class })?;
         }
     }
     Ok(())
 }
 
 /// The faults, those of one class one after the other.
-fn in_class_order(found: List<Found>) -> Result<List<Found>, NoMemory>
+fn in_class_order(found: List<ClassFault>) -> Result<List<ClassFault>, NoMemory>
     ensures { IfOk result (IsPermutation found) }
 {
     let mut sorted = found.into_vec();
@@ -156,7 +156,7 @@ struct Walked {
 
 /// The entries of faults with their classes, one for each. A graph is made where the class is another than that of the fault
 /// before: once for each class, if the faults of one class stand together.
-fn entries_by_class(setup: &Setup<'_>, found: List<Found>) -> Result<List<ReportEntry>, NoMemory>
+fn entries_by_class(setup: &Setup<'_>, found: List<ClassFault>) -> Result<List<ReportEntry>, NoMemory>
     requires setup { IsSetup setup.now }
     requires none_passes { SomeClassPasses setup.now.trees setup.now.rewrites setup.now.states → ⊥ }
     requires right { All (IsRightFound setup.now.trees setup.now.rewrites) found }
@@ -175,7 +175,7 @@ fn entries_by_class(setup: &Setup<'_>, found: List<Found>) -> Result<List<Report
 fn put_entry(
     setup: &Setup<'_>,
     last: Option<Walked>,
-    found: Found,
+    found: ClassFault,
     entries: &mut List<ReportEntry>,
 ) -> Result<Walked, NoMemory>
     requires setup { IsSetup setup.now }
@@ -282,7 +282,7 @@ struct EntryParts {
 }
 
 /// What the entry of a fault has beside it, from the walks of the class that shows it.
-fn parts_of(setup: &Setup<'_>, walked: &Walked, found: &Found) -> Result<EntryParts, NoMemory>
+fn parts_of(setup: &Setup<'_>, walked: &Walked, found: &ClassFault) -> Result<EntryParts, NoMemory>
     requires walked { IsWalked setup.now.trees setup.now.rewrites walked.now }
     requires class { walked.now.class ≡ found.now.class }
     requires right { IsRightFound setup.now.trees setup.now.rewrites found.now }
@@ -299,7 +299,7 @@ fn parts_of(setup: &Setup<'_>, walked: &Walked, found: &Found) -> Result<EntryPa
 }
 
 /// The entry of a fault with these parts.
-fn entry_with(found: Found, parts: EntryParts) -> ReportEntry
+fn entry_with(found: ClassFault, parts: EntryParts) -> ReportEntry
     ensures { result ≡ entry_with found parts }
 {
     ReportEntry {

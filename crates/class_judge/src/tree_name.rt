@@ -1,7 +1,7 @@
 //! Names of the class tree, as the items of a judge.
 
 ghost use Rattle.std.specs.Prelude.{◌≡◌, [], map, All, IfOk};
-ghost use Rattle.class_judge.specs.TreeNames.{IsGraphOf, IsLiveIn};
+ghost use Rattle.class_judge.specs.TreeNames.{AreBaseNamesOf, IsLiveIn};
 ghost use Rattle.query_classes.specs.Children.{AreChildren};
 
 use crate::naming::Naming;
@@ -34,7 +34,7 @@ impl<N: Naming> Model for TreeName<N> {
 impl<N: Naming> TreeName<N> {
     /// The root.
     pub(crate) fn root(alloc: Global, graph: &LabelGraph) -> Result<TreeName<N>, NoMemory>
-        requires { IsGraphOf N.config graph.now }
+        requires { AreBaseNamesOf N.config graph.now }
         ensures { IfOk result (λ item. item ≡ []) }
     {
         let found = LiveName::root(alloc, graph)?;
@@ -66,7 +66,7 @@ impl<N: Naming> TreeName<N> {
         alloc: Global,
         graph: &LabelGraph,
     ) -> Result<List<TreeName<N>>, NoMemory>
-        requires { IsGraphOf N.config graph.now }
+        requires { AreBaseNamesOf N.config graph.now }
         ensures { IfOk result (AreChildren graph.now self.now) }
     {
         let found = self.found.children(alloc, graph)?;
