@@ -156,7 +156,10 @@ struct Walked {
 
 /// The entries of faults with their classes, one for each. A graph is made where the class is another than that of the fault
 /// before: once for each class, if the faults of one class stand together.
-fn entries_by_class(setup: &Setup<'_>, found: List<ClassFault>) -> Result<List<ReportEntry>, NoMemory>
+fn entries_by_class(
+    setup: &Setup<'_>,
+    found: List<ClassFault>,
+) -> Result<List<ReportEntry>, NoMemory>
     requires setup { IsSetup setup.now }
     requires none_passes { SomeClassPasses setup.now.trees setup.now.rewrites setup.now.states → ⊥ }
     requires right { All (IsRightFound setup.now.trees setup.now.rewrites) found }

@@ -8,10 +8,10 @@ first_passed-requires-clause-rows g c =
     subst (AreRows setup.trees setup.rewrites setup.states) (sym c.items.ensures) c.requires.rows
 
 pub report_with-requires-clause-none_passes : goal.report_with-requires-clause-none_passes
-report_with-requires-clause-none_passes g c = rw c.in-None.is at c.in_ok-passed.ensures
+report_with-requires-clause-none_passes g c = rw c.in-None.is at c.in_ok-query.ensures
 
 pub returns-in-Some-clause-fault : goal.returns-in-Some-clause-fault
-returns-in-Some-clause-fault g c = rw c.in-Some.is at c.in_ok-passed.ensures
+returns-in-Some-clause-fault g c = rw c.in-Some.is at c.in_ok-query.ensures
 
 pub returns-in_ok-report_with-in-None-clause-none_passes : goal.returns-in_ok-report_with-in-None-clause-none_passes
-returns-in_ok-report_with-in-None-clause-none_passes g c = rw c.in-None.is at c.in_ok-passed.ensures
+returns-in_ok-report_with-in-None-clause-none_passes g c = rw c.in-None.is at c.in_ok-query.ensures

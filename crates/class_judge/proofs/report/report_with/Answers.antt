@@ -1,7 +1,6 @@
 use Rattle.std.proofs.Common.{◌+◌, ◌≤◌, [], length, refl, subst, arith}
 use Rattle.graph_form.specs.Report.{IsTreeSize}
 use Rattle.net_model.specs.Reading.{ground_of}
-use Rattle.class_judge.specs.Rows.{below_count}
 use Rattle.class_judge.proofs.ReportSize.{size_of_rows}
 use Rattle.class_judge.proofs.WholeReport.{is_report}
 use Rattle.class_judge.proofs.report.report_with.Goals as goal
