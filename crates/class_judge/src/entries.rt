@@ -188,32 +188,35 @@ fn put_entry(
     ensures walked { IfOk result (IsWalked setup.now.trees setup.now.rewrites) }
     ensures put { OnOk result (IsPut setup.now.trees setup.now.rewrites found entries.old entries.new) }
 {
-    let walked = walked_for(setup, last, &found.class)?;
-    let parts = parts_of(setup, &walked, &found)?;
-    entries.push(entry_with(found, parts))?;
+    let walked = walked_for(setup, last, &found)?;
+    let entry = entry_of(setup, &walked, found)?;
+    entries.push(entry)?;
     Ok(walked)
 }
 
-/// The walks of the representative of a class: the last ones, where these are of this class, or else new ones.
-fn walked_for(setup: &Setup<'_>, last: Option<Walked>, class: &Class) -> Result<Walked, NoMemory>
+/// The walks of the representative of the class of a fault: the last ones, where these are of this class, or else new ones.
+fn walked_for(
+    setup: &Setup<'_>,
+    last: Option<Walked>,
+    found: &ClassFault,
+) -> Result<Walked, NoMemory>
     requires setup { IsSetup setup.now }
     requires none_passes { SomeClassPasses setup.now.trees setup.now.rewrites setup.now.states → ⊥ }
     requires last { IfSome last (IsWalked setup.now.trees setup.now.rewrites) }
-    requires is_class { IsClass (whole setup.now.trees setup.now.rewrites) class.now }
-    requires some { (query : Labels) × IsRepresentative (ground_of setup.now.trees) class.now query }
+    requires right { IsRightFound setup.now.trees setup.now.rewrites found.now }
     ensures walked { IfOk result (IsWalked setup.now.trees setup.now.rewrites) }
-    ensures class { IfOk result (λ walked. walked.class ≡ class.now) }
+    ensures class { IfOk result (λ walked. walked.class ≡ found.now.class) }
 {
     match last {
         Some(walked) => {
-            if walked.class.compare(class).is_eq() {
+            if walked.class.compare(&found.class).is_eq() {
                 Ok(walked)
             } else {
                 drop(walked);
-                walked_of(setup, class)
+                walked_of(setup, &found.class)
             }
         }
-        None => walked_of(setup, class),
+        None => walked_of(setup, &found.class),
     }
 }
 
@@ -274,6 +277,17 @@ fn least_graph(setup: &Setup<'_>, query: &Name) -> Result<Graph, NoMemory>
         Err(GraphFault::StatesPassed) => unreachable!(),
         Err(GraphFault::NoMemory) => Err(NoMemory),
     }
+}
+
+/// The entry of a fault, from the walks of the class that shows it.
+fn entry_of(setup: &Setup<'_>, walked: &Walked, found: ClassFault) -> Result<ReportEntry, NoMemory>
+    requires walked { IsWalked setup.now.trees setup.now.rewrites walked.now }
+    requires class { walked.now.class ≡ found.class }
+    requires right { IsRightFound setup.now.trees setup.now.rewrites found }
+    ensures { IfOk result (IsEntryOf setup.now.trees setup.now.rewrites found) }
+{
+    let parts = parts_of(setup, walked, &found)?;
+    Ok(entry_with(found, parts))
 }
 
 /// What an entry has beside its fault.

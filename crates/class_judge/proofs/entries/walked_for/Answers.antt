@@ -14,10 +14,10 @@ pub walked_of-requires-clause-none_passes : goal.walked_of-requires-clause-none_
 walked_of-requires-clause-none_passes c = c.requires.none_passes
 
 pub walked_of-requires-clause-is_class : goal.walked_of-requires-clause-is_class
-walked_of-requires-clause-is_class c = c.requires.is_class
+walked_of-requires-clause-is_class c = c.requires.right.shows.is_class
 
 pub walked_of-requires-clause-some : goal.walked_of-requires-clause-some
-walked_of-requires-clause-some c = c.requires.some
+walked_of-requires-clause-some c = (c.requires.right.query, c.requires.right.shows.represents)
 
 pub walked_of-requires-in-None-clause-setup : goal.walked_of-requires-in-None-clause-setup
 walked_of-requires-in-None-clause-setup c = c.requires.setup
@@ -26,10 +26,10 @@ pub walked_of-requires-in-None-clause-none_passes : goal.walked_of-requires-in-N
 walked_of-requires-in-None-clause-none_passes c = c.requires.none_passes
 
 pub walked_of-requires-in-None-clause-is_class : goal.walked_of-requires-in-None-clause-is_class
-walked_of-requires-in-None-clause-is_class c = c.requires.is_class
+walked_of-requires-in-None-clause-is_class c = c.requires.right.shows.is_class
 
 pub walked_of-requires-in-None-clause-some : goal.walked_of-requires-in-None-clause-some
-walked_of-requires-in-None-clause-some c = c.requires.some
+walked_of-requires-in-None-clause-some c = (c.requires.right.query, c.requires.right.shows.represents)
 
 pub returns-then-is_eq-clause-walked : goal.returns-then-is_eq-clause-walked
 returns-then-is_eq-clause-walked c =
@@ -37,7 +37,7 @@ returns-then-is_eq-clause-walked c =
     subst (λ (o : Option Walked). IfSome o (IsWalked setup.trees setup.rewrites)) c.in-Some.is c.requires.last
 
 pub returns-then-is_eq-clause-class : goal.returns-then-is_eq-clause-class
-returns-then-is_eq-clause-class c = tells_apart one_class c.in-Some.walked.class c.args.class.now (sym (c.is_eq.ensures ∙ ap is_eq c.compare.ensures) ∙ c.if-is_eq.true)
+returns-then-is_eq-clause-class c = tells_apart one_class c.in-Some.walked.class c.args.found.now.class (sym (c.is_eq.ensures ∙ ap is_eq c.compare.ensures) ∙ c.if-is_eq.true)
 
 pub returns-else-is_eq-clause-walked : goal.returns-else-is_eq-clause-walked
 returns-else-is_eq-clause-walked c = c.walked_of.ensures.walked
