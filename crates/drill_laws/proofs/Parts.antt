@@ -23,6 +23,7 @@ pub record IsNumber (octets : List ℕ) : Type 0 where
 own : IsNumeralModel (λ ds. list_all is_digit ds ≡ true) (digits_after 0)
 own = numerals_by_fold _ (search rules) digits_after (search rules)
 
+-- the decimal text of a number below 10,000 is at most four digits
 pub number_of : (n : ℕ) → n < 10000 → IsNumber (decimal n)
 number_of n small = record {
   digits = digits_decimal own n (omega arith);
@@ -85,6 +86,7 @@ digits_text (digit ∷ digits) are =
     let rest = digits_text digits both.1 in
     λ i. digit_text digit both.0 i ++ rest i
 
+-- digits are octets that a label may have
 pub digits_of_label : (digits : List ℕ) → list_all is_digit digits ≡ true → list_all is_label_octet digits ≡ true
 digits_of_label = all_digits is_label_octet digit_of_label
 
@@ -95,6 +97,7 @@ pub record IsPart (most : ℕ) (octets : List ℕ) : Type 0 where
   pub plain : list_all is_plain octets ≡ true
   pub short : length octets ≤ most
 
+-- the digits of a zone's number are at most four plain octets
 pub number_part : (digits : List ℕ) → IsNumber digits → IsPart 4 digits
 number_part digits is = record { plain = all_digits is_plain digit_is_plain digits is.digits; short = is.short }
 
@@ -111,10 +114,12 @@ word_of most word fits some is = record { plain = is.plain; some = some; short =
 
 -- ---- words that are written out
 
+-- `$TTL`, the word of the directive, is a word of plain octets
 pub dollar_ttl : IsWord (codes "$TTL")
 unfolding kind
 dollar_ttl = record { plain = refl; some = omega arith; short = omega arith }
 
+-- `60`, the TTL of all records, is a word of plain octets
 pub sixty : IsWord (codes "60")
 unfolding kind
 sixty = record { plain = refl; some = omega arith; short = omega arith }
