@@ -31,7 +31,7 @@ module _ {X : Type 0} where
   get_cases (y ∷ xs) ys zero x h = inl h
   get_cases (y ∷ xs) ys (suc k) x h = ⊎_elim (λ l. inl l) (λ r. inr (r.0, omega (arith, r.1), r.2)) (get_cases xs ys k x h)
 
-  -- two values that are there alike are one value
+  -- of two options that are equal and have a value, the values are equal
   pub some_same : (x y : X) → Some x ≡ Some y → x ≡ y
   some_same x y e = cc
 
@@ -49,7 +49,7 @@ module _ {X : Type 0} where
   some_in None P x h e = absurd cc
   some_in (Some y) P x h e = subst P (some_same y x e) h
 
-  -- what holds of a call without an error holds where there is none
+  -- what holds where a call gives a value holds, if the call has no error
   pub ok_means : {E : Type 0} (r : Result X E) (P : Type 0) → is_err r ≡ false → OnOk r P → P
   ok_means (Ok x) P e h = h
   ok_means (Err x) P e h = absurd cc
@@ -59,7 +59,7 @@ module _ {X : Type 0} where
   both_ok (Ok x) P Q R p q each = each x p q
   both_ok (Err e) P Q R p q each = tt
 
-  -- a list without a length has no items
+  -- a list of length 0 is empty
   pub none_left : (xs : List X) → length xs ≡ 0 → xs ≡ []
   none_left [] e = refl
   none_left (x ∷ xs) e = absurd cc
