@@ -23,7 +23,6 @@ pub record IsNumber (octets : List ℕ) : Type 0 where
 own : IsNumeralModel (λ ds. list_all is_digit ds ≡ true) (digits_after 0)
 own = numerals_by_fold _ (search rules) digits_after (search rules)
 
--- the decimal text of a number below 10,000 is at most four digits
 pub number_of : (n : ℕ) → n < 10000 → IsNumber (decimal n)
 number_of n small = record {
   digits = digits_decimal own n (omega arith);

@@ -18,7 +18,6 @@ pub record Walked (limit : ℕ) (h : List Entry) (t : ℕ) : Type 0 where
   pub issued : t ≤ issued_in h
   pub few : issued_in h ≤ limit
 
--- where some ticket isn't filed, the next one in number order was issued
 pub walked_low : (limit : ℕ) (h : List Entry) (t : ℕ) → Walked limit h t → (unfiled_in h ≡ 0 → ⊥) → t < issued_in h
 walked_low limit h t w some = omega (arith, some, w.filed, w.issued)
 
