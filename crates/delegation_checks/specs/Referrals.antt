@@ -44,11 +44,12 @@ abbrev pub referral_end_faults : Deps → Cut → Option Leaf → List Fault
 referral_end_faults deps cut None = []
 referral_end_faults deps cut (Some leaf) = leaf_faults deps cut leaf
 
--- a referral on a branch: the name server of the cut, and the end behind it, if the branch is one
+-- a referral by a hop: the zone cut with its name server, and the end behind it, if the branch ends there
 abbrev pub hop_referrals : Hop → Option Leaf → List (Cut × Option Leaf)
 hop_referrals (Refer cut) end = (cut, end) ∷ []
 hop_referrals (Rewrite place by_dname to) end = []
 
+-- the referral on a branch, with the end behind it, if the branch has one and ends there
 abbrev pub branch_referrals : Branch → List (Cut × Option Leaf)
 branch_referrals (Go hop to) = hop_referrals hop None
 branch_referrals (End None leaf) = []
