@@ -110,7 +110,7 @@ module _ (config : Config) (graphs : List PlainGraph) where
               );
         }
 
-  -- where the search adds no server more, those that it added are the least set, in the order of the servers
+  -- where no server more can be learnt, those that the search added are the least set, in the order of the servers
   pub least_told : (learnt : List Labels) → IsGrowing config graphs learnt → NoneMoreLearnt config graphs learnt → (rewrites : ℕ) → AreServerGraphs config rewrites graphs
       → IsLeast config rewrites (filter (is_among learnt) (server_names config))
   least_told learnt growing closed rewrites are =
@@ -165,7 +165,7 @@ module _ (config : Config) (graphs : List PlainGraph) where
         by other true e has = inr ((name_eq_decides name other).0 e)
         by other false e has = inl (among_has fewer other (taken other ∙ ap (λ (b : Bool). not b && is_among known other) e ∙ has))
 
-  -- where the search takes no server away any more, those that are left are the greatest set, in the order of the servers
+  -- where each server that is left can be learnt, those that are left are the greatest set, in the order of the servers
   pub greatest_told : (known : List Labels) → IsShrinking config graphs known → AreLearnt config graphs known → (rewrites : ℕ) → AreServerGraphs config rewrites graphs
       → IsGreatest config rewrites (filter (is_among known) (server_names config))
   greatest_told known shrinking each rewrites are =

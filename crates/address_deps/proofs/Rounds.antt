@@ -51,7 +51,7 @@ module _ (Good : List Labels → Type 0) (At : List Labels → ℕ → Type 0) (
         no_more = omega arith;
       }
 
-  -- where all waiting places were looked at, those that wait next and the names are between two rounds again
+  -- where all waiting places were looked at, the names and the places that wait next stand between two rounds
   pub round_ends : (at : ℕ) (names : List Labels) (next : List ℕ) → length waiting ≤ at → IsRoundAt at names next → IsSearchRound Good At graphs names next
   round_ends at names next past on =
       record {

@@ -23,7 +23,7 @@ plain_not_backslash octet h = grind (arith, nat_tests)
 plain_not_dot : (octet : ℕ) → is_special octet ≡ false → (octet == 46) ≡ false
 plain_not_dot octet h = grind (arith, nat_tests)
 
--- 48 and a number below 10 are the octet of a digit
+-- 48 with a number below 10 added is the octet of a digit
 pub digit : (n : ℕ) → n < 10 → is_digit (48 + n) ≡ true
 digit n h = grind (arith, nat_tests)
 
