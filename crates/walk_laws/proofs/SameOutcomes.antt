@@ -105,10 +105,10 @@ module _ (setting : Setting) (ground : Ground) (covers : Covers ground setting.c
       (subst (λ (name : Labels). IsBoundedWith setting name rtype) of_one.is bounded)))
 
   -- Two bounded queries of one class have the same outcomes. In a class of one name they are equal. Below a name each is this
-  -- name with a tail that the ground doesn't name (ClassTails.member_below), and so no more does the configuration, which the
-  -- ground covers (ClassTails.named_everywhere, tail_of). The one with no more octets then walks as the other
-  -- (QueryWalks.walks_as): number by number the walks end alike, but for the tail, which an end tells nothing of
-  -- (same_outcomes). Neither is a representative here, so either may be the one with fewer octets (below_alike, turned_round).
+  -- name with a tail that the ground doesn't name (ClassTails.member_below), nor then the configuration, which the ground
+  -- covers (ClassTails.named_everywhere, tail_of). The one with no more octets walks as the other (QueryWalks.walks_as):
+  -- number by number the walks end alike, but for the tail, of which an end tells nothing (same_outcomes). Neither need be a
+  -- representative, so either may be the one with fewer octets (below_alike, turned_round).
   pub outcomes_in_class : (class : Class) (one other : Labels) → IsClassOf ground one class → IsClassOf ground other class
       → IsBoundedWith setting one rtype → IsBoundedWith setting other rtype → HaveSameOutcomes setting one other rtype
   outcomes_in_class (Exact alone) one other of_one of_other bounded bounded_other =

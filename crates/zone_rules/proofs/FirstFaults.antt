@@ -51,7 +51,7 @@ module _ (may_have : Labels → Bool) (rr : Rr) (none : may_have rr.owner ≡ fa
     by true = no-cname
     by false = refl
 
-  -- so no CNAME record stands beside another record at its owner
+  -- a record that has no rival is no CNAME record beside others, and stands beside none
   pub not-beside : is_beside_cname before rr ≡ false
   not-beside = by (is_type types.Cname rr) refl where
     by : (b : Bool) → is_type types.Cname rr ≡ b → cond b (had_other_at types.Cname rr.owner before) (had_at types.Cname rr.owner before) ≡ false
