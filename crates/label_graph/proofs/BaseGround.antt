@@ -77,7 +77,6 @@ module _ (config : Config) (name : Labels) where
             ])
       ]
 
-  -- the root, and the fronts of the origins and owners in the servers' zones, are the names of the configuration's ground
   pub base_names : (Contains ([] ∷ []) name ⊎ SomeItem (IsInServer name) config.servers) ↔ Contains (ground_of config).names name
   base_names = (
     λ either. elim either [

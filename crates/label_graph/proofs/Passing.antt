@@ -83,7 +83,6 @@ pub all_iff : {X : Type 0} (P : X → Type 0) (xs : List X) (k : ℕ) → length
     → (there ↔ SomeItem P (take k xs)) → there ↔ SomeItem P xs
 all_iff P xs k over there was = (λ has. some_all P xs k over (was.0 has), λ some. was.1 (all_some P xs k over some))
 
--- before the first item there is nothing to add to what is said
 pub start_iff : {Y : Type 0} (P : Y → Type 0) (there : Type 0) → there ↔ (there ⊎ SomeItem P [])
 start_iff P there = (λ has. inl has, λ either. elim either [ inl has ↦ has | inr some ↦ absurd (some_none P some) ])
 
