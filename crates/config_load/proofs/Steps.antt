@@ -27,6 +27,7 @@ abbrev pub IsNoRead : LoadFault → Type 0
 IsNoRead (Read file) = ⊥
 IsNoRead fault = Unit {0}
 
+-- a fault of metadata is no failed read
 pub IsNoRead-of_metadata : (fault : MetaFault) → IsNoRead (of_metadata fault)
 IsNoRead-of_metadata meta_faults.NotJson = tt
 IsNoRead-of_metadata (meta_faults.Shape row) = tt
@@ -36,6 +37,7 @@ IsNoRead-of_metadata meta_faults.NoTops = tt
 IsNoRead-of_metadata meta_faults.TooManyRows = tt
 IsNoRead-of_metadata meta_faults.NoMemory = tt
 
+-- a fault of a zone's records is no failed read
 pub IsNoRead-of_rule : (names : List (List ℕ)) (fault : RuleFault) → IsNoRead (of_rule names fault)
 IsNoRead-of_rule names (rule_faults.At file line cause) = tt
 IsNoRead-of_rule names rule_faults.NoMemory = tt

@@ -82,6 +82,7 @@ digits_text (digit ∷ digits) are =
     let rest = digits_text digits both.1 in
     λ i. digit_text digit both.0 i ++ rest i
 
+-- digits are octets that a label may have
 pub digits_of_label : (digits : List ℕ) → list_all is_digit digits ≡ true → list_all is_label_octet digits ≡ true
 digits_of_label = all_digits is_label_octet digit_of_label
 
@@ -92,6 +93,7 @@ pub record IsPart (most : ℕ) (octets : List ℕ) : Type 0 where
   pub plain : list_all is_plain octets ≡ true
   pub short : length octets ≤ most
 
+-- the digits of a zone's number are at most four plain octets
 pub number_part : (digits : List ℕ) → IsNumber digits → IsPart 4 digits
 number_part digits is = record { plain = all_digits is_plain digit_is_plain digits is.digits; short = is.short }
 
@@ -108,10 +110,12 @@ word_of most word fits some is = record { plain = is.plain; some = some; short =
 
 -- ---- words that are written out
 
+-- `$TTL`, the word of the directive, is a word of plain octets
 pub dollar_ttl : IsWord (codes "$TTL")
 unfolding kind
 dollar_ttl = record { plain = refl; some = omega arith; short = omega arith }
 
+-- `60`, the TTL of all records, is a word of plain octets
 pub sixty : IsWord (codes "60")
 unfolding kind
 sixty = record { plain = refl; some = omega arith; short = omega arith }

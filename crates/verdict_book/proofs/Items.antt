@@ -18,6 +18,7 @@ module _ {I : Type 0} (first : I) (children : I → List I) where
       let rest = chain_more next path parent place item chain.1 child in
       (next ∷ rest.0, (chain.0, rest.1))
 
+  -- a child of a reached item is reached
   pub reached_child : (parent : I) (place : ℕ) (item : I) → Reached first children parent → IsChildAt children parent place item → Reached first children item
   reached_child parent place item r child = chain_more first r.0 parent place item r.1 child
 
@@ -165,5 +166,6 @@ module _ {I : Type 0} (first : I) (children : I → List I) where
           once = λ i j item a b. known.once i j item a b;
         }
 
+-- where the children of items are apart, a legal history that files every issued ticket has each reached item once
 pub files_all : {I : Type 0} (first : I) (children : I → List I) → ParentsApart first children → FilesAllReached first children
 files_all first children apart limit history legal counts all = are_reached first children apart limit history legal counts all

@@ -28,9 +28,11 @@ gone_over f r [] y row rest e = ap (λ v. v ∷ map r rest) e
 gone_over f r (x ∷ xs) y row rest e = ap (λ l. f x ∷ l) (gone_over f r xs y row rest e)
 
 module _ {X : Type 0} (P : X → Type 0) where
+  -- what holds of all items holds of the first
   pub all_head : (x : X) (xs : List X) → All P (x ∷ xs) → P x
   all_head x xs all = all 0 x (omega arith)
 
+  -- what holds of all items holds of those behind the first
   pub all_tail : (x : X) (xs : List X) → All P (x ∷ xs) → All P xs
   all_tail x xs all k d low = all (suc k) d (omega (arith, low))
 

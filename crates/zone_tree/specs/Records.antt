@@ -24,11 +24,12 @@ data_of rrs name = map (λ rr. rr.rdata) (filter (λ rr. name_eq rr.owner name) 
 abbrev pub targets_of : List Rdata → RrType → List Labels
 targets_of all rtype = filter_map target_of (filter (has_type rtype) all)
 
--- the data of a set: the first, or all where there are several
+-- one datum, or all where there are several
 abbrev pub all_of : Rdata → List Rdata → List Rdata
 all_of first [] = first ∷ []
 all_of first (one ∷ more) = one ∷ more
 
+-- the data of a set: the first, or all where there are several
 abbrev pub all_in : Set → List Rdata
 all_in set = all_of set.first.now set.several
 
