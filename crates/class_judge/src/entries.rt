@@ -212,6 +212,7 @@ fn walked_for(
             if walked.class.compare(&found.class).is_eq() {
                 Ok(walked)
             } else {
+                // The one graph goes before the next is made.
                 drop(walked);
                 walked_of(setup, &found.class)
             }
