@@ -30,7 +30,7 @@ fn a_record_has_a_copy(rt: HostRuntime) -> Result<(), Fail> {
     Ok(())
 }
 
-/// Whether the first record of the first zone has a copy.
+/// Whether the first record of the first zone has a copy, which `t.` owns.
 fn first_record_has_copy(alloc: Global, config: &Config) -> bool {
     match first_zone(config) {
         Some(zone) => match zone.rrs.items().first() {
@@ -41,9 +41,12 @@ fn first_record_has_copy(alloc: Global, config: &Config) -> bool {
     }
 }
 
-/// Whether the record has a copy.
+/// Whether the record has a copy, which `t.` owns.
 fn has_copy(alloc: Global, rr: &Rr) -> bool {
-    rr.copy(alloc).is_ok()
+    match rr.copy(alloc) {
+        Ok(copy) => spells(alloc, "t.", &copy.owner),
+        Err(_) => false,
+    }
 }
 
 #[test]

@@ -154,23 +154,10 @@ fn is_counted(work: &Sevens, count: &PoolCount) -> bool {
 #[test]
 fn tickets_leave_a_deque_in_their_order(rt: HostRuntime) -> Result<(), Fail> {
     let mut own = OwnRow::new(rt.alloc(), 1)?;
-<<<<<<< HEAD
-    for ticket in 0..4 {
-        assert!(rt; own.push(ticket).is_ok());
-    }
-    let mut thief = own.other()?;
-    assert_eq!(rt; thief.steal(), StealOutcome::Ticket(0));
-    assert_eq!(rt; own.pop(), Some(1));
-    let mut split = own.split()?;
-    assert_eq!(rt; split.steal(), StealOutcome::Ticket(2));
-    own.join(split);
-    assert_eq!(rt; own.held(), 1);
-=======
     assert!(rt; are_pushed(&mut own));
     assert!(rt; first_two_are_taken(&mut own)?);
     assert!(rt; third_is_taken(&mut own)?);
     assert!(rt; own.held() == 1);
->>>>>>> tests
     Ok(())
 }
 
