@@ -4,6 +4,8 @@ mod InOrder
 mod Lines
 mod NodesAfter
 pub mod OneViews
+pub mod Places
 mod SearchSteps
+pub mod Seen
 mod WalksEnd
 mod WorkedFindings

@@ -7,4 +7,5 @@ pub mod Ends
 pub mod Line
 pub mod Once
 pub mod PathEnds
+pub mod Shown
 pub mod Views
