@@ -1,4 +1,4 @@
-//! A check that comes with the program: for queries that have IPv4 addresses and no IPv6 address.
+//! A check that comes with the library: for queries that have IPv4 addresses and no IPv6 address.
 
 ghost use Rattle.std.specs.Prelude.{◌≡◌, [], ℕ, List, codes};
 ghost use Rattle.site_checks.specs.AOnly.{a_only};

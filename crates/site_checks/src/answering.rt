@@ -1,4 +1,4 @@
-//! A check that comes with the program: for servers that answer.
+//! A check that comes with the library: for servers that answer.
 
 ghost use Rattle.std.specs.Prelude.{◌≡◌, [], ℕ, List, codes, length, take, OnOk, OnErr};
 ghost use Rattle.std.specs.List.{fold, list_any};
