@@ -1,5 +1,10 @@
 //! What several tests begin with: files, configurations, names and graphs.
 
+ghost use Rattle.std.specs.Prelude.{IfOk};
+ghost use Rattle.graph_form.specs.GraphOf.{IsGraphOf};
+ghost use Rattle.net_model.specs.Nearest.{server_names};
+ghost use Rattle.net_model.specs.Step.{following};
+
 use config_load::load;
 use dns_data::{List, Name, NameFault, NoMemory};
 use graph_form::Graph;
@@ -60,7 +65,9 @@ pub fn spells(alloc: Global, text: &str, spelt: &Name) -> bool {
 }
 
 /// The graph of a query's walks, while every configured server is followed.
-pub fn graph_of(alloc: Global, hosts: &Hosts<'_>, query: Name) -> Result<Graph, GraphFault> {
+pub fn graph_of(alloc: Global, hosts: &Hosts<'_>, query: Name) -> Result<Graph, GraphFault>
+    ensures { IfOk result (IsGraphOf (following hosts.now 12 (server_names hosts.now)) query) }
+{
     let asked = SymName {
         known: query,
         tail: None,
