@@ -1,0 +1,13 @@
+pub mod EntrySteps
+pub mod HopsInside
+pub mod InOrder
+pub mod InsideZones
+pub mod Lasts
+pub mod Learning
+pub mod ListedWalks
+pub mod NamedQueries
+pub mod OneAnswer
+pub mod Represented
+pub mod RightByWalks
+pub mod Shallow
+pub mod WalkShows
