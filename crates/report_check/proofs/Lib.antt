@@ -7,6 +7,7 @@ pub mod Learning
 pub mod ListedWalks
 pub mod NamedQueries
 pub mod OneAnswer
+pub mod ReportRead
 pub mod Represented
 pub mod RightByWalks
 pub mod Shallow

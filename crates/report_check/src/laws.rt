@@ -21,8 +21,7 @@ pub fn one_answer()
 {}
 
 /// Each entry of a report is right, whatever it is read in; its text is read as the report of these entries; so the answer to it
-/// is neither that an entry is wrong nor that it is no report. The report allows 1 to 64 rewrites, and its two counts have 64 bits
-/// at most.
+/// is neither that an entry is wrong nor that it is no report.
 pub fn a_report_checks()
     ensures right { (subject : Subject) (report : Report) → IsReport subject report
         → AllByRecursion (IsRight subject.config subject.rewrites) (map entry_value report.entries) }
