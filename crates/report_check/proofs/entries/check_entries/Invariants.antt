@@ -7,6 +7,6 @@ use Rattle.report_check.proofs.entries.check_entries.Given as goal
 -- the entries so far are confirmed
 abbrev pub invariant-loop-i : goal.invariant-loop-i
 invariant-loop-i l = record {
-  kept : l.checker ≡ l.initial.checker;
-  confirmed : AllByRecursion (IsConfirmed l.initial.checker.config l.initial.checker.rewrites) (map view (take l.i l.entries));
+  kept : l.checker ≡ l.fn.checker;
+  confirmed : AllByRecursion (IsConfirmed l.fn.checker.config l.fn.checker.rewrites) (map view (take l.i l.entries));
 }

@@ -10,7 +10,7 @@ use Rattle.report_check.proofs.right.by_other.Given as goal
 -- none of the walks so far has the value and shows with the first that answers differ
 abbrev pub invariant-loop-walk : goal.invariant-loop-walk
 invariant-loop-walk l = record {
-  kept : l.checker ≡ l.initial.checker;
+  kept : l.checker ≡ l.fn.checker;
   none : (others value : Data) → IsWritten others l.steps → IsWritten value l.text → (walk : Walk) → Contains (take l.walk-index l.walks) walk → others ≡ walk_value walk
-      → IsShownBy l.initial.checker l.asked.query l.asked.rtype (l.one ∷ walk ∷ []) value → ⊥;
+      → IsShownBy l.fn.checker l.asked.query l.asked.rtype (l.one ∷ walk ∷ []) value → ⊥;
 }

@@ -11,7 +11,7 @@ use Rattle.report_check.proofs.right.by_two.Given as goal
 -- none of the walks so far has the first value and shows with another that answers differ
 abbrev pub invariant-loop-walk : goal.invariant-loop-walk
 invariant-loop-walk l = record {
-  kept : l.checker ≡ l.initial.checker;
+  kept : l.checker ≡ l.fn.checker;
   none : (value : Data) → IsWritten value l.text → (walk : Walk) → Contains (take l.walk-index l.walks) walk → view l.fn.one ≡ walk_value walk
-      → ByOther l.initial.checker l.asked.query l.asked.rtype walk l.walks (view l.fn.other) value → ⊥;
+      → ByOther l.fn.checker l.asked.query l.asked.rtype walk l.walks (view l.fn.other) value → ⊥;
 }

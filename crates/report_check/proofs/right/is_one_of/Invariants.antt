@@ -10,7 +10,7 @@ use Rattle.report_check.proofs.right.is_one_of.Given as goal
 -- the walk shows the faults that are left; and if the text is that of an entry with the walk, the fault is one of them
 abbrev pub invariant-loop-fault : goal.invariant-loop-fault
 invariant-loop-fault l = record {
-  kept : l.checker ≡ l.initial.checker;
-  shown : (fault : Fault) → Contains l.fault-iterator fault → WalksShow (with_sets l.initial.checker) (l.walk ∷ []) fault;
-  left : (value : Data) → IsWritten value l.text → (by : IsShownBy l.initial.checker l.asked.query l.asked.rtype (l.walk ∷ []) value) → Contains l.fault-iterator by.fault;
+  kept : l.checker ≡ l.fn.checker;
+  shown : (fault : Fault) → Contains l.fault-iterator fault → WalksShow (with_sets l.fn.checker) (l.walk ∷ []) fault;
+  left : (value : Data) → IsWritten value l.text → (by : IsShownBy l.fn.checker l.asked.query l.asked.rtype (l.walk ∷ []) value) → Contains l.fault-iterator by.fault;
 }
