@@ -1,14 +1,16 @@
 pub mod EntrySteps
+pub mod FewWalks
 pub mod HopsInside
 pub mod InOrder
 pub mod InsideZones
 pub mod Lasts
-pub mod Learning
 pub mod ListedWalks
 pub mod NamedQueries
 pub mod OneAnswer
 pub mod ReportRead
 pub mod Represented
 pub mod RightByWalks
+pub mod Searched
 pub mod Shallow
 pub mod WalkShows
+mod Worked
