@@ -1,5 +1,5 @@
 -- The query and the type that an entry's value names are single, and those of the entry.
-use Rattle.std.proofs.Common.{◌≡◌, ℕ, List, [], Option, Some, Ok, refl, sym, ap, ◌∙◌}
+use Rattle.std.proofs.Common.{◌≡◌, ℕ, List, [], Option, Some, Result, Ok, Err, refl, sym, ap, ◌∙◌}
 use Rattle.dns_data.specs.Name.{Labels, IsName}
 use Rattle.dns_data.specs.RrType.{type_of_word, word_of}
 use Rattle.dns_data.specs.Spelling.{name_of_text, name_text}
@@ -12,12 +12,15 @@ use Rattle.report_json.specs.Report.{entry_value}
 use Rattle.serde_json.specs.Data.{Data, string}
 use Rattle.report_check.specs.Right.{NamesQuery}
 
+-- a text is read as one name
+one_read : (one other : Labels) (read : Result Labels NameFault) → read ≡ Ok one → read ≡ Ok other → one ≡ other
+one_read one other read is also = cc
+
 -- names with one text are one
 pub one_name : (one other : Labels) → IsName one → IsName other → name_text one ≡ name_text other → one ≡ other
 one_name one other is also e =
-    let same : Ok {E = NameFault} one ≡ Ok other =
-    sym (text_reads_back one [] is) ∙ ap (λ (text : List ℕ). name_of_text text []) e ∙ text_reads_back other [] also in
-    cc
+    one_read one other (name_of_text (name_text one) []) (text_reads_back one [] is)
+    (ap (λ (text : List ℕ). name_of_text text []) e ∙ text_reads_back other [] also)
 
 -- a type is read back from its word
 word_back : (rtype : RrType) → type_of_word (word_of rtype) ≡ Some rtype
@@ -33,6 +36,19 @@ word_back Aaaa = refl
 word_back Srv = refl
 word_back Dname = refl
 word_back Caa = refl
+
+-- the name that has a text is the one that the text is read as
+pub named_by : (text : List ℕ) (name : Labels) → name_of_text text [] ≡ Ok name → (other : Labels) → IsName other → text ≡ name_text other → other ≡ name
+named_by text name reads other is e =
+    one_read other name (name_of_text text []) (ap (λ (t : List ℕ). name_of_text t []) e ∙ text_reads_back other [] is) reads
+
+-- a text that is read as none is that of none
+pub not_named : (text : List ℕ) (fault : NameFault) → name_of_text text [] ≡ Err fault → (other : Labels) → IsName other → text ≡ name_text other → ⊥
+not_named text fault reads other is e =
+    no_other (name_of_text text []) reads (ap (λ (t : List ℕ). name_of_text t []) e ∙ text_reads_back other [] is)
+  where
+    no_other : (read : Result Labels NameFault) → read ≡ Err fault → read ≡ Ok other → ⊥
+    no_other read is also = cc
 
 -- so types with one word are one
 pub one_type : (one other : RrType) → word_of one ≡ word_of other → one ≡ other

@@ -11,17 +11,14 @@ use Rattle.serde_json.specs.Find.{as_array, get, get_member}
 -- a member of an object
 member_shallow : (key : List ℕ) (members : Members) (value : Data) → get_member key members ≡ Some value → depth value ≤ members_depth members
 member_shallow key no_members value e = absurd cc
-member_shallow key (member name here more) value e = by (slice_cmp nat_cmp key name) e where
-  later : get_member key more ≡ Some value → depth value ≤ members_depth (member name here more)
-  later e = omega (arith, member_shallow key more value e)
-
-  by : (order : Ordering) → match_ordering order (get_member key more) (Some here) (get_member key more) ≡ Some value
-      → depth value ≤ members_depth (member name here more)
-  by Less e = later e
-  by Equal e =
+member_shallow key (member name here more) value e = by (member_shallow key more value) (slice_cmp nat_cmp key name) e where
+  by : (get_member key more ≡ Some value → depth value ≤ members_depth more) → (order : Ordering)
+      → match_ordering order (get_member key more) (Some here) (get_member key more) ≡ Some value → depth value ≤ members_depth (member name here more)
+  by later Less e = omega (arith, later e)
+  by later Equal e =
       let same : here ≡ value = cc in
       omega (arith, ap depth same)
-  by Greater e = later e
+  by later Greater e = omega (arith, later e)
 
 get_shallow : (key : List ℕ) (value found : Data) → get key value ≡ Some found → depth found ≤ depth value
 get_shallow key null found e = absurd cc
@@ -44,7 +41,7 @@ array_shallow (string s) items e = absurd cc
 array_shallow (array own) items e =
     let same : own ≡ items = cc in
     omega (arith, ap items_depth same)
-array_shallow (object members) items e = absurd cc
+array_shallow (object own) items e = absurd cc
 
 -- so the items of the list at a key
 pub list_shallow : (key : List ℕ) (value : Data) (list : List Data) (most : ℕ) → list_at key value ≡ Some list → depth value ≤ most

@@ -1,5 +1,5 @@
 -- Values that were worked out by hand: what a report states, which queries entries name, and an entry that is right.
-use Rattle.std.proofs.Common.{◌≡◌, refl, sym, ap, List, [], ◌∷◌, codes, Some, None, true, false, arith}
+use Rattle.std.proofs.Common.{◌≡◌, refl, sym, ap, ℕ, Option, option_and_then, List, [], ◌∷◌, codes, Some, None, true, false, arith}
 use Rattle.serde_json.specs.Data.{null, string, number, unsigned, array, no_items}
 use Rattle.serde_json.proofs.OnLiterals.{serde_json_on_literals}
 use Rattle.dns_data.specs.Name.{Labels, IsName}
@@ -17,56 +17,61 @@ use Rattle.net_model.specs.declared.walk.State.{State}
 use Rattle.net_model.specs.declared.walk.Walk.{Walk}
 use Rattle.net_model.proofs.LearntSets.{ByNone, after_same_rounds, is_round}
 use Rattle.report_json.specs.Report.{entry_value}
-use Rattle.report_check.specs.ReportIn.{report_in}
+use Rattle.serde_json.specs.Read.{read}
+use Rattle.report_check.specs.ReportIn.{StatedReport, report_of}
 use Rattle.report_check.specs.Right.{IsRight, NamesQuery}
 
 -- ---- what a report states
 
-no_entry : report_in (codes "{\"faults\":[],\"rewrites\":12}") ≡ Some (record { rewrites = 12; entries = [] })
+-- what the value states that serde_json reads
+abbrev stated : List ℕ → Option StatedReport
+stated text = option_and_then report_of (read text)
+
+no_entry : stated (codes "{\"faults\":[],\"rewrites\":12}") ≡ Some (record { rewrites = 12; entries = [] })
 unfolding serde_json_on_literals
 no_entry = refl
 
 -- members in any order, white space and others beside
-in_any_order : report_in (codes " { \"rewrites\" : 1 , \"x\" : 0 , \"faults\" : [ null ] }\n") ≡ Some (record { rewrites = 1; entries = null ∷ [] })
+in_any_order : stated (codes " { \"rewrites\" : 1 , \"x\" : 0 , \"faults\" : [ null ] }\n") ≡ Some (record { rewrites = 1; entries = null ∷ [] })
 unfolding serde_json_on_literals
 in_any_order = refl
 
 -- of two members with one name the last counts
-the_last_counts : report_in (codes "{\"rewrites\":65,\"faults\":[],\"rewrites\":64}") ≡ Some (record { rewrites = 64; entries = [] })
+the_last_counts : stated (codes "{\"rewrites\":65,\"faults\":[],\"rewrites\":64}") ≡ Some (record { rewrites = 64; entries = [] })
 unfolding serde_json_on_literals
 the_last_counts = refl
 
 -- a number that is too small or too large, a text
-none_allowed : report_in (codes "{\"faults\":[],\"rewrites\":0}") ≡ None
+none_allowed : stated (codes "{\"faults\":[],\"rewrites\":0}") ≡ None
 unfolding serde_json_on_literals
 none_allowed = refl
 
-too_many : report_in (codes "{\"faults\":[],\"rewrites\":65}") ≡ None
+too_many : stated (codes "{\"faults\":[],\"rewrites\":65}") ≡ None
 unfolding serde_json_on_literals
 too_many = refl
 
-a_text : report_in (codes "{\"faults\":[],\"rewrites\":\"12\"}") ≡ None
+a_text : stated (codes "{\"faults\":[],\"rewrites\":\"12\"}") ≡ None
 unfolding serde_json_on_literals
 a_text = refl
 
 -- no number, no list, an object in its place, no object, no value
-without_a_number : report_in (codes "{\"faults\":[]}") ≡ None
+without_a_number : stated (codes "{\"faults\":[]}") ≡ None
 unfolding serde_json_on_literals
 without_a_number = refl
 
-without_a_list : report_in (codes "{\"rewrites\":12}") ≡ None
+without_a_list : stated (codes "{\"rewrites\":12}") ≡ None
 unfolding serde_json_on_literals
 without_a_list = refl
 
-an_object_for_the_list : report_in (codes "{\"faults\":{},\"rewrites\":12}") ≡ None
+an_object_for_the_list : stated (codes "{\"faults\":{},\"rewrites\":12}") ≡ None
 unfolding serde_json_on_literals
 an_object_for_the_list = refl
 
-a_list : report_in (codes "[]") ≡ None
+a_list : stated (codes "[]") ≡ None
 unfolding serde_json_on_literals
 a_list = refl
 
-no_value : report_in (codes "{\"faults\":[],\"rewrites\":12") ≡ None
+no_value : stated (codes "{\"faults\":[],\"rewrites\":12") ≡ None
 unfolding serde_json_on_literals
 no_value = refl
 

@@ -51,7 +51,7 @@ impl<'h, 'a> Model for Checker<'h, 'a> {
 impl<'h, 'a> Checker<'h, 'a> {
     /// What entries are checked by, with these sets of learnt addresses.
     pub fn new(hosts: &'h Hosts<'a>, rewrites: u32, sets: LearntSets) -> Checker<'h, 'a>
-        requires { AreLearnt hosts.entry.now rewrites sets }
+        requires { AreLearnt hosts.now rewrites sets }
         ensures { result ≡ following hosts.entry.now rewrites sets.least }
     {
         Checker {
