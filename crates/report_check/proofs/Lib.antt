@@ -12,5 +12,6 @@ pub mod Represented
 pub mod RightByWalks
 pub mod Searched
 pub mod Shallow
+pub mod TwoWalks
 pub mod WalkShows
 mod Worked

@@ -78,8 +78,10 @@ fn name_of(alloc: Global, text: &str) -> Result<Option<Name>, NoMemory>
 {
     match Name::from_text(alloc, text.as_bytes(), &Name::root()) {
         Ok(name) => if_its_own(alloc, name, text),
-        Err(NameFault::NoMemory) => Err(NoMemory),
-        Err(_) => Ok(None),
+        Err(fault) => match fault {
+            NameFault::NoMemory => Err(NoMemory),
+            _ => Ok(None),
+        },
     }
 }
 

@@ -34,7 +34,12 @@ pub(crate) fn is_entry_of(
         → (same ≡ true) ↔ (value ≡ entry_value (entry_with asked.now.query asked.now.rtype (first_repeats (map (λ walk. walk.now) walks.now)) (map (λ walk. walk.now) walks.now) fault))) }
 {
     match parts_of(alloc, asked, walks) {
-        Ok(parts) => is_entry_text(alloc, &entry_of(parts, fault), text),
+        Ok(parts) => {
+            let entry = entry_of(parts, fault);
+            let same = is_entry_text(alloc, &entry, text);
+            drop(entry);
+            same
+        }
         Err(NoMemory) => {
             drop(fault);
             Err(NoMemory)

@@ -1,19 +1,23 @@
-use Rattle.std.proofs.Common.{rules, ◌≡◌, codes, IfOk, MatchOption, Some, ℕ, ◌+◌, ◌-◌, ◌*◌, ◌<◌, ◌≤◌, length, ◌/◌, ◌%◌, Bool, true, false, nat_eq, nat_lt, List, [], ◌∷◌, ◌++◌, slice_index_or, slice_set, bit_and, bit_or, Fits, w8, w32, w64, Bor, MutBor}
+use Rattle.std.proofs.Common.{◌≡◌, ℕ, List, [], Option, Some, None, Ok, MatchOption, sym, ap, ◌∙◌, subst}
+use Rattle.std.proofs.lemmas.Result.{IfOk-weaker}
 use Rattle.dns_data.specs.Name.{IsName, Labels}
-use Rattle.dns_data.specs.RrType.{word_of}
-use Rattle.dns_data.specs.Spelling.{name_text}
-use Rattle.dns_data.specs.declared.rr_type.RrType.{RrType as TypeValue}
-use Rattle.report_json.specs.Json.{name_value}
-use Rattle.serde_json.specs.Data.{string}
-use Rattle.serde_json.specs.Find.{get}
-use Rattle.serde_json.specs.View.{view}
-use Rattle.report_check.specs.Right.{NamesQuery}
+use Rattle.dns_data.specs.Spelling.{name_of_text, name_text}
+use Rattle.report_check.proofs.NamedQueries.{named_by, not_named}
 use Rattle.report_check.proofs.asked.name_of.Goals as goal
 
--- src/asked.rt:78:1
-pub returns-in-Ok : goal.returns-in-Ok
-returns-in-Ok c = ?
+-- the name that is read has the text, or none has
+of_found : (text : List ℕ) (name : Labels) → name_of_text text [] ≡ Ok name → (found : Option Labels)
+    → MatchOption found (text ≡ name_text name → ⊥) (λ own. (own ≡ name) × IsName name × (text ≡ name_text name))
+    → MatchOption found ((other : Labels) → IsName other → text ≡ name_text other → ⊥) (λ own. IsName own × (text ≡ name_text own))
+of_found text name reads None none = λ other is e. none (e ∙ ap name_text (named_by text name reads other is e))
+of_found text name reads (Some own) (same, is, e) = (subst IsName (sym same) is, e ∙ ap name_text (sym same))
 
--- src/asked.rt:75:1
+pub returns-in-Ok : goal.returns-in-Ok
+returns-in-Ok c =
+    let reads : name_of_text c.args.text.now [] ≡ Ok c.in-Ok.name =
+    ap (λ (text : List ℕ). name_of_text text []) (sym c.as_bytes.ensures.value)
+    ∙ ap (λ (origin : Labels). name_of_text c.as_bytes.result.now origin) (sym c.root.ensures) ∙ c.in-Ok.ensures in
+    IfOk-weaker c.if_its_own.result _ _ (λ found h. of_found c.args.text.now c.in-Ok.name reads found h) c.if_its_own.ensures
+
 pub returns : goal.returns
 returns c = ?

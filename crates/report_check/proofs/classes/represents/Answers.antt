@@ -1,11 +1,18 @@
-use Rattle.std.proofs.Common.{rules, ◌≡◌, ◌↔◌, true, IfOk, ℕ, ◌+◌, ◌-◌, ◌*◌, ◌<◌, ◌≤◌, length, ◌/◌, ◌%◌, Bool, false, nat_eq, nat_lt, List, [], ◌∷◌, ◌++◌, slice_index_or, slice_set, bit_and, bit_or, Fits, w8, w32, w64, Bor, MutBor}
-use Rattle.label_graph.specs.Pairs.{AreSame}
-use Rattle.net_model.specs.Class.{IsClassOf, IsRepresentative}
-use Rattle.net_model.specs.Reading.{ground_of}
-use Rattle.net_model.specs.Shown.{Represents}
-use Rattle.net_model.specs.declared.class.Class.{Class as ClassValue}
+use Rattle.std.proofs.Common.{Option, MatchOption, sym, ◌∙◌, subst}
+use Rattle.dns_data.specs.Name.{Labels}
+use Rattle.dns_data.proofs.Names.{name_eq_decides}
+use Rattle.query_classes.specs.Members.{IsEmptyClass, RepresentsClass}
+use Rattle.report_check.proofs.Represented.{stands_told}
 use Rattle.report_check.proofs.classes.represents.Goals as goal
 
--- src/classes.rt:86:1
 pub returns-in-Some : goal.returns-in-Some
-returns-in-Some c = ?
+returns-in-Some c =
+    let ground = c.args.graph.now in
+    let query = c.args.query.now in
+    let class = c.in_ok-class.class in
+    let name = c.in-Some.name in
+    let stands : RepresentsClass ground class name =
+    subst (λ (found : Option Labels). MatchOption found (IsEmptyClass ground class) (RepresentsClass ground class)) c.in-Some.is c.in_ok-name.ensures in
+    let told = stands_told ground query class c.in_ok-class.ensures.class name stands.represents in
+    let decides = name_eq_decides name query in
+    ((λ e. told.0 (decides.0 (sym c.eq.ensures ∙ e))), (λ stood. c.eq.ensures ∙ decides.1 (told.1 stood)))

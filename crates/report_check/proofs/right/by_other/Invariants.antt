@@ -11,6 +11,6 @@ use Rattle.report_check.proofs.right.by_other.Given as goal
 abbrev pub invariant-loop-walk : goal.invariant-loop-walk
 invariant-loop-walk l = record {
   kept : l.checker ≡ l.fn.checker;
-  none : (others value : Data) → IsWritten others l.steps → IsWritten value l.text → (walk : Walk) → Contains (take l.walk-index l.walks) walk → others ≡ walk_value walk
-      → IsShownBy l.fn.checker l.asked.query l.asked.rtype (l.one ∷ walk ∷ []) value → ⊥;
+  none : (others value : Data) → IsWritten others l.steps → IsWritten value l.text → (walk : Walk) → Contains (take l.walk-index l.walks) walk
+      → (others ≡ walk_value walk) × IsShownBy l.fn.checker l.asked.query l.asked.rtype (l.one ∷ walk ∷ []) value → ⊥;
 }

@@ -1,21 +1,31 @@
-use Rattle.std.proofs.Common.{rules, ◌≡◌, ◌↔◌, ◌≤◌, ◌∷◌, [], true, Contains, IfOk, IsErrOf, OnOk, ℕ, ◌+◌, ◌-◌, ◌*◌, ◌<◌, length, ◌/◌, ◌%◌, Bool, false, nat_eq, nat_lt, List, ◌++◌, slice_index_or, slice_set, bit_and, bit_or, Fits, w8, w32, w64, Bor, MutBor}
-use Rattle.net_model.specs.Shown.{MayShow, ShowsAnswers, WalksShow, with_sets}
-use Rattle.net_model.specs.Walk.{AreWalks, IsWalk}
-use Rattle.net_model.specs.declared.fault.Fault.{Fault as FaultValue}
-use Rattle.report_json.specs.Plain.{IsWritten}
-use Rattle.report_json.specs.Report.{entry_value}
-use Rattle.report_check.specs.Checked.{PassesWalks}
-use Rattle.report_check.specs.Entries.{ByOne, ByOther, ByTwo, ByWalks, IsShownBy, entry_with, first_repeats, is_of_representatives}
-use Rattle.report_check.specs.Right.{IsRight}
-use Rattle.serde_json.specs.Data.{Data, depth}
-use Rattle.serde_json.specs.Read.{max_depth}
+use Rattle.std.proofs.Common.{List, Option, MatchOption, sym, subst}
+use Rattle.dns_data.specs.Name.{Labels}
+use Rattle.dns_data.specs.declared.rr_type.RrType.{RrType}
+use Rattle.net_model.specs.Walk.{AreWalks}
 use Rattle.serde_json.specs.View.{view}
+use Rattle.report_check.specs.Right.{NamesQuery}
+use Rattle.report_check.specs.declared.asked.Asked.{Asked}
+use Rattle.report_check.proofs.RightByWalks.{right_told, walks_few}
 use Rattle.report_check.proofs.right.is_right.Goals as goal
 
--- src/right.rt:30:1
 pub returns-clause-right : goal.returns-clause-right
-returns-clause-right c = ?
+returns-clause-right c =
+    let setting = c.args.checker.now in
+    let value = view c.args.value.now in
+    let asked = c.in-Some.asked in
+    let names : NamesQuery value asked.query asked.rtype =
+    subst (λ (found : Option Asked). MatchOption found ((query : Labels) (rtype : RrType) → NamesQuery value query rtype → ⊥) (λ one. NamesQuery value one.query one.rtype))
+    c.in-Some.is c.in_ok-asked.ensures in
+    let walks = c.items.result.now in
+    let are = subst (AreWalks setting asked.query asked.rtype) (sym c.items.ensures) c.in_ok-walks.ensures.walks in
+    let told = right_told setting c.in_ok-walks.ensures.in_force value asked.query asked.rtype names walks are in
+    ((λ e. told.0 (c.in_ok-is_shown.ensures.shown.0 e)), (λ right. c.in_ok-is_shown.ensures.shown.1 (told.1 right)))
 
--- src/right.rt:30:1
 pub returns-clause-few : goal.returns-clause-few
-returns-clause-few c = ?
+returns-clause-few c =
+    let value = view c.args.value.now in
+    let asked = c.in-Some.asked in
+    let names : NamesQuery value asked.query asked.rtype =
+    subst (λ (found : Option Asked). MatchOption found ((query : Labels) (rtype : RrType) → NamesQuery value query rtype → ⊥) (λ one. NamesQuery value one.query one.rtype))
+    c.in-Some.is c.in_ok-asked.ensures in
+    walks_few c.args.checker.now c.in_ok-walks.ensures.in_force value asked.query asked.rtype names c.in_ok-walks.ensures.few

@@ -1,37 +1,78 @@
-use Rattle.std.proofs.Common.{rules, ◌≡◌, ◌↔◌, ◌≤◌, ◌∷◌, [], true, Contains, IfOk, IsErrOf, OnOk, ℕ, ◌+◌, ◌-◌, ◌*◌, ◌<◌, length, ◌/◌, ◌%◌, Bool, false, nat_eq, nat_lt, List, ◌++◌, slice_index_or, slice_set, bit_and, bit_or, Fits, w8, w32, w64, Bor, MutBor}
-use Rattle.net_model.specs.Shown.{MayShow, ShowsAnswers, WalksShow, with_sets}
-use Rattle.net_model.specs.Walk.{AreWalks, IsWalk}
-use Rattle.net_model.specs.declared.fault.Fault.{Fault as FaultValue}
+use Rattle.std.proofs.Common.{◌≡◌, ◌≤◌, List, [], ◌∷◌, map, codes, Some, sym, ap, ◌∙◌, subst, arith}
+use Rattle.std.proofs.lemmas.Result.{IfOk-weaker}
+use Rattle.meta_read.specs.Members.{list_at}
 use Rattle.report_json.specs.Plain.{IsWritten}
-use Rattle.report_json.specs.Report.{entry_value}
-use Rattle.report_check.specs.Checked.{PassesWalks}
-use Rattle.report_check.specs.Entries.{ByOne, ByOther, ByTwo, ByWalks, IsShownBy, entry_with, first_repeats, is_of_representatives}
-use Rattle.report_check.specs.Right.{IsRight}
 use Rattle.serde_json.specs.Data.{Data, depth}
 use Rattle.serde_json.specs.Read.{max_depth}
 use Rattle.serde_json.specs.View.{view}
+use Rattle.serde_json.specs.declared.value.Value.{Value}
+use Rattle.report_check.proofs.EntrySteps.{no_other_steps, one_by_walks, two_by_walks, walks_by_one, walks_by_two}
+use Rattle.report_check.proofs.InOrder.{at_item}
+use Rattle.report_check.proofs.Searched.{only_one, only_two}
+use Rattle.report_check.proofs.Shallow.{list_shallow}
 use Rattle.report_check.proofs.right.is_shown.Goals as goal
+use Rattle.report_check.proofs.right.is_shown.Goals.{in_default-steps, in_default-steps-2}
 
--- src/right.rt:66:18
 pub by_one-requires-clause-nests : goal.by_one-requires-clause-nests
-by_one-requires-clause-nests c = ?
+by_one-requires-clause-nests c =
+    at_item view (λ (one : Data). depth one ≤ max_depth) c.in-Some.steps.now 0 c.one-item.result
+    (list_shallow (codes "walks") (view c.args.value.now) (map view c.in-Some.steps.now) max_depth (sym c.in-Some.ensures) c.requires.nests)
+    (omega (arith, c.in-len1.len_at_least)) c.one-item.is
 
--- src/right.rt:60:1
 pub returns-in-len1-clause-shown : goal.returns-in-len1-clause-shown
-returns-in-len1-clause-shown c = ?
+returns-in-len1-clause-shown c =
+    let setting = c.args.checker.now in
+    let query = c.args.asked.now.query in
+    let rtype = c.args.asked.now.rtype in
+    let walks = c.args.walks.now in
+    let value = view c.args.value.now in
+    let one = view c.one-item.result in
+    let at : list_at (codes "walks") value ≡ Some (one ∷ []) =
+    sym c.in-Some.ensures ∙ ap (λ (steps : List Value). Some (map view steps))
+    (only_one c.in-Some.steps.now c.one-item.result c.in-len1.len_at_least c.in-len1.len_below c.one-item.is) in
+    let written = subst (IsWritten value) (sym c.as_slice.ensures.value) c.in_ok-text.ensures in
+    IfOk-weaker c.by_one.result _ _
+    (λ shown told. (
+      (λ e. one_by_walks setting query rtype walks value one ((told value written).0 e)),
+      (λ by. (told value written).1 (walks_by_one setting query rtype walks value one at by)),
+    ))
+    c.by_one.ensures.shown
 
--- src/right.rt:67:25
 pub by_two-requires-clause-one : goal.by_two-requires-clause-one
-by_two-requires-clause-one c = ?
+by_two-requires-clause-one c =
+    at_item view (λ (one : Data). depth one ≤ max_depth) c.in-Some.steps.now 0 c.one-item-then-steps-lt3.result
+    (list_shallow (codes "walks") (view c.args.value.now) (map view c.in-Some.steps.now) max_depth (sym c.in-Some.ensures) c.requires.nests)
+    (omega (arith, c.in-len2.len_at_least)) c.one-item-then-steps-lt3.is
 
--- src/right.rt:67:25
 pub by_two-requires-clause-other : goal.by_two-requires-clause-other
-by_two-requires-clause-other c = ?
+by_two-requires-clause-other c =
+    at_item view (λ (one : Data). depth one ≤ max_depth) c.in-Some.steps.now 1 c.other-item.result
+    (list_shallow (codes "walks") (view c.args.value.now) (map view c.in-Some.steps.now) max_depth (sym c.in-Some.ensures) c.requires.nests)
+    (omega (arith, c.in-len2.len_at_least)) c.other-item.is
 
--- src/right.rt:60:1
 pub returns-in-len2-clause-shown : goal.returns-in-len2-clause-shown
-returns-in-len2-clause-shown c = ?
+returns-in-len2-clause-shown c =
+    let setting = c.args.checker.now in
+    let query = c.args.asked.now.query in
+    let rtype = c.args.asked.now.rtype in
+    let walks = c.args.walks.now in
+    let value = view c.args.value.now in
+    let one = view c.one-item-then-steps-lt3.result in
+    let other = view c.other-item.result in
+    let at : list_at (codes "walks") value ≡ Some (one ∷ other ∷ []) =
+    sym c.in-Some.ensures ∙ ap (λ (steps : List Value). Some (map view steps))
+    (only_two c.in-Some.steps.now c.one-item-then-steps-lt3.result c.other-item.result c.in-len2.len_at_least c.in-len2.len_below
+    c.one-item-then-steps-lt3.is c.other-item.is) in
+    let written = subst (IsWritten value) (sym c.as_slice-in-len2.ensures.value) c.in_ok-text.ensures in
+    IfOk-weaker c.by_two.result _ _
+    (λ shown told. (
+      (λ e. two_by_walks setting query rtype walks value one other ((told value written).0 e)),
+      (λ by. (told value written).1 (walks_by_two setting query rtype walks value one other at by)),
+    ))
+    c.by_two.ensures.shown
 
--- src/right.rt:49:1
 pub returns-clause-shown : goal.returns-clause-shown
-returns-clause-shown c = ?
+returns-clause-shown c = elim c.if-steps-lt1.branch [
+  | in_default-steps w ↦ let h = w.in_default-steps in ?
+  | in_default-steps-2 w ↦ let h = w.in_default-steps in ?
+]

@@ -1,17 +1,23 @@
-use Rattle.std.proofs.Common.{rules, ◌≡◌, ◌↔◌, ◌≤◌, ◌∷◌, [], true, Contains, IfOk, IsErrOf, OnOk, ℕ, ◌+◌, ◌-◌, ◌*◌, ◌<◌, length, ◌/◌, ◌%◌, Bool, false, nat_eq, nat_lt, List, ◌++◌, slice_index_or, slice_set, bit_and, bit_or, Fits, w8, w32, w64, Bor, MutBor}
-use Rattle.net_model.specs.Shown.{MayShow, ShowsAnswers, WalksShow, with_sets}
-use Rattle.net_model.specs.Walk.{AreWalks, IsWalk}
-use Rattle.net_model.specs.declared.fault.Fault.{Fault as FaultValue}
-use Rattle.report_json.specs.Plain.{IsWritten}
-use Rattle.report_json.specs.Report.{entry_value}
-use Rattle.report_check.specs.Checked.{PassesWalks}
-use Rattle.report_check.specs.Entries.{ByOne, ByOther, ByTwo, ByWalks, IsShownBy, entry_with, first_repeats, is_of_representatives}
-use Rattle.report_check.specs.Right.{IsRight}
-use Rattle.serde_json.specs.Data.{Data, depth}
-use Rattle.serde_json.specs.Read.{max_depth}
-use Rattle.serde_json.specs.View.{view}
+use Rattle.std.proofs.Common.{refl}
+use Rattle.std.proofs.lemmas.Result.{IfOk-weaker}
+use Rattle.net_model.specs.declared.fault.Fault.TheVariants as faults
+use Rattle.report_check.proofs.TwoWalks.{answers_shown}
 use Rattle.report_check.proofs.right.shows_answers.Goals as goal
 
--- src/right.rt:234:1
 pub returns-clause-shown : goal.returns-clause-shown
-returns-clause-shown c = ?
+returns-clause-shown c =
+    let query = c.args.asked.now.query in
+    let rtype = c.args.asked.now.rtype in
+    let class = c.in_ok-class.class in
+    IfOk-weaker c.is_entry_of.result _ _
+    (λ shown told value written. (
+      (λ e. record {
+        fault = faults.Answers class rtype;
+        may = (refl, c.in_ok-class.ensures.class);
+        show = c.requires;
+        is = (told value written).0 e;
+      }),
+      (λ by. (told value written).1
+          (answers_shown c.args.checker.now query rtype class c.in_ok-class.ensures.one c.args.one.now c.args.other.now value by)),
+    ))
+    c.is_entry_of.ensures

@@ -1,19 +1,21 @@
-use Rattle.std.proofs.Common.{rules, ◌≡◌, ◌↔◌, true, Contains, IfOk, IsErrOf, OnOk, ◌∷◌, [], ℕ, ◌+◌, ◌-◌, ◌*◌, ◌<◌, ◌≤◌, length, ◌/◌, ◌%◌, Bool, false, nat_eq, nat_lt, List, ◌++◌, slice_index_or, slice_set, bit_and, bit_or, Fits, w8, w32, w64, Bor, MutBor}
-use Rattle.dns_data.specs.Name.{Labels}
-use Rattle.dns_data.specs.declared.rr_type.RrType.{RrType}
-use Rattle.net_model.specs.Class.{IsClassOf}
-use Rattle.net_model.specs.Learnt.{IsInForce}
-use Rattle.net_model.specs.Reading.{ground_of}
-use Rattle.net_model.specs.Shown.{Represents, WalksShow, with_sets}
-use Rattle.net_model.specs.Step.{following}
-use Rattle.net_model.specs.Walk.{AreWalks, IsWalk}
-use Rattle.net_model.specs.declared.class.Class.{Class as ClassValue}
-use Rattle.net_model.specs.declared.fault.Fault.{Fault as FaultValue}
-use Rattle.plain_resolver.specs.Passed.{HasMoreWalks}
-use Rattle.report_check.specs.Checked.{most_walks}
-use Rattle.report_check.specs.Entries.{AreLearnt}
+use Rattle.std.proofs.Common.{◌↔◌, List, [], ◌∷◌, Contains, IfOk, sym, subst}
+use Rattle.std.proofs.lemmas.Result.{IfOk-weaker}
+use Rattle.net_model.specs.Shown.{WalksShow, with_sets}
+use Rattle.net_model.specs.Step.{Setting, following}
+use Rattle.net_model.specs.Walk.{IsWalk}
+use Rattle.net_model.specs.declared.fault.Fault.{Fault}
+use Rattle.report_check.proofs.WalkShows.{faults_told}
 use Rattle.report_check.proofs.checker.Checker.faults_of.Goals as goal
 
--- src/checker.rt:84:5
 pub returns : goal.returns
-returns c = ?
+returns c =
+    let own = c.self.inside in
+    let walk = c.args.walk.now in
+    let setting = following own.hosts.now own.rewrites own.sets.least in
+    let is = subst (λ (s : Setting). IsWalk s c.requires.0 c.requires.1 walk) (sym c.self.view_is) c.requires.2 in
+    subst (λ (s : Setting). IfOk c.faults_of_walk.result (λ faults. (fault : Fault) → Contains faults fault ↔ WalksShow (with_sets s) (walk ∷ []) fault)) c.self.view_is
+    (IfOk-weaker c.faults_of_walk.result _ _
+    (λ faults e fault.
+    subst (λ (all : List Fault). Contains all fault ↔ WalksShow (with_sets setting) (walk ∷ []) fault) (sym e)
+    (faults_told setting own.sets c.self.invariant.0 walk c.requires.0 c.requires.1 is fault))
+    c.faults_of_walk.ensures)

@@ -1,15 +1,12 @@
-use Rattle.std.proofs.Common.{rules, ◌≡◌, ◌↔◌, true, IfOk, ℕ, ◌+◌, ◌-◌, ◌*◌, ◌<◌, ◌≤◌, length, ◌/◌, ◌%◌, Bool, false, nat_eq, nat_lt, List, [], ◌∷◌, ◌++◌, slice_index_or, slice_set, bit_and, bit_or, Fits, w8, w32, w64, Bor, MutBor}
-use Rattle.label_graph.specs.Pairs.{AreSame}
-use Rattle.net_model.specs.Class.{IsClassOf, IsRepresentative}
 use Rattle.net_model.specs.Reading.{ground_of}
-use Rattle.net_model.specs.Shown.{Represents}
-use Rattle.net_model.specs.declared.class.Class.{Class as ClassValue}
+use Rattle.query_classes.proofs.SameGrounds.{class_same, same_back}
 use Rattle.report_check.proofs.classes.Classes.class_of.Goals as goal
 
--- src/classes.rt:49:5
 pub returns-clause-class : goal.returns-clause-class
-returns-clause-class c = ?
+returns-clause-class c =
+    class_same c.in_ok-graph.graph (ground_of c.args.self.now) c.in_ok-graph.ensures.same c.args.query.now c.in_ok-class.class c.in_ok-class.ensures.class
 
--- src/classes.rt:49:5
 pub returns-clause-one : goal.returns-clause-one
-returns-clause-one c = ?
+returns-clause-one c = λ other is.
+    let own = ground_of c.args.self.now in
+    c.in_ok-class.ensures.one other (class_same own c.in_ok-graph.graph (same_back c.in_ok-graph.graph own c.in_ok-graph.ensures.same) c.args.query.now other is)
