@@ -20,13 +20,13 @@ pub answers_shown : (setting : Setting) (query : Labels) (rtype : RrType) (class
     → IsShownBy setting query rtype (one ∷ other ∷ []) value
     → value ≡ entry_value (entry_with query rtype (first_repeats (one ∷ other ∷ [])) (one ∷ other ∷ []) (faults.Answers class rtype))
 answers_shown setting query rtype class single one other value shown = by shown.fault shown.may shown.show shown.is where
-  entry_of : Fault → Data
-  entry_of fault = entry_value (entry_with query rtype (first_repeats (one ∷ other ∷ [])) (one ∷ other ∷ []) fault)
-
-  by : (fault : Fault) → MayShow setting.config query rtype fault → WalksShow (with_sets setting) (one ∷ other ∷ []) fault → value ≡ entry_of fault
-      → value ≡ entry_of (faults.Answers class rtype)
+  by : (fault : Fault) → MayShow setting.config query rtype fault → WalksShow (with_sets setting) (one ∷ other ∷ []) fault
+      → value ≡ entry_value (entry_with query rtype (first_repeats (one ∷ other ∷ [])) (one ∷ other ∷ []) fault)
+      → value ≡ entry_value (entry_with query rtype (first_repeats (one ∷ other ∷ [])) (one ∷ other ∷ []) (faults.Answers class rtype))
   by (faults.Answers own with_type) may show is =
-      is ∙ ap (λ (c : Class). entry_of (faults.Answers c with_type)) (single own may.1) ∙ ap (λ (t : RrType). entry_of (faults.Answers class t)) may.0
+      is
+      ∙ ap (λ (c : Class). entry_value (entry_with query rtype (first_repeats (one ∷ other ∷ [])) (one ∷ other ∷ []) (faults.Answers c with_type))) (single own may.1)
+      ∙ ap (λ (t : RrType). entry_value (entry_with query rtype (first_repeats (one ∷ other ∷ [])) (one ∷ other ∷ []) (faults.Answers class t))) may.0
   by fault may show is = absurd show
 
 -- and their answers differ
