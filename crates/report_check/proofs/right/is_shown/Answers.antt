@@ -1,11 +1,18 @@
-use Rattle.std.proofs.Common.{◌≡◌, ◌≤◌, List, [], ◌∷◌, map, codes, Some, sym, ap, ◌∙◌, subst, arith}
+use Rattle.std.proofs.Common.{◌≡◌, ◌↔◌, ◌≤◌, Bool, true, false, true≢false, List, [], ◌∷◌, length, map, codes, Some, Result, Ok, IfOk, sym, ap, ◌∙◌, subst, arith}
+use Rattle.std.proofs.lemmas.List.{length-map}
 use Rattle.std.proofs.lemmas.Result.{IfOk-weaker}
+use Rattle.dns_data.specs.Name.{Labels}
+use Rattle.dns_data.specs.declared.memory.NoMemory.{NoMemory}
+use Rattle.dns_data.specs.declared.rr_type.RrType.{RrType}
 use Rattle.meta_read.specs.Members.{list_at}
+use Rattle.net_model.specs.Step.{Setting}
+use Rattle.net_model.specs.declared.walk.Walk.{Walk}
 use Rattle.report_json.specs.Plain.{IsWritten}
 use Rattle.serde_json.specs.Data.{Data, depth}
 use Rattle.serde_json.specs.Read.{max_depth}
 use Rattle.serde_json.specs.View.{view}
 use Rattle.serde_json.specs.declared.value.Value.{Value}
+use Rattle.report_check.specs.Entries.{ByWalks}
 use Rattle.report_check.proofs.EntrySteps.{no_other_steps, one_by_walks, two_by_walks, walks_by_one, walks_by_two}
 use Rattle.report_check.proofs.InOrder.{at_item}
 use Rattle.report_check.proofs.Searched.{only_one, only_two}
@@ -71,8 +78,27 @@ returns-in-len2-clause-shown c =
     ))
     c.by_two.ensures.shown
 
+-- another number of walks than one or two shows nothing
+unshown : (setting : Setting) (query : Labels) (rtype : RrType) (walks : List Walk) (value : Data) (steps : List Value)
+    → list_at (codes "walks") value ≡ Some (map view steps) → (length steps ≡ 1 → ⊥) → (length steps ≡ 2 → ⊥)
+    → (answer : Result Bool NoMemory) → answer ≡ Ok false → IfOk answer (λ shown. (shown ≡ true) ↔ ByWalks setting query rtype walks value)
+unshown setting query rtype walks value steps at not_one not_two answer is =
+    subst (λ (said : Result Bool NoMemory). IfOk said (λ shown. (shown ≡ true) ↔ ByWalks setting query rtype walks value)) (sym is) (
+      (λ e. absurd (true≢false (sym e))),
+      (λ by. absurd (no_other_steps setting query rtype walks value (map view steps) at
+          (λ one e. not_one (sym (length-map steps view) ∙ ap length e)) (λ one other e. not_two (sym (length-map steps view) ∙ ap length e)) by)),
+    )
+
 pub returns-clause-shown : goal.returns-clause-shown
-returns-clause-shown c = elim c.if-steps-lt1.branch [
-  | in_default-steps w ↦ let h = w.in_default-steps in ?
-  | in_default-steps-2 w ↦ let h = w.in_default-steps in ?
-]
+returns-clause-shown c =
+    let steps = c.in-Some.steps.now in
+    elim c.if-steps-lt1.branch [
+      | in_default-steps w ↦ (
+          let few = w.in_default-steps.len_below in
+          unshown c.args.checker.now c.args.asked.now.query c.args.asked.now.rtype c.args.walks.now (view c.args.value.now) steps (sym c.in-Some.ensures)
+          (λ e. absurd (omega (arith, e, few))) (λ e. absurd (omega (arith, e, few))) c.if-steps-lt1.result w.result-is)
+      | in_default-steps-2 w ↦ (
+          let many = w.in_default-steps.len_at_least in
+          unshown c.args.checker.now c.args.asked.now.query c.args.asked.now.rtype c.args.walks.now (view c.args.value.now) steps (sym c.in-Some.ensures)
+          (λ e. absurd (omega (arith, e, many))) (λ e. absurd (omega (arith, e, many))) c.if-steps-lt1.result w.result-is)
+    ]
