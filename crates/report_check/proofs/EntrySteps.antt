@@ -1,12 +1,12 @@
 -- The walks of an entry, in its value.
-use Rattle.std.proofs.Common.{◌≡◌, ◌↔◌, ℕ, suc, List, [], ◌∷◌, map, codes, Option, Some, None, refl, sym, ap, ◌∙◌, subst, inl, inr}
+use Rattle.std.proofs.Common.{◌≡◌, List, [], ◌∷◌, map, codes, Some, None, refl, sym, ap, ◌∙◌, subst, inl, inr}
 use Rattle.std.specs.Prelude.{◌⊎◌, Contains}
 use Rattle.dns_data.specs.Name.{Labels}
 use Rattle.dns_data.specs.declared.rr_type.RrType.{RrType}
 use Rattle.dns_data.proofs.Membership.{none_in_nil, has_first, has_later, first_or_later}
 use Rattle.graph_form.specs.declared.report.ReportEntry.{ReportEntry}
 use Rattle.meta_read.specs.Members.{list_at, values_of}
-use Rattle.net_model.specs.Shown.{FaultSetting, WalksShow, with_sets}
+use Rattle.net_model.specs.Shown.{WalksShow, with_sets}
 use Rattle.net_model.specs.Step.{Setting}
 use Rattle.net_model.specs.declared.fault.Fault.{Fault}
 use Rattle.net_model.specs.declared.walk.Walk.{Walk}
@@ -14,7 +14,7 @@ use Rattle.report_json.specs.Json.{json_items}
 use Rattle.report_json.specs.Report.{entry_value}
 use Rattle.report_json.specs.Walks.{walk_value}
 use Rattle.serde_json.specs.Data.{Data}
-use Rattle.report_check.specs.Entries.{ByOne, ByOther, ByTwo, ByWalks, IsShownBy, entry_with, first_repeats}
+use Rattle.report_check.specs.Entries.{ByOne, ByTwo, ByWalks, IsShownBy, entry_with, first_repeats}
 
 -- an array made of values has these values
 pub values_of_items : (values : List Data) → values_of (json_items values) ≡ values

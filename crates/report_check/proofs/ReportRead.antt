@@ -1,6 +1,6 @@
 -- The entries of a report are right, and its text is read as the report of its entries.
-use Rattle.std.proofs.Common.{◌≡◌, ◌∙◌, ℕ, ◌≤◌, ◌<◌, ◌^◌, Bool, true, List, [], ◌∷◌, ◌++◌, map, codes, Option, Some, None, Result, Ok, Err, zero, suc, refl, sym, ap, subst, arith}
-use Rattle.std.specs.Prelude.{◌&&◌, nat_le, option_and_then, if◌then◌else◌}
+use Rattle.std.proofs.Common.{◌≡◌, ◌∙◌, ℕ, ◌≤◌, ◌<◌, ◌^◌, List, [], ◌∷◌, ◌++◌, map, Some, None, Result, Ok, Err, zero, suc, refl, sym, ap, subst, arith}
+use Rattle.std.specs.Prelude.{option_and_then}
 use Rattle.std.specs.List.{AllByRecursion}
 use Rattle.std.specs.Option.{option_map}
 use Rattle.std.proofs.lemmas.Bool.Decides.{nat_tests}
@@ -15,7 +15,6 @@ use Rattle.net_model.specs.Walk.{IsWalk, walk_along}
 use Rattle.graph_form.specs.Report.{Subject, IsClass, IsEntry, IsReport}
 use Rattle.graph_form.specs.declared.report.Report.{Report}
 use Rattle.graph_form.specs.declared.report.ReportEntry.{ReportEntry}
-use Rattle.meta_read.specs.Members.{value_of}
 use Rattle.meta_read.proofs.Values.{value_of-read}
 use Rattle.serde_json.specs.Data.{Data}
 use Rattle.report_json.specs.Report.{entry_value, report_value, report_text}

@@ -1,13 +1,11 @@
 -- An entry is right exactly where some of all walks of its query show its fault.
-use Rattle.std.proofs.Common.{◌≡◌, ◌↔◌, ℕ, Bool, List, [], ◌∷◌, slice_get, Some, refl, sym, ap, ◌∙◌, subst}
-use Rattle.std.specs.Prelude.{Contains}
-use Rattle.dns_data.specs.Name.{Labels, IsName}
+use Rattle.std.proofs.Common.{◌≡◌, ◌↔◌, Bool, List, [], ◌∷◌, slice_get, Some, refl, sym, ap, ◌∙◌, subst}
+use Rattle.dns_data.specs.Name.{Labels}
 use Rattle.dns_data.specs.declared.rr_type.RrType.{RrType}
 use Rattle.dns_data.proofs.Membership.{along, each_along}
 use Rattle.graph_form.specs.Report.{repeats}
-use Rattle.graph_form.specs.declared.report.ReportEntry.{ReportEntry}
 use Rattle.net_model.specs.Learnt.{IsInForce}
-use Rattle.net_model.specs.Shown.{MayShow, WalksShow, with_sets}
+use Rattle.net_model.specs.Shown.{with_sets}
 use Rattle.net_model.specs.Step.{Setting, following}
 use Rattle.net_model.specs.Walk.{AreWalks, IsWalk}
 use Rattle.net_model.specs.declared.fault.Fault.{Fault}

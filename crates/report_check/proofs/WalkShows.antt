@@ -28,7 +28,7 @@ use Rattle.zone_lookup.specs.Sides.{addresses_differ, zones_differ}
 use Rattle.zone_lookup.specs.Sound.{depends_on_itself, wants_glue}
 use Rattle.zone_lookup.proofs.ZonesTell.{among_has, cyclic_told, differ_told, glue_told, has_among, other_addresses, told_addresses, told_cyclic, told_differ, told_glue}
 use Rattle.report_check.specs.Entries.{AreLearnt}
-use Rattle.report_check.specs.WalkFaults.{blackhole_in, blackhole_of, cut_faults, end_faults, hop_faults, if_shown, lame_behind, last_of, referral_faults, unlearnt_behind, walk_faults}
+use Rattle.report_check.specs.WalkFaults.{blackhole_in, blackhole_of, end_faults, hop_faults, if_shown, lame_behind, last_of, referral_faults, unlearnt_behind, walk_faults}
 use Rattle.report_check.proofs.HopsInside.{refers_inside}
 use Rattle.report_check.proofs.Lasts.{before_last, last_behind}
 

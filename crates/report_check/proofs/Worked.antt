@@ -1,6 +1,6 @@
 -- Values that were worked out by hand: what a report states, which queries entries name, and an entry that is right.
-use Rattle.std.proofs.Common.{◌≡◌, refl, sym, ap, ℕ, Option, option_and_then, List, [], ◌∷◌, codes, Some, None, true, false, arith}
-use Rattle.serde_json.specs.Data.{null, string, number, unsigned, array, no_items}
+use Rattle.std.proofs.Common.{◌≡◌, refl, ap, ℕ, Option, option_and_then, List, [], ◌∷◌, codes, Some, None, true, false, arith}
+use Rattle.serde_json.specs.Data.{null}
 use Rattle.serde_json.proofs.OnLiterals.{serde_json_on_literals}
 use Rattle.dns_data.specs.Name.{Labels, IsName}
 use Rattle.dns_data.specs.declared.rdata.Rdata.TheVariants.{Cname}
@@ -13,7 +13,6 @@ use Rattle.net_model.specs.declared.fault.Fault.TheVariants.{Blackhole}
 use Rattle.net_model.specs.declared.place.Place.{Place}
 use Rattle.net_model.specs.declared.walk.Hop.TheVariants.{Rewrite}
 use Rattle.net_model.specs.declared.walk.Leaf.TheVariants.{NxDomain}
-use Rattle.net_model.specs.declared.walk.State.{State}
 use Rattle.net_model.specs.declared.walk.Walk.{Walk}
 use Rattle.net_model.proofs.LearntSets.{ByNone, after_same_rounds, is_round}
 use Rattle.report_json.specs.Report.{entry_value}

@@ -1,5 +1,5 @@
 -- What the laws of the checker's answers speak of.
-use Rattle.std.specs.Prelude.{ℕ, ◌≤◌, ◌<◌, ◌^◌, Result, Ok, Err}
+use Rattle.std.specs.Prelude.{◌≤◌, ◌<◌, ◌^◌, Result, Ok, Err}
 use Rattle.std.specs.Str.{IsUtf8}
 use Rattle.graph_form.specs.declared.report.Report.{Report}
 use Rattle.report_json.specs.Report.{report_text}

@@ -124,9 +124,7 @@ fn put_lame(
     ensures { OnOk result (faults.new ≡ faults.old ++ lame_behind ns.now (option_map (λ hop. hop.now) hop.entry)) }
 {
     match hop {
-        Some(Hop::Refer(cut)) => {
-            put_shown(faults, cut.ns == *ns, Fault::Lame(cut.copy(alloc)?))
-        }
+        Some(Hop::Refer(cut)) => { put_shown(faults, cut.ns == *ns, Fault::Lame(cut.copy(alloc)?)) }
         _ => Ok(()),
     }
 }

@@ -1,4 +1,4 @@
-use Rattle.std.proofs.Common.{List, [], length, inl, inr, ap, ◌∙◌, subst, rules}
+use Rattle.std.proofs.Common.{List, length, inl, inr, ap, ◌∙◌, subst, rules}
 use Rattle.dns_data.specs.Name.{Labels}
 use Rattle.net_model.specs.Nearest.{server_names}
 use Rattle.net_model.specs.declared.config.Config.{Config}
@@ -9,14 +9,20 @@ use Rattle.report_check.proofs.learning.learnt_sets.Goals as goal
 
 pub returns-in_err-least-clause-passed : goal.returns-in_err-least-clause-passed
 returns-in_err-least-clause-passed c = λ name is.
-    inl (name, subst (λ (begin : List Labels). IsFirstWithTooMany c.args.hosts.now c.args.rewrites most_walks begin name) c.new.ensures
-    (c.in_err-least.ensures.passed name (search rules)))
+    inl (
+      name,
+      subst (λ (begin : List Labels). IsFirstWithTooMany c.args.hosts.now c.args.rewrites most_walks begin name) c.new.ensures
+          (c.in_err-least.ensures.passed name (search rules)),
+    )
 
 pub returns-in_err-greatest-clause-passed : goal.returns-in_err-greatest-clause-passed
 returns-in_err-greatest-clause-passed c = λ name is.
-    inr (name, subst (λ (begin : List Labels). IsFirstWithTooMany c.args.hosts.now c.args.rewrites most_walks begin name)
-    (c.in_ok-all.ensures ∙ ap (λ (config : Config). server_names config) c.config.ensures)
-    (c.in_err-greatest.ensures.passed name (search rules)))
+    inr (
+      name,
+      subst (λ (begin : List Labels). IsFirstWithTooMany c.args.hosts.now c.args.rewrites most_walks begin name)
+          (c.in_ok-all.ensures ∙ ap (λ (config : Config). server_names config) c.config.ensures)
+          (c.in_err-greatest.ensures.passed name (search rules)),
+    )
 
 pub returns-clause-few : goal.returns-clause-few
 returns-clause-few c =

@@ -33,19 +33,19 @@ loop-walk-preserved c =
     let So = λ (value : Data) (w : Walk). (steps ≡ walk_value w) × IsShownBy c.args.checker.now query rtype (w ∷ []) value in
     elim c.else-branch.branch [
       | else-branch-via-then-branch+in_ok-shows_alone+else-branch-2 w ↦ record {
-          kept = w.checker-is ∙ w.in_ok-shows_alone.ensures.kept ∙ inv.kept;
-          none = λ value written.
-              none_more (So value) walks index (inv.none value written) walk c.loop-walk-test.true c.walk-item.is
-              (λ so. true≢false (sym ((w.in_ok-shows_alone.ensures.shown value written).1
-              (subst (λ (s : Setting). IsShownBy s query rtype (walk ∷ []) value) (sym inv.kept) so.1)) ∙ w.if-branch-2.false));
-        }
+        kept = w.checker-is ∙ w.in_ok-shows_alone.ensures.kept ∙ inv.kept;
+        none = λ value written.
+            none_more (So value) walks index (inv.none value written) walk c.loop-walk-test.true c.walk-item.is
+            (λ so. true≢false (sym ((w.in_ok-shows_alone.ensures.shown value written).1
+            (subst (λ (s : Setting). IsShownBy s query rtype (walk ∷ []) value) (sym inv.kept) so.1)) ∙ w.if-branch-2.false));
+      }
       | else-branch-via-else-branch w ↦ record {
-          kept = w.checker-is ∙ inv.kept;
-          none = λ value written.
-              none_more (So value) walks index (inv.none value written) walk c.loop-walk-test.true c.walk-item.is
-              (λ so. true≢false (sym ((c.in_ok-is_walk_text.ensures steps (subst (IsWritten steps) (sym c.as_slice.ensures.value) c.in_ok-steps.ensures)).1 so.0)
-              ∙ w.if-branch.false));
-        }
+        kept = w.checker-is ∙ inv.kept;
+        none = λ value written.
+            none_more (So value) walks index (inv.none value written) walk c.loop-walk-test.true c.walk-item.is
+            (λ so. true≢false (sym ((c.in_ok-is_walk_text.ensures steps (subst (IsWritten steps) (sym c.as_slice.ensures.value) c.in_ok-steps.ensures)).1 so.0)
+            ∙ w.if-branch.false));
+      }
     ]
 
 pub returns-clause-shown : goal.returns-clause-shown

@@ -1,5 +1,4 @@
 use Rattle.std.proofs.Common.{◌≡◌, [], ◌∷◌, true≢false, sym, ◌∙◌, subst}
-use Rattle.net_model.specs.Shown.{ShowsAnswers}
 use Rattle.net_model.specs.Step.{Setting}
 use Rattle.net_model.specs.declared.walk.Walk.{Walk}
 use Rattle.report_json.specs.Walks.{walk_value}
@@ -22,24 +21,24 @@ loop-walk-preserved c =
     let So = λ (others value : Data) (w : Walk). (others ≡ walk_value w) × IsShownBy c.args.checker.now query rtype (one ∷ w ∷ []) value in
     elim c.else-branch.branch [
       | else-branch-via-then-branch+then-differ+in_ok-shows_answers+else-branch-2 w ↦ record {
-          kept = w.checker-is ∙ w.in_ok-shows_answers.ensures.kept ∙ inv.kept;
-          none = λ others value stepped written.
-              none_more (So others value) walks index (inv.none others value stepped written) walk c.loop-walk-test.true c.walk-item.is
-              (λ so. true≢false (sym ((w.in_ok-shows_answers.ensures.shown value written).1
-              (subst (λ (s : Setting). IsShownBy s query rtype (one ∷ walk ∷ []) value) (sym inv.kept) so.1)) ∙ w.if-branch-2.false));
-        }
+        kept = w.checker-is ∙ w.in_ok-shows_answers.ensures.kept ∙ inv.kept;
+        none = λ others value stepped written.
+            none_more (So others value) walks index (inv.none others value stepped written) walk c.loop-walk-test.true c.walk-item.is
+            (λ so. true≢false (sym ((w.in_ok-shows_answers.ensures.shown value written).1
+            (subst (λ (s : Setting). IsShownBy s query rtype (one ∷ walk ∷ []) value) (sym inv.kept) so.1)) ∙ w.if-branch-2.false));
+      }
       | else-branch-via-then-branch+else-differ w ↦ record {
-          kept = w.checker-is ∙ inv.kept;
-          none = λ others value stepped written.
-              none_more (So others value) walks index (inv.none others value stepped written) walk c.loop-walk-test.true c.walk-item.is
-              (λ so. true≢false (sym (w.differ.ensures.1 (two_differ c.args.checker.now query rtype one walk value so.1)) ∙ w.if-differ.false));
-        }
+        kept = w.checker-is ∙ inv.kept;
+        none = λ others value stepped written.
+            none_more (So others value) walks index (inv.none others value stepped written) walk c.loop-walk-test.true c.walk-item.is
+            (λ so. true≢false (sym (w.differ.ensures.1 (two_differ c.args.checker.now query rtype one walk value so.1)) ∙ w.if-differ.false));
+      }
       | else-branch-via-else-branch w ↦ record {
-          kept = w.checker-is ∙ inv.kept;
-          none = λ others value stepped written.
-              none_more (So others value) walks index (inv.none others value stepped written) walk c.loop-walk-test.true c.walk-item.is
-              (λ so. true≢false (sym ((c.in_ok-is_walk_text.ensures others stepped).1 so.0) ∙ w.if-branch.false));
-        }
+        kept = w.checker-is ∙ inv.kept;
+        none = λ others value stepped written.
+            none_more (So others value) walks index (inv.none others value stepped written) walk c.loop-walk-test.true c.walk-item.is
+            (λ so. true≢false (sym ((c.in_ok-is_walk_text.ensures others stepped).1 so.0) ∙ w.if-branch.false));
+      }
     ]
 
 pub returns-clause-shown : goal.returns-clause-shown

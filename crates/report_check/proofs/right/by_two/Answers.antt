@@ -23,20 +23,20 @@ loop-walk-preserved c =
     let So = λ (value : Data) (w : Walk). (one ≡ walk_value w) × ByOther c.args.checker.now query rtype w walks other value in
     elim c.else-branch.branch [
       | else-branch-via-then-branch+in_ok-by_other+else-branch-2 w ↦ record {
-          kept = w.checker-is ∙ w.in_ok-by_other.ensures.kept ∙ inv.kept;
-          none = λ value written.
-              none_more (So value) walks index (inv.none value written) walk c.loop-walk-test.true c.walk-item.is
-              (λ so. true≢false (sym ((w.in_ok-by_other.ensures.shown other value
-              (subst (IsWritten other) (sym w.as_slice-then-branch.ensures.value) c.in_ok-other.ensures) written).1
-              (subst (λ (s : Setting). ByOther s query rtype walk walks other value) (sym inv.kept) so.1)) ∙ w.if-branch-2.false));
-        }
+        kept = w.checker-is ∙ w.in_ok-by_other.ensures.kept ∙ inv.kept;
+        none = λ value written.
+            none_more (So value) walks index (inv.none value written) walk c.loop-walk-test.true c.walk-item.is
+            (λ so. true≢false (sym ((w.in_ok-by_other.ensures.shown other value
+            (subst (IsWritten other) (sym w.as_slice-then-branch.ensures.value) c.in_ok-other.ensures) written).1
+            (subst (λ (s : Setting). ByOther s query rtype walk walks other value) (sym inv.kept) so.1)) ∙ w.if-branch-2.false));
+      }
       | else-branch-via-else-branch w ↦ record {
-          kept = w.checker-is ∙ inv.kept;
-          none = λ value written.
-              none_more (So value) walks index (inv.none value written) walk c.loop-walk-test.true c.walk-item.is
-              (λ so. true≢false (sym ((c.in_ok-is_walk_text.ensures one (subst (IsWritten one) (sym c.as_slice.ensures.value) c.in_ok-one.ensures)).1 so.0)
-              ∙ w.if-branch.false));
-        }
+        kept = w.checker-is ∙ inv.kept;
+        none = λ value written.
+            none_more (So value) walks index (inv.none value written) walk c.loop-walk-test.true c.walk-item.is
+            (λ so. true≢false (sym ((c.in_ok-is_walk_text.ensures one (subst (IsWritten one) (sym c.as_slice.ensures.value) c.in_ok-one.ensures)).1 so.0)
+            ∙ w.if-branch.false));
+      }
     ]
 
 pub returns-clause-shown : goal.returns-clause-shown

@@ -43,10 +43,10 @@ loop-fault-preserved c =
       left = λ value written by.
           elim (first_or_later fault rest by.fault (subst (λ (all : List Fault). Contains all by.fault) c.in-Some.ensures.steps (inv.left value written by))) [
             | inl same ↦ absurd (true≢false (sym ((c.in_ok-shows_fault.ensures.shown value written).1 (
-                subst (λ (f : Fault). MayShow c.loop-fault.checker.config query rtype f) (sym same)
-                (subst (λ (s : Setting). MayShow s.config query rtype by.fault) (sym inv.kept) by.may),
-                by.is ∙ ap (λ (f : Fault). entry_value (entry_with query rtype (first_repeats (walk ∷ [])) (walk ∷ []) f)) (sym same),
-              )) ∙ c.if-branch.false))
+              subst (λ (f : Fault). MayShow c.loop-fault.checker.config query rtype f) (sym same)
+                  (subst (λ (s : Setting). MayShow s.config query rtype by.fault) (sym inv.kept) by.may),
+              by.is ∙ ap (λ (f : Fault). entry_value (entry_with query rtype (first_repeats (walk ∷ [])) (walk ∷ []) f)) (sym same),
+            )) ∙ c.if-branch.false))
             | inr later ↦ later
           ];
     }

@@ -1,4 +1,4 @@
-use Rattle.std.proofs.Common.{List, Option, MatchOption, sym, subst}
+use Rattle.std.proofs.Common.{Option, MatchOption, sym, subst}
 use Rattle.dns_data.specs.Name.{Labels}
 use Rattle.dns_data.specs.declared.rr_type.RrType.{RrType}
 use Rattle.net_model.specs.Walk.{AreWalks}
