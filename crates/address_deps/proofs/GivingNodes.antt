@@ -227,12 +227,14 @@ module _ (config : Config) (rewrites : ℕ) (followed : List Labels)
     pub starts : Contains graph.starts at
     pub gives : from_here numbers at ≡ true
 
+  -- where a path from a start gives an address, an address of the name is learnt
   pub path_learns : GivingPath → LearnsBy (following config rewrites followed) query rtype
   path_learns path =
       let place = place_of_item graph.starts path.at path.starts in
       from_giving (following config rewrites followed) query rtype (place.0 ∷ path.numbers)
       (sym (same_along (place.0 ∷ path.numbers)) ∙ (ap (λ (at : Option ℕ). option_map_or (from_here path.numbers) at false) place.1 ∙ path.gives))
 
+  -- where an address of the name is learnt, a path from a start gives one
   pub learns_path : LearnsBy (following config rewrites followed) query rtype → GivingPath
   learns_path learns = by learns.is_walk.0 (same_along learns.is_walk.0 ∙ (ap walk_gives learns.is_walk.1 ∙ learns.ends)) where
     by : (numbers : List ℕ) → path_gives numbers ≡ true → GivingPath

@@ -47,6 +47,7 @@ module _ (few more : Labels → Bool) (grows : (name : Labels) → few name ≡ 
         sum_by-cons (λ (s : Server). unset (few s.name)) server servers,
       )
 
+  -- where the name of one of the servers is among more and not among few, fewer servers are missing in more than in few
   pub count_less : (servers : List Server) (name : Labels) → Contains (map (λ (s : Server). s.name) servers) name → few name ≡ false → more name ≡ true
       → sum_by (λ (s : Server). unset (more s.name)) servers < sum_by (λ (s : Server). unset (few s.name)) servers
   count_less [] name has missing there = absurd (none_in_nil name has)
@@ -75,6 +76,7 @@ unset_at_most (server ∷ servers) test =
 -- ---- the search for the least set
 
 module _ (config : Config) (graphs : List PlainGraph) where
+  -- before any server is added the search for the least set is fair
   pub grows_from_none : IsGrowing config graphs []
   grows_from_none =
       record {
@@ -108,6 +110,7 @@ module _ (config : Config) (graphs : List PlainGraph) where
               );
         }
 
+  -- where no server more can be learnt, those that the search added are the least set, in the order of the servers
   pub least_told : (learnt : List Labels) → IsGrowing config graphs learnt → NoneMoreLearnt config graphs learnt → (rewrites : ℕ) → AreServerGraphs config rewrites graphs
       → IsLeast config rewrites (filter (is_among learnt) (server_names config))
   least_told learnt growing closed rewrites are =
@@ -119,6 +122,7 @@ module _ (config : Config) (graphs : List PlainGraph) where
 -- ---- the search for the greatest set
 
 module _ (config : Config) (graphs : List PlainGraph) where
+  -- before any server is taken away the search for the greatest set is fair
   pub shrinks_from_all : (known : List Labels) → AreServers config known → ((name : Labels) → Contains (server_names config) name → is_among known name ≡ true)
       → IsShrinking config graphs known
   shrinks_from_all known servers all =
@@ -161,6 +165,7 @@ module _ (config : Config) (graphs : List PlainGraph) where
         by other true e has = inr ((name_eq_decides name other).0 e)
         by other false e has = inl (among_has fewer other (taken other ∙ ap (λ (b : Bool). not b && is_among known other) e ∙ has))
 
+  -- where each server that is left can be learnt, those that are left are the greatest set, in the order of the servers
   pub greatest_told : (known : List Labels) → IsShrinking config graphs known → AreLearnt config graphs known → (rewrites : ℕ) → AreServerGraphs config rewrites graphs
       → IsGreatest config rewrites (filter (is_among known) (server_names config))
   greatest_told known shrinking each rewrites are =
@@ -183,6 +188,7 @@ module _ (config : Config) (graphs : List PlainGraph) (names : List Labels) wher
       (each place.0 (slice_get_within config.servers place.0 found.0 place.1) rewrites found.0 are place.1
       (subst (Learns (following config rewrites names)) (sym found.2) learns))
 
+  -- where the server at each place is learnt if it is in the list, each server of the list is learnt
   pub all_learnt : ((place : ℕ) → place < length config.servers → IsLearntAt config graphs names place) → AreLearnt config graphs names
   all_learnt each = λ rewrites are name among has.
       let found = from_map (λ (s : Server). s.name) config.servers name among in

@@ -82,6 +82,7 @@ module _ (place : ℕ) where
           ]
       only_by other k has false e = inl (subst (λ (xs : List ℕ). Contains xs k) (elsewhere other e) has)
 
+  -- to list a place for no name, nothing changes
   pub listed_none : (places : Places) → IsListedFor place [] places places
   listed_none places = record { listed = λ name has. absurd (none_in_nil name has); stays = λ name k has. has; only = λ name k has. inl has }
 
@@ -99,6 +100,7 @@ module _ (place : ℕ) where
       }
 
 module _ (config : Config) (graphs : List PlainGraph) where
+  -- where no place is listed for any name, all is listed for the servers before the first, for there are none
   pub no_dependents : (places : Places) → ((name : Labels) → places_of places name ≡ []) → AreDependents config graphs 0 places
   no_dependents places none =
       record {
@@ -106,6 +108,8 @@ module _ (config : Config) (graphs : List PlainGraph) where
         within = λ name place has. absurd (none_in_nil place (subst (λ (xs : List ℕ). Contains xs place) (none name) has));
       }
 
+  -- where all is listed for the servers before one, and its place for the names for whose addresses its graph waits, all is
+  -- listed for the servers up to it
   pub more_dependents : (bound : ℕ) (graph : PlainGraph) (old new : Places) → slice_get graphs bound ≡ Some graph → AreDependents config graphs bound old
       → IsListedFor bound (graph_awaits config graph) old new → AreDependents config graphs (bound + 1) new
   more_dependents bound graph old new here before put =

@@ -32,6 +32,7 @@ pub none_giving : (config : Config) (followed : List Labels) (graph : PlainGraph
     → ((at : ℕ) → is_marked marks at ≡ false) → AreGiving config followed graph rtype marks
 none_giving config followed graph rtype marks clear = λ at marked. let no : false ≡ true = sym (clear at) ∙ marked in cc
 
+-- among marks that are all clear none is set, wherever it is looked for
 pub all_clear : (count at : ℕ) → is_marked (replicate count false) at ≡ false
 all_clear zero at = refl
 all_clear (suc count) zero = refl

@@ -40,6 +40,7 @@ from_giving setting name rtype numbers h = by (walk_along setting name rtype num
   by (Some walk) e h = record { walk = walk; is_walk = (numbers, e); ends = h }
 
 module _ (state : State) where
+  -- a walk with a state and a hop before it gives an address exactly where the walk does
   pub gives_led : (hop : Hop) (later : Option Walk) → walk_gives (option_map (led_on state hop) later) ≡ walk_gives later
   gives_led hop None = refl
   gives_led hop (Some later) = refl

@@ -25,6 +25,7 @@ use Rattle.address_deps.specs.Sets.{AreServerGraphs, AreServers}
 use Rattle.address_deps.proofs.Growing.{grown, grown_less, shrunk, shrunk_less}
 use Rattle.address_deps.proofs.Waking.{gone_apart, gone_fewer, gone_there, graph_at, put_apart, put_more, put_there, still_none_more, still_learnt}
 
+-- in a fair search, in either direction, each name of the list is a configured server's
 pub are_servers : (direction : Direction) (config : Config) (graphs : List PlainGraph) (names : List Labels) → IsFair direction config graphs names → AreServers config names
 are_servers Adding config graphs names fair = fair.servers
 are_servers Dropping config graphs names fair = fair.servers

@@ -40,6 +40,7 @@ module _ (Good : List Labels → Type 0) (At : List Labels → ℕ → Type 0) (
     pub fewer : (length next == 0) ≡ false → count names < count first
     pub no_more : count names ≤ count first
 
+  -- at the beginning of a round no place was looked at, and none waits for the next
   pub round_begins : IsSearchRound Good At graphs first waiting → IsRoundAt 0 first []
   round_begins round =
       record {
@@ -50,6 +51,7 @@ module _ (Good : List Labels → Type 0) (At : List Labels → ℕ → Type 0) (
         no_more = omega arith;
       }
 
+  -- where all waiting places were looked at, the names and the places that wait next stand between two rounds
   pub round_ends : (at : ℕ) (names : List Labels) (next : List ℕ) → length waiting ≤ at → IsRoundAt at names next → IsSearchRound Good At graphs names next
   round_ends at names next past on =
       record {

@@ -61,6 +61,7 @@ module _ (config : Config) (rewrites : ℕ) where
       let both = from_round earlier before first name has in
       round_has before after round name both.0 (learns_within earlier before (rises rounds earlier before is first) name both.1)
 
+  -- the names of the empty list are learnt before the first round
   pub none_below : AreBelow config rewrites zero []
   none_below = λ learnt is name has. absurd (none_in_nil name has)
 
@@ -126,6 +127,7 @@ module _ (config : Config) (rewrites : ℕ) where
       let both = from_round before after round name has in
       round_has earlier before first name both.0 (learns_within before earlier (falls rounds earlier before is first) name both.1)
 
+  -- before the first round begun with all servers, what is there is among names that have all of these
   pub all_above : (followed : List Labels) → Within names followed → AreAbove config rewrites zero followed
   all_above followed within = λ learnt is name has. within name (subst (λ (xs : List Labels). Contains xs name) is has)
 

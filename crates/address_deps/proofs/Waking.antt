@@ -29,6 +29,7 @@ pub record GraphAt (config : Config) (rewrites : ℕ) (graphs : List PlainGraph)
   pub here : slice_get graphs place ≡ Some graph
   pub is_graph : IsGraphOf (following config rewrites (server_names config)) server.name graph
 
+-- at the place of each server stands the graph of its name
 pub graph_at : (config : Config) (rewrites : ℕ) (graphs : List PlainGraph) (place : ℕ) (server : Server) → AreServerGraphs config rewrites graphs
     → slice_get config.servers place ≡ Some server → GraphAt config rewrites graphs place server
 graph_at config rewrites graphs place server are here = by (pair_at (GraphFor config rewrites) config.servers graphs are place) where

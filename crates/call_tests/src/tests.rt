@@ -8,6 +8,7 @@ mod open_tails;
 mod outputs;
 mod pool_machine;
 mod runs;
+mod sites;
 mod texts;
 mod values;
 mod walks;

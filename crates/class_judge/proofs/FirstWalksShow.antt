@@ -1,10 +1,12 @@
 -- The first walks that a graph gives are the first of the query that show the fault.
-use Rattle.std.proofs.Common.{◌≡◌, ◌∙◌, ℕ, List, [], ◌∷◌, map, Some, refl, sym, ap, subst}
+use Rattle.std.proofs.Common.{◌≡◌, ◌≢◌, ◌∙◌, ℕ, List, [], ◌∷◌, map, Some, refl, sym, ap, subst}
 use Rattle.std.specs.List.{AllByRecursion}
+use Rattle.std.specs.declared.cmp.Ordering.TheVariants.{Less}
 use Rattle.dns_data.specs.Name.{Labels}
 use Rattle.dns_data.specs.declared.rr_type.RrType.{RrType}
 use Rattle.graph_form.specs.Graph.{PlainGraph, path_along}
 use Rattle.graph_form.specs.GraphOf.{IsGraphOf}
+use Rattle.graph_form.specs.Report.{PathsShow, paths_cmp}
 use Rattle.graph_form.specs.Trails.{AreFirst, GraphShows, ZonesShow}
 use Rattle.graph_form.proofs.Paths.{path_is_walk}
 use Rattle.graph_form.proofs.Taking.{taken, zones, shown}
@@ -16,7 +18,12 @@ use Rattle.net_model.specs.Shown.{Shows, ShowsIn, with_sets}
 use Rattle.net_model.specs.Step.{Setting, following}
 use Rattle.net_model.specs.Walk.{IsWalk, walk_along}
 use Rattle.net_model.proofs.InForce.{one_in_force}
-use Rattle.class_judge.specs.Entries.{AreFirstWalks}
+
+-- these are the first walk, or the first pair of walks, of the query that show the fault with the type
+pub record AreFirstWalks (setting : Setting) (query : Labels) (rtype : RrType) (fault : Fault) (walks : List Walk) : Type 0 where
+  pub paths : List (List ℕ)
+  pub show : PathsShow setting query rtype fault paths walks
+  pub first : (others : List (List ℕ)) (other : List Walk) → PathsShow setting query rtype fault others other → paths_cmp others paths ≢ Less
 
 -- what a query shows it shows with the set that is in force
 pub shows_with : (config : Config) (rewrites : ℕ) (followed : List Labels) → IsInForce config rewrites followed → (query : Labels) (rtype : RrType) (fault : Fault)
@@ -49,7 +56,7 @@ module _ (setting : Setting) (query : Labels) (rtype : RrType) (graph : PlainGra
       (paths, shows.walks, record { are_paths = are; take = taken (with_sets setting) shows.walks fault shows.show })
 
   pub first_walks : (fault : Fault) (walks : List Walk) → Shows (with_sets setting) query rtype fault → AreFirst graph rtype fault walks
-      → AreFirstWalks setting query (record { fault = fault; rtype = rtype }) walks
+      → AreFirstWalks setting query rtype fault walks
   first_walks fault walks shows first =
       let hold : ZonesShow (with_sets setting) fault = zones (with_sets setting) shows.walks fault shows.show in
       record {

@@ -7,7 +7,7 @@ use Rattle.net_model.specs.Reading.{ground_of}
 use Rattle.query_classes.specs.Children.{AreChildren, IsInTree}
 use Rattle.verdict_book.specs.Items.{Reached}
 use Rattle.class_judge.specs.Setup.{IsSetupFor}
-use Rattle.class_judge.specs.TreeNames.{IsGraphOf}
+use Rattle.class_judge.specs.TreeNames.{AreBaseNamesOf}
 use Rattle.class_judge.specs.Values.{AreValues}
 use Rattle.class_judge.specs.Verdict.{IsNameVerdict}
 use Rattle.class_judge.specs.declared.setup.Setup.{Setup}
@@ -26,7 +26,7 @@ module _ (config : Config) (rewrites states : ℕ) (children : Labels → List L
   item_in_tree reached = subst (λ (x : Config). IsInTree (ground_of x) item) (sym for.config_is) (in_tree reached)
 
   -- the graph is one of the configuration
-  pub graph_is : IsGraphOf config setup.graph
+  pub graph_is : AreBaseNamesOf config setup.graph
   graph_is =
       record { same = subst (λ (x : Config). AreSame setup.graph (ground_of x)) for.config_is for.is_setup.graph; order = for.is_setup.order }
 

@@ -22,6 +22,7 @@ pub mod ReportEntry
 pub mod ReportPassed
 pub mod ReportSetup
 pub mod ReportSize
+pub mod Rising
 pub mod ServerGraphs
 pub mod ShowsDecided
 pub mod StraightVerdicts

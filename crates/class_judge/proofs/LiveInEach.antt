@@ -8,10 +8,10 @@ use Rattle.label_graph.specs.LiveSet.{IsLiveSet, name_at}
 use Rattle.net_model.specs.declared.config.Config.{Config}
 use Rattle.net_model.specs.Reading.{Redirection, Ground, ReadsOnTo}
 use Rattle.query_classes.proofs.SameGrounds.{along_same}
-use Rattle.class_judge.specs.TreeNames.{IsGraphOf, IsLiveIn}
+use Rattle.class_judge.specs.TreeNames.{AreBaseNamesOf, IsLiveIn}
 
 module _ (config : Config) where
-  module _ (one other : Ground) (is : IsGraphOf config one) (also : IsGraphOf config other) where
+  module _ (one other : Ground) (is : AreBaseNamesOf config one) (also : AreBaseNamesOf config other) where
     has_redirection : (redirection : Redirection) → Contains one.redirections redirection → Contains other.redirections redirection
     has_redirection redirection has = (also.same.redirections redirection).1 ((is.same.redirections redirection).0 has)
 
@@ -22,7 +22,7 @@ module _ (config : Config) where
     reads_on : (name last : Labels) → ReadsOnTo one.redirections name last → ReadsOnTo other.redirections name last
     reads_on name last (between, reads) = (between, along_same one.redirections other.redirections has_redirection name between last reads)
 
-  module _ (one other : Ground) (is : IsGraphOf config one) (also : IsGraphOf config other) where
+  module _ (one other : Ground) (is : AreBaseNamesOf config one) (also : AreBaseNamesOf config other) where
     same_names : one.names ≡ other.names
     same_names = same_rising name_cmp names_total one.names other.names is.order also.order (has_name one other is also) (has_name other one also is)
 
@@ -41,5 +41,5 @@ module _ (config : Config) where
         }
 
   -- a live set in one graph is one in each
-  pub live_in_each : (graph : Ground) → IsGraphOf config graph → (name : Labels) (places : List ℕ) → IsLiveSet graph name places → IsLiveIn config name places
+  pub live_in_each : (graph : Ground) → AreBaseNamesOf config graph → (name : Labels) (places : List ℕ) → IsLiveSet graph name places → IsLiveIn config name places
   live_in_each graph is name places live other also = live_carried graph other is also name places live

@@ -1,5 +1,5 @@
 -- Where a name reaches more pairs of state and type than so many, so does the representative of its class.
-use Rattle.std.proofs.Common.{◌≡◌, ℕ, Option, None, refl, sym, subst}
+use Rattle.std.proofs.Common.{◌≡◌, ℕ, Option, Some, None, refl, sym, subst}
 use Rattle.std.specs.Prelude.{MatchOption}
 use Rattle.net_model.specs.declared.deps.Deps.{Deps}
 use Rattle.class_judge.specs.Setup.{AreSets, SomeNamePasses}
@@ -46,8 +46,7 @@ module _ (config : Config) (rewrites states : ℕ) where
         )
 
   -- so where no class passes, there are the two sets
-  pub never_none : (deps : Option Deps) → deps ≡ None → MatchOption deps (SomeNamePasses config rewrites states) (AreSets config rewrites states)
-      → (SomeClassPasses config rewrites states → ⊥) → ⊥
-  never_none deps e sets none = by (subst (λ (o : Option Deps). MatchOption o (SomeNamePasses config rewrites states) (AreSets config rewrites states)) e sets) where
-    by : SomeNamePasses config rewrites states → ⊥
-    by (name, has, (is, passes)) = none (name_passes name is passes)
+  pub sets_are : (deps : Option Deps) → MatchOption deps (SomeNamePasses config rewrites states) (AreSets config rewrites states)
+      → (SomeClassPasses config rewrites states → ⊥) → (some : Deps) × (deps ≡ Some some) × AreSets config rewrites states some
+  sets_are None (name, has, (is, passes)) none = absurd (none (name_passes name is passes))
+  sets_are (Some some) sets none = (some, refl, sets)

@@ -20,9 +20,8 @@ use Rattle.net_model.specs.Reading.{ground_of}
 use Rattle.net_model.proofs.TrialOrder.{one_representative}
 use Rattle.query_classes.specs.Children.{IsBelow, IsInTree}
 use Rattle.class_judge.specs.Passed.{ClassPasses, SomeClassPasses, IsFirstPassed}
-use Rattle.class_judge.specs.Rows.{AreRows, IsFirstPassedAt, IsPassedAt, NonePassesAt, passes}
+use Rattle.class_judge.specs.Rows.{AreRows, Row, IsFirstPassedAt, IsPassedAt, NonePassesAt, passes}
 use Rattle.class_judge.specs.Verdict.{IsBelowVerdict, IsClassVerdict, PassesStates}
-use Rattle.class_judge.specs.declared.rows.Row.{Row}
 use Rattle.class_judge.specs.declared.verdict.ClassVerdict.{ClassVerdict}
 use Rattle.class_judge.specs.declared.verdict.ClassVerdict.TheVariants.{Faults, StatesPassed}
 use Rattle.query_classes.proofs.TreeRows.{not_empty_below}
@@ -140,24 +139,24 @@ module _ (config : Config) (rewrites states : ℕ) where
 
   -- ---- the classes of all names
 
-  module _ (rows : List Row) (are : AreRows config rewrites states rows) where
+  module _ {W : Type 0} (rows : List (Row W)) (are : AreRows config rewrites states rows) where
     row_at : (class : Class) (query : Labels) → ClassPasses config rewrites states class query
-        → (k : ℕ) × (k < length rows) × ((d : Row) → (get_or rows k d).name ≡ class_name class)
+        → (k : ℕ) × (k < length rows) × ((d : Row W) → (get_or rows k d).item ≡ class_name class)
     row_at class query it =
         let (row, (k, within, is), same) =
-        from_map (λ (r : Row). r.name) rows (class_name class) ((are.tree.all (class_name class)).1 (it.is_class.named, it.is_class.is_name)) in
-        (k, within, λ d. ap (λ (r : Row). r.name) (get_or_default rows k d row within ∙ is) ∙ same)
+        from_map (λ (r : Row W). r.item) rows (class_name class) ((are.tree.all (class_name class)).1 (it.is_class.named, it.is_class.is_name)) in
+        (k, within, λ d. ap (λ (r : Row W). r.item) (get_or_default rows k d row within ∙ is) ∙ same)
 
     -- where none of any name passes, none does
-    pub none_of_rows : ((k : ℕ) (d : Row) → k < length rows → NonePassesAt config rewrites states (get_or rows k d).name) → SomeClassPasses config rewrites states → ⊥
+    pub none_of_rows : ((k : ℕ) (d : Row W) → k < length rows → NonePassesAt config rewrites states (get_or rows k d).item) → SomeClassPasses config rewrites states → ⊥
     none_of_rows none (class, query, it) =
         let (k, within, is) = row_at class query it in
-        let d : Row = get_or rows k (record { name = []; verdict = record { exact = StatesPassed; below = None } }) in
+        let d : Row W = get_or rows k (record { item = []; verdict = record { exact = StatesPassed; below = None } }) in
         none k d within class query (sym (is d)) it
 
     -- the first of the first name is the first
-    pub first_of_rows : (i : ℕ) (e : Row) → i < length rows → ((k : ℕ) (d : Row) → k < i → NonePassesAt config rewrites states (get_or rows k d).name)
-        → (query : Labels) → IsFirstPassedAt config rewrites states (get_or rows i e).name query → IsFirstPassed config rewrites states query
+    pub first_of_rows : (i : ℕ) (e : Row W) → i < length rows → ((k : ℕ) (d : Row W) → k < i → NonePassesAt config rewrites states (get_or rows k d).item)
+        → (query : Labels) → IsFirstPassedAt config rewrites states (get_or rows i e).item query → IsFirstPassed config rewrites states query
     first_of_rows i e inside none query found =
         record { class = found.class; passes = found.passes; first = first }
       where
@@ -168,11 +167,11 @@ module _ (config : Config) (rewrites states : ℕ) where
               | inl before ↦ none k e before other name (sym (is e)) it
               | inr not_before ↦ elim (cases_lt i k) [
                 | inl behind ↦ (
-                    let rising : name_cmp (get_or rows i e).name (class_name other) ≡ Less =
-                    subst (λ (n : Labels). name_cmp (get_or rows i e).name n ≡ Less) (is e) (are.ordered i k e behind within) in
+                    let rising : name_cmp (get_or rows i e).item (class_name other) ≡ Less =
+                    subst (λ (n : Labels). name_cmp (get_or rows i e).item n ≡ Less) (is e) (are.ordered i k e behind within) in
                     behind_not_before other found.class (subst (λ (n : Labels). name_cmp n (class_name other) ≡ Less) (sym found.of_name) rising) less)
                 | inr not_behind ↦ (
                     let same : k ≡ i = neither_less k i not_before not_behind in
-                    found.first other name (sym (is e) ∙ ap (λ (n : ℕ). (get_or rows n e).name) same) it less)
+                    found.first other name (sym (is e) ∙ ap (λ (n : ℕ). (get_or rows n e).item) same) it less)
               ]
             ]

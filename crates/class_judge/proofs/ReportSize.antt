@@ -12,9 +12,8 @@ use Rattle.net_model.specs.declared.config.Config.{Config}
 use Rattle.net_model.specs.Class.{IsRepresentative}
 use Rattle.net_model.specs.Reading.{ground_of}
 use Rattle.net_model.specs.Tree.{AreBelowClasses}
-use Rattle.class_judge.specs.Rows.{AreRows, below_count, has_below, row_names}
+use Rattle.class_judge.specs.Rows.{AreRows, Row, below_count, has_below, row_names}
 use Rattle.class_judge.specs.Verdict.{IsBelowVerdict, IsNameVerdict}
-use Rattle.class_judge.specs.declared.rows.Row.{Row}
 use Rattle.class_judge.specs.declared.verdict.ClassVerdict.{ClassVerdict}
 
 -- each name is at or below the root
@@ -22,13 +21,13 @@ all_at_root : (names : List Labels) → filter (is_prefix []) names ≡ names
 all_at_root [] = refl
 all_at_root (name ∷ names) = ap (λ (rest : List Labels). name ∷ rest) (all_at_root names)
 
-module _ (config : Config) (rewrites states : ℕ) (rows : List Row) (are : AreRows config rewrites states rows) where
+module _ {W : Type 0} (config : Config) (rewrites states : ℕ) (rows : List (Row W)) (are : AreRows config rewrites states rows) where
   -- the rows with a class below
-  abbrev with_below : List Row
+  abbrev with_below : List (Row W)
   with_below = filter has_below rows
 
-  right : (row : Row) → Contains rows row → IsNameVerdict config rewrites states row.name row.verdict
-  right row has = All-contains (λ (r : Row). IsNameVerdict config rewrites states r.name r.verdict) rows row are.verdicts has
+  right : (row : Row W) → Contains rows row → IsNameVerdict config rewrites states row.item row.verdict
+  right row has = All-contains (λ (r : Row W). IsNameVerdict config rewrites states r.item r.verdict) rows row are.verdicts has
 
   -- the class below a name has a representative exactly where it has a verdict
   represented : (above : Labels) (below : Option ClassVerdict) → IsBelowVerdict config rewrites states above below → is_some below ≡ true
@@ -44,24 +43,24 @@ module _ (config : Config) (rewrites states : ℕ) (rows : List Row) (are : AreR
   there : (above : Labels) → Contains (row_names with_below) above
       → Contains (row_names rows) above × ((name : Labels) × IsRepresentative (ground_of config) (Below above) name)
   there above has =
-      let (row, kept, is) = from_map (λ (r : Row). r.name) with_below above has in
+      let (row, kept, is) = from_map (λ (r : Row W). r.item) with_below above has in
       let (among, some) = from_filter has_below rows row kept in
       subst (λ (n : Labels). Contains (row_names rows) n × ((name : Labels) × IsRepresentative (ground_of config) (Below n) name)) is
-      (map_has (λ (r : Row). r.name) rows row among, represented row.name row.verdict.below (right row among).below some)
+      (map_has (λ (r : Row W). r.item) rows row among, represented row.item row.verdict.below (right row among).below some)
 
   back : (above : Labels) → Contains (row_names rows) above × ((name : Labels) × IsRepresentative (ground_of config) (Below above) name)
       → Contains (row_names with_below) above
   back above (has, (query, represents)) =
-      let (row, among, is) = from_map (λ (r : Row). r.name) rows above has in
+      let (row, among, is) = from_map (λ (r : Row W). r.item) rows above has in
       let some : has_below row ≡ true =
-      judged row.name row.verdict.below (right row among).below query (subst (λ (n : Labels). IsRepresentative (ground_of config) (Below n) query) (sym is) represents) in
-      subst (Contains (row_names with_below)) is (map_has (λ (r : Row). r.name) with_below row (filter_has has_below rows row among some))
+      judged row.item row.verdict.below (right row among).below query (subst (λ (n : Labels). IsRepresentative (ground_of config) (Below n) query) (sym is) represents) in
+      subst (Contains (row_names with_below)) is (map_has (λ (r : Row W). r.item) with_below row (filter_has has_below rows row among some))
 
   below_classes : AreBelowClasses (ground_of config) (row_names rows) (row_names with_below)
   below_classes =
       record {
-        ordered = pairs_of_images (λ (r : Row). r.name) (λ a b. name_cmp a b ≡ Less) with_below
-            (AllPairs-filter (λ (a b : Row). name_cmp a.name b.name ≡ Less) has_below rows are.ordered);
+        ordered = pairs_of_images (λ (r : Row W). r.item) (λ a b. name_cmp a b ≡ Less) with_below
+            (AllPairs-filter (λ (a b : Row W). name_cmp a.item b.item ≡ Less) has_below rows are.ordered);
         all = λ above. (there above, back above);
       }
 
@@ -76,5 +75,5 @@ module _ (config : Config) (rewrites states : ℕ) (rows : List Row) (are : AreR
         counts_classes = sym (ap (λ (n : ℕ). n + length (filter (is_prefix []) (row_names with_below))) (names_counted rows) ∙ ap (λ (n : ℕ). length rows + n) (names_counted with_below));
       }
     where
-      names_counted : (some : List Row) → length (filter (is_prefix []) (row_names some)) ≡ length some
-      names_counted some = ap (λ (names : List Labels). length names) (all_at_root (row_names some)) ∙ length-map some (λ (r : Row). r.name)
+      names_counted : (some : List (Row W)) → length (filter (is_prefix []) (row_names some)) ≡ length some
+      names_counted some = ap (λ (names : List Labels). length names) (all_at_root (row_names some)) ∙ length-map some (λ (r : Row W). r.item)

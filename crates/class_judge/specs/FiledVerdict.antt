@@ -1,8 +1,8 @@
 -- What is told of a name by the verdict that is filed for it: for the contracts of inner calls alone.
 use Rattle.std.specs.Prelude.{◌≡◌, [], Some, None, IfSome}
-use Rattle.class_judge.specs.declared.filed_verdict.FiledVerdict.TheInside.{Inside}
-use Rattle.class_judge.specs.declared.filed_verdict.Told.{Told}
-use Rattle.class_judge.specs.declared.filed_verdict.Told.TheVariants.{Nothing, NothingAlone, Whole}
+use Rattle.class_judge.specs.declared.verdict.FiledVerdict.TheInside.{Inside}
+use Rattle.class_judge.specs.declared.verdict.Told.{Told}
+use Rattle.class_judge.specs.declared.verdict.Told.TheVariants.{Nothing, NothingAlone, Whole}
 use Rattle.class_judge.specs.declared.verdict.ClassVerdict.TheVariants.{Faults}
 use Rattle.class_judge.specs.declared.verdict.NameVerdict.{NameVerdict}
 

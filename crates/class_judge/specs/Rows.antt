@@ -5,12 +5,11 @@ use Rattle.std.specs.declared.cmp.Ordering.{Ordering}
 use Rattle.std.specs.declared.cmp.Ordering.TheVariants.{Less}
 use Rattle.class_judge.specs.Passed.{ClassPasses}
 use Rattle.class_judge.specs.Verdict.{IsNameVerdict}
-use Rattle.class_judge.specs.declared.found.Found.{Found}
-use Rattle.class_judge.specs.declared.rows.Row.{Row}
+use Rattle.class_judge.specs.declared.entries.ClassFault.{ClassFault}
 use Rattle.class_judge.specs.declared.verdict.ClassVerdict.{ClassVerdict}
 use Rattle.class_judge.specs.declared.verdict.ClassVerdict.TheVariants.{Faults, StatesPassed}
+use Rattle.class_judge.specs.declared.verdict.NameVerdict.{NameVerdict}
 use Rattle.dns_data.specs.Name.{Labels, name_cmp}
-use Rattle.graph_form.specs.FirstFaults.{AreFirsts}
 use Rattle.graph_form.specs.declared.report.Seen.{Seen}
 use Rattle.net_model.specs.declared.class.Class.{Class}
 use Rattle.net_model.specs.declared.class.Class.TheVariants.{Exact, Below}
@@ -19,28 +18,34 @@ use Rattle.net_model.specs.declared.fault.Fault.{Fault}
 use Rattle.net_model.specs.Class.{class_cmp, class_name}
 use Rattle.net_model.specs.Reading.{ground_of}
 use Rattle.net_model.specs.Tree.{IsClassTree}
+use Rattle.verdict_book.specs.declared.filed.Filed.{Filed}
 
--- the names of rows
-abbrev pub row_names : List Row → List Labels
-row_names rows = map (λ row. row.name) rows
+-- a name with its verdict, as work of the kind W files it
+abbrev pub Row : Type 0 → Type 0
+Row W = Filed W Labels NameVerdict
 
--- each name stands before the later ones
-abbrev pub AreInTreeOrder : List Row → Type 0
-AreInTreeOrder rows = AllPairs (λ a b. name_cmp a.name b.name ≡ Less) rows
+module _ {W : Type 0} where
+  -- the names of rows
+  abbrev pub row_names : List (Row W) → List Labels
+  row_names rows = map (λ row. row.item) rows
 
--- the rows are the names of the class tree in order, each with its verdict
-pub record AreRows (config : Config) (rewrites states : ℕ) (rows : List Row) : Type 0 where
-  pub ordered : AreInTreeOrder rows
-  pub tree : IsClassTree (ground_of config) (row_names rows)
-  pub verdicts : All (λ row. IsNameVerdict config rewrites states row.name row.verdict) rows
+  -- each name stands before the later ones
+  abbrev pub AreInTreeOrder : List (Row W) → Type 0
+  AreInTreeOrder rows = AllPairs (λ a b. name_cmp a.item b.item ≡ Less) rows
 
--- the class below the name isn't empty
-abbrev pub has_below : Row → Bool
-has_below row = is_some row.verdict.below
+  -- the rows are the names of the class tree in order, each with its verdict
+  pub record AreRows (config : Config) (rewrites states : ℕ) (rows : List (Row W)) : Type 0 where
+    pub ordered : AreInTreeOrder rows
+    pub tree : IsClassTree (ground_of config) (row_names rows)
+    pub verdicts : All (λ row. IsNameVerdict config rewrites states row.item row.verdict) rows
 
--- how many classes the rows have that aren't empty
-abbrev pub below_count : List Row → ℕ
-below_count rows = length (filter has_below rows)
+  -- the class below the name isn't empty
+  abbrev pub has_below : Row W → Bool
+  has_below row = is_some row.verdict.below
+
+  -- how many classes the rows have that aren't empty
+  abbrev pub below_count : List (Row W) → ℕ
+  below_count rows = length (filter has_below rows)
 
 -- the representative of the class reaches more pairs of state and type than are looked at
 abbrev pub passes : ClassVerdict → Bool
@@ -64,34 +69,30 @@ IsPassedAt config rewrites states name found =
     MatchOption found (NonePassesAt config rewrites states name) (IsFirstPassedAt config rewrites states name)
 
 -- faults with their class
-abbrev pub with_class : Class → List Seen → List Found
+abbrev pub with_class : Class → List Seen → List ClassFault
 with_class class shown = map (λ seen. record { seen = seen; class = class }) shown
 
 -- the faults of a class
-abbrev pub found_in : Class → ClassVerdict → List Found
+abbrev pub found_in : Class → ClassVerdict → List ClassFault
 found_in class (Faults shown) = with_class class shown
 found_in class StatesPassed = []
 
-abbrev pub found_below : Labels → Option ClassVerdict → List Found
+abbrev pub found_below : Labels → Option ClassVerdict → List ClassFault
 found_below name None = []
 found_below name (Some verdict) = found_in (Below name) verdict
 
 -- those of the classes of a name
-abbrev pub found_at : Row → List Found
-found_at row = found_in (Exact row.name) row.verdict.exact ++ found_below row.name row.verdict.below
+abbrev pub found_at : Labels → NameVerdict → List ClassFault
+found_at name verdict = found_in (Exact name) verdict.exact ++ found_below name verdict.below
 
 -- those of all classes
-abbrev pub found_of : List Row → List Found
-found_of rows = flat_map found_at rows
+abbrev pub found_of : {W : Type 0} → List (Row W) → List ClassFault
+found_of rows = flat_map (λ row. found_at row.item row.verdict) rows
 
 -- the fault
-abbrev pub found_fault : Found → Fault
+abbrev pub found_fault : ClassFault → Fault
 found_fault found = found.seen.fault
 
 -- the order of the classes that show one fault
-abbrev pub class_rank : Found → Found → Ordering
+abbrev pub class_rank : ClassFault → ClassFault → Ordering
 class_rank a b = class_cmp a.class b.class
-
--- of each fault of a list the first class, in fault order
-abbrev pub AreFirstClasses : List Found → List Found → Type 0
-AreFirstClasses all first = AreFirsts found_fault class_rank all first

@@ -1,5 +1,5 @@
 -- What the classes of a configuration are judged with: for the contracts of inner calls alone.
-use Rattle.std.specs.Prelude.{◌≡◌, ℕ, true, List, Contains, Option, Some, IfSome, MatchOption}
+use Rattle.std.specs.Prelude.{◌≡◌, ℕ, true, List, Contains, Option, Some, None, MatchOption}
 use Rattle.class_judge.specs.Verdict.{PassesStates, SomeServerPasses}
 use Rattle.class_judge.specs.declared.setup.Setup.{Setup}
 use Rattle.dns_data.specs.Name.{Labels, IsName}
@@ -14,7 +14,8 @@ use Rattle.net_model.specs.Nearest.{is_configured, server_names}
 use Rattle.net_model.specs.Reading.{ground_of}
 use Rattle.net_model.specs.Step.{may_follow}
 use Rattle.net_model.specs.declared.place.Cut.{Cut}
-use Rattle.straight_walks.specs.MadeOf.{MadeOf}
+use Rattle.straight_walks.specs.Regions.{AreRegionsFor}
+use Rattle.straight_walks.specs.declared.regions.Regions.{Regions}
 
 -- the lists are the two sets, and no server's name reaches too many pairs
 pub record AreSets (config : Config) (rewrites states : ℕ) (deps : Deps) : Type 0 where
@@ -32,8 +33,10 @@ abbrev pub FollowsAll : Config → List Labels → Type 0
 FollowsAll config followed = (cut : Cut) → is_configured config cut.ns ≡ true → may_follow config cut followed ≡ true
 
 -- the regions are of the configuration and of these sets
-abbrev pub AreRegionsOf : Config → Option Deps → Option MadeOf → Type 0
-AreRegionsOf config sets regions = IfSome regions (λ made. (made.config ≡ config) × (sets ≡ Some made.deps))
+abbrev pub AreRegionsOf : Config → Option Deps → Option Regions → Type 0
+AreRegionsOf config (Some deps) (Some regions) = AreRegionsFor config deps regions
+AreRegionsOf config None (Some regions) = ⊥
+AreRegionsOf config sets None = Unit {0}
 
 -- the graph is that of the configuration of the trees, with its names in order, the sets are its sets, and the regions are of
 -- both; where it is told that all servers are followed, the least set follows them

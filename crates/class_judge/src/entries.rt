@@ -1,117 +1,249 @@
-//! The entries of a report.
+//! The entries of a report: each fault with the first class that shows it, and the first walks of that class's representative.
 
-ghost use Rattle.std.specs.Prelude.{◌≡◌, All, IfOk, Some, slice_get};
-ghost use Rattle.class_judge.specs.Entries.{AreEntriesOf, AreFirstWalks, IsEntryOf, IsRightFound, entry_with};
-ghost use Rattle.class_judge.specs.Setup.{AreSets, IsSetup};
+ghost use Rattle.std.specs.Prelude.{◌≡◌, ◌++◌, All, IfOk, IfSome, IsPermutation, OnOk, Some, slice_get};
+ghost use Rattle.std.specs.List.Sorted.{IsSortedBy};
+ghost use Rattle.std.proofs.lemmas.Cmp.{on_total};
+ghost use Rattle.class_judge.specs.Carried.{whole};
+ghost use Rattle.class_judge.specs.Entries.{AreEntries, AreEntriesOf, IsEntryOf, IsLeastGraph, IsPut, IsRightFound, IsWalked, entry_with, is_before};
+ghost use Rattle.class_judge.specs.Passed.{SomeClassPasses};
+ghost use Rattle.class_judge.specs.Rows.{AreRows, class_rank, found_at, found_fault, found_in, found_of};
+ghost use Rattle.class_judge.specs.Setup.{IsSetup};
 ghost use Rattle.class_judge.specs.Verdict.{PassesStates};
 ghost use Rattle.dns_data.specs.Name.{Labels};
-ghost use Rattle.graph_form.specs.GraphOf.{IsGraphOf};
-ghost use Rattle.graph_form.specs.Report.{repeats};
-ghost use Rattle.net_model.specs.Class.{class_name, IsRepresentative};
+ghost use Rattle.graph_form.specs.Report.{IsClass, repeats};
+ghost use Rattle.net_model.specs.Class.{IsRepresentative};
 ghost use Rattle.net_model.specs.Reading.{ground_of};
-ghost use Rattle.net_model.specs.Shown.{ShowsIn};
-ghost use Rattle.net_model.specs.Step.{following};
 ghost use Rattle.net_model.specs.declared.walk.Walk.{Walk as WalkValue};
-ghost use Rattle.query_classes.specs.Children.{IsInTree};
+ghost use Rattle.net_model.proofs.FaultOrder.{classes_total};
 
-use crate::classes::representative_below;
-use crate::found::Found;
-use crate::least::graph_in_least;
-use crate::prepare::graph_of;
+use crate::classes::{graph_in_least, graph_of, representative_below};
+use crate::naming::Naming;
 use crate::setup::Setup;
+use crate::tree_name::TreeName;
+use crate::verdict::{ClassVerdict, FiledVerdict, NameVerdict};
 use dns_data::{List, Name, NoMemory};
-use graph_form::{Deps, Graph, ReportEntry, Seen, repeats, trails};
+use graph_form::{Graph, OfFault, ReportEntry, Seen, first_of_each, repeats, trails};
 use interp_graph::GraphFault;
-use net_model::{Class, Walk};
-use std::collections::VecDeque;
+use net_model::{Class, Fault, Walk};
+use std::alloc::Global;
+use std::cmp::Ordering;
+use verdict_book::{Filed, Work};
 
-/// The entries of faults with their first classes, in their order.
-pub(crate) fn entries_of(
+/// The entries of the faults that the classes of the names show, in fault order, where no class passes the limit.
+pub(crate) fn entries_of<N: Naming, W: Work<Item = TreeName<N>, Verdict = FiledVerdict>>(
     setup: &Setup<'_>,
-    deps: &Deps,
-    firsts: List<Found>,
+    filed: List<Filed<W>>,
 ) -> Result<List<ReportEntry>, NoMemory>
     requires setup { IsSetup setup.now }
-    requires sets { AreSets setup.now.trees setup.now.rewrites setup.now.states deps.now }
-    requires right { All (IsRightFound setup.now.trees setup.now.rewrites setup.now.states) firsts }
-    ensures { IfOk result (AreEntriesOf setup.now.trees setup.now.rewrites firsts) }
+    requires rows { AreRows setup.now.trees setup.now.rewrites setup.now.states filed }
+    requires none_passes { SomeClassPasses setup.now.trees setup.now.rewrites setup.now.states → ⊥ }
+    ensures { IfOk result (AreEntries setup.now.trees setup.now.rewrites) }
 {
-    let mut left = VecDeque::from_vec(firsts.into_vec());
+    let found = found_of(setup.alloc, filed)?;
+    let firsts = first_of_each(setup.alloc, found)?;
+    let by_class = in_class_order(firsts)?;
+    let made = entries_by_class(setup, by_class)?;
+    let entries = in_fault_order(made)?;
+    Ok(entries)
+}
+
+/// A fault with its first type, and a class that shows it.
+#[derive(Drop)]
+struct ClassFault {
+    seen: Seen,
+    class: Class,
+}
+
+impl OfFault for ClassFault {
+    ghost fault_of = { found_fault };
+
+    ghost rank = { class_rank };
+
+    fn its_fault(&self) -> &Fault {
+        &self.seen.fault
+    }
+
+    fn compare_rank(&self, other: &ClassFault) -> Ordering {
+        self.class.compare(&other.class)
+    }
+
+    ghost total = { on_total (λ found. found.class) classes_total };
+}
+
+/// The faults of the names, each with its class.
+fn found_of<N: Naming, W: Work<Item = TreeName<N>, Verdict = FiledVerdict>>(
+    alloc: Global,
+    filed: List<Filed<W>>,
+) -> Result<List<ClassFault>, NoMemory>
+    ensures { IfOk result (λ found. found ≡ found_of filed) }
+{
+    let mut found = List::new(alloc);
+    for one in filed {
+        let Filed { item, verdict } = one;
+        put_name(alloc, item.into_name(), verdict, &mut found)?;
+    }
+    Ok(found)
+}
+
+/// Puts the faults of the classes of a name at the end.
+#[tactic(auto, using(crate::proofs::FoundNothing::none_found))]
+fn put_name(
+    alloc: Global,
+    name: Name,
+    verdict: FiledVerdict,
+    found: &mut List<ClassFault>,
+) -> Result<(), NoMemory>
+    ensures { OnOk result (found.new ≡ found.old ++ found_at name verdict) }
+{
+    match verdict.into_told() {
+        Some(verdict) => put_classes(alloc, name, verdict, found),
+        None => Ok(()),
+    }
+}
+
+/// Puts the faults of the class of a name alone and of the class below it at the end.
+fn put_classes(
+    alloc: Global,
+    name: Name,
+    verdict: NameVerdict,
+    found: &mut List<ClassFault>,
+) -> Result<(), NoMemory>
+    ensures { OnOk result (found.new ≡ found.old ++ found_at name verdict) }
+{
+    let class = Class::Exact(name.copy(alloc)?);
+    let NameVerdict { exact, below } = verdict;
+    put_class(alloc, &class, exact, found)?;
+    match below {
+        Some(verdict) => put_class(alloc, &Class::Below(name), verdict, found),
+        None => Ok(()),
+    }
+}
+
+/// Puts the faults of a class at the end.
+fn put_class(
+    alloc: Global,
+    class: &Class,
+    verdict: ClassVerdict,
+    found: &mut List<ClassFault>,
+) -> Result<(), NoMemory>
+    ensures { OnOk result (found.new ≡ found.old ++ found_in class.now verdict) }
+{
+    if let ClassVerdict::Faults(shown) = verdict {
+        for seen in shown {
+            let class = class.copy(alloc)?;
+            found.push(ClassFault { seen, class })?;
+        }
+    }
+    Ok(())
+}
+
+/// The faults, those of one class one after the other.
+fn in_class_order(found: List<ClassFault>) -> Result<List<ClassFault>, NoMemory>
+    ensures { IfOk result (IsPermutation found) }
+{
+    let mut sorted = found.into_vec();
+    sorted.sort_by(|a, b| a.class.compare(&b.class))?;
+    Ok(List::from_vec(sorted))
+}
+
+/// A class with its representative, and the graph of that one's walks while the servers of the least set are followed.
+#[derive(Drop)]
+struct Walked {
+    class: Class,
+    query: Name,
+    graph: Graph,
+}
+
+/// The entries of faults with their classes, one for each. A graph is made where the class is another than that of the fault
+/// before: once for each class, if the faults of one class stand together.
+fn entries_by_class(
+    setup: &Setup<'_>,
+    found: List<ClassFault>,
+) -> Result<List<ReportEntry>, NoMemory>
+    requires setup { IsSetup setup.now }
+    requires none_passes { SomeClassPasses setup.now.trees setup.now.rewrites setup.now.states → ⊥ }
+    requires right { All (IsRightFound setup.now.trees setup.now.rewrites) found }
+    ensures { IfOk result (AreEntriesOf setup.now.trees setup.now.rewrites found) }
+{
     let mut entries = List::new(setup.alloc);
-    while let Some(found) = left.pop_front() {
-        let entry = entry_of(setup, deps, found)?;
-        entries.push(entry)?;
+    let mut last = None;
+    for one in found {
+        let walked = put_entry(setup, last, one, &mut entries)?;
+        last = Some(walked);
     }
     Ok(entries)
 }
 
-/// What an entry has beside its fault.
-#[derive(Drop)]
-struct EntryParts {
-    query: Name,
-    repeats: bool,
-    walks: List<Walk>,
+/// Puts the entry of a fault with its class at the end, and gives the walks of that class, for the next one.
+fn put_entry(
+    setup: &Setup<'_>,
+    last: Option<Walked>,
+    found: ClassFault,
+    entries: &mut List<ReportEntry>,
+) -> Result<Walked, NoMemory>
+    requires setup { IsSetup setup.now }
+    requires none_passes { SomeClassPasses setup.now.trees setup.now.rewrites setup.now.states → ⊥ }
+    requires last { IfSome last (IsWalked setup.now.trees setup.now.rewrites) }
+    requires right { IsRightFound setup.now.trees setup.now.rewrites found }
+    ensures walked { IfOk result (IsWalked setup.now.trees setup.now.rewrites) }
+    ensures put { OnOk result (IsPut setup.now.trees setup.now.rewrites found entries.old entries.new) }
+{
+    let walked = walked_for(setup, last, &found)?;
+    let entry = entry_of(setup, &walked, found)?;
+    entries.push(entry)?;
+    Ok(walked)
 }
 
-/// The entry of a fault with a class that shows it.
-fn entry_of(setup: &Setup<'_>, deps: &Deps, found: Found) -> Result<ReportEntry, NoMemory>
+/// The walks of the representative of the class of a fault: the last ones, where these are of this class, or else new ones.
+fn walked_for(
+    setup: &Setup<'_>,
+    last: Option<Walked>,
+    found: &ClassFault,
+) -> Result<Walked, NoMemory>
     requires setup { IsSetup setup.now }
-    requires sets { AreSets setup.now.trees setup.now.rewrites setup.now.states deps.now }
-    requires right { IsRightFound setup.now.trees setup.now.rewrites setup.now.states found }
-    ensures { IfOk result (IsEntryOf setup.now.trees setup.now.rewrites found) }
+    requires none_passes { SomeClassPasses setup.now.trees setup.now.rewrites setup.now.states → ⊥ }
+    requires last { IfSome last (IsWalked setup.now.trees setup.now.rewrites) }
+    requires right { IsRightFound setup.now.trees setup.now.rewrites found.now }
+    ensures walked { IfOk result (IsWalked setup.now.trees setup.now.rewrites) }
+    ensures class { IfOk result (λ walked. walked.class ≡ found.now.class) }
 {
-    match parts_of(setup, deps, &found) {
-        Ok(parts) => Ok(entry_with(found, parts)),
-        Err(fault) => {
-            drop(found);
-            Err(fault)
+    match last {
+        Some(walked) => {
+            if walked.class.compare(&found.class).is_eq() {
+                Ok(walked)
+            } else {
+                // The one graph goes before the next is made.
+                drop(walked);
+                walked_of(setup, &found.class)
+            }
         }
+        None => walked_of(setup, &found.class),
     }
 }
 
-/// The entry of a fault with these parts.
-fn entry_with(found: Found, parts: EntryParts) -> ReportEntry
-    ensures { result ≡ entry_with found parts }
-{
-    ReportEntry {
-        seen: found.seen,
-        query: parts.query,
-        repeats: parts.repeats,
-        walks: parts.walks,
-    }
-}
-
-/// What the entry of a fault with a class that shows it has beside the fault.
-fn parts_of(setup: &Setup<'_>, deps: &Deps, found: &Found) -> Result<EntryParts, NoMemory>
+/// The walks of the representative of a class.
+fn walked_of(setup: &Setup<'_>, class: &Class) -> Result<Walked, NoMemory>
     requires setup { IsSetup setup.now }
-    requires sets { AreSets setup.now.trees setup.now.rewrites setup.now.states deps.now }
-    requires right { IsRightFound setup.now.trees setup.now.rewrites setup.now.states found.now }
-    ensures { IfOk result (λ parts. IsEntryOf setup.now.trees setup.now.rewrites found.now (entry_with found.now parts)) }
+    requires none_passes { SomeClassPasses setup.now.trees setup.now.rewrites setup.now.states → ⊥ }
+    requires is_class { IsClass (whole setup.now.trees setup.now.rewrites) class.now }
+    requires some { (query : Labels) × IsRepresentative (ground_of setup.now.trees) class.now query }
+    ensures walked { IfOk result (IsWalked setup.now.trees setup.now.rewrites) }
+    ensures class { IfOk result (λ walked. walked.class ≡ class.now) }
 {
-    let query = query_of(setup, &found.class)?;
-    let walks = walks_of(setup, deps, &query, &found.seen)?;
-    let repeats = repeated(setup, walks.items())?;
-    Ok(EntryParts {
+    let query = query_of(setup, class)?;
+    let graph = least_graph(setup, &query)?;
+    let class = class.copy(setup.alloc)?;
+    Ok(Walked {
+        class,
         query,
-        repeats,
-        walks,
+        graph,
     })
-}
-
-/// Whether the first of the walks comes to a server twice with one name.
-fn repeated(setup: &Setup<'_>, walks: &[Walk]) -> Result<bool, NoMemory>
-    ensures { IfOk result (λ answer. (first : WalkValue) → slice_get walks.now 0 ≡ Some first → answer ≡ repeats first.states) }
-{
-    match walks.first() {
-        Some(first) => repeats(setup.alloc, first),
-        None => Ok(false),
-    }
 }
 
 /// The representative of a class of the tree that isn't empty.
 fn query_of(setup: &Setup<'_>, class: &Class) -> Result<Name, NoMemory>
     requires setup { IsSetup setup.now }
-    requires in_tree { IsInTree (ground_of setup.now.trees) (class_name class.now) }
+    requires is_class { IsClass (whole setup.now.trees setup.now.rewrites) class.now }
     requires some { (query : Labels) × IsRepresentative (ground_of setup.now.trees) class.now query }
     ensures { IfOk result (IsRepresentative (ground_of setup.now.trees) class.now) }
 {
@@ -124,30 +256,17 @@ fn query_of(setup: &Setup<'_>, class: &Class) -> Result<Name, NoMemory>
     }
 }
 
-/// The first walk of a query that shows the fault with the type, or the first pair of walks.
-fn walks_of(
-    setup: &Setup<'_>,
-    deps: &Deps,
-    query: &Name,
-    seen: &Seen,
-) -> Result<List<Walk>, NoMemory>
+/// The graph of the walks of a query while the servers of the least set are followed. Where no class passes the limit there is
+/// that set.
+fn least_graph(setup: &Setup<'_>, query: &Name) -> Result<Graph, NoMemory>
     requires setup { IsSetup setup.now }
-    requires sets { AreSets setup.now.trees setup.now.rewrites setup.now.states deps.now }
+    requires none_passes { SomeClassPasses setup.now.trees setup.now.rewrites setup.now.states → ⊥ }
     requires few { PassesStates setup.now.trees setup.now.rewrites setup.now.states query.now → ⊥ }
-    requires shown { ShowsIn setup.now.trees setup.now.rewrites query.now seen.now.rtype seen.now.fault }
-    ensures { IfOk result (AreFirstWalks (following setup.now.trees setup.now.rewrites deps.now.least) query.now seen.now) }
+    ensures { IfOk result (IsLeastGraph setup.now.trees setup.now.rewrites query.now) }
 {
-    let graph = walked(setup, deps, query)?;
-    trails(setup.alloc, &graph, seen)
-}
-
-/// The graph of the walks of a query while the servers of the least set are followed.
-fn walked(setup: &Setup<'_>, deps: &Deps, query: &Name) -> Result<Graph, NoMemory>
-    requires setup { IsSetup setup.now }
-    requires sets { AreSets setup.now.trees setup.now.rewrites setup.now.states deps.now }
-    requires few { PassesStates setup.now.trees setup.now.rewrites setup.now.states query.now → ⊥ }
-    ensures { IfOk result (IsGraphOf (following setup.now.trees setup.now.rewrites deps.now.least) query.now) }
-{
+    let Some(sets) = &setup.sets else {
+        unreachable!()
+    };
     match graph_of(
         setup.alloc,
         &setup.trees,
@@ -155,8 +274,76 @@ fn walked(setup: &Setup<'_>, deps: &Deps, query: &Name) -> Result<Graph, NoMemor
         setup.rewrites,
         setup.states,
     ) {
-        Ok(graph) => graph_in_least(setup, deps.least.items(), graph),
+        Ok(graph) => graph_in_least(setup, sets.deps().least.items(), graph),
         Err(GraphFault::StatesPassed) => unreachable!(),
         Err(GraphFault::NoMemory) => Err(NoMemory),
     }
+}
+
+/// The entry of a fault, from the walks of the class that shows it.
+fn entry_of(setup: &Setup<'_>, walked: &Walked, found: ClassFault) -> Result<ReportEntry, NoMemory>
+    requires walked { IsWalked setup.now.trees setup.now.rewrites walked.now }
+    requires class { walked.now.class ≡ found.class }
+    requires right { IsRightFound setup.now.trees setup.now.rewrites found }
+    ensures { IfOk result (IsEntryOf setup.now.trees setup.now.rewrites found) }
+{
+    let parts = parts_of(setup, walked, &found)?;
+    Ok(entry_with(found, parts))
+}
+
+/// What an entry has beside its fault.
+#[derive(Drop)]
+struct EntryParts {
+    query: Name,
+    repeats: bool,
+    walks: List<Walk>,
+}
+
+/// What the entry of a fault has beside it, from the walks of the class that shows it.
+fn parts_of(setup: &Setup<'_>, walked: &Walked, found: &ClassFault) -> Result<EntryParts, NoMemory>
+    requires walked { IsWalked setup.now.trees setup.now.rewrites walked.now }
+    requires class { walked.now.class ≡ found.now.class }
+    requires right { IsRightFound setup.now.trees setup.now.rewrites found.now }
+    ensures { IfOk result (λ parts. IsEntryOf setup.now.trees setup.now.rewrites found.now (entry_with found.now parts)) }
+{
+    let query = walked.query.copy(setup.alloc)?;
+    let walks = trails(setup.alloc, &walked.graph, &found.seen)?;
+    let repeats = repeated(setup.alloc, walks.items())?;
+    Ok(EntryParts {
+        query,
+        repeats,
+        walks,
+    })
+}
+
+/// The entry of a fault with these parts.
+fn entry_with(found: ClassFault, parts: EntryParts) -> ReportEntry
+    ensures { result ≡ entry_with found parts }
+{
+    ReportEntry {
+        seen: found.seen,
+        query: parts.query,
+        repeats: parts.repeats,
+        walks: parts.walks,
+    }
+}
+
+/// Whether the first of the walks comes to a server twice with one name.
+fn repeated(alloc: Global, walks: &[Walk]) -> Result<bool, NoMemory>
+    ensures { IfOk result (λ answer. (first : WalkValue) → slice_get walks.now 0 ≡ Some first → answer ≡ repeats first.states) }
+{
+    match walks.first() {
+        Some(first) => repeats(alloc, first),
+        None => Ok(false),
+    }
+}
+
+/// The entries in fault order.
+fn in_fault_order(entries: List<ReportEntry>) -> Result<List<ReportEntry>, NoMemory>
+    ensures same { IfOk result (IsPermutation entries) }
+    ensures sorted { IfOk result (IsSortedBy is_before) }
+{
+    let mut sorted = entries.into_vec();
+    sorted.sort_by(|a, b| a.seen.fault.compare(&b.seen.fault))?;
+    Ok(List::from_vec(sorted))
 }

@@ -6,10 +6,10 @@ ghost use Rattle.class_judge.specs.Values.{AreValues};
 ghost use Rattle.dns_data.proofs.Names.{same_names};
 
 use crate::classes::judge_name;
-use crate::filed_verdict::FiledVerdict;
 use crate::naming::Naming;
 use crate::setup::Setup;
 use crate::tree_name::TreeName;
+use crate::verdict::FiledVerdict;
 use dns_data::{List, NoMemory};
 use std::marker::{Model, PhantomData};
 use verdict_book::{JudgeShare, Work};

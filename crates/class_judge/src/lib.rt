@@ -9,29 +9,24 @@
 //! be judged, and judging copies neither the name nor its live set. Judging a name makes a graph for each of its classes, which
 //! is dropped when its faults are found: a verdict keeps no walk, and takes no memory of its own where no class of the name
 //! shows a fault. No graph is made where the representative's walks are seen to go straight to their ends, and it is restricted
-//! to the least set of learnt addresses only where some configured server is neither in that set nor a top server.
+//! to the least set of learnt addresses only where some configured server is neither in that set nor a top server. The report
+//! makes one graph more for each class that is the first to show some fault, and finds the first walks of all these faults in it.
 #![tactic(auto)]
 
 mod classes;
 mod entries;
-mod faults;
-mod filed_verdict;
-mod found;
 mod judge;
 pub mod laws;
-mod least;
 mod naming;
 mod passed;
 mod prepare;
 mod report;
-mod rows;
 mod setup;
 mod tree_name;
 mod verdict;
 
-pub use filed_verdict::FiledVerdict;
 pub use judge::Judge;
 pub use naming::Naming;
 pub use report::ReportFault;
 pub use tree_name::TreeName;
-pub use verdict::{ClassVerdict, NameVerdict};
+pub use verdict::{ClassVerdict, FiledVerdict, NameVerdict};

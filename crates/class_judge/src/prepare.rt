@@ -1,27 +1,30 @@
 //! What the classes of a configuration are judged with, made once.
 
-ghost use Rattle.std.specs.Prelude.{◌≡◌, true, Some, IfOk, OnOk, IsErrOf, MatchOption};
+ghost use Rattle.std.specs.Prelude.{◌≡◌, ◌||◌, true, Some, IfOk, OnOk, IsErrOf, MatchOption};
+ghost use Rattle.std.specs.BTreeSet as tree;
+ghost use Rattle.std.specs.List.{list_all};
 ghost use Rattle.address_deps.specs.Sets.{AreServerGraphs};
 ghost use Rattle.class_judge.specs.Setup.{AreRegionsOf, AreSets, FollowsAll, IsSetup, SomeNamePasses};
 ghost use Rattle.class_judge.specs.Values.{AreValues};
-ghost use Rattle.class_judge.specs.Verdict.{PassesStates, SomeServerPasses};
+ghost use Rattle.class_judge.specs.Verdict.{SomeServerPasses};
+ghost use Rattle.dns_data.specs.Name.{name_cmp};
 ghost use Rattle.net_model.specs.declared.deps.Deps.{Deps};
-ghost use Rattle.interp_graph.specs.Asked.{IsBuilt};
+ghost use Rattle.zone_lookup.specs.LearntSets.{is_among};
 
+use crate::classes::graph_of;
 use crate::judge::Judge;
-use crate::least::follows_all;
 use crate::naming::Naming;
 use crate::setup::Setup;
 use address_deps::dependencies_among;
 use dns_data::{List, Name, NoMemory};
 use graph_form::Graph;
-use interp_graph::{GraphFault, build};
+use interp_graph::GraphFault;
 use label_graph::LabelGraph;
-use name_rules::SymName;
-use net_model::Config;
+use net_model::{Config, Server};
 use std::alloc::Global;
+use std::collections::BTreeSet;
 use straight_walks::Regions;
-use zone_lookup::{Hosts, LearntSets};
+use zone_lookup::{Hosts, LearntSets, set_of};
 
 impl<'a, N: Naming> Judge<'a, N> {
     /// The judge of the class tree of a configuration, whose queries may use so many rewrites, and of each of which no more
@@ -123,6 +126,21 @@ fn are_all_followed(
     }
 }
 
+/// Whether each configured server is a top server or in the least set.
+fn follows_all(alloc: Global, config: &Config, sets: &LearntSets) -> Result<bool, NoMemory>
+    ensures { IfOk result (λ all. all ≡ true → FollowsAll config.now sets.now.least) }
+{
+    let tops = set_of(alloc, config.tops.items())?;
+    Ok(are_followed(config.servers.items(), &tops, sets))
+}
+
+/// Whether each server is one of the top servers or in the least set.
+fn are_followed(servers: &[Server], tops: &BTreeSet<Name>, sets: &LearntSets) -> bool
+    ensures { result ≡ list_all (λ server. tree.contains name_cmp tops.now server.name || is_among sets.now.least server.name) servers.now }
+{
+    servers.iter().all(|server| tops.contains(&server.name) || sets.has_least(&server.name))
+}
+
 /// The graph of the name of each server, in their order.
 fn server_graphs(
     alloc: Global,
@@ -142,24 +160,4 @@ fn server_graphs(
         graphs.push(graph)?;
     }
     Ok(graphs)
-}
-
-/// The graph of the walks of a query while every configured server is followed. It is `StatesPassed` where the query reaches
-/// more pairs of state and type than so many.
-pub(crate) fn graph_of(
-    alloc: Global,
-    trees: &Hosts<'_>,
-    query: &Name,
-    rewrites: u32,
-    states: u32,
-) -> Result<Graph, GraphFault>
-    ensures built { IfOk result (IsBuilt trees.now rewrites query.now) }
-    ensures few { OnOk result (PassesStates trees.now rewrites states query.now → ⊥) }
-    ensures passed { IsErrOf result GraphFault.StatesPassed → PassesStates trees.now rewrites states query.now }
-{
-    let name = SymName {
-        known: query.copy(alloc)?,
-        tail: None,
-    };
-    build(alloc, trees, &name, rewrites, states)
 }

@@ -1,25 +1,25 @@
 //! The report of a configuration, from the verdicts of the names of its class tree.
 
-ghost use Rattle.std.specs.Prelude.{◌≡◌, ◌<◌, ◌^◌, [], length, IfOk, IfErr, OnOk, vec_len};
+ghost use Rattle.std.specs.Prelude.{◌≡◌, ◌≤◌, ◌<◌, ◌^◌, [], length, IfOk, IfErr, OnOk};
 ghost use Rattle.class_judge.specs.Carried.{whole};
 ghost use Rattle.class_judge.specs.Passed.{SomeClassPasses, IsReportFault};
-ghost use Rattle.class_judge.specs.Rows.{AreRows};
-ghost use Rattle.class_judge.specs.Setup.{AreSets, IsSetup};
+ghost use Rattle.class_judge.specs.Rows.{AreRows, below_count};
+ghost use Rattle.class_judge.specs.Setup.{IsSetup};
 ghost use Rattle.dns_data.specs.Name.{name_cmp};
 ghost use Rattle.graph_form.specs.Report.{IsReport};
 ghost use Rattle.verdict_book.specs.Lists.{IsWholeTree};
 
 use crate::entries::entries_of;
-use crate::found::{first_classes, found_of};
 use crate::judge::Judge;
 use crate::naming::Naming;
 use crate::passed::first_passed;
-use crate::rows::{Row, below_count, rows_of};
 use crate::setup::Setup;
+use crate::tree_name::TreeName;
+use crate::verdict::FiledVerdict;
 use dns_data::{List, Name, NoMemory};
-use graph_form::{Deps, Report};
+use graph_form::Report;
 use thiserror::Error;
-use verdict_book::Filed;
+use verdict_book::{Filed, Work};
 
 /// Why a report isn't given.
 #[derive(Debug, Drop, Error)]
@@ -52,60 +52,62 @@ impl<'a, N: Naming + Send> Judge<'a, N> {
         ensures none_passes { OnOk result (SomeClassPasses N.config N.rewrites N.states → ⊥) }
         ensures fault { IfErr result (IsReportFault N.config N.rewrites N.states) }
     {
-        let setup = self.setup();
-        let rows = rows_of(setup.alloc, filed)?;
-        report_of(setup, rows)
+        report_of(self.setup(), filed)
     }
 }
 
-/// The report from the rows of the class tree.
-fn report_of(setup: &Setup<'_>, rows: Vec<Row>) -> Result<Report, ReportFault>
+/// The report from the names of the class tree with their verdicts.
+fn report_of<N: Naming, W: Work<Item = TreeName<N>, Verdict = FiledVerdict>>(
+    setup: &Setup<'_>,
+    filed: List<Filed<W>>,
+) -> Result<Report, ReportFault>
     requires setup { IsSetup setup.now }
-    requires rows { AreRows setup.now.trees setup.now.rewrites setup.now.states rows.items }
-    requires few { vec_len rows < 2 ^ 31 }
+    requires rows { AreRows setup.now.trees setup.now.rewrites setup.now.states filed }
+    requires few { length filed < 2 ^ 31 }
     ensures report { IfOk result (IsReport (whole setup.now.trees setup.now.rewrites)) }
     ensures none_passes { OnOk result (SomeClassPasses setup.now.trees setup.now.rewrites setup.now.states → ⊥) }
     ensures fault { IfErr result (IsReportFault setup.now.trees setup.now.rewrites setup.now.states) }
 {
-    let passed = first_passed(setup, rows.as_slice())?;
-    match passed {
+    match first_passed(setup, filed.items())? {
         Some(query) => Err(ReportFault::StatesPassed(query)),
-        None => Ok(report_with_sets(setup, rows)?),
+        None => Ok(report_with(setup, filed)?),
     }
 }
 
-/// The report from the rows, where no class passes the limit: so there are the two sets of learnt addresses.
-fn report_with_sets(setup: &Setup<'_>, rows: Vec<Row>) -> Result<Report, NoMemory>
+/// The report from the names of the class tree with their verdicts, where no class passes the limit.
+fn report_with<N: Naming, W: Work<Item = TreeName<N>, Verdict = FiledVerdict>>(
+    setup: &Setup<'_>,
+    filed: List<Filed<W>>,
+) -> Result<Report, NoMemory>
     requires setup { IsSetup setup.now }
-    requires rows { AreRows setup.now.trees setup.now.rewrites setup.now.states rows.items }
+    requires rows { AreRows setup.now.trees setup.now.rewrites setup.now.states filed }
     requires none_passes { SomeClassPasses setup.now.trees setup.now.rewrites setup.now.states → ⊥ }
-    requires few { vec_len rows < 2 ^ 31 }
+    requires few { length filed < 2 ^ 31 }
     ensures { IfOk result (IsReport (whole setup.now.trees setup.now.rewrites)) }
 {
-    match &setup.sets {
-        Some(sets) => report_with(setup, sets.deps(), rows),
-        None => unreachable!(),
-    }
-}
-
-/// The report from the rows and the two sets of learnt addresses, where no class passes the limit.
-fn report_with(setup: &Setup<'_>, deps: &Deps, rows: Vec<Row>) -> Result<Report, NoMemory>
-    requires setup { IsSetup setup.now }
-    requires sets { AreSets setup.now.trees setup.now.rewrites setup.now.states deps.now }
-    requires rows { AreRows setup.now.trees setup.now.rewrites setup.now.states rows.items }
-    requires none_passes { SomeClassPasses setup.now.trees setup.now.rewrites setup.now.states → ⊥ }
-    requires few { vec_len rows < 2 ^ 31 }
-    ensures { IfOk result (IsReport (whole setup.now.trees setup.now.rewrites)) }
-{
-    let names = rows.len();
-    let below = below_count(rows.as_slice());
-    let found = found_of(setup.alloc, rows)?;
-    let firsts = first_classes(setup.alloc, found)?;
-    let entries = entries_of(setup, deps, firsts)?;
+    let names = filed.len();
+    let below = below_count(filed.items());
+    let entries = entries_of(setup, filed)?;
     Ok(Report {
         classes: (names + below) as u32,
         names: names as u32,
         rewrites: setup.rewrites,
         entries,
     })
+}
+
+/// How many of the classes below the names aren't empty.
+fn below_count<N: Naming, W: Work<Item = TreeName<N>, Verdict = FiledVerdict>>(
+    filed: &[Filed<W>],
+) -> usize
+    ensures value { result ≡ below_count filed.now }
+    ensures within { result ≤ length filed.now }
+{
+    let mut count = 0;
+    for one in filed {
+        if one.verdict.has_below() {
+            count += 1;
+        }
+    }
+    count
 }

@@ -1,7 +1,7 @@
 //! Names of the class tree, as the items of a judge.
 
 ghost use Rattle.std.specs.Prelude.{◌≡◌, [], map, All, IfOk};
-ghost use Rattle.class_judge.specs.TreeNames.{IsGraphOf, IsLiveIn};
+ghost use Rattle.class_judge.specs.TreeNames.{AreBaseNamesOf, IsLiveIn};
 ghost use Rattle.query_classes.specs.Children.{AreChildren};
 
 use crate::naming::Naming;
@@ -10,7 +10,6 @@ use label_graph::LabelGraph;
 use query_classes::LiveName;
 use std::alloc::Global;
 use std::cmp::Ordering;
-use std::collections::VecDeque;
 use std::marker::{Model, PhantomData};
 
 /// A name of the class tree with its live set, so that it isn't walked to again. Contracts see the name, and names are
@@ -35,7 +34,7 @@ impl<N: Naming> Model for TreeName<N> {
 impl<N: Naming> TreeName<N> {
     /// The root.
     pub(crate) fn root(alloc: Global, graph: &LabelGraph) -> Result<TreeName<N>, NoMemory>
-        requires { IsGraphOf N.config graph.now }
+        requires { AreBaseNamesOf N.config graph.now }
         ensures { IfOk result (λ item. item ≡ []) }
     {
         let found = LiveName::root(alloc, graph)?;
@@ -67,12 +66,11 @@ impl<N: Naming> TreeName<N> {
         alloc: Global,
         graph: &LabelGraph,
     ) -> Result<List<TreeName<N>>, NoMemory>
-        requires { IsGraphOf N.config graph.now }
+        requires { AreBaseNamesOf N.config graph.now }
         ensures { IfOk result (AreChildren graph.now self.now) }
     {
         let found = self.found.children(alloc, graph)?;
-        let names = items_of(alloc, found)?;
-        Ok(List::from_vec(names))
+        items_of(alloc, found)
     }
 
     /// An equal item.
@@ -95,16 +93,15 @@ impl<N: Naming> TreeName<N> {
 }
 
 /// Names with their live sets, as items.
-fn items_of<N: Naming>(alloc: Global, found: List<LiveName>) -> Result<Vec<TreeName<N>>, NoMemory>
+fn items_of<N: Naming>(alloc: Global, found: List<LiveName>) -> Result<List<TreeName<N>>, NoMemory>
     requires { All (λ one. IsLiveIn N.config one.name one.live) found }
-    ensures { IfOk result (λ names. names.items ≡ map (λ one. one.name) found) }
+    ensures { IfOk result (λ items. items ≡ map (λ one. one.name) found) }
 {
-    let mut left = VecDeque::from_vec(found.into_vec());
-    let mut names = Vec::with_capacity(alloc, left.len())?;
-    while let Some(one) = left.pop_front() {
-        names.push(TreeName::of(one))?;
+    let mut items = Vec::with_capacity(alloc, found.len())?;
+    for one in found {
+        items.push(TreeName::of(one))?;
     }
-    Ok(names)
+    Ok(List::from_vec(items))
 }
 
 impl<N: Naming> PartialEq for TreeName<N> {

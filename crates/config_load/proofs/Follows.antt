@@ -73,6 +73,7 @@ module _ {A B : Type 0} where
     by_cases (inl e) = inl (ap (λ r. r >>= next other) e)
     by_cases (inr stops) = inr (StopsEarly-bind told other (first other) (next other) stops)
 
+  -- a file to which the first step of a reading comes is one to which the reading comes
   pub Reaches-bind : (told : FilesTold) (first : ByTold A) (next : FilesTold → A → Reading B) (file : List ℕ) → Reaches told first file → Reaches told (λ t. first t >>= next t) file
   Reaches-bind told first next file a other no_other gone = by_cases (a other no_other gone) where
     by_cases : (first other ≡ Unknown file) ⊎ StopsEarly told other (first other) → (first other >>= next other ≡ Unknown file) ⊎ StopsEarly told other (first other >>= next other)

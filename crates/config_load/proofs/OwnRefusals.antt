@@ -28,7 +28,7 @@ use Rattle.config_load.specs.Servers.{given, has_zone}
 use Rattle.config_load.specs.declared.fault.LoadFault.{LoadFault}
 use Rattle.config_load.specs.declared.fault.LoadFault.TheVariants.{Read, TooLong, NoMemory}
 use Rattle.config_load.specs.declared.left.Left.{Left}
-use Rattle.config_load.specs.declared.rows.Rows.{Rows}
+use Rattle.config_load.specs.declared.rows.ReadRows.{ReadRows}
 use Rattle.config_load.specs.declared.zone_files.ZoneFiles.{ZoneFiles}
 
 -- the refusal says something of the files
@@ -105,7 +105,7 @@ zone_read_own meta row left told =
 given_own : (number : ℕ) (name : Labels) (zone : Zone) (servers : List Server) → IfErr (given number name zone servers) IsOwn
 given_own number name zone servers = if_err_either IsOwn (has_zone name zone.origin servers) _ _ tt tt
 
-row_own : (meta : List ℕ) (number : ℕ) (row : MetaRow) (rows : Rows) (told : FilesTold) → RefusesOwn (with_row meta number row rows told)
+row_own : (meta : List ℕ) (number : ℕ) (row : MetaRow) (rows : ReadRows) (told : FilesTold) → RefusesOwn (with_row meta number row rows told)
 unfolding with_row
 row_own meta number row rows told =
     own_then (zone_read meta row rows.left told) _ (zone_read_own meta row rows.left told)
@@ -113,7 +113,7 @@ row_own meta number row rows told =
     (own_unless IsOwn (λ fault. fault) (given number row.server read.zone rows.servers) (given_own number row.server read.zone rows.servers) (λ fault own. own))
     (λ servers. tt))
 
-rows_own : (meta : List ℕ) (number : ℕ) (more : List MetaRow) (rows : Rows) (told : FilesTold) → RefusesOwn (with_rows meta number more rows told)
+rows_own : (meta : List ℕ) (number : ℕ) (more : List MetaRow) (rows : ReadRows) (told : FilesTold) → RefusesOwn (with_rows meta number more rows told)
 unfolding with_rows
 rows_own meta number [] rows told = tt
 rows_own meta number (row ∷ more) rows told =

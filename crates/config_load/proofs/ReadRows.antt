@@ -20,7 +20,7 @@ use Rattle.config_load.specs.Sources.{ReadsFor, HasAnswered}
 use Rattle.config_load.specs.declared.fault.LoadFault.{LoadFault}
 use Rattle.config_load.specs.declared.fault.LoadFault.TheVariants.{NoMemory}
 use Rattle.config_load.specs.declared.left.Left.{Left}
-use Rattle.config_load.specs.declared.rows.Rows.{Rows}
+use Rattle.config_load.specs.declared.rows.ReadRows.{ReadRows}
 use Rattle.config_load.specs.declared.zone.ReadZone.{ReadZone}
 use Rattle.config_load.specs.declared.zone_files.ZoneFiles.{ZoneFiles}
 use Rattle.config_load.proofs.Follows.{Follows-same, Follows-bind}
@@ -74,24 +74,24 @@ module _ (meta : List ℕ) (row : MetaRow) (left : Left) where
       (Follows-same told' (λ _. Reads (record { zone = zone; left = left_behind left read.text })) (λ _. Reads (record { zone = zone; left = behind })) (λ other. ap (λ (l : Left). Reads (record { zone = zone; left = l })) (sym is)))))
 
 -- how the reading of a row goes on behind its zone
-abbrev behind_zone : ℕ → MetaRow → Rows → FilesTold → ReadZone → Reading Rows
+abbrev behind_zone : ℕ → MetaRow → ReadRows → FilesTold → ReadZone → Reading ReadRows
 behind_zone number row rows told read =
     unless_refused (λ fault. fault) (given number row.server read.zone rows.servers) >>= λ servers. Reads (record { left = read.left; servers = servers })
 
-module _ (meta : List ℕ) (number : ℕ) (row : MetaRow) (rows : Rows) where
+module _ (meta : List ℕ) (number : ℕ) (row : MetaRow) (rows : ReadRows) where
   -- a row whose zone isn't read
-  pub HasAnswered-no_row : {told told' : FilesTold} {counts counts' : List ℕ → ℕ} (fault : LoadFault) (result : Result Rows LoadFault) → IsErrAnd result (λ passed. passed ≡ fault) → (let answer : Result ReadZone LoadFault = Err fault in HasAnswered told told' counts counts' (zone_read meta row rows.left) answer) → HasAnswered told told' counts counts' (with_row meta number row rows) result
+  pub HasAnswered-no_row : {told told' : FilesTold} {counts counts' : List ℕ → ℕ} (fault : LoadFault) (result : Result ReadRows LoadFault) → IsErrAnd result (λ passed. passed ≡ fault) → (let answer : Result ReadZone LoadFault = Err fault in HasAnswered told told' counts counts' (zone_read meta row rows.left) answer) → HasAnswered told told' counts counts' (with_row meta number row rows) result
   unfolding with_row
   HasAnswered-no_row fault result is read = HasAnswered-passed (zone_read meta row rows.left) (behind_zone number row rows) fault result is read
 
   -- want of memory behind its zone
-  pub HasAnswered-row_wanting : {told told' : FilesTold} {counts counts' : List ℕ → ℕ} (read : ReadZone) (result : Result Rows LoadFault) → IsErrAnd result (λ fault. fault ≡ NoMemory) → (let answer : Result ReadZone LoadFault = Ok read in HasAnswered told told' counts counts' (zone_read meta row rows.left) answer) → HasAnswered told told' counts counts' (with_row meta number row rows) result
+  pub HasAnswered-row_wanting : {told told' : FilesTold} {counts counts' : List ℕ → ℕ} (read : ReadZone) (result : Result ReadRows LoadFault) → IsErrAnd result (λ fault. fault ≡ NoMemory) → (let answer : Result ReadZone LoadFault = Ok read in HasAnswered told told' counts counts' (zone_read meta row rows.left) answer) → HasAnswered told told' counts counts' (with_row meta number row rows) result
   unfolding with_row
   HasAnswered-row_wanting read result wants whole =
       HasAnswered-wanting result (ReadsFor-bind (zone_read meta row rows.left) (behind_zone number row rows) whole.source) wants
 
   -- a zone that its server has
-  pub HasAnswered-not_given : {told told' : FilesTold} {counts counts' : List ℕ → ℕ} (read : ReadZone) (fault : LoadFault) (result : Result Rows LoadFault) → IsErrAnd result (λ passed. passed ≡ fault) → (let answer : Result ReadZone LoadFault = Ok read in HasAnswered told told' counts counts' (zone_read meta row rows.left) answer) → (let answer : Result (List Server) LoadFault = Err fault in AnswersOr NoMemory answer (given number row.server read.zone rows.servers)) → HasAnswered told told' counts counts' (with_row meta number row rows) result
+  pub HasAnswered-not_given : {told told' : FilesTold} {counts counts' : List ℕ → ℕ} (read : ReadZone) (fault : LoadFault) (result : Result ReadRows LoadFault) → IsErrAnd result (λ passed. passed ≡ fault) → (let answer : Result ReadZone LoadFault = Ok read in HasAnswered told told' counts counts' (zone_read meta row rows.left) answer) → (let answer : Result (List Server) LoadFault = Err fault in AnswersOr NoMemory answer (given number row.server read.zone rows.servers)) → HasAnswered told told' counts counts' (with_row meta number row rows) result
   unfolding with_row
   HasAnswered-not_given {told' = told'} {counts' = counts'} read fault result is whole answered =
       let refused : Result (List Server) LoadFault = Err fault in
@@ -100,19 +100,19 @@ module _ (meta : List ℕ) (number : ℕ) (row : MetaRow) (rows : Rows) where
       (HasAnswered-given told' counts' number row.server read.zone rows.servers refused answered))
 
   -- a row
-  pub HasAnswered-row : {told told' : FilesTold} {counts counts' : List ℕ → ℕ} (read : ReadZone) (servers : List Server) → (let answer : Result ReadZone LoadFault = Ok read in HasAnswered told told' counts counts' (zone_read meta row rows.left) answer) → (let answer : Result (List Server) LoadFault = Ok servers in AnswersOr NoMemory answer (given number row.server read.zone rows.servers)) → (let answer : Result Rows LoadFault = Ok (record { left = read.left; servers = servers }) in HasAnswered told told' counts counts' (with_row meta number row rows) answer)
+  pub HasAnswered-row : {told told' : FilesTold} {counts counts' : List ℕ → ℕ} (read : ReadZone) (servers : List Server) → (let answer : Result ReadZone LoadFault = Ok read in HasAnswered told told' counts counts' (zone_read meta row rows.left) answer) → (let answer : Result (List Server) LoadFault = Ok servers in AnswersOr NoMemory answer (given number row.server read.zone rows.servers)) → (let answer : Result ReadRows LoadFault = Ok (record { left = read.left; servers = servers }) in HasAnswered told told' counts counts' (with_row meta number row rows) answer)
   unfolding with_row
   HasAnswered-row {told' = told'} {counts' = counts'} read servers whole answered =
       let more : Result (List Server) LoadFault = Ok servers in
-      let answer : Result Rows LoadFault = Ok (record { left = read.left; servers = servers }) in
+      let answer : Result ReadRows LoadFault = Ok (record { left = read.left; servers = servers }) in
       HasAnswered-next (zone_read meta row rows.left) read (behind_zone number row rows) answer whole
       (HasAnswered-next (λ _. unless_refused (λ fault. fault) (given number row.server read.zone rows.servers)) servers (λ _ servers. Reads (record { left = read.left; servers = servers })) answer
       (HasAnswered-given told' counts' number row.server read.zone rows.servers more answered)
       (reads told' counts' (record { left = read.left; servers = servers })))
 
-module _ (meta : List ℕ) (number : ℕ) (row : MetaRow) (others : List MetaRow) (rows : Rows) where
+module _ (meta : List ℕ) (number : ℕ) (row : MetaRow) (others : List MetaRow) (rows : ReadRows) where
   -- a row that ends the reading
-  pub HasAnswered-first_row : {told told' : FilesTold} {counts counts' : List ℕ → ℕ} (fault : LoadFault) (result : Result Rows LoadFault) → IsErrAnd result (λ passed. passed ≡ fault) → (let answer : Result Rows LoadFault = Err fault in HasAnswered told told' counts counts' (with_row meta number row rows) answer) → HasAnswered told told' counts counts' (with_rows meta number (row ∷ others) rows) result
+  pub HasAnswered-first_row : {told told' : FilesTold} {counts counts' : List ℕ → ℕ} (fault : LoadFault) (result : Result ReadRows LoadFault) → IsErrAnd result (λ passed. passed ≡ fault) → (let answer : Result ReadRows LoadFault = Err fault in HasAnswered told told' counts counts' (with_row meta number row rows) answer) → HasAnswered told told' counts counts' (with_rows meta number (row ∷ others) rows) result
   unfolding with_rows
   HasAnswered-first_row fault result is read = HasAnswered-passed (with_row meta number row rows) (λ t rows. with_rows meta (number + 1) others rows t) fault result is read
 
@@ -122,7 +122,7 @@ module _ (meta : List ℕ) (number : ℕ) (row : MetaRow) (others : List MetaRow
   ReadsFor-first_row source = ReadsFor-bind (with_row meta number row rows) (λ t rows. with_rows meta (number + 1) others rows t) source
 
   -- a row, and those behind it
-  pub Follows-first_row : (told : FilesTold) (more : Rows) → Follows told (with_row meta number row rows) (λ _. Reads more) → Follows told (with_rows meta number (row ∷ others) rows) (with_rows meta (number + 1) others more)
+  pub Follows-first_row : (told : FilesTold) (more : ReadRows) → Follows told (with_row meta number row rows) (λ _. Reads more) → Follows told (with_rows meta number (row ∷ others) rows) (with_rows meta (number + 1) others more)
   unfolding with_rows
   Follows-first_row told more whole =
       Follows-bind told (with_row meta number row rows) (λ _. Reads more) (λ t rows. with_rows meta (number + 1) others rows t) whole
@@ -151,14 +151,14 @@ module _ (meta : List ℕ) where
   HasAnswered-no_metadata fault result is read = HasAnswered-passed (metadata meta) (behind_metadata meta) fault result is read
 
   -- rows that don't read
-  pub HasAnswered-no_rows : {before between after : FilesTold} {counts counts' counts'' : List ℕ → ℕ} (found : Metadata) (fault : LoadFault) (result : Result Config LoadFault) → IsErrAnd result (λ passed. passed ≡ fault) → (let answer : Result Metadata LoadFault = Ok found in HasAnswered before between counts counts' (metadata meta) answer) → (let answer : Result Rows LoadFault = Err fault in HasAnswered between after counts' counts'' (with_rows meta 1 found.rows no_rows) answer) → HasAnswered before after counts counts'' (conf meta) result
+  pub HasAnswered-no_rows : {before between after : FilesTold} {counts counts' counts'' : List ℕ → ℕ} (found : Metadata) (fault : LoadFault) (result : Result Config LoadFault) → IsErrAnd result (λ passed. passed ≡ fault) → (let answer : Result Metadata LoadFault = Ok found in HasAnswered before between counts counts' (metadata meta) answer) → (let answer : Result ReadRows LoadFault = Err fault in HasAnswered between after counts' counts'' (with_rows meta 1 found.rows no_rows) answer) → HasAnswered before after counts counts'' (conf meta) result
   unfolding conf
   HasAnswered-no_rows found fault result is whole read =
       HasAnswered-next (metadata meta) found (behind_metadata meta) result whole
       (HasAnswered-passed (with_rows meta 1 found.rows no_rows) (λ _ rows. Reads (record { tops = found.tops; servers = rows.servers })) fault result is read)
 
   -- the configuration
-  pub HasAnswered-config : {before between after : FilesTold} {counts counts' counts'' : List ℕ → ℕ} (found : Metadata) (rows : Rows) → (let answer : Result Metadata LoadFault = Ok found in HasAnswered before between counts counts' (metadata meta) answer) → (let answer : Result Rows LoadFault = Ok rows in HasAnswered between after counts' counts'' (with_rows meta 1 found.rows no_rows) answer) → (let answer : Result Config LoadFault = Ok (record { tops = found.tops; servers = rows.servers }) in HasAnswered before after counts counts'' (conf meta) answer)
+  pub HasAnswered-config : {before between after : FilesTold} {counts counts' counts'' : List ℕ → ℕ} (found : Metadata) (rows : ReadRows) → (let answer : Result Metadata LoadFault = Ok found in HasAnswered before between counts counts' (metadata meta) answer) → (let answer : Result ReadRows LoadFault = Ok rows in HasAnswered between after counts' counts'' (with_rows meta 1 found.rows no_rows) answer) → (let answer : Result Config LoadFault = Ok (record { tops = found.tops; servers = rows.servers }) in HasAnswered before after counts counts'' (conf meta) answer)
   unfolding conf
   HasAnswered-config {after = after} {counts'' = counts''} found rows whole all =
       let answer : Result Config LoadFault = Ok (record { tops = found.tops; servers = rows.servers }) in

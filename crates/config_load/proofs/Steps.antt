@@ -19,7 +19,7 @@ use Rattle.config_load.specs.Reading.{Reads, Refuses, unless_refused}
 use Rattle.config_load.specs.Servers.{has_zone, with_zone, given}
 use Rattle.config_load.specs.declared.fault.LoadFault.{LoadFault}
 use Rattle.config_load.specs.declared.fault.LoadFault.TheVariants.{Read, TooLong, Meta, Text, Rule, ZoneTwice, NoMemory}
-use Rattle.config_load.specs.declared.rows.Rows.{Rows}
+use Rattle.config_load.specs.declared.rows.ReadRows.{ReadRows}
 use Rattle.config_load.proofs.Follows.{Follows-same}
 
 -- a fault that is no failed read
@@ -27,6 +27,7 @@ abbrev pub IsNoRead : LoadFault → Type 0
 IsNoRead (Read file) = ⊥
 IsNoRead fault = Unit {0}
 
+-- a fault of metadata is no failed read
 pub IsNoRead-of_metadata : (fault : MetaFault) → IsNoRead (of_metadata fault)
 IsNoRead-of_metadata meta_faults.NotJson = tt
 IsNoRead-of_metadata (meta_faults.Shape row) = tt
@@ -36,6 +37,7 @@ IsNoRead-of_metadata meta_faults.NoTops = tt
 IsNoRead-of_metadata meta_faults.TooManyRows = tt
 IsNoRead-of_metadata meta_faults.NoMemory = tt
 
+-- a fault of a zone's records is no failed read
 pub IsNoRead-of_rule : (names : List (List ℕ)) (fault : RuleFault) → IsNoRead (of_rule names fault)
 IsNoRead-of_rule names (rule_faults.At file line cause) = tt
 IsNoRead-of_rule names rule_faults.NoMemory = tt
@@ -106,6 +108,6 @@ pub rest-more : (all : List MetaRow) (i : ℕ) (row : MetaRow) → i < length al
 rest-more all i row below is = drop-cons all i row below ∙ (λ j. sym is j ∷ drop (sym (add-one i) j) all)
 
 -- at the end of the rows there is none more to be read
-pub with_rows-end : (meta : List ℕ) (all : List MetaRow) (i : ℕ) (rows : Rows) (told : FilesTold) → length all ≤ i → with_rows meta (i + 1) (drop i all) rows told ≡ Reads rows
+pub with_rows-end : (meta : List ℕ) (all : List MetaRow) (i : ℕ) (rows : ReadRows) (told : FilesTold) → length all ≤ i → with_rows meta (i + 1) (drop i all) rows told ≡ Reads rows
 unfolding with_rows
 with_rows-end meta all i rows told past = ap (λ (rest : List MetaRow). with_rows meta (i + 1) rest rows told) (drop_of_length-le all past)

@@ -15,7 +15,7 @@ use Rattle.config_load.specs.Joined.{joined}
 use Rattle.config_load.specs.Reading.{Reading, Reads, Refuses, Unknown, ◌>>=◌, unless_refused, file_octets}
 use Rattle.config_load.specs.Servers.{given}
 use Rattle.config_load.specs.declared.left.Left.{Left}
-use Rattle.config_load.specs.declared.rows.Rows.{Rows}
+use Rattle.config_load.specs.declared.rows.ReadRows.{ReadRows}
 use Rattle.config_load.specs.declared.zone.ReadZone.{ReadZone}
 use Rattle.config_load.specs.declared.zone_files.ZoneFiles.{ZoneFiles}
 
@@ -60,18 +60,18 @@ zone_read meta row left told = do
   Reads (record { zone = zone; left = left_behind left files.text })
 
 -- Rows. Before the first one nothing was read.
-abbrev pub no_rows : Rows
+abbrev pub no_rows : ReadRows
 no_rows = record { left = everything_left; servers = [] }
 
 -- one row more, which has this number: its zone is given to its server
-unfoldable pub with_row : List ℕ → ℕ → MetaRow → Rows → FilesTold → Reading Rows
+unfoldable pub with_row : List ℕ → ℕ → MetaRow → ReadRows → FilesTold → Reading ReadRows
 with_row meta number row rows told = do
   read ← zone_read meta row rows.left told
   servers ← unless_refused (λ fault. fault) (given number row.server read.zone rows.servers)
   Reads (record { left = read.left; servers = servers })
 
 -- more rows, which are counted from this number on
-unfoldable pub with_rows : List ℕ → ℕ → List MetaRow → Rows → FilesTold → Reading Rows
+unfoldable pub with_rows : List ℕ → ℕ → List MetaRow → ReadRows → FilesTold → Reading ReadRows
 with_rows meta number [] rows told = Reads rows
 with_rows meta number (row ∷ more) rows told = with_row meta number row rows told >>= λ rows. with_rows meta (number + 1) more rows told
 

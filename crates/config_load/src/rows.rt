@@ -13,9 +13,9 @@ use io_edges::Files;
 use meta_read::MetaRow;
 use std::alloc::Global;
 
-/// What the rows so far gave.
+/// The servers of the rows so far, and what reading these left.
 #[derive(Drop)]
-pub(crate) struct Rows {
+pub(crate) struct ReadRows {
     /// What they left.
     pub left: Left,
     /// The servers in the order of their first rows, each with its zones in the order of rows.
@@ -28,11 +28,11 @@ pub(crate) fn read_rows<F: Files>(
     files: &mut F,
     meta: &str,
     all: &[MetaRow],
-) -> Result<Rows, LoadFault>
+) -> Result<ReadRows, LoadFault>
     requires { length all.now ≤ most_rows }
     ensures { HasAnswered (F.told files.old) (F.told files.new) (F.faults files.old) (F.faults files.new) (with_rows meta.now 1 all.now no_rows) result }
 {
-    let mut rows = Rows {
+    let mut rows = ReadRows {
         left: Left::everything(),
         servers: Servers::new(alloc),
     };
@@ -49,14 +49,14 @@ fn read_row<F: Files>(
     meta: &str,
     number: u32,
     row: &MetaRow,
-    rows: Rows,
-) -> Result<Rows, LoadFault>
+    rows: ReadRows,
+) -> Result<ReadRows, LoadFault>
     ensures { HasAnswered (F.told files.old) (F.told files.new) (F.faults files.old) (F.faults files.new) (with_row meta.now number row.now rows) result }
 {
     let read = read_zone(alloc, files, meta, row, rows.left)?;
     let server = row.server.copy(alloc)?;
     let servers = rows.servers.with_zone(alloc, number, server, read.zone)?;
-    Ok(Rows {
+    Ok(ReadRows {
         left: read.left,
         servers,
     })

@@ -359,6 +359,7 @@ module _ (setting : Setting) (query : Labels) (deps : Deps) (graph : PlainGraph)
       let one = one_walk fault kind shows.walks shows.show in
       by_kind rtype fault one.0 kind (subst (AllByRecursion (IsWalk setting query rtype)) one.1 shows.are_walks).0 one.2
 
+  -- the first types of what was seen on the graph are those of the faults of delegations that the query shows
   pub all_shown : (shown : List Seen) → AreFirstTypes seen shown → AreShownOf (with_lists setting deps.least deps.greatest) query is_of_delegations shown
   all_shown shown firsts =
       all_shown_of (with_lists setting deps.least deps.greatest) query is_of_delegations seen shown firsts candidate_kind candidate_shown shown_collected

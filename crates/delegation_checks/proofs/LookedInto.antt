@@ -34,6 +34,7 @@ module _ (config : Config) (deps : Deps) where
     pub covers : (now : Met) (fault : Fault) → Contains (take place met) now → Contains (faults_at config deps (is_met now).0) fault
         → IsCovered seen (record { fault = fault; rtype = now.rtype })
 
+  -- before the first place nothing was collected
   pub none_so_far : (met : List Met) → AreSoFar met 0 []
   none_so_far met =
       record {

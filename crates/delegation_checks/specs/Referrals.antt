@@ -28,7 +28,8 @@ referral_faults config deps cut =
     if_shown (zones_differ config cut) (faults.Differs cut) ++ if_shown (wants_glue config cut) (faults.NoGlue cut)
     ++ if_shown (addresses_differ config cut) (faults.GlueDiffers cut) ++ if_shown (depends_on_itself config deps cut) (faults.Cyclic cut)
 
--- where its zone cut is at or below its zone's origin, as that of every referral on a walk is
+-- the faults of a referral whose zone cut is at or below its zone's origin, as that of every referral on a walk is; another
+-- referral has none
 abbrev pub cut_faults : Config → Deps → Cut → List Fault
 cut_faults config deps cut = if is_prefix cut.zone cut.cut then referral_faults config deps cut else []
 
@@ -38,16 +39,17 @@ leaf_faults deps cut (leaves.Lame ns) = if_shown (name_eq cut.ns ns) (faults.Lam
 leaf_faults deps cut (leaves.NoAddress ns) = if_shown (name_eq cut.ns ns && not (is_among deps.greatest cut.ns)) (faults.NoAddress cut)
 leaf_faults deps cut leaf = []
 
--- if the branch ends there
+-- the faults of the end behind a referral, if the branch ends there
 abbrev pub referral_end_faults : Deps → Cut → Option Leaf → List Fault
 referral_end_faults deps cut None = []
 referral_end_faults deps cut (Some leaf) = leaf_faults deps cut leaf
 
--- a referral on a branch: the name server of the cut, and the end behind it, if the branch is one
+-- a referral by a hop: the zone cut with its name server, and the end behind it, if the branch ends there
 abbrev pub hop_referrals : Hop → Option Leaf → List (Cut × Option Leaf)
 hop_referrals (Refer cut) end = (cut, end) ∷ []
 hop_referrals (Rewrite place by_dname to) end = []
 
+-- the referral on a branch, with the end behind it, if the branch has one and ends there
 abbrev pub branch_referrals : Branch → List (Cut × Option Leaf)
 branch_referrals (Go hop to) = hop_referrals hop None
 branch_referrals (End None leaf) = []
@@ -57,7 +59,7 @@ branch_referrals (End (Some hop) leaf) = hop_referrals hop (Some leaf)
 abbrev pub faults_at : Config → Deps → Cut × Option Leaf → List Fault
 faults_at config deps at = cut_faults config deps at.0 ++ referral_end_faults deps at.0 at.1
 
--- with a type
+-- each item of a list with one and the same type
 abbrev pub typed : {X : Type 0} → RrType → List X → List (X × RrType)
 typed rtype all = map (λ one. (one, rtype)) all
 

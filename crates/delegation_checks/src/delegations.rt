@@ -47,6 +47,7 @@ pub fn delegation_faults_with(
 {
     let met = referrals_of(alloc, graph)?;
     let seen = faults_of(alloc, hosts, sets, met)?;
+    // Named, since the proof speaks of the list that comes where memory suffices.
     let shown = first_types(alloc, seen)?;
     Ok(shown)
 }

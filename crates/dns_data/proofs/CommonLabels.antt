@@ -58,6 +58,7 @@ more_of a b count x y c xs ys h within =
     one_more_label : (l : List ℕ) (u v : Labels) → both_begin (l ∷ u) (l ∷ v) ≡ 1 + both_begin u v
     one_more_label l u v = ap (λ (t : Bool). cond t (1 + both_begin u v) 0) ((label_eq_decides l l).1 refl)
 
+-- where the octets that both begin with go past the first label, both have this label, and go on behind it
 pub more : (a b : Labels) (count c : ℕ) (xs ys : List ℕ) → IsPast a b count xs ys c → get_or xs 0 0 < c → IsPast a b (count + 1) (drop (get_or xs 0 0 + 1) xs) (drop (get_or xs 0 0 + 1) ys) (c - (get_or xs 0 0 + 1))
 more a b count c [] ys h within = absurd (omega (arith, h.begin))
 more a b count c (x ∷ xs) [] h within = absurd (omega (arith, h.begin))
@@ -90,6 +91,8 @@ unlike l m u v n = (decided_first (label_cmp l m) (name_cmp u v) (λ e. n (same_
   by true e = absurd (n ((label_eq_decides l m).0 e))
   by false e = refl
 
+-- where both begin with the length of a label but not with the whole label, the first octet that differs is in the first
+-- label of both
 pub differs_in : (xs ys : List ℕ) (c : ℕ) → EncodesName xs → EncodesName ys → c ≡ common xs ys → 0 < c → c ≤ get_or xs 0 0 → DiffersIn xs ys c
 differs_in [] ys c h k e some within = absurd (omega (arith, e))
 differs_in (x ∷ xs) [] c h k e some within = absurd (omega (arith, e))

@@ -256,6 +256,8 @@ last_tell xs ys at n h room e =
 pub one_more : (xs ys : List ℕ) (n : ℕ) → n ≤ common xs ys → n < length xs → n < length ys → get_or xs n 0 ≡ get_or ys n 0 → n + 1 ≤ common xs ys
 one_more xs ys n h k l e = omega (arith, (common_split n xs ys h).0, common_prefix_len-drop_yes nat_eq xs ys n 0 0 k l (eq-eqb _ _ e))
 
+-- a place up to which both are the same, and at which both have an octet and these differ, is the number of octets that both
+-- begin with
 pub no_more : (xs ys : List ℕ) (n : ℕ) → n ≤ common xs ys → n < length xs → n < length ys → (get_or xs n 0 ≡ get_or ys n 0 → ⊥) → n ≡ common xs ys
 no_more xs ys n h k l e = omega (arith, (common_split n xs ys h).0, common_prefix_len-drop_no nat_eq xs ys n 0 0 k l (ne_eqb _ _ e))
 
@@ -264,6 +266,7 @@ pub order_inside : (xs ys : List ℕ) (n : ℕ) (r : Ordering) → n ≡ common 
 order_inside xs ys n r e h k is =
     is ∙ ap (λ (i : ℕ). nat_cmp (get_or xs i 0) (get_or ys i 0)) e ∙ sym (common_decides xs ys (omega arith) (omega arith)).0
 
+-- where one is a front of the other, their order is that of their lengths
 pub order_ends : (xs ys : List ℕ) (n : ℕ) (r : Ordering) → n ≡ common xs ys → min (length xs) (length ys) ≤ n → r ≡ nat_cmp (length xs) (length ys) → r ≡ slice_cmp nat_cmp xs ys
 order_ends xs ys n r e h is = is ∙ sym (common_ends xs ys (λ k l. absurd (omega arith)))
 
@@ -272,6 +275,7 @@ common_whole : (xs : List ℕ) → common xs xs ≡ length xs
 common_whole [] = refl
 common_whole (x ∷ xs) = ap (λ (b : Bool). cond b (1 + common xs xs) 0) (eq-eqb x x refl) ∙ omega (arith, common_whole xs)
 
+-- lists of one length are the same exactly where both begin with as many octets as they have
 pub same_tell : (xs ys : List ℕ) (n : ℕ) → n ≡ common xs ys → length xs ≡ length ys → nat_eq n (length xs) ≡ pointwise nat_eq xs ys
 same_tell xs ys n e lengths = same_truth _ _
     (λ all. let most : length xs ≤ common xs ys = omega (arith, e, eqb-true n (length xs) all) in

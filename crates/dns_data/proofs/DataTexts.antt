@@ -24,6 +24,7 @@ digits_lack radix c [] other all = tt
 digits_lack radix c (x ∷ ds) other all =
     (ne_eqb x c (λ e. let same : digit_value x ≡ digit_value c = ap digit_value e in absurd (omega (arith, same, all.0))), digits_lack radix c ds other all.1)
 
+-- the decimal text of a number has no octet that isn't a digit
 pub decimal_lacks : (c n : ℕ) → 10 ≤ digit_value c → n < 2 ^ 64 → Lacks c (decimal n)
 decimal_lacks c n other lt = digits_lack 10 c (decimal n) other (decimal_is_IsNumeral n lt).0.1
 
@@ -49,6 +50,7 @@ name_lacks name = by (length name == 0) where
 
 -- ---- numbers and names
 
+-- names with one text are one name
 pub name_same : (a b : Labels) → IsName a → IsName b → name_text a ≡ name_text b → a ≡ b
 name_same a b p q e =
     let first = ap (λ (text : List ℕ). name_of_text text []) (sym e) ∙ text_reads_back a [] p in
@@ -62,6 +64,7 @@ hex_same a b p q e =
 
 -- ---- addresses
 
+-- a list of four numbers is made of its four items
 pub four : (address : List ℕ) → length address ≡ 4 → address ≡ slice_index address 0 ∷ slice_index address 1 ∷ slice_index address 2 ∷ slice_index address 3 ∷ []
 four [] n = absurd (omega arith)
 four (a ∷ []) n = absurd (omega arith)
@@ -70,6 +73,7 @@ four (a ∷ b ∷ c ∷ []) n = absurd (omega arith)
 four (a ∷ b ∷ c ∷ d ∷ []) n = refl
 four (a ∷ b ∷ c ∷ d ∷ e ∷ rest) n = absurd (omega arith)
 
+-- no group of an address has a colon
 pub groups_lack : (k : ℕ) (address : List ℕ) → length address ≡ 2 * k → AreOctets address → AllLack 58 (groups address)
 groups_lack zero [] n are = tt
 groups_lack zero (x ∷ rest) n are = absurd (omega arith)
@@ -80,6 +84,7 @@ groups_lack (suc k) (high ∷ low ∷ rest) n are = (
   groups_lack k rest (omega arith) are.1.1,
 )
 
+-- an address of twice so many octets has so many groups
 pub groups_length : (k : ℕ) (address : List ℕ) → length address ≡ 2 * k → length (groups address) ≡ k
 groups_length zero [] n = refl
 groups_length zero (x ∷ rest) n = absurd (omega arith)
@@ -87,6 +92,7 @@ groups_length (suc k) [] n = absurd (omega arith)
 groups_length (suc k) (x ∷ []) n = absurd (omega arith)
 groups_length (suc k) (high ∷ low ∷ rest) n = ap suc (groups_length k rest (omega arith))
 
+-- addresses of one length with the same groups are one
 pub groups_same : (k : ℕ) (a b : List ℕ) → length a ≡ 2 * k → length b ≡ 2 * k → AreOctets a → AreOctets b → groups a ≡ groups b → a ≡ b
 groups_same zero [] [] m n p q e = refl
 groups_same zero (x ∷ a) b m n p q e = absurd (omega arith)
@@ -182,6 +188,7 @@ rest_same (a ∷ xs) (b ∷ ys) p q e =
     let others = rest_same xs ys p.1 q.1 first.1 in
     cc (first.0, others)
 
+-- lists of strings with one text, each string in quotes and a space between two, are one
 pub texts_same : (xs ys : List (List ℕ)) → AllByRecursion AreOctets xs → AllByRecursion AreOctets ys → separated (codes " ") (map quoted xs) ≡ separated (codes " ") (map quoted ys) → xs ≡ ys
 unfolding rest_text
 texts_same [] [] p q e = refl

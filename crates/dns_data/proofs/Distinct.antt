@@ -26,6 +26,8 @@ module _ {A : Type 0} (eq : A → A → Bool) (item : A) where
   by-last kept true = append-nil kept
   by-last kept false = refl
 
+  -- of a list with an item more, the first of equal items are those of the list, and the item behind them unless an equal
+  -- one stands before it
   pub distinct-last : (before : List A) → distinct eq (before ++ item ∷ []) ≡ cond (list_any (eq item) before) (distinct eq before) (distinct eq before ++ item ∷ [])
   distinct-last before = distinct_behind-last [] before ∙ by-last (distinct eq before) (list_any (eq item) before)
 

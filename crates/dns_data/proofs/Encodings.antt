@@ -32,6 +32,7 @@ decodes_in (suc n) (x ∷ a) h =
     ap (λ (y : List ℕ). y ∷ labels_in n (drop (length x) (x ++ encoded a))) (take_at x (encoded a) (length x) refl)
     ∙ ap (λ (r : List ℕ). x ∷ labels_in n r) (drop_at x (encoded a) (length x) refl) ∙ ap (λ (r : Labels). x ∷ r) (decodes_in n a short)
 
+-- the labels of an encoding are those that were encoded
 pub decodes : (a : Labels) → labels_of (encoded a) ≡ a
 decodes a = decodes_in (length (encoded a)) a (omega arith)
 
@@ -159,6 +160,8 @@ one_encoded : (x : List ℕ) → length x ∷ x ≡ encoded (x ∷ [])
 unfolding encoded
 one_encoded x = ap (λ (r : List ℕ). length x ∷ r) (sym (append-nil x))
 
+-- the octets of a name with a label's length and octets behind them are those of the name with the label below it, unless
+-- that is too long
 pub flat_push : (octets : List ℕ) (name : Labels) (x : List ℕ) → EncodesName octets → labels_of octets ≡ name → IsLabel x → IsPush octets name x
 flat_push octets name x h e label =
     let whole : octets ++ length x ∷ x ≡ encoded (name ++ x ∷ []) = ap (λ (r : List ℕ). octets ++ r) (one_encoded x) ∙ ap (λ (r : List ℕ). r ++ encoded (x ∷ [])) (sym h.same ∙ ap encoded e) ∙ sym (encoded_append name (x ∷ [])) in
@@ -191,10 +194,12 @@ pub record IsPassed (whole rest : Labels) (count passed : ℕ) : Type 0 where
   pub left : rest ≡ drop count whole
   pub octets : passed ≡ length (encoded (take count whole))
 
+-- at first no label was passed over
 pub passed_none : (whole : Labels) → IsPassed whole whole 0 0
 unfolding encoded
 passed_none whole = record { left = refl; octets = refl }
 
+-- with a label more those that were passed over take its octets and one for its length besides
 pub passed_more : (whole rest below : Labels) (count passed : ℕ) (label : List ℕ) → IsPassed whole rest count passed → rest ≡ label ∷ below → IsPassed whole below (count + 1) (passed + (length label + 1))
 passed_more whole rest below count passed label h e =
     let behind : drop count whole ≡ label ∷ below = sym h.left ∙ e in
@@ -210,6 +215,7 @@ both_parts : (octets : List ℕ) (count : ℕ) → EncodesName octets → octets
 both_parts octets count h =
     sym h.same ∙ ap encoded (sym (take-append-drop count (labels_of octets))) ∙ encoded_append (take count (labels_of octets)) (drop count (labels_of octets))
 
+-- the labels that were passed over take no more octets than the name
 pub passed_within : (octets : List ℕ) (whole rest : Labels) (count passed : ℕ) → EncodesName octets → labels_of octets ≡ whole → IsPassed whole rest count passed → passed ≤ length octets
 passed_within octets whole rest count passed h e p =
     let start : passed ≡ length (encoded (take count (labels_of octets))) = p.octets ∙ ap (λ (l : Labels). length (encoded (take count l))) (sym e) in
@@ -220,6 +226,7 @@ pub record IsFront (octets : List ℕ) (whole : Labels) (count passed : ℕ) : T
   pub name : EncodesName (take passed octets)
   pub labels : labels_of (take passed octets) ≡ take count whole
 
+-- the octets of the labels that were passed over are those of the name that they make
 pub front_of : (octets : List ℕ) (whole rest : Labels) (count passed : ℕ) → EncodesName octets → labels_of octets ≡ whole → IsPassed whole rest count passed → IsFront octets whole count passed
 front_of octets whole rest count passed h e p =
     let start : Labels = take count (labels_of octets) in

@@ -23,6 +23,7 @@ separated-first between text_of (y ∷ ys) i x none below here =
     let same : x ≡ y = rw start at here in
     rw (start, same) (append-nil (text_of y))
 
+-- behind the texts of the first items, of which there is at least one, stand a separator and the text of the next
 pub separated-more : {X : Type 0} (between : List ℕ) (text_of : X → List ℕ) (items : List X) (i : ℕ) (x : X) → 0 < i → i < length items → x ≡ get_or items i x → separated between (map text_of (take (i + 1) items)) ≡ (separated between (map text_of (take i items)) ++ between) ++ text_of x
 separated-more between text_of items i x some below here =
     let more = map_more text_of items i x below ∙ ap (λ y. map text_of (take i items) ++ text_of y ∷ []) (sym here) in
@@ -55,6 +56,7 @@ groups-more address i below =
     let places : 2 * (i + 1) ≡ 2 * i + 1 + 1 = omega arith in
     ap (λ n. groups (take n address)) places ∙ ap groups pair ∙ groups-append i front (a ∷ b ∷ []) (omega (arith, length-take (2 * i) address))
 
+-- the first group of an address stands behind no separator
 pub group-first : (between address : List ℕ) (i : ℕ) → i ≤ 0 → 2 * i + 1 < length address → separated between (groups (take (2 * (i + 1)) address)) ≡ separated between (groups (take (2 * i) address)) ++ digits 16 false (get_or address (2 * i) 0 * 256 + get_or address (2 * i + 1) 0)
 group-first between [] i none below = absurd (omega arith)
 group-first between (x ∷ []) i none below = absurd (omega arith)
@@ -62,6 +64,7 @@ group-first between (x ∷ y ∷ rest) i none below =
     let start : i ≡ 0 = omega arith in
     rw start (append-nil (digits 16 false (x * 256 + y)))
 
+-- behind the first groups of an address, of which there is at least one, stand a separator and the next group
 pub group-more : (between address : List ℕ) (i : ℕ) → 0 < i → 2 * i + 1 < length address → separated between (groups (take (2 * (i + 1)) address)) ≡ (separated between (groups (take (2 * i) address)) ++ between) ++ digits 16 false (get_or address (2 * i) 0 * 256 + get_or address (2 * i + 1) 0)
 group-more between address i some below =
     let whole : length (take (2 * i) address) ≡ 2 * i = omega (arith, length-take (2 * i) address) in

@@ -93,6 +93,7 @@ folded_stays (octet ∷ octets) h =
 fold_is : (octet : ℕ) → to_ascii_lowercase octet ≡ folded octet
 fold_is octet = grind (arith, nat_tests)
 
+-- the standard library's lower case of octets and that of the definitions are the same
 pub folds_are : (octets : List ℕ) → map to_ascii_lowercase octets ≡ map folded octets
 folds_are [] = refl
 folds_are (octet ∷ octets) =

@@ -23,9 +23,11 @@ plain_not_backslash octet h = grind (arith, nat_tests)
 plain_not_dot : (octet : ℕ) → is_special octet ≡ false → (octet == 46) ≡ false
 plain_not_dot octet h = grind (arith, nat_tests)
 
+-- 48 with a number below 10 added is the octet of a digit
 pub digit : (n : ℕ) → n < 10 → is_digit (48 + n) ≡ true
 digit n h = grind (arith, nat_tests)
 
+-- the three decimal digits of an octet have its value
 pub three_digits_value : (octet : ℕ) → three_digit_value (48 + octet / 100) (48 + octet / 10 % 10) (48 + octet % 10) ≡ octet
 three_digits_value octet = omega arith
 
@@ -55,12 +57,14 @@ octet_reads_as octet rest small false false h = decimal_reads octet rest small
 pub octet_reads : (octet : ℕ) (rest : List ℕ) → octet < 256 → signs (octet_text octet ++ rest) ≡ Octet octet ∷ signs rest
 octet_reads octet rest small = octet_reads_as octet rest small (is_special octet) (nat_le 33 octet && nat_le octet 126) refl
 
+-- an octet that a label may have is in lower case
 pub lower_stays : (octet : ℕ) → is_label_octet octet ≡ true → folded octet ≡ octet
 lower_stays octet h = grind (arith, nat_tests)
 
 label_octet_small : (octet : ℕ) → is_label_octet octet ≡ true → octet < 256
 label_octet_small octet h = grind (arith, nat_tests)
 
+-- a label that has room for an octet more is shorter than 63 octets
 pub not_full : (n k : ℕ) → n + suc k ≤ 63 → nat_le 63 n ≡ false
 not_full n k h = grind (arith, nat_tests)
 
@@ -73,6 +77,7 @@ octets_read (octet ∷ octets) before rest good short =
     let shorter : length (before ++ octet ∷ []) + length octets ≤ 63 = omega (arith, length_push before octet) in
     ap (λ (t : List ℕ). spelled before (signs t)) (append_assoc (octet_text octet) (flat_map octet_text octets) rest) ∙ ap (spelled before) (octet_reads octet text (label_octet_small octet g.0)) ∙ ap (λ b. if b then Err LabelTooLong else spelled (before ++ folded octet ∷ []) (signs text)) (not_full (length before) (length octets) short) ∙ ap (λ (o : ℕ). spelled (before ++ o ∷ []) (signs text)) (lower_stays octet g.0) ∙ octets_read octets (before ++ octet ∷ []) rest g.1 shorter ∙ ap (λ (l : List ℕ). spelled l (signs rest)) (append_assoc before (octet ∷ []) octets)
 
+-- a number above 0 isn't 0 by the test either
 pub not_empty : (n : ℕ) → 0 < n → (n == 0) ≡ false
 not_empty n h = grind (arith, nat_tests)
 

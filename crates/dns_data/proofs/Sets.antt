@@ -92,10 +92,12 @@ least_found test t (x ∷ xs) o e =
       | inr fails ↦ (λ passes. absurd (cc), least_found test t xs parts.1 (rw fails at e))
     ]
 
+-- none is found exactly where no type passes
 pub first_none : (test : RrType → Bool) (found : Option RrType) → found ≡ find test types → IsNone found ↔ ((t : RrType) → test t ≡ false)
 first_none test None e = (λ _. all_types _ (none_passes test types (sym e)), λ _. refl)
 first_none test (Some x) e = (λ n. absurd (cc), λ h. let none = none_found test h types in absurd (cc))
 
+-- no type that passes has a smaller number than the one found
 pub first_least : (test : RrType → Bool) (found : Option RrType) → found ≡ find test types → IfSome found (λ t. (other : RrType) → test other ≡ true → number_of t ≤ number_of other)
 first_least test None e = tt
 first_least test (Some t) e = all_types _ (least_found test t types refl (sym e))

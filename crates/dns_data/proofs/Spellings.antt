@@ -116,30 +116,37 @@ pub record IsDone (whole out : List ℕ) (start : Option ℕ) (absolute : Bool) 
 abbrev pub PutsMore : List ℕ → Option ℕ → List ℕ → Option ℕ → List ℕ → Type 0
 PutsMore out start out_after start_after label = (labels : Labels) → IsPut out start labels → IsPut out_after start_after (labels ++ label ∷ [])
 
+-- before the first label nothing is put, and the whole text is left
 pub spelling_start : (text out : List ℕ) → length out ≡ 254 → IsSpelling text text out (Some (length out))
 spelling_start text out room = record { labels = []; said = refl; good = tt; put = put_none out; room = room }
 
+-- where the rest begins with a label and a dot and the label is put, what is behind the dot is left
 pub spelling_more : (whole rest after out out_after label : List ℕ) (start start_after : Option ℕ) → IsSpelling whole rest out start → spelled [] (signs rest) ≡ after_label label (spelled [] (signs after)) → IsLabel label → PutsMore out start out_after start_after label → length out_after ≡ 254 → IsSpelling whole after out_after start_after
 spelling_more whole rest after out out_after label start start_after h first good puts room =
     record { labels = h.labels ++ label ∷ []; said = label_carried h.labels label _ _ _ h.said first; good = all_push IsLabel h.labels label h.good good; put = puts h.labels h.put; room = room }
 
+-- where the rest is a label alone and the label is put, all is spelled, and the name isn't absolute
 pub spelling_last : (whole rest out out_after label : List ℕ) (start start_after : Option ℕ) → IsSpelling whole rest out start → spelled [] (signs rest) ≡ Ok (record { labels = label ∷ []; absolute = false }) → IsLabel label → PutsMore out start out_after start_after label → length out_after ≡ 254 → IsDone whole out_after start_after false
 spelling_last whole rest out out_after label start start_after h first good puts room =
     record { labels = h.labels ++ label ∷ []; said = last_carried h.labels label _ _ h.said first; good = all_push IsLabel h.labels label h.good good; put = puts h.labels h.put; room = room }
 
+-- where nothing is left, all is spelled, and the name is absolute
 pub spelling_end : (whole rest out : List ℕ) (start : Option ℕ) → IsSpelling whole rest out start → length rest ≡ 0 → IsDone whole out start true
 spelling_end whole rest out start h none =
     record { labels = h.labels; said = none_left h.labels rest _ h.said none; good = h.good; put = h.put; room = h.room }
 
+-- where all is spelled and had room, the text's labels stand at the end of the octets
 pub done_ok : (whole out : List ℕ) (start : Option ℕ) (absolute : Bool) → IsDone whole out start absolute → (s : ℕ) (b : Bool) → (start ≡ Some s) × (b ≡ absolute) → IsSpelled whole out s b
 done_ok whole out start absolute h s b e =
     record { labels = h.labels; said = h.said ∙ ap (λ (v : Bool). Ok (record { labels = h.labels; absolute = v })) (sym e.1); good = h.good; put = put_at out start s h.labels e.0 h.put }
 
+-- where all is spelled and had no room, the name is too long under any origin
 pub done_fault : (whole out : List ℕ) (start : Option ℕ) (absolute : Bool) → IsDone whole out start absolute → (fault : NameFault) → (start ≡ None) × (fault ≡ NameTooLong) → (origin : Labels) → placed origin (spelled [] (signs whole)) ≡ Err fault
 done_fault whole out start absolute h fault e origin =
     let full : length out + 1 < wire_octets h.labels = subst (λ (o : Option ℕ). IsPut out o h.labels) e.0 h.put in
     too_long h.labels absolute _ h.said (omega (arith, full, h.room)) origin ∙ ap (λ (f : NameFault). Err f) (sym e.1)
 
+-- a fault of what is left is the fault of the whole text under any origin
 pub spelling_fault : (whole rest out : List ℕ) (start : Option ℕ) → IsSpelling whole rest out start → (fault : NameFault) → spelled [] (signs rest) ≡ Err fault → (origin : Labels) → placed origin (spelled [] (signs whole)) ≡ Err fault
 spelling_fault whole rest out start h fault e origin =
     ap (placed origin) (sym h.said ∙ ap (after_labels h.labels) e ∙ after_labels_fault h.labels fault)

@@ -259,9 +259,11 @@ referrals_count : (a k : ℕ) → length (flat_map referral_rows (range_with_len
 referrals_count a zero = refl
 referrals_count a (suc k) = let rest = referrals_count (a + 1) k in omega arith
 
+-- each row of the root zone is made of plain words that are read as what it says
 pub root_rows_are : (n : ℕ) → n ≤ 5000 → AllByRecursion IsRow (root_rows n)
 root_rows_are n few = (root_soa_is, (root_ns_is, referrals_are 0 n (omega arith)))
 
+-- the root zone has two rows, and two more for each zone
 pub root_rows_count : (n : ℕ) → length (root_rows n) ≡ 2 * n + 2
 root_rows_count n = let rest = referrals_count 0 n in omega arith
 
@@ -291,6 +293,7 @@ gone_few i = by (i % 10 == 3) where
   by true = omega arith
   by false = omega arith
 
+-- each row of a zone is made of plain words that are read as what it says
 pub zone_rows_are : (n i : ℕ) → i < n → n ≤ 5000 → AllByRecursion IsRow (zone_rows n i)
 zone_rows_are n i within few =
     let small : i < 10000 = omega arith in
@@ -311,5 +314,6 @@ zone_rows_are n i within few =
       ),
     )
 
+-- a zone has at most six rows
 pub zone_rows_few : (n i : ℕ) → length (zone_rows n i) ≤ 6
 zone_rows_few n i = let few = gone_few i in omega arith

@@ -60,6 +60,7 @@ referrals_same a (suc k) =
     append_assoc (delegation_line a) (server_line 0 a) (flat_map referral_lines (range_with_len (a + 1) k))
     ∙ (λ i. delegation_same a i ++ (server_same 0 a i ++ rest i))
 
+-- the text of the root zone is a line with the TTL and a line for each row
 pub root_same : (n : ℕ) → root_text n ≡ flat_map line_text (ttl_line ∷ map row_words (root_rows n))
 root_same n = ap (λ (rest : List ℕ). codes "$TTL 60\n. SOA a.top. h.top. 1 2 3 4 5\n. NS a.top.\n" ++ rest) (referrals_same 0 n)
 
@@ -68,6 +69,7 @@ root_same n = ap (λ (rest : List ℕ). codes "$TTL 60\n. SOA a.top. h.top. 1 2 
 seven : (a b c d e f g : List ℕ) → a ++ b ++ c ++ d ++ e ++ f ++ g ≡ a ++ (b ++ (c ++ (d ++ (e ++ (f ++ g)))))
 seven a b c d e f g = simp append_assoc
 
+-- the text of a zone is a line with the TTL and a line for each row
 pub zone_same : (n i : ℕ) → made_zone_text n i ≡ flat_map line_text (ttl_line ∷ map row_words (zone_rows n i))
 zone_same n i =
     seven (codes "$TTL 60\n") (soa_line i) (delegation_line i) (server_line (own_network i) i) (web_line i) (alias_line i (next_zone n i)) (gone_line i)

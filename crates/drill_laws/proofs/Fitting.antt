@@ -55,6 +55,8 @@ none_at owner test before new =
     (all_so (λ other. name_eq owner other.owner ≡ false) (λ other. (name_eq owner other.owner && test other) ≡ false) before
     (λ other apart. ap (λ (b : Bool). b && test other) apart) new)
 
+-- a record that is the first of its owner, lies below the origin, and is neither an SOA record nor a DNAME record nor an NS
+-- record of a wildcard, fits
 pub new_owner_fits : (origin : Labels) (before : List Rr) (rr : Rr) → IsNewOwner rr.owner before → is_prefix origin rr.owner ≡ true
     → is_type types.Soa rr ≡ false → is_type types.Dname rr ≡ false → is_star_record rr ≡ false → Fits origin before rr
 new_owner_fits origin before rr new below no_soa no_dname no_star =

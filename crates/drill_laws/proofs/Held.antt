@@ -84,16 +84,19 @@ module _ (n : ℕ) where
   told_there : (name text : List ℕ) → octets_at (drill n).files name ≡ Some text → drill_told n name ≡ Holds text
   told_there name text there = ap (λ (octets : Option (List ℕ)). held (all_told octets)) there
 
+  -- under the metadata's name its text is held
   pub meta_told : drill_told n (codes "meta.json") ≡ Holds (meta_text n)
   meta_told = told_there (codes "meta.json") (meta_text n)
       (put_last (no_files []) (codes "meta.json") (meta_text n) ((codes "root.zone", root_text n) ∷ zones)
       (refl, none_made (codes "meta.json") 0 n (λ i above below. refl)))
 
+  -- under the name of the root zone's file its text is held
   pub root_told : drill_told n (codes "root.zone") ≡ Holds (root_text n)
   root_told = told_there (codes "root.zone") (root_text n)
       (put_last meta_put (codes "root.zone") (root_text n) zones
       (none_made (codes "root.zone") 0 n (λ i above below. refl)))
 
+  -- under the name of each zone's file its text is held
   pub zone_told : (i : ℕ) → i < n → n ≤ 5000 → drill_told n (zone_file i) ≡ Holds (made_zone_text n i)
   zone_told i within few = told_there (zone_file i) (made_zone_text n i)
       (zone_there (with_file meta_put (codes "root.zone") (root_text n)) i 0 n (omega arith) (omega arith) (omega arith))

@@ -39,13 +39,13 @@ use Rattle.drill_laws.proofs.Servers.{IsNewServer, with_server, given_new}
 abbrev meta : List ℕ
 meta = codes "meta.json"
 
--- Something holds of each value of the type of a sample, or of one. So a statement speaks of values whose types have no
--- name here.
+-- Something holds of each value of the type of a sample. So a statement speaks of values whose type has no name here.
 abbrev Each : {A : Type 0} → A → (A → Type 0) → Type 0
 Each {A} sample holds = (value : A) → holds value
 
-abbrev Has : {A : Type 0} → A → (A → Type 0) → Type 0
-Has {A} sample holds = (value : A) × holds value
+-- the reading gives a value
+abbrev GivesSome : {A : Type 0} → Reading A → Type 0
+GivesSome {A} reading = (value : A) × (reading ≡ Reads value)
 
 -- ---- steps that give a value
 
@@ -56,7 +56,7 @@ not_refused : {T E B : Type 0} (refusal : E → LoadFault) (said : Result T E) (
 not_refused {T} {E} refusal said value next is = ap (λ (given : Result T E). unless_refused refusal given >>= next) is
 
 -- where what follows gives something, the whole gives it
-gives_behind : {A B : Type 0} (said : Reading A) (value : A) (next : A → Reading B) → said ≡ Reads value → (last : B) × (next value ≡ Reads last) → (last : B) × ((said >>= next) ≡ Reads last)
+gives_behind : {A B : Type 0} (said : Reading A) (value : A) (next : A → Reading B) → said ≡ Reads value → GivesSome (next value) → GivesSome (said >>= next)
 gives_behind said value next is (last, gives) = (last, goes_on said value next is ∙ gives)
 
 -- ---- a file, and the zone of a row
@@ -138,7 +138,7 @@ module _ (n : ℕ) (few : n ≤ 5000) where
   }
 
   rows_read : (a k number : ℕ) (servers : List Server) → a + k ≡ n → AllByRecursion (IsEarlier a) servers → Each everything_left (λ left. 6 * k ≤ left.records
-      → Has no_rows (λ rows. with_rows meta number (map zone_row (range_with_len a k)) (record { left = left; servers = servers }) (drill_told n) ≡ Reads rows))
+      → GivesSome (with_rows meta number (map zone_row (range_with_len a k)) (record { left = left; servers = servers }) (drill_told n)))
   unfolding with_rows
   rows_read a zero number servers all earlier left fits = (record { left = left; servers = servers }, refl)
   rows_read a (suc k) number servers all earlier left fits =
@@ -186,7 +186,7 @@ module _ (n : ℕ) (few : n ≤ 5000) where
   abbrev root_server : Server
   root_server = record { name = top; zones = root_of_records ∷ [] }
 
-  all_rows : Has no_rows (λ rows. with_rows meta 1 (root_row ∷ map zone_row (zone_numbers n)) no_rows (drill_told n) ≡ Reads rows)
+  all_rows : GivesSome (with_rows meta 1 (root_row ∷ map zone_row (zone_numbers n)) no_rows (drill_told n))
   unfolding with_rows
   all_rows =
       let room : 6 * n ≤ 1000000 - length (root_rows n) = omega (arith, root_rows_count n) in
@@ -198,7 +198,7 @@ module _ (n : ℕ) (few : n ≤ 5000) where
       (rows_read 0 n 2 (root_server ∷ []) (omega arith) (λ j above below. refl, tt) left_now room)
 
   -- the configuration
-  configuration : (config : Config) × (conf meta (drill_told n) ≡ Reads config)
+  configuration : GivesSome (conf meta (drill_told n))
   unfolding conf
   configuration = (
     record { tops = top ∷ []; servers = all_rows.0.servers },
@@ -210,6 +210,13 @@ module _ (n : ℕ) (few : n ≤ 5000) where
         all_rows.1,
   )
 
--- the files of a drill give a configuration
+-- The files of a drill of 1 to 5,000 zones give a configuration. Each file that the reading asks for is held (Held), within
+-- the most octets of a file (Sizes). The metadata's text is the compact text of a JSON value, which is read as that value
+-- (MetaValue.meta_value_of) and gives the drill's rows (MetaRead.meta_given, metadata_read). The text of the root zone and of
+-- each other zone is made of rows, one record each (DrillTexts.root_same, zone_same), of a form that is read as its record
+-- (DrillRows.root_rows_are, zone_rows_are, Rows.text_of_rows), and the records keep the rules of zones (FitRoot.root_zone,
+-- FitZone.made_zone; root_is, zone_is). So a row is read (row_read). The rows of the zones are read one after the other
+-- (rows_read): each has a server of its own, since the names of two zones' servers differ (FitRoot.labels_apart), and the
+-- records of all are within what may be read (all_rows).
 pub drill_reads : (zones : ℕ) → 1 ≤ zones → zones ≤ 5000 → (config : Config) × (conf (codes "meta.json") (drill_told zones) ≡ Reads config)
 drill_reads zones some few = configuration zones few

@@ -80,9 +80,11 @@ zone_name_part : (number : List ℕ) → IsNumber number → IsPart 6 (zone_name
 zone_name_part number is =
     both_parts 1 5 (codes "z") (number ++ codes ".") letter (both_parts 4 1 number (codes ".") (number_part number is) dot)
 
+-- the text of a zone's name is a word of plain octets
 pub zone_name_word : (number : List ℕ) → IsNumber number → IsWord (zone_name_text number)
 zone_name_word number is = word_of 6 (zone_name_text number) (omega arith) (omega arith) (zone_name_part number is)
 
+-- the text of a host's name is a word of plain octets
 pub host_name_word : (host number : List ℕ) → IsHost host → IsNumber number → IsWord (host_name_text host number)
 host_name_word host number host_is is =
     let front : IsPart 63 host = record { plain = host_is.plain; short = host_is.short } in
@@ -91,26 +93,32 @@ host_name_word host number host_is is =
 
 -- ---- the hosts of drills
 
+-- `ns` is a host's label
 pub ns_host : IsHost (codes "ns")
 unfolding kind
 ns_host = record { some = omega arith; short = omega arith; octets = refl; text = refl; plain = refl }
 
+-- `www` is a host's label
 pub www_host : IsHost (codes "www")
 unfolding kind
 www_host = record { some = omega arith; short = omega arith; octets = refl; text = refl; plain = refl }
 
+-- `alias` is a host's label
 pub alias_host : IsHost (codes "alias")
 unfolding kind
 alias_host = record { some = omega arith; short = omega arith; octets = refl; text = refl; plain = refl }
 
+-- `gone` is a host's label
 pub gone_host : IsHost (codes "gone")
 unfolding kind
 gone_host = record { some = omega arith; short = omega arith; octets = refl; text = refl; plain = refl }
 
+-- `none` is a host's label
 pub none_host : IsHost (codes "none")
 unfolding kind
 none_host = record { some = omega arith; short = omega arith; octets = refl; text = refl; plain = refl }
 
+-- `h`, the first label of the mailbox, is a host's label
 pub mailbox_host : IsHost (codes "h")
 unfolding kind
 mailbox_host = record { some = omega arith; short = omega arith; octets = refl; text = refl; plain = refl }

@@ -5,7 +5,7 @@ use Rattle.std.proofs.lemmas.Bool.{and_parts}
 use Rattle.std.proofs.lemmas.Bool.Decides.{nat_tests}
 use Rattle.std.proofs.lemmas.Fmt.{digits_decimal, length-decimal-le}
 use Rattle.std.proofs.lemmas.List.Folds.{list_all-append}
-use Rattle.std.proofs.lemmas.Str.Parse.{IsNumeralModel, numerals_by_fold}
+use Rattle.std.proofs.lemmas.Str.Parse.{numerals_by_fold}
 use Rattle.dns_data.specs.Octet.{is_digit, digits_after, escaped_as}
 use Rattle.dns_data.specs.Label.{is_label_octet}
 use Rattle.dns_data.specs.Spelling.{is_special, octet_text}
@@ -20,12 +20,9 @@ pub record IsNumber (octets : List ℕ) : Type 0 where
   pub digits : list_all is_digit octets ≡ true
   pub short : length octets ≤ 4
 
-own : IsNumeralModel (λ ds. list_all is_digit ds ≡ true) (digits_after 0)
-own = numerals_by_fold _ (search rules) digits_after (search rules)
-
 pub number_of : (n : ℕ) → n < 10000 → IsNumber (decimal n)
 number_of n small = record {
-  digits = digits_decimal own n (omega arith);
+  digits = digits_decimal (numerals_by_fold (λ ds. list_all is_digit ds ≡ true) (search rules) digits_after (search rules)) n (omega arith);
   short = length-decimal-le 4 n (omega arith) small (omega arith);
 }
 
@@ -85,6 +82,7 @@ digits_text (digit ∷ digits) are =
     let rest = digits_text digits both.1 in
     λ i. digit_text digit both.0 i ++ rest i
 
+-- digits are octets that a label may have
 pub digits_of_label : (digits : List ℕ) → list_all is_digit digits ≡ true → list_all is_label_octet digits ≡ true
 digits_of_label = all_digits is_label_octet digit_of_label
 
@@ -95,6 +93,7 @@ pub record IsPart (most : ℕ) (octets : List ℕ) : Type 0 where
   pub plain : list_all is_plain octets ≡ true
   pub short : length octets ≤ most
 
+-- the digits of a zone's number are at most four plain octets
 pub number_part : (digits : List ℕ) → IsNumber digits → IsPart 4 digits
 number_part digits is = record { plain = all_digits is_plain digit_is_plain digits is.digits; short = is.short }
 
@@ -111,10 +110,12 @@ word_of most word fits some is = record { plain = is.plain; some = some; short =
 
 -- ---- words that are written out
 
+-- `$TTL`, the word of the directive, is a word of plain octets
 pub dollar_ttl : IsWord (codes "$TTL")
 unfolding kind
 dollar_ttl = record { plain = refl; some = omega arith; short = omega arith }
 
+-- `60`, the TTL of all records, is a word of plain octets
 pub sixty : IsWord (codes "60")
 unfolding kind
 sixty = record { plain = refl; some = omega arith; short = omega arith }

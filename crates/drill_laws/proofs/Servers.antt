@@ -29,6 +29,7 @@ behind_others name zone (server ∷ servers) new =
     ap (λ (b : Bool). if b then record server { zones = server.zones ++ zone ∷ [] } ∷ servers else server ∷ with_zone name zone servers) new.0
     ∙ ap (λ (rest : List Server). server ∷ rest) (behind_others name zone servers new.1)
 
+-- a zone that is given to a name without a server makes a server of its own, and isn't refused
 pub given_new : (number : ℕ) (name : Labels) (zone : Zone) (servers : List Server) → IsNewServer name servers → given number name zone servers ≡ Ok (with_server name zone servers)
 given_new number name zone servers new =
     ap (λ (b : Bool). if b then Err (ZoneTwice number) else Ok (with_zone name zone servers)) (no_zone name zone.origin servers new)

@@ -21,6 +21,7 @@ pub fn repeats(alloc: Global, walk: &Walk) -> Result<bool, NoMemory>
     ensures { IfOk result (λ answer. answer ≡ repeats walk.now.states) }
 {
     let questions = questions_of(alloc, walk.states.items())?;
+    // Named, since the proof speaks of the answer that comes where memory suffices.
     let repeats = equal_twice(alloc, questions.as_slice())?;
     Ok(repeats)
 }

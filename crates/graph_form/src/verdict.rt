@@ -33,6 +33,7 @@ impl OfFault for Seen {
 pub fn first_types(alloc: Global, seen: List<Seen>) -> Result<List<Seen>, NoMemory>
     ensures { IfOk result (AreFirstTypes seen) }
 {
+    // Named, since the proof speaks of the list that comes where memory suffices.
     let first = first_of_each(alloc, seen)?;
     Ok(first)
 }

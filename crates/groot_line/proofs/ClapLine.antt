@@ -32,12 +32,14 @@ rules Drill = option_built options.Workers ∷ operands_built ∷ []
 abbrev pub line_shape : List Rule → Shape
 line_shape c = record (new_shape (codes "groot")) { rules = c; no_binary_name = true; disable_help_flag = true; disable_help_subcommand = true; is_built = true }
 
+-- the command line of each command is simple, in `clap`'s sense, and no argument has a rule on another
 pub is_free : (command : Command) → is_simple_and_free (command_line command) ≡ true
 is_free Check = refl
 is_free Ask = refl
 is_free Classes = refl
 is_free Drill = refl
 
+-- the command line of each command is simple, in `clap`'s sense: its definitions give the matches
 pub is_plain : (command : Command) → is_simple (command_line command) ≡ true
 is_plain Check = refl
 is_plain Ask = refl
@@ -65,6 +67,7 @@ by_long Drill name = go (bytes_eq (codes "workers") name) where
   go true = refl
   go false = refl
 
+-- an option that the command has is found under its name
 pub by_option : (command : Command) (o : LineOption) → has_option command o ≡ true → arg_by_id (rules command) (option_name o) ≡ Some (option_built o)
 by_option Check options.Workers has = refl
 by_option Check options.Classes has = refl
@@ -79,12 +82,14 @@ by_option Drill options.Workers has = refl
 by_option Drill options.Classes has = absurd (true≢false (sym has))
 by_option Drill options.Rewrites has = absurd (true≢false (sym has))
 
+-- the operands are found under their name
 pub by_operands : (command : Command) → arg_by_id (rules command) (codes "operands") ≡ Some operands_built
 by_operands Check = refl
 by_operands Ask = refl
 by_operands Classes = refl
 by_operands Drill = refl
 
+-- the first operand's argument is that of all operands
 pub by_index : (command : Command) → arg_by_index (rules command) 1 ≡ Some operands_built
 by_index Check = refl
 by_index Ask = refl
@@ -121,6 +126,7 @@ no_default rows o = cond_same (has_row (option_name o) rows) rows
 no_operand : (rows : List Row) → with_default rows operands_built ≡ rows
 no_operand rows = cond_same (has_row (codes "operands") rows) rows
 
+-- at the end no default value is put with the rows
 pub rows_end : (command : Command) (rows : List Row) → fold with_default rows (rules command) ≡ rows
 rows_end Check rows = no_operand _ ∙ no_default _ options.Rewrites ∙ no_default _ options.Classes ∙ no_default rows options.Workers
 rows_end Ask rows = no_operand rows
@@ -133,6 +139,7 @@ option_passes rows o = ap (λ b. cond b [] (given_default_fault (option_built o)
 operands_pass : (rows : List Row) → default_fault rows operands_built ≡ []
 operands_pass rows = ap (λ b. cond b [] (given_default_fault operands_built operands_built.defaults)) (or_true (has_row (codes "operands") rows))
 
+-- no default value is refused at the end
 pub defaults_pass : (command : Command) (rows : List Row) → defaults_fault rows (rules command) ≡ []
 unfolding defaults_fault
 defaults_pass Check rows =
@@ -144,6 +151,7 @@ defaults_pass Ask rows = past _ _ (operands_pass rows)
 defaults_pass Classes rows = past _ _ (option_passes rows options.Classes) ∙ past _ _ (operands_pass (with_default rows (option_built options.Classes)))
 defaults_pass Drill rows = past _ _ (option_passes rows options.Workers) ∙ past _ _ (operands_pass (with_default rows (option_built options.Workers)))
 
+-- no argument is required at the end
 pub nothing_required : (command : Command) (rows : List Row) → check_fault (line_shape (rules command)) rows false ≡ []
 nothing_required Check rows = refl
 nothing_required Ask rows = refl

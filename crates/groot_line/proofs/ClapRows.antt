@@ -132,6 +132,7 @@ there o rows a says some = by (value_given o a) refl some where
 pub once_passes : (o : LineOption) (v : Text) (rows : List Row) (a : Arguments) → Says rows a → value_given o a ≡ None → use_fault false (option_built o) (v ∷ []) rows ≡ []
 once_passes o v rows a says none = rw (not_there o rows a says none) refl
 
+-- with an option that is used for the first time, the rows say what the arguments with its value do
 pub once_says : (o : LineOption) (v : Text) (rows : List Row) (a : Arguments) → Says rows a → value_given o a ≡ None → Says (used (option_built o) (v ∷ []) rows) (with_option_value o v a)
 once_says o v rows a says none = record { of_option = of_option; of_operands = of_operands } where
   id : Text
@@ -169,6 +170,7 @@ twice_fails o v rows a says some = rw (there o rows a says some) (λ e. cc)
 pub operand_passes : (v : Text) (rows : List Row) → use_fault false operands_built (v ∷ []) rows ≡ []
 operand_passes v rows = refl
 
+-- with an operand more, the rows say what the arguments with it do
 pub operand_says : (v : Text) (rows : List Row) (a : Arguments) → Says rows a → Says (used operands_built (v ∷ []) rows) (with_operand v a)
 operand_says v rows a says = record {
   of_option = λ o. at_other (codes "operands") (option_name o) (v ∷ []) (one_row operands_built v) (no_option o) (no_option o) rows

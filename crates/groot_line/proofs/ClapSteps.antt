@@ -31,10 +31,12 @@ and_false : (b : Bool) → (b && false) ≡ false
 and_false true = refl
 and_false false = refl
 
+-- kinds with no others behind them are themselves
 pub or_else_none : (kinds : Kinds) → or_else kinds [] ≡ kinds
 or_else_none [] = refl
 or_else_none (k ∷ ks) = refl
 
+-- where there is none of two kinds of faults, there is none of the first
 pub first_none : (a b : Kinds) → or_else a b ≡ [] → a ≡ []
 first_none [] b e = refl
 first_none (k ∷ ks) b e = cc
@@ -91,6 +93,8 @@ operand_step command rows pending b word =
     walk_after : Held → Walk
     walk_after h = record { held = h; waiting = positional; position = 1; is_trailing = false; stopped = None }
 
+-- a word without a dash in front waits as an operand, unless an option waits for its value, and what waited before it is
+-- settled
 pub operand_walked : (command : Command) (rows : List Row) (pending : Option (Text × List Text)) (b : Bool) (word : Text) → is_dashed word ≡ false
     → walked (rules command) [] (walk_at rows pending (between b)) word
     ≡ walk_at (settled_rows (rules command) pending rows) (Some (codes "operands", word ∷ [])) positional
@@ -100,6 +104,7 @@ operand_walked command rows pending b word e =
     (plain_met (rules command) rows pending (between b) word e ∙ between_plain (rules command) b word (held_at rows pending))
     ∙ operand_step command rows pending b word
 
+-- a word without a dash in front is refused only as what waited before it is, unless an option waits for its value
 pub operand_fault : (command : Command) (rows : List Row) (pending : Option (Text × List Text)) (b : Bool) (word : Text) → is_dashed word ≡ false
     → turn_fault (line_shape (rules command)) [] (walk_at rows pending (between b)) word ≡ settle_fault (rules command) false (held_at rows pending)
 operand_fault command rows pending b word e =
@@ -130,12 +135,14 @@ value_met command o rows word has e =
     ∙ ap (λ (met : Held × Waiting). (met.0, next met.1))
     (ap (λ found. option_word found (option_name o) word (held_at rows (Some (option_name o, [])))) (by_option command o has) ∙ value_word o word rows)
 
+-- a word without a dash in front waits as the value of the option that waits for one
 pub value_walked : (command : Command) (o : LineOption) (rows : List Row) (word : Text) → has_option command o ≡ true → is_dashed word ≡ false
     → walked (rules command) [] (walk_at rows (Some (option_name o, [])) (option (option_name o))) word ≡ walk_at rows (Some (option_name o, word ∷ [])) idle
 value_walked command o rows word has e =
     walked_is (rules command) rows (Some (option_name o, [])) (option (option_name o)) word
     ∙ ap (λ (met : Held × Step). after_step (rules command) word (walk_at rows (Some (option_name o, [])) (option (option_name o))) met.0 met.1) (value_met command o rows word has e)
 
+-- a word without a dash in front isn't refused where an option waits for its value
 pub value_passes : (command : Command) (o : LineOption) (rows : List Row) (word : Text) → has_option command o ≡ true → is_dashed word ≡ false
     → turn_fault (line_shape (rules command)) [] (walk_at rows (Some (option_name o, [])) (option (option_name o))) word ≡ []
 value_passes command o rows word has e =
@@ -192,10 +199,12 @@ module _ (c : List Rule) (o : LineOption) (rows : List Row) (pending : Option (T
   alone_met e = long_is_met c rows pending waiting word (name, None) e
       ∙ ap (λ a. after_flag c waiting word (long_met c a None (held_at rows pending)).0 (long_met c a None (held_at rows pending)).1) found
 
+  -- an option without a value in its word waits for one, and what waited before it is settled
   pub alone_walked : long_of word ≡ Some (name, None)
       → walked c [] (walk_at rows pending waiting) word ≡ walk_at (settled_rows c pending rows) (Some (option_name o, [])) (option (option_name o))
   alone_walked e = walked_is c rows pending waiting word ∙ ap (λ (met : Held × Step). after_step c word (walk_at rows pending waiting) met.0 met.1) (alone_met e)
 
+  -- an option without a value in its word is refused only as what waited before it is
   pub alone_fault : long_of word ≡ Some (name, None)
       → turn_fault (line_shape c) [] (walk_at rows pending waiting) word ≡ settle_fault c false (held_at rows pending)
   alone_fault e = ap₂ or_else
@@ -210,10 +219,12 @@ module _ (c : List Rule) (o : LineOption) (rows : List Row) (pending : Option (T
   valued_met v e = long_is_met c rows pending waiting word (name, Some v) e
       ∙ ap (λ a. after_flag c waiting word (long_met c a (Some v) (held_at rows pending)).0 (long_met c a (Some v) (held_at rows pending)).1) found
 
+  -- an option with its value in its word is used with it, once what waited before it is settled
   pub valued_walked : (v : Text) → long_of word ≡ Some (name, Some v)
       → walked c [] (walk_at rows pending waiting) word ≡ walk_at (used (option_built o) (v ∷ []) (settled_rows c pending rows)) None idle
   valued_walked v e = walked_is c rows pending waiting word ∙ ap (λ (met : Held × Step). after_step c word (walk_at rows pending waiting) met.0 met.1) (valued_met v e)
 
+  -- an option with its value in its word is refused as what waited before it is, or else as its use is
   pub valued_fault : (v : Text) → long_of word ≡ Some (name, Some v)
       → turn_fault (line_shape c) [] (walk_at rows pending waiting) word
       ≡ or_else (settle_fault c false (held_at rows pending)) (use_fault false (option_built o) (v ∷ []) (settled_rows c pending rows))

@@ -345,6 +345,7 @@ unparsed command words forms fails = by (arguments_of command words) (whole comm
   by (Ok a) ends = absurd (fails (fault_is command words ∙ ends.0))
   by (Err fault) ends = ap Err ends.1
 
+-- where `clap` refuses words that are in form, memory ran out or the words say nothing, as the refusal tells
 pub refused_line : (command : Command) (words : List Text) (e : Error) → list_all is_in_form words ≡ true → HasKind (fault_of (command_line command) words) e
     → (refusal_by (kind_of e) ≡ NoMemory) ⊎ (arguments_of command words ≡ Err (refusal_by (kind_of e)))
 refused_line command words e forms (inl memory) = inl (ap refusal_by memory)
@@ -400,5 +401,6 @@ out_of_form command (word ∷ words) a forms = by (out_of_form command words) (i
   by behind false e = next_said command word words a (Err Usage) (after_word_refuses command word a e)
   by behind true e = later behind (after_word command word a) (after_word_usage command word a) (subst (λ b. (b && list_all is_in_form words) ≡ false) e forms)
 
+-- words of which one isn't in form say nothing
 pub not_in_form : (command : Command) (words : List Text) → list_all is_in_form words ≡ false → arguments_of command words ≡ Err Usage
 not_in_form command words = out_of_form command words no_arguments

@@ -99,5 +99,6 @@ in_range (word ∷ words) =
     through AreInRange (ok_or (command_of word) Usage) _
     (λ command. through AreInRange (arguments_of command words) _ (λ arguments. job_by_in command arguments))
 
+-- the numbers of a job that words ask for are in their ranges
 pub job_in_range : (words : List (List ℕ)) (job : Job) → job_of words ≡ Ok job → AreInRange job
 job_in_range words job e = subst (λ (said : Result Job LineFault). IfOk said AreInRange) e (in_range words)

@@ -15,10 +15,11 @@ most_of Workers = 64
 most_of Classes = 1000000
 most_of Rewrites = 64
 
--- how many names the class tree may have, and how many rewrites a query may use, where nothing else is said
+-- how many names the class tree may have, where nothing else is said
 abbrev pub usual_names : ℕ
 usual_names = 100000
 
+-- how many rewrites a query may use, where nothing else is said
 abbrev pub usual_rewrites : ℕ
 usual_rewrites = 12
 

@@ -18,6 +18,8 @@ walk_alike config rewrites above own other tails =
       reached = reaches_more config rewrites above own other tails;
     }
 
+-- where each query name is in exactly one class, and fronts of named names are named, what is said of a configuration's
+-- classes holds
 pub has_classes : (config : Config) (rewrites : ℕ)
     → ((query : Labels) → IsName query → IsInOneClass (ground_of config) query)
     → ((above below : Labels) → IsNamed (ground_of config) (above ++ below) → IsNamed (ground_of config) above)

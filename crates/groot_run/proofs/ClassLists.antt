@@ -177,6 +177,7 @@ module _ (config : Config) (rows : List ClassRow) (tree : IsClassTree (ground_of
     by (Below name) in_tree stands =
         below_is_among name listed.representative ((below.all name).1 ((tree.all name).1 in_tree, (listed.representative, stands))) stands
 
+  -- the classes of the rows, in their order, are the list of the configuration's classes
   pub rows_are_listed : AreListed config (classes_of_rows rows)
   rows_are_listed =
       record {

@@ -41,6 +41,7 @@ module _ (told : FilesTold) (before after : List ℕ → ℕ) (of_config : Confi
       (subst (λ (read : Reading Config). OfReading own of_config read ending) (sym reads) gives))
   over_config config reads (inr ran_out) = inr (inr ran_out)
 
+  -- how a run ends whose files give no configuration is how one over the files of the metadata ends
   pub over_none : EndsWithout own told before after ending → EndsOver meta of_config told before after ending
   over_none ends = subst (λ (m : List ℕ). EndsOver m of_config told before after ending) same (by ends) where
     by : EndsWithout own told before after ending → EndsOver own of_config told before after ending

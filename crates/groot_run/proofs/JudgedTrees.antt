@@ -16,7 +16,7 @@ use Rattle.verdict_book.specs.Items.{ReachesMore}
 use Rattle.verdict_book.specs.Lists.{IsWholeTree}
 use Rattle.verdict_book.specs.declared.filed.Filed.{Filed}
 use Rattle.groot_run.specs.declared.ending.Ending.{Ending}
-use Rattle.groot_run.specs.declared.judging.Limits.{Limits}
+use Rattle.groot_run.specs.declared.judging.CheckLimits.{CheckLimits}
 use Rattle.groot_run.specs.Judged.{AreLimits, IsJudged}
 use Rattle.groot_run.specs.Outcome.{HasMoreNames, WithinNames, WithinStates, most_states, too_many_names, too_many_states, no_memory}
 use Rattle.groot_run.proofs.Budgets.{no_longer}
@@ -57,7 +57,7 @@ without_report limit rewrites config P ending (inl (inr (few, inr (none, no_repo
 without_report limit rewrites config P ending (inr ran_out) = inr ran_out
 
 -- the list of a run is short enough for a judge
-pub list_is_short : {W V : Type 0} (children_of : Labels → List Labels) (limits : Limits) (cmp : Labels → Labels → Ordering) (verdict_of : Labels → V) (list : List (Filed W Labels V))
+pub list_is_short : {W V : Type 0} (children_of : Labels → List Labels) (limits : CheckLimits) (cmp : Labels → Labels → Ordering) (verdict_of : Labels → V) (list : List (Filed W Labels V))
     → AreLimits limits → IsWholeTree cmp [] children_of verdict_of list → (ReachesMore [] children_of limits.classes → ⊥) → length list < 2 ^ 31
 list_is_short {W} {V} children_of limits cmp verdict_of list are whole few =
     let item = λ (filed : Filed W Labels V). filed.item in

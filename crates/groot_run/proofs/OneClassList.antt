@@ -8,6 +8,7 @@ use Rattle.groot_run.specs.ClassList.{ListedClass, AreListed}
 use Rattle.net_model.proofs.FaultOrder.{classes_total}
 use Rattle.dns_data.proofs.OrderedLists.{same_rising}
 
+-- two lists of a configuration's classes are one
 pub one_class_list : (config : Config) (a b : List ListedClass) → AreListed config a → AreListed config b → a ≡ b
 one_class_list config a b p q =
     same_rising (on (λ (listed : ListedClass). listed.class) class_cmp) (on_total (λ (listed : ListedClass). listed.class) classes_total)

@@ -87,6 +87,7 @@ one_by_reading meta of_config one (Refuses fault) a b p q = p ∙ sym q
 one_by_reading meta of_config one (Misses file) a b p q = absurd p
 one_by_reading meta of_config one (Unknown file) a b p q = absurd p
 
+-- two outcomes of a job, by what is told of the files, are one
 pub one_outcome : (told : FilesTold) (job : Result Job LineFault) (a b : Ending) → Outcome told job a → Outcome told job b → a ≡ b
 one_outcome told (Ok (jobs.Check meta workers classes rewrites)) a b =
     one_by_reading meta (Checks classes rewrites) (one_check classes rewrites) (conf meta told) a b

@@ -32,6 +32,7 @@ module _ (ground : Ground) where
       same_rising name_cmp names_total a b p.ordered q.ordered
       (λ above has. (q.all above).1 ((p.all above).0 has)) (λ above has. (p.all above).1 ((q.all above).0 has))
 
+  -- two sizes of the class tree below a name, in names and in classes, are one
   pub one_size : (above : Labels) (names classes names' classes' : ℕ) → IsTreeSize ground above names classes → IsTreeSize ground above names' classes'
       → (names ≡ names') × (classes ≡ classes')
   one_size above names classes names' classes' p q =
@@ -79,6 +80,7 @@ same_fields a b classes names rewrites entries =
     ∙ ap (λ x. record b { rewrites = x; entries = a.entries }) rewrites
     ∙ ap (λ x. record b { entries = x }) entries
 
+-- two reports of a subject are one
 pub one_report : (subject : Subject) (a b : Report) → IsReport subject a → IsReport subject b → a ≡ b
 one_report subject a b p q =
     let size = one_size subject.ground subject.below a.names a.classes b.names b.classes p.size q.size in

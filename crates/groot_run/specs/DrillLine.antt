@@ -4,10 +4,11 @@ use Rattle.std.specs.List.{sum_by}
 use Rattle.net_model.specs.declared.config.Server.{Server}
 use Rattle.net_model.specs.declared.config.Zone.{Zone}
 
--- how many records zones have together, and the zones of servers
+-- how many records zones have together
 abbrev pub zone_records : List Zone → ℕ
 zone_records zones = sum_by (λ zone. length zone.rrs) zones
 
+-- how many records the zones of servers have together
 abbrev pub records_of : List Server → ℕ
 records_of servers = sum_by (λ server. zone_records server.zones) servers
 

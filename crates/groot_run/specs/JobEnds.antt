@@ -24,12 +24,12 @@ EndsOrFails EndsSo Comes before after ending =
 abbrev pub JobEnds : FilesTold → Result Job LineFault → (List ℕ → ℕ) → (List ℕ → ℕ) → Ending → Type 0
 JobEnds told job before after ending = EndsOrFails (Outcome told job ending) (JobComesTo told job) before after ending
 
--- one over the files of this metadata file, by what it gives of a configuration
+-- how a run over the files of this metadata file ends, by what it gives of a configuration
 abbrev pub EndsOver : List ℕ → (Config → Ending → Type 0) → FilesTold → (List ℕ → ℕ) → (List ℕ → ℕ) → Ending → Type 0
 EndsOver meta of_config told before after ending =
     EndsOrFails (OfReading meta of_config (conf meta told) ending) (ReadingComesTo meta told) before after ending
 
--- and one whose files give no configuration
+-- how a run over the files of this metadata file ends, where they give no configuration
 abbrev pub EndsWithout : List ℕ → FilesTold → (List ℕ → ℕ) → (List ℕ → ℕ) → Ending → Type 0
 EndsWithout meta told before after ending =
     EndsOrFails ((fault : LoadFault) × (conf meta told ≡ Refuses fault) × (ending ≡ refused meta fault)) (ReadingComesTo meta told) before after ending

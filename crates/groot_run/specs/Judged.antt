@@ -6,11 +6,11 @@ use Rattle.net_model.specs.declared.config.Config.{Config}
 use Rattle.class_judge.specs.Carried.{whole}
 use Rattle.class_judge.specs.Passed.{SomeClassPasses}
 use Rattle.groot_run.specs.declared.ending.Ending.{Ending}
-use Rattle.groot_run.specs.declared.judging.Limits.{Limits}
+use Rattle.groot_run.specs.declared.judging.CheckLimits.{CheckLimits}
 use Rattle.groot_run.specs.Outcome.{HasMoreNames, WithinNames, WithinStates, most_states, no_memory}
 
 -- a check may be so large: it has a worker, the class tree may have a name, and a query may use a rewrite
-pub record AreLimits (limits : Limits) : Type 0 where
+pub record AreLimits (limits : CheckLimits) : Type 0 where
   pub workers : 0 < limits.workers
   pub classes : 0 < limits.classes
   pub classes_most : limits.classes ≤ 1000000

@@ -1,9 +1,9 @@
--- For the code alone, no public clause cites it: what a line for err keeps.
+-- For the code alone, no public clause cites it: the octets of a line for err.
 use Rattle.std.specs.Prelude.{ℕ, List}
-use Rattle.groot_run.specs.declared.line.Kept.{Kept}
-use Rattle.groot_run.specs.declared.line.Kept.TheVariants.{Fixed, Made}
+use Rattle.groot_run.specs.declared.line.LineOctets.{LineOctets}
+use Rattle.groot_run.specs.declared.line.LineOctets.TheVariants.{Fixed, Made}
 
--- the octets that are kept
-abbrev pub octets_kept : Kept → List ℕ
-octets_kept (Fixed text) = text.now
-octets_kept (Made octets) = octets
+-- the octets of a line, be they the program's own or made
+abbrev pub line_octets : LineOctets → List ℕ
+line_octets (Fixed text) = text.now
+line_octets (Made octets) = octets

@@ -199,10 +199,11 @@ abbrev pub drilled : ℕ → Config → Report → Ending
 drilled zones config report =
     with_output (status_of report.entries) (drill_line zones (min (records_of config.servers) last_count) report.names (length report.entries))
 
--- how many rewrites a query may use, and how many names the class tree may have
+-- how many rewrites a query of a drill may use
 abbrev pub drill_rewrites : ℕ
 drill_rewrites = usual_rewrites
 
+-- how many names the class tree of a drill may have
 abbrev pub drill_names : ℕ
 drill_names = usual_names
 

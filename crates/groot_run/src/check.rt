@@ -5,7 +5,7 @@ ghost use Rattle.groot_run.specs.Judged.{AreLimits};
 ghost use Rattle.groot_run.specs.Outcome.{Checks, status_of, no_memory};
 
 use crate::ending::Ending;
-use crate::judging::{Limits, report_of};
+use crate::judging::{CheckLimits, report_of};
 use crate::status::Status;
 use graph_form::Report;
 use io_edges::Gate;
@@ -21,7 +21,7 @@ pub(crate) fn check<G: Gate + Sync, R: Threads + Wait + Sync>(
     rt: &R,
     alloc: Global,
     config: &Config,
-    limits: Limits,
+    limits: CheckLimits,
     gate: &G,
 ) -> Ending
     requires { AreLimits limits }

@@ -10,7 +10,7 @@ ghost use Rattle.zone_maker.specs.Source.{drill_told};
 use crate::check::status_of;
 use crate::counts::put_count;
 use crate::ending::Ending;
-use crate::judging::{Limits, report_of};
+use crate::judging::{CheckLimits, report_of};
 use crate::load::configuration;
 use dns_data::{NoMemory, Octets};
 use graph_form::Report;
@@ -57,7 +57,7 @@ fn of_config<G: Gate + Sync, R: Threads + Wait + Sync>(
     requires { 1 ≤ workers }
     ensures { Drills zones config.now result ⊎ (result ≡ no_memory) }
 {
-    let limits = Limits {
+    let limits = CheckLimits {
         workers,
         classes: USUAL_NAMES,
         rewrites: USUAL_REWRITES,

@@ -11,7 +11,7 @@ use crate::check::check;
 use crate::classes::list_classes;
 use crate::drill::drill;
 use crate::ending::Ending;
-use crate::judging::Limits;
+use crate::judging::CheckLimits;
 use crate::load::configuration;
 use groot_line::Job;
 use io_edges::{Files, Gate};
@@ -40,7 +40,7 @@ pub(crate) fn of_job<F: Files, G: Gate + Sync, R: Threads + Wait + Sync>(
             rewrites,
         } => match configuration(alloc, files, meta.as_str()) {
             Ok(config) => {
-                let limits = Limits {
+                let limits = CheckLimits {
                     workers: *workers,
                     classes: *classes,
                     rewrites: *rewrites,

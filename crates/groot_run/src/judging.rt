@@ -23,7 +23,7 @@ pub(crate) const MOST_STATES: u32 = 100_000;
 /// How large a check may be: how many workers judge, how many names the class tree may have, and how many rewrites a query
 /// may use.
 #[derive(Clone, Copy, Debug)]
-pub(crate) struct Limits {
+pub(crate) struct CheckLimits {
     pub workers: u32,
     pub classes: u32,
     pub rewrites: u32,
@@ -35,7 +35,7 @@ pub(crate) fn report_of<G: Gate + Sync, R: Threads + Wait + Sync>(
     rt: &R,
     alloc: Global,
     config: &Config,
-    limits: Limits,
+    limits: CheckLimits,
     gate: &G,
 ) -> Result<Report, Ending>
     requires { AreLimits limits }
@@ -49,7 +49,7 @@ fn judged<N: Naming + Send + Sync, G: Gate + Sync, R: Threads + Wait + Sync>(
     rt: &R,
     alloc: Global,
     config: &Config,
-    limits: Limits,
+    limits: CheckLimits,
     gate: &G,
 ) -> Result<Report, Ending>
     requires limits { AreLimits limits }
@@ -68,7 +68,7 @@ fn told<N: Naming + Send + Sync, G: Gate + Sync, R: Threads + Wait + Sync>(
     rt: &R,
     alloc: Global,
     judge: &Judge<'_, N>,
-    limits: Limits,
+    limits: CheckLimits,
     gate: &G,
 ) -> Result<Report, Ending>
     requires limits { AreLimits limits }

@@ -13,7 +13,6 @@ ghost use Rattle.graph_form.specs.declared.report.Report.{Report};
 ghost use Rattle.graph_form.specs.Report.{Subject, IsReport};
 
 use class_judge::laws;
-use drill_laws::drill_files_read;
 
 /// A subject has at most one report.
 pub fn one_report()
@@ -38,5 +37,5 @@ pub fn drills_read()
     ensures { (zones workers : ℕ) → 1 ≤ zones → zones ≤ 5000
         → (config : Config) × ((told : FilesTold) (ending : Ending) → Outcome told (Ok (jobs.Drill zones workers)) ending → Drills zones config ending) }
 {
-    drill_files_read();
+    drill_laws::drill_files_read();
 }

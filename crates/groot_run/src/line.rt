@@ -7,9 +7,9 @@ use dns_data::{NoMemory, Octets};
 use std::alloc::Global;
 use std::marker::Model;
 
-/// What a line keeps: octets of the program's own, which take no memory, or made ones.
+/// The octets of a line: the program's own, which take no memory, or made ones.
 #[derive(Debug, Drop)]
-enum Kept {
+enum LineOctets {
     Fixed(&'static str),
     Made(Octets),
 }
@@ -17,16 +17,16 @@ enum Kept {
 /// A line for err, or nothing. Contracts see it as its octets.
 #[derive(Debug, Drop)]
 pub struct Line {
-    kept: Kept,
+    octets: LineOctets,
 }
 
 impl Model for Line {
     ghost use Rattle.std.specs.Prelude.{List, ℕ};
-    ghost use Rattle.groot_run.specs.Line.{octets_kept};
+    ghost use Rattle.groot_run.specs.Line.{line_octets};
 
     ghost Value = { List ℕ };
 
-    ghost view = { λ line. octets_kept line.kept };
+    ghost view = { λ line. line_octets line.octets };
 }
 
 impl Line {
@@ -35,7 +35,7 @@ impl Line {
         ensures { result ≡ text.now }
     {
         Line {
-            kept: Kept::Fixed(text),
+            octets: LineOctets::Fixed(text),
         }
     }
 
@@ -48,7 +48,7 @@ impl Line {
             text.extend_from_slice(alloc, piece)?;
         }
         Ok(Line {
-            kept: Kept::Made(text),
+            octets: LineOctets::Made(text),
         })
     }
 
@@ -56,9 +56,9 @@ impl Line {
     pub fn octets(&self) -> &[u8]
         ensures { result.now ≡ self.now }
     {
-        match &self.kept {
-            Kept::Fixed(text) => text.as_bytes(),
-            Kept::Made(text) => text.items(),
+        match &self.octets {
+            LineOctets::Fixed(text) => text.as_bytes(),
+            LineOctets::Made(text) => text.items(),
         }
     }
 }

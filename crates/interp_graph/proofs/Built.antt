@@ -17,9 +17,8 @@ use Rattle.graph_form.specs.Graph.{PlainGraph, pairs_of}
 use Rattle.graph_form.specs.GraphOf.{IsExact, IsGraphOf, StandsOn}
 use Rattle.graph_form.proofs.Reached.{pairs_exact}
 use Rattle.interp_graph.specs.Asked.{AskedWith, IsAsked}
-use Rattle.interp_graph.specs.Drafts.{Awaits, Comes, AreDrafts, Grows, states_of, node_of}
-use Rattle.interp_graph.specs.Work.{Waits, AwaitAll, HasMoreComing}
-use Rattle.interp_graph.specs.declared.draft.Draft.{Draft}
+use Rattle.interp_graph.specs.Drafts.{Awaits, Comes, AreDrafts, Grows, states_of, node_of, Draft}
+use Rattle.interp_graph.specs.Growing.{Waits, AwaitAll, HasMoreComing}
 use Rattle.interp_graph.proofs.Finished.{one_node, reached_by, finished}
 use Rattle.interp_graph.proofs.Drafts.{awaits_grow}
 use Rattle.interp_graph.proofs.ItemsByNumber.{side_by_side}
@@ -68,7 +67,7 @@ asked_short config name asked = by name.tail refl asked where
   by (Some label) is with_tail =
       subst (λ (labels : Labels). wire_octets (name.known ++ labels) ≤ 255) (ap tail_labels is) with_tail.short
 
--- ---- the list of what is to be followed, from its beginning to its end
+-- ---- a graph in the making, from its beginning to its end
 
 -- at first there is no draft
 pub no_drafts : (setting : Setting) (begin : List State) (drafts : List Draft) → drafts ≡ [] → AreDrafts setting begin drafts

@@ -14,9 +14,8 @@ use Rattle.net_model.specs.declared.walk.State.{State}
 use Rattle.graph_form.proofs.Places.{pairs_in_row, place_of_item}
 use Rattle.graph_form.proofs.Reached.{arm_differs}
 use Rattle.graph_form.specs.declared.node.Arm.{Arm}
-use Rattle.interp_graph.specs.Drafts.{Comes, AreDrafts, size_of, pair_count}
-use Rattle.interp_graph.specs.declared.draft.Draft.{Draft}
-use Rattle.interp_graph.specs.Work.{TakesTypes}
+use Rattle.interp_graph.specs.Drafts.{Comes, AreDrafts, size_of, pair_count, Draft}
+use Rattle.interp_graph.specs.Growing.{TakesTypes}
 
 -- ---- of two sets without a common type
 

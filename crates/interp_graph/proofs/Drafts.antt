@@ -15,10 +15,9 @@ use Rattle.graph_form.specs.declared.node.Arm.{Arm}
 use Rattle.graph_form.specs.declared.node.Branch.{Branch}
 use Rattle.graph_form.specs.declared.node.Branch.TheVariants.{Go, End}
 use Rattle.graph_form.proofs.Places.{pairs_joined}
-use Rattle.interp_graph.specs.Drafts.{Awaits, TellsBranch, IsMade, Comes, IsDraft, AreDrafts, Grows}
+use Rattle.interp_graph.specs.Drafts.{Awaits, TellsBranch, IsMade, Comes, IsDraft, AreDrafts, Grows, Draft}
 use Rattle.interp_graph.specs.Steps.{IsApart}
-use Rattle.interp_graph.specs.Work.{HasNoType, TakesTypes, HasArm}
-use Rattle.interp_graph.specs.declared.draft.Draft.{Draft}
+use Rattle.interp_graph.specs.Growing.{HasNoType, TakesTypes, HasArm}
 use Rattle.interp_graph.proofs.ItemsByNumber.{from_pushed, in_front, from_set, set_there, set_elsewhere, side_by_side}
 
 -- ---- what is told stays told

@@ -19,8 +19,7 @@ use Rattle.graph_form.specs.declared.node.Branch.{Branch}
 use Rattle.graph_form.specs.declared.node.Branch.TheVariants.{Go, End}
 use Rattle.graph_form.specs.declared.node.Node.{Node}
 use Rattle.graph_form.proofs.Places.{place_of_item}
-use Rattle.interp_graph.specs.Drafts.{Awaits, TellsBranch, Comes, AreDrafts, states_of, node_of}
-use Rattle.interp_graph.specs.declared.draft.Draft.{Draft}
+use Rattle.interp_graph.specs.Drafts.{Awaits, TellsBranch, Comes, AreDrafts, states_of, node_of, Draft}
 use Rattle.interp_graph.proofs.ItemsByNumber.{from_mapped, mapped_there, side_by_side, beside}
 
 module _ (setting : Setting) (begin : List State) (drafts : List Draft) (are : AreDrafts setting begin drafts) where

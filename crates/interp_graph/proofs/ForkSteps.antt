@@ -12,33 +12,32 @@ use Rattle.net_model.specs.Step as step
 use Rattle.net_model.specs.Step.{Setting}
 use Rattle.net_model.specs.declared.walk.State.{State}
 use Rattle.graph_form.specs.declared.node.Branch.{Branch}
-use Rattle.interp_graph.specs.Drafts.{TellsBranch, AreDrafts, Grows}
+use Rattle.interp_graph.specs.Drafts.{TellsBranch, AreDrafts, Grows, Draft}
 use Rattle.zone_lookup.specs.Steps.{branch_of}
 use Rattle.interp_graph.specs.Steps.{IsFork, IsApart, AreSplit}
-use Rattle.interp_graph.specs.Work.{IsSoundWork, Waits, StillWaits, Advances, ComeOn, HasMoreComing, IsForkAt, AreForksAt, SplitWaiting}
-use Rattle.interp_graph.specs.declared.draft.Draft.{Draft}
+use Rattle.interp_graph.specs.Growing.{IsSoundSoFar, Waits, StillWaits, Advances, ComeOn, HasMoreComing, IsForkAt, AreForksAt, SplitWaiting, drafts_in}
 use Rattle.interp_graph.specs.declared.step.Fork.{Fork}
 use Rattle.zone_lookup.specs.declared.steps.Step.{Step}
-use Rattle.interp_graph.specs.declared.work.Work.{Work}
+use Rattle.interp_graph.specs.declared.growing.GrowingGraph.{GrowingGraph}
 use Rattle.interp_graph.proofs.Arming.{advances_not, advances_twice}
 use Rattle.interp_graph.proofs.Drafts.{zip_grows}
 use Rattle.interp_graph.proofs.ItemsByNumber.{beside_pushed, item_below}
-use Rattle.interp_graph.proofs.Working.{one_there}
+use Rattle.interp_graph.proofs.Changes.{one_there}
 
 -- ---- the steps of a fork
 
 -- so far: the branches tell the steps that aren't left
-pub record BranchesSoFar (before now : Work) (set_of : List Bool) (all left : List Step) (branches : List Branch) : Type 0 where
-  pub sound : IsSoundWork now
+pub record BranchesSoFar (before now : GrowingGraph) (set_of : List Bool) (all left : List Step) (branches : List Branch) : Type 0 where
+  pub sound : IsSoundSoFar now
   pub advances : Advances before now
   pub still : StillWaits before now
   pub done : List Step
   pub parts : done ++ left ≡ all
-  pub told : AllZip (TellsBranch now.drafts.items set_of) branches (map branch_of done)
-  pub drafts : (setting : Setting) (begin : List State) → AreDrafts setting begin before.drafts.items → ComeOn setting begin set_of (map branch_of all)
-      → AreDrafts setting begin now.drafts.items
+  pub told : AllZip (TellsBranch (drafts_in now) set_of) branches (map branch_of done)
+  pub drafts : (setting : Setting) (begin : List State) → AreDrafts setting begin (drafts_in before) → ComeOn setting begin set_of (map branch_of all)
+      → AreDrafts setting begin (drafts_in now)
 
-module _ (before now : Work) (set_of : List Bool) (all left : List Step) (branches : List Branch) where
+module _ (before now : GrowingGraph) (set_of : List Bool) (all left : List Step) (branches : List Branch) where
   -- what comes on by all steps does so by one that is left
   one_comes : (one : Step) → BranchesSoFar before now set_of all (one ∷ left) branches → (setting : Setting) (begin : List State)
       → ComeOn setting begin set_of (map branch_of all) → ComeOn setting begin set_of (branch_of one ∷ [])
@@ -54,18 +53,18 @@ module _ (before now : Work) (set_of : List Bool) (all left : List Step) (branch
       by (inr none) = absurd (none_in_nil (step.Go hop to) none)
 
   pub branches_passed : (one : Step) → BranchesSoFar before now set_of all (one ∷ left) branches
-      → ((setting : Setting) (begin : List State) → AreDrafts setting begin now.drafts.items → ComeOn setting begin set_of (branch_of one ∷ [])
+      → ((setting : Setting) (begin : List State) → AreDrafts setting begin (drafts_in now) → ComeOn setting begin set_of (branch_of one ∷ [])
       → HasMoreComing setting begin now.limit)
-      → (setting : Setting) (begin : List State) → AreDrafts setting begin before.drafts.items → ComeOn setting begin set_of (map branch_of all)
+      → (setting : Setting) (begin : List State) → AreDrafts setting begin (drafts_in before) → ComeOn setting begin set_of (map branch_of all)
       → HasMoreComing setting begin before.limit
   branches_passed one so passed setting begin are come =
       subst (HasMoreComing setting begin) so.advances.limit
       (passed setting begin (so.drafts setting begin are come) (one_comes one so setting begin come))
 
-  pub branches_more : (one : Step) → BranchesSoFar before now set_of all (one ∷ left) branches → (after : Work) (branch : Branch)
-      → IsSoundWork after → Advances now after → StillWaits now after → TellsBranch after.drafts.items set_of branch (branch_of one)
-      → ((setting : Setting) (begin : List State) → AreDrafts setting begin now.drafts.items → ComeOn setting begin set_of (branch_of one ∷ [])
-      → AreDrafts setting begin after.drafts.items)
+  pub branches_more : (one : Step) → BranchesSoFar before now set_of all (one ∷ left) branches → (after : GrowingGraph) (branch : Branch)
+      → IsSoundSoFar after → Advances now after → StillWaits now after → TellsBranch (drafts_in after) set_of branch (branch_of one)
+      → ((setting : Setting) (begin : List State) → AreDrafts setting begin (drafts_in now) → ComeOn setting begin set_of (branch_of one ∷ [])
+      → AreDrafts setting begin (drafts_in after))
       → BranchesSoFar before after set_of all left (branches ++ branch ∷ [])
   branches_more one so after branch sound advances still tells drafts =
       record {
@@ -74,9 +73,9 @@ module _ (before now : Work) (set_of : List Bool) (all left : List Step) (branch
         still = λ at rtype waits. still at rtype (so.still at rtype waits);
         done = so.done ++ one ∷ [];
         parts = append_assoc so.done (one ∷ []) left ∙ so.parts;
-        told = subst (AllZip (TellsBranch after.drafts.items set_of) (branches ++ branch ∷ [])) (sym (map-append branch_of so.done (one ∷ [])))
-            (beside_pushed (TellsBranch after.drafts.items set_of) branches (map branch_of so.done) branch (branch_of one)
-            (zip_grows now.drafts.items after.drafts.items advances.grows set_of branches (map branch_of so.done) so.told) tells);
+        told = subst (AllZip (TellsBranch (drafts_in after) set_of) (branches ++ branch ∷ [])) (sym (map-append branch_of so.done (one ∷ [])))
+            (beside_pushed (TellsBranch (drafts_in after) set_of) branches (map branch_of so.done) branch (branch_of one)
+            (zip_grows (drafts_in now) (drafts_in after) advances.grows set_of branches (map branch_of so.done) so.told) tells);
         drafts = λ setting begin are come. drafts setting begin (so.drafts setting begin are come) (one_comes one so setting begin come);
       }
 
@@ -99,22 +98,22 @@ still_below before after at grows below =
     slice_get_within after at later.draft later.is_draft
 
 -- so far: the types of the forks that are left wait, and of those that wait each is in one of them or came since
-pub record ForksSoFar (before now : Work) (at : ℕ) (all left : List Fork) : Type 0 where
-  pub sound : IsSoundWork now
+pub record ForksSoFar (before now : GrowingGraph) (at : ℕ) (all left : List Fork) : Type 0 where
+  pub sound : IsSoundSoFar now
   pub advances : Advances before now
-  pub was_below : at < length before.drafts.items
+  pub was_below : at < length (drafts_in before)
   pub apart : AllPairs (λ a b. IsApart a.types b.types) left
-  pub waits : (fork : Fork) → Contains left fork → (rtype : RrType) → has_bit fork.types rtype ≡ true → Waits now.drafts.items at rtype
-  pub rid : (rtype : RrType) → Waits now.drafts.items at rtype
+  pub waits : (fork : Fork) → Contains left fork → (rtype : RrType) → has_bit fork.types rtype ≡ true → Waits (drafts_in now) at rtype
+  pub rid : (rtype : RrType) → Waits (drafts_in now) at rtype
       → ((fork : Fork) × Contains left fork × (has_bit fork.types rtype ≡ true)) ⊎ Contains now.stack.items at
   pub among : (fork : Fork) → Contains left fork → Contains all fork
-  pub drafts : (setting : Setting) (begin : List State) → AreDrafts setting begin before.drafts.items → AreForksAt setting before.drafts.items at all
-      → AreDrafts setting begin now.drafts.items
+  pub drafts : (setting : Setting) (begin : List State) → AreDrafts setting begin (drafts_in before) → AreForksAt setting (drafts_in before) at all
+      → AreDrafts setting begin (drafts_in now)
 
-pub forks_begin : (before : Work) (at : ℕ) (all : List Fork) → IsSoundWork before → at < length before.drafts.items → SplitWaiting before.drafts.items at all
+pub forks_begin : (before : GrowingGraph) (at : ℕ) (all : List Fork) → IsSoundSoFar before → at < length (drafts_in before) → SplitWaiting (drafts_in before) at all
     → ForksSoFar before before at all all
 forks_begin before at all sound below split =
-    let was = item_below before.drafts.items at below in
+    let was = item_below (drafts_in before) at below in
     let parts : AreSplit was.0.waiting all = split was.0 was.1 in
     record {
       sound = sound;
@@ -123,31 +122,31 @@ forks_begin before at all sound below split =
       apart = parts.apart;
       waits = λ fork has rtype typed. record { draft = was.0; is_draft = was.1; waits = parts.within fork has rtype typed };
       rid = λ rtype waits. inl (parts.each rtype
-          (ap (λ (d : Draft). has_bit d.waiting rtype) (one_there before.drafts.items at was.0 waits.draft was.1 waits.is_draft) ∙ waits.waits));
+          (ap (λ (d : Draft). has_bit d.waiting rtype) (one_there (drafts_in before) at was.0 waits.draft was.1 waits.is_draft) ∙ waits.waits));
       among = λ fork has. has;
       drafts = λ setting begin are forks. are;
     }
 
-module _ (before now : Work) (at : ℕ) (all left : List Fork) (fork : Fork) (so : ForksSoFar before now at all (fork ∷ left)) where
-  pub now_below : at < length now.drafts.items
-  now_below = still_below before.drafts.items now.drafts.items at so.advances.grows so.was_below
+module _ (before now : GrowingGraph) (at : ℕ) (all left : List Fork) (fork : Fork) (so : ForksSoFar before now at all (fork ∷ left)) where
+  pub now_below : at < length (drafts_in now)
+  now_below = still_below (drafts_in before) (drafts_in now) at so.advances.grows so.was_below
 
-  is_fork : (setting : Setting) → AreForksAt setting before.drafts.items at all → IsForkAt setting now.drafts.items at fork
+  is_fork : (setting : Setting) → AreForksAt setting (drafts_in before) at all → IsForkAt setting (drafts_in now) at fork
   is_fork setting forks =
-      fork_stays setting before.drafts.items now.drafts.items at fork so.advances.grows so.was_below (forks fork (so.among fork (has_first fork left)))
+      fork_stays setting (drafts_in before) (drafts_in now) at fork so.advances.grows so.was_below (forks fork (so.among fork (has_first fork left)))
 
-  pub forks_passed : ((setting : Setting) (begin : List State) → AreDrafts setting begin now.drafts.items → IsForkAt setting now.drafts.items at fork
+  pub forks_passed : ((setting : Setting) (begin : List State) → AreDrafts setting begin (drafts_in now) → IsForkAt setting (drafts_in now) at fork
       → HasMoreComing setting begin now.limit)
-      → (setting : Setting) (begin : List State) → AreDrafts setting begin before.drafts.items → AreForksAt setting before.drafts.items at all
+      → (setting : Setting) (begin : List State) → AreDrafts setting begin (drafts_in before) → AreForksAt setting (drafts_in before) at all
       → HasMoreComing setting begin before.limit
   forks_passed passed setting begin are forks =
       subst (HasMoreComing setting begin) so.advances.limit (passed setting begin (so.drafts setting begin are forks) (is_fork setting forks))
 
-  pub forks_more : (after : Work) → IsSoundWork after → Advances now after
-      → ((rtype : RrType) → has_bit fork.types rtype ≡ true → Waits after.drafts.items at rtype → ⊥)
-      → ((rtype : RrType) → has_bit fork.types rtype ≡ false → Waits now.drafts.items at rtype → Waits after.drafts.items at rtype)
-      → ((setting : Setting) (begin : List State) → AreDrafts setting begin now.drafts.items → IsForkAt setting now.drafts.items at fork
-      → AreDrafts setting begin after.drafts.items)
+  pub forks_more : (after : GrowingGraph) → IsSoundSoFar after → Advances now after
+      → ((rtype : RrType) → has_bit fork.types rtype ≡ true → Waits (drafts_in after) at rtype → ⊥)
+      → ((rtype : RrType) → has_bit fork.types rtype ≡ false → Waits (drafts_in now) at rtype → Waits (drafts_in after) at rtype)
+      → ((setting : Setting) (begin : List State) → AreDrafts setting begin (drafts_in now) → IsForkAt setting (drafts_in now) at fork
+      → AreDrafts setting begin (drafts_in after))
       → ForksSoFar before after at all left
   forks_more after sound advances done others drafts =
       record {
@@ -172,7 +171,7 @@ module _ (before now : Work) (at : ℕ) (all left : List Fork) (fork : Fork) (so
         of true is = absurd (true≢false (sym typed ∙ apart rtype is))
         of false is = refl
 
-      by : (rtype : RrType) → Waits after.drafts.items at rtype
+      by : (rtype : RrType) → Waits (drafts_in after) at rtype
           → ((one : Fork) × Contains (fork ∷ left) one × (has_bit one.types rtype ≡ true)) ⊎ Contains now.stack.items at
           → ((one : Fork) × Contains left one × (has_bit one.types rtype ≡ true)) ⊎ Contains after.stack.items at
       by rtype waits (inr has) = inr (advances.stays at has)
@@ -181,8 +180,8 @@ module _ (before now : Work) (at : ℕ) (all left : List Fork) (fork : Fork) (so
         | inr behind ↦ inl (one, behind, typed)
       ]
 
-pub forks_end : (before now : Work) (at : ℕ) (all left : List Fork) → ForksSoFar before now at all left → left ≡ []
-    → (rtype : RrType) → Waits now.drafts.items at rtype → Contains now.stack.items at
+pub forks_end : (before now : GrowingGraph) (at : ℕ) (all left : List Fork) → ForksSoFar before now at all left → left ≡ []
+    → (rtype : RrType) → Waits (drafts_in now) at rtype → Contains now.stack.items at
 forks_end before now at all left so none rtype waits = elim (so.rid rtype waits) [
   | inl fork ↦ absurd (none_in_nil fork.0 (subst (λ (forks : List Fork). Contains forks fork.0) none fork.1))
   | inr has ↦ has

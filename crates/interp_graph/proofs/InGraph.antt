@@ -33,7 +33,7 @@ use Rattle.interp_graph.specs.declared.step.Fork.{Fork}
 use Rattle.zone_lookup.specs.declared.steps.Step.{Step}
 use Rattle.interp_graph.proofs.ItemsByNumber.{from_mapped, beside, beside_other}
 use Rattle.interp_graph.proofs.NextRestricted.{next_restricted}
-use Rattle.interp_graph.proofs.Working.{one_there}
+use Rattle.interp_graph.proofs.Changes.{one_there}
 
 -- a node of the graph has the state and an arm for the type
 pub record InGraph (graph : PlainGraph) (rtype : RrType) (state : State) : Type 0 where

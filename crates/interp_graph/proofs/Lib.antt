@@ -3,13 +3,14 @@ pub mod Drafts
 pub mod Finished
 pub mod Counts
 pub mod ToldForks
-pub mod Working
+pub mod Changes
 pub mod Arming
 pub mod ForkSteps
 pub mod NodePairs
 pub mod Beginning
 pub mod Turns
 pub mod Numbering
+pub mod Paired
 pub mod Passing
 pub mod Standing
 pub mod Built

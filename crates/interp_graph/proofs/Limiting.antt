@@ -20,7 +20,7 @@ use Rattle.interp_graph.specs.Restricted.{IsNumbered, HasTypes}
 use Rattle.interp_graph.specs.StateKey.{state_eq, state_decides}
 use Rattle.interp_graph.specs.Steps.{AreSplit}
 use Rattle.interp_graph.proofs.ItemsByNumber.{beside, beside_pushed, from_mapped, mapped_there}
-use Rattle.interp_graph.proofs.Working.{one_there}
+use Rattle.interp_graph.proofs.Changes.{one_there}
 
 module _ {A B : Type 0} (R : A → B → Type 0) where
   -- one more item beside the next one of a list

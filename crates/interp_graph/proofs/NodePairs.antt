@@ -13,8 +13,7 @@ use Rattle.net_model.specs.declared.walk.State.{State}
 use Rattle.graph_form.specs.Graph.{arm_pairs, node_pairs, pairs_of, types_of}
 use Rattle.graph_form.proofs.Reached.{every_type, node_differs}
 use Rattle.graph_form.proofs.Places.{place_of_item}
-use Rattle.interp_graph.specs.Drafts.{IsDraft, AreDrafts, node_of, size_of, pair_count}
-use Rattle.interp_graph.specs.declared.draft.Draft.{Draft}
+use Rattle.interp_graph.specs.Drafts.{IsDraft, AreDrafts, node_of, size_of, pair_count, Draft}
 use Rattle.interp_graph.proofs.Counts.{draft_pairs}
 
 -- those of one node

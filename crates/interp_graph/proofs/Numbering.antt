@@ -19,11 +19,10 @@ use Rattle.net_model.specs.declared.walk.State.{State}
 use Rattle.graph_form.proofs.Reached.{every_type}
 use Rattle.indexmap.specs.IndexSet.{insert_key}
 use Rattle.graph_form.proofs.Places.{item_there}
-use Rattle.interp_graph.specs.Drafts.{states_of, size_of}
+use Rattle.interp_graph.specs.Drafts.{states_of, size_of, Draft}
 use Rattle.interp_graph.specs.StateKey.{state_eq, state_decides}
-use Rattle.interp_graph.specs.Work.{TakesTypes, TookTypes, TooMany}
-use Rattle.interp_graph.specs.declared.draft.Draft.{Draft}
-use Rattle.interp_graph.specs.declared.work.Work.{Work}
+use Rattle.interp_graph.specs.Growing.{TakesTypes, TookTypes, TooMany, drafts_in}
+use Rattle.interp_graph.specs.declared.growing.GrowingGraph.{GrowingGraph}
 use Rattle.interp_graph.proofs.ItemsByNumber.{from_pushed, from_mapped}
 
 -- an item below the length stands with its number
@@ -97,7 +96,7 @@ bits test rr.Srv = refl
 bits test rr.Dname = refl
 bits test rr.Caa = refl
 
-module _ (work : Work) (at : ℕ) (set_of newly : List Bool) (old : Draft) (is : slice_get work.drafts.items at ≡ Some old)
+module _ (growing : GrowingGraph) (at : ℕ) (set_of newly : List Bool) (old : Draft) (is : slice_get (drafts_in growing) at ≡ Some old)
     (minus : (rtype : RrType) → has_bit newly rtype ≡ (has_bit set_of rtype && not (has_bit old.wanted rtype))) where
   pub only_asked : (rtype : RrType) → has_bit newly rtype ≡ true → has_bit set_of rtype ≡ true
   only_asked rtype new = (and_parts (has_bit set_of rtype) (not (has_bit old.wanted rtype)) (sym (minus rtype) ∙ new)).0
@@ -107,10 +106,10 @@ module _ (work : Work) (at : ℕ) (set_of newly : List Bool) (old : Draft) (is :
       not-true (has_bit old.wanted rtype) (and_parts (has_bit set_of rtype) (not (has_bit old.wanted rtype)) (sym (minus rtype) ∙ new)).1
 
   -- where none is new, all came before
-  pub none_new : size_of newly ≡ 0 → TookTypes work work at set_of
+  pub none_new : size_of newly ≡ 0 → TookTypes growing growing at set_of
   none_new none =
       record {
-        keys = refl;
+        paired = λ paired. paired;
         limit = refl;
         change = inl (record { draft = old; is_draft = is; came = λ rtype typed. came rtype typed (has_bit old.wanted rtype) refl; drafts = refl; stack = refl; pairs = refl });
       }
@@ -141,7 +140,7 @@ module _ (work : Work) (at : ℕ) (set_of newly : List Bool) (old : Draft) (is :
           (minus rtype ∙ and_from (has_bit set_of rtype) (not (has_bit old.wanted rtype)) typed (ap not had))
 
   -- with them there would be too many pairs
-  pub too_many : work.limit < work.pairs + size_of newly → TooMany work at set_of
+  pub too_many : growing.limit < growing.pairs + size_of newly → TooMany growing at set_of
   too_many more =
       record {
         old = old;

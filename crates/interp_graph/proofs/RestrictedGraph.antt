@@ -13,14 +13,13 @@ use Rattle.graph_form.specs.Graph.{PlainGraph, pairs_of}
 use Rattle.graph_form.specs.GraphOf.{HasState, IsExactIn, IsGraphOf}
 use Rattle.graph_form.proofs.Reached.{pair_there}
 use Rattle.interp_graph.specs.Asked.{IsBuilt}
-use Rattle.interp_graph.specs.Drafts.{Comes, AreDrafts, states_of, node_of}
+use Rattle.interp_graph.specs.Drafts.{Comes, AreDrafts, states_of, node_of, Draft}
 use Rattle.interp_graph.specs.Restricted.{IsRestriction}
-use Rattle.interp_graph.specs.Work.{Waits, AwaitAll, HasMoreComing}
-use Rattle.interp_graph.specs.declared.draft.Draft.{Draft}
+use Rattle.interp_graph.specs.Growing.{Waits, AwaitAll, HasMoreComing}
 use Rattle.interp_graph.proofs.Finished.{one_node, reached_by, finished}
 use Rattle.interp_graph.proofs.InGraph.{arm_for, comes_in_graph}
 use Rattle.interp_graph.proofs.Standing.{comes_stand}
-use Rattle.interp_graph.proofs.Working.{one_there}
+use Rattle.interp_graph.proofs.Changes.{one_there}
 
 -- states that nodes with these numbers have are one list
 same_states : (graph : PlainGraph) (starts : List ℕ) (some others : List State) → AllZip (HasState graph) starts some → AllZip (HasState graph) starts others

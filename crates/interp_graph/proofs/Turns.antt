@@ -6,36 +6,35 @@ use Rattle.dns_data.specs.declared.rr_type.RrType.{RrType}
 use Rattle.dns_data.proofs.Membership.{none_in_nil, first_or_later}
 use Rattle.net_model.specs.Step.{Setting}
 use Rattle.net_model.specs.declared.walk.State.{State}
-use Rattle.interp_graph.specs.Drafts.{AreDrafts, Grows}
-use Rattle.interp_graph.specs.Work.{IsSoundWork, AreToFollow, IsRid, Waits, Advances, HasMoreComing}
-use Rattle.interp_graph.specs.declared.draft.Draft.{Draft}
-use Rattle.interp_graph.specs.declared.work.Work.{Work}
+use Rattle.interp_graph.specs.Drafts.{AreDrafts, Grows, Draft}
+use Rattle.interp_graph.specs.Growing.{IsSoundSoFar, AreToFollow, IsRid, Waits, Advances, HasMoreComing, drafts_in}
+use Rattle.interp_graph.specs.declared.growing.GrowingGraph.{GrowingGraph}
 use Rattle.interp_graph.proofs.Drafts.{grows_not, grows_twice}
 
 -- so far, in walks that are read so
-pub record TurnsSoFar (IsSo : Setting → List State → Type 0) (before now : Work) : Type 0 where
-  pub sound : IsSoundWork now
+pub record TurnsSoFar (IsSo : Setting → List State → Type 0) (before now : GrowingGraph) : Type 0 where
+  pub sound : IsSoundSoFar now
   pub limit : now.limit ≡ before.limit
   pub listed : AreToFollow now
-  pub grows : Grows before.drafts.items now.drafts.items
-  pub drafts : (setting : Setting) (begin : List State) → IsSo setting begin → AreDrafts setting begin before.drafts.items → AreDrafts setting begin now.drafts.items
+  pub grows : Grows (drafts_in before) (drafts_in now)
+  pub drafts : (setting : Setting) (begin : List State) → IsSo setting begin → AreDrafts setting begin (drafts_in before) → AreDrafts setting begin (drafts_in now)
 
 module _ (IsSo : Setting → List State → Type 0) where
-  pub turns_begin : (before : Work) → IsSoundWork before → AreToFollow before → TurnsSoFar IsSo before before
+  pub turns_begin : (before : GrowingGraph) → IsSoundSoFar before → AreToFollow before → TurnsSoFar IsSo before before
   turns_begin before sound listed =
-      record { sound = sound; limit = refl; listed = listed; grows = grows_not before.drafts.items; drafts = λ setting begin so are. are }
+      record { sound = sound; limit = refl; listed = listed; grows = grows_not (drafts_in before); drafts = λ setting begin so are. are }
 
   -- a node is taken
-  module _ (before now taken : Work) (at : ℕ) (so : TurnsSoFar IsSo before now) (stack : now.stack.items ≡ taken.stack.items ++ at ∷ [])
-      (drafts_same : taken.drafts.items ≡ now.drafts.items) (limit_same : taken.limit ≡ now.limit) (pairs_same : taken.pairs ≡ now.pairs) where
-    pub turns_passed : ((setting : Setting) (begin : List State) → IsSo setting begin → AreDrafts setting begin taken.drafts.items → HasMoreComing setting begin taken.limit)
-        → (setting : Setting) (begin : List State) → IsSo setting begin → AreDrafts setting begin before.drafts.items → HasMoreComing setting begin before.limit
+  module _ (before now taken : GrowingGraph) (at : ℕ) (so : TurnsSoFar IsSo before now) (stack : now.stack.items ≡ taken.stack.items ++ at ∷ [])
+      (drafts_same : (drafts_in taken) ≡ (drafts_in now)) (limit_same : taken.limit ≡ now.limit) (pairs_same : taken.pairs ≡ now.pairs) where
+    pub turns_passed : ((setting : Setting) (begin : List State) → IsSo setting begin → AreDrafts setting begin (drafts_in taken) → HasMoreComing setting begin taken.limit)
+        → (setting : Setting) (begin : List State) → IsSo setting begin → AreDrafts setting begin (drafts_in before) → HasMoreComing setting begin before.limit
     turns_passed passed setting begin is are =
         subst (HasMoreComing setting begin) (limit_same ∙ so.limit)
         (passed setting begin is (subst (AreDrafts setting begin) (sym drafts_same) (so.drafts setting begin is are)))
 
-    module _ (after : Work) (sound : IsSoundWork after) (advances : Advances taken after) (rid : IsRid after at) where
-      pub turns_more : ((setting : Setting) (begin : List State) → IsSo setting begin → AreDrafts setting begin taken.drafts.items → AreDrafts setting begin after.drafts.items)
+    module _ (after : GrowingGraph) (sound : IsSoundSoFar after) (advances : Advances taken after) (rid : IsRid after at) where
+      pub turns_more : ((setting : Setting) (begin : List State) → IsSo setting begin → AreDrafts setting begin (drafts_in taken) → AreDrafts setting begin (drafts_in after))
           → TurnsSoFar IsSo before after
       turns_more drafts =
           record {
@@ -46,15 +45,15 @@ module _ (IsSo : Setting → List State → Type 0) where
                   (subst (λ (ks : List ℕ). Contains ks k) stack (so.listed k rtype (subst (λ (ds : List Draft). Waits ds k rtype) drafts_same old))))
               | inr has ↦ has
             ];
-            grows = grows_twice before.drafts.items taken.drafts.items after.drafts.items
-                (subst (Grows before.drafts.items) (sym drafts_same) so.grows) advances.grows;
+            grows = grows_twice (drafts_in before) (drafts_in taken) (drafts_in after)
+                (subst (Grows (drafts_in before)) (sym drafts_same) so.grows) advances.grows;
             drafts = λ setting begin is are. drafts setting begin is (subst (AreDrafts setting begin) (sym drafts_same) (so.drafts setting begin is are));
           }
         where
-          by : (k : ℕ) (rtype : RrType) → Waits after.drafts.items k rtype → Contains taken.stack.items k ⊎ Contains (at ∷ []) k → Contains after.stack.items k
+          by : (k : ℕ) (rtype : RrType) → Waits (drafts_in after) k rtype → Contains taken.stack.items k ⊎ Contains (at ∷ []) k → Contains after.stack.items k
           by k rtype waits (inl front) = advances.stays k front
           by k rtype waits (inr last) = elim (first_or_later at [] k last) [
-            | inl same ↦ subst (Contains after.stack.items) same (rid rtype (subst (λ (n : ℕ). Waits after.drafts.items n rtype) (sym same) waits))
+            | inl same ↦ subst (Contains after.stack.items) same (rid rtype (subst (λ (n : ℕ). Waits (drafts_in after) n rtype) (sym same) waits))
             | inr none ↦ absurd (none_in_nil k none)
           ]
 
@@ -69,6 +68,6 @@ module _ (IsSo : Setting → List State → Type 0) where
           of a b p q r s t u limits pairs paid one few was = omega (arith, limits, pairs, paid, one, few, was)
 
   -- at the end nothing waits
-  pub none_wait : (before now : Work) → TurnsSoFar IsSo before now → now.stack.items ≡ [] → (at : ℕ) (rtype : RrType) → Waits now.drafts.items at rtype → ⊥
+  pub none_wait : (before now : GrowingGraph) → TurnsSoFar IsSo before now → now.stack.items ≡ [] → (at : ℕ) (rtype : RrType) → Waits (drafts_in now) at rtype → ⊥
   none_wait before now so none at rtype waits =
       none_in_nil at (subst (λ (ks : List ℕ). Contains ks at) none (so.listed at rtype waits))

@@ -1,5 +1,5 @@
 -- A graph in the making. The contracts of inner calls alone cite it.
-use Rattle.std.specs.Prelude.{◌≡◌, ◌⊎◌, ℕ, Bool, true, false, List, length, map, Some, slice_get, Contains, AllPairs}
+use Rattle.std.specs.Prelude.{◌≡◌, ◌⊎◌, ℕ, Bool, true, false, List, [], ◌∷◌, length, map, Some, slice_get, Contains, AllPairs}
 use Rattle.std.specs.List.{AllZip, filter, sum_by}
 use Rattle.dns_data.specs.RrType.{types}
 use Rattle.dns_data.specs.TypeSet.{has_bit}
@@ -13,8 +13,24 @@ use Rattle.graph_form.specs.declared.node.Branch.{Branch}
 use Rattle.graph_form.specs.declared.node.Branch.TheVariants.{Go, End}
 use Rattle.graph_form.specs.declared.node.Node.{Node}
 use Rattle.net_model.proofs.Leads.{Leads}
-use Rattle.interp_graph.specs.declared.draft.Draft.{Draft}
 use Rattle.interp_graph.specs.Steps.{IsApart}
+use Rattle.interp_graph.specs.declared.node_types.NodeTypes.{NodeTypes}
+
+-- a node in the making: its state, the types that come to it, those of them that wait, and its arms for the others
+pub record Draft : Type 0 where
+  pub state : State
+  pub wanted : List Bool
+  pub waiting : List Bool
+  pub arms : List Arm
+
+-- by its state and its types
+abbrev pub draft_of : State → NodeTypes → Draft
+draft_of state its = record { state = state; wanted = its.wanted; waiting = its.waiting; arms = its.arms }
+
+abbrev pub drafts_of : List State → List NodeTypes → List Draft
+drafts_of [] all = []
+drafts_of (state ∷ states) [] = []
+drafts_of (state ∷ states) (its ∷ all) = draft_of state its ∷ drafts_of states all
 
 -- the states of drafts
 abbrev pub states_of : List Draft → List State

@@ -9,5 +9,5 @@ pub mod Asked
 pub mod Steps
 pub mod Drafts
 pub mod StateKey
-pub mod Work
+pub mod Growing
 pub mod Restricted

@@ -5,22 +5,24 @@ ghost use Rattle.dns_data.specs.Name.{wire_octets};
 ghost use Rattle.dns_data.specs.declared.rr_type.RrType.{RrType};
 ghost use Rattle.name_rules.specs.SymName.{whole};
 ghost use Rattle.net_model.specs.Nearest.{server_names};
-ghost use Rattle.net_model.specs.Step.{Setting, following};
+ghost use Rattle.net_model.specs.Step.{Setting, following, start};
 ghost use Rattle.net_model.specs.Tree.{IsReached, HasMoreThan};
 ghost use Rattle.net_model.specs.declared.walk.State.{State};
 ghost use Rattle.graph_form.specs.Graph.{pairs_of};
 ghost use Rattle.graph_form.specs.GraphOf.{IsExact, IsGraphOf};
 ghost use Rattle.interp_graph.specs.Asked.{IsAsked, StandsForOthers, ReachesMost};
-ghost use Rattle.interp_graph.specs.Drafts.{AreDrafts, Grows, node_of};
-ghost use Rattle.interp_graph.specs.Work.{IsSoundWork, AreToFollow, Waits, Advances, HasMoreComing, AwaitAll};
+ghost use Rattle.interp_graph.specs.Drafts.{AreDrafts, Grows, drafts_of, node_of};
+ghost use Rattle.interp_graph.specs.Growing.{IsSoundSoFar, AreToFollow, Waits, Advances, HasMoreComing, AwaitAll, drafts_in};
 
-use crate::draft::Draft;
 use crate::fault::GraphFault;
 use crate::following::put_forks;
 use crate::forks::forks;
-use crate::work::Work;
+use crate::growing::GrowingGraph;
+use crate::key::Key;
+use crate::node_types::NodeTypes;
 use dns_data::{JoinFault, List, Name, NoMemory, TypeSet};
 use graph_form::{Graph, Node};
+use indexmap::IndexSet;
 use name_rules::SymName;
 use net_model::State;
 use std::alloc::Global;
@@ -44,13 +46,21 @@ pub fn build(
     ensures stands_for { OnOk result (StandsForOthers hosts.now name.now name.now.tail) }
     ensures reaches_most { OnOk result (ReachesMost hosts.now rewrites name.now limit name.now.tail) }
 {
-    let query = whole_name(alloc, name)?;
     let walker = Walker::following_all(hosts, rewrites);
-    let states = starts(alloc, hosts, &query)?;
-    let mut work = Work::new(alloc, limit);
-    let starts = begin(alloc, &mut work, states)?;
-    follow(alloc, &walker, &mut work)?;
-    Ok(graph_of(alloc, work, starts)?)
+    let states = first_states(alloc, hosts, name)?;
+    let mut growing = GrowingGraph::new(alloc, limit);
+    let starts = begin(alloc, &mut growing, states)?;
+    follow(alloc, &walker, &mut growing)?;
+    Ok(graph_of(alloc, growing, starts)?)
+}
+
+/// The states in which the walks of the known name with its tail begin.
+fn first_states(alloc: Global, hosts: &Hosts<'_>, name: &SymName) -> Result<List<State>, NoMemory>
+    requires { IfSome name.now.tail (λ label. wire_octets (name.now.known ++ label ∷ []) ≤ 255) }
+    ensures { IfOk result (λ states. states ≡ start hosts.now (whole name.now)) }
+{
+    let query = whole_name(alloc, name)?;
+    starts(alloc, hosts, &query)
 }
 
 /// The known name with its tail.
@@ -72,70 +82,85 @@ fn whole_name(alloc: Global, name: &SymName) -> Result<Name, NoMemory>
 /// The numbers of the nodes of the states in which a query begins. All types come to them.
 pub(crate) fn begin(
     alloc: Global,
-    work: &mut Work,
+    growing: &mut GrowingGraph,
     states: List<State>,
 ) -> Result<List<u32>, GraphFault>
-    requires { IsSoundWork work.old }
-    ensures sound { OnOk result (IsSoundWork work.new) }
-    ensures advances { OnOk result (Advances work.old work.new) }
-    ensures starts { IfOk result (λ starts. AwaitAll work.new.drafts.items starts states) }
-    ensures drafts { OnOk result ((setting : Setting) → AreDrafts setting states work.old.drafts.items → AreDrafts setting states work.new.drafts.items) }
-    ensures passed { IsErrOf result GraphFault.StatesPassed → (setting : Setting) → AreDrafts setting states work.old.drafts.items → HasMoreComing setting states work.old.limit }
+    requires { IsSoundSoFar growing.old }
+    ensures sound { OnOk result (IsSoundSoFar growing.new) }
+    ensures advances { OnOk result (Advances growing.old growing.new) }
+    ensures starts { IfOk result (λ starts. AwaitAll (drafts_in growing.new) starts states) }
+    ensures drafts { OnOk result ((setting : Setting) → AreDrafts setting states (drafts_in growing.old) → AreDrafts setting states (drafts_in growing.new)) }
+    ensures passed { IsErrOf result GraphFault.StatesPassed → (setting : Setting) → AreDrafts setting states (drafts_in growing.old) → HasMoreComing setting states growing.old.limit }
 {
     let all = TypeSet::all();
     let mut starts = List::new(alloc);
     for state in states {
-        starts.push(work.reach(alloc, state, all)?)?;
+        starts.push(growing.reach(alloc, state, all)?)?;
     }
     Ok(starts)
 }
 
 /// Follows each type that waits at a node, while every configured server is followed.
-fn follow(alloc: Global, walker: &Walker<'_, '_>, work: &mut Work) -> Result<(), GraphFault>
-    requires sound { IsSoundWork work.old }
-    requires listed { AreToFollow work.old }
-    ensures sound { OnOk result (IsSoundWork work.new) }
-    ensures limit { OnOk result (work.new.limit ≡ work.old.limit) }
-    ensures grows { OnOk result (Grows work.old.drafts.items work.new.drafts.items) }
-    ensures none { OnOk result ((at : ℕ) (rtype : RrType) → Waits work.new.drafts.items at rtype → ⊥) }
-    ensures drafts { OnOk result ((begin : List State) → AreDrafts walker.now begin work.old.drafts.items → AreDrafts walker.now begin work.new.drafts.items) }
-    ensures passed { IsErrOf result GraphFault.StatesPassed → (begin : List State) → AreDrafts walker.now begin work.old.drafts.items → HasMoreComing walker.now begin work.old.limit }
+fn follow(
+    alloc: Global,
+    walker: &Walker<'_, '_>,
+    growing: &mut GrowingGraph,
+) -> Result<(), GraphFault>
+    requires sound { IsSoundSoFar growing.old }
+    requires listed { AreToFollow growing.old }
+    ensures sound { OnOk result (IsSoundSoFar growing.new) }
+    ensures limit { OnOk result (growing.new.limit ≡ growing.old.limit) }
+    ensures grows { OnOk result (Grows (drafts_in growing.old) (drafts_in growing.new)) }
+    ensures none { OnOk result ((at : ℕ) (rtype : RrType) → Waits (drafts_in growing.new) at rtype → ⊥) }
+    ensures drafts { OnOk result ((begin : List State) → AreDrafts walker.now begin (drafts_in growing.old) → AreDrafts walker.now begin (drafts_in growing.new)) }
+    ensures passed { IsErrOf result GraphFault.StatesPassed → (begin : List State) → AreDrafts walker.now begin (drafts_in growing.old) → HasMoreComing walker.now begin growing.old.limit }
 {
-    while let Some(at) = work.take() {
-        let draft = &work.drafts[at];
-        let forks = forks(alloc, walker, &draft.state, draft.waiting)?;
-        put_forks(alloc, work, at, forks)?;
+    while let Some(at) = growing.take() {
+        let forks = forks(alloc, walker, growing.key(at).state(), growing.waiting(at))?;
+        put_forks(alloc, growing, at, forks)?;
     }
     Ok(())
 }
 
 /// The graph whose nodes are made.
-pub(crate) fn graph_of(alloc: Global, work: Work, starts: List<u32>) -> Result<Graph, NoMemory>
-    requires sound { IsSoundWork work }
-    requires drafts { (setting : Setting) × (begin : List State) × AreDrafts setting begin work.drafts.items }
-    ensures { IfOk result (λ graph. graph ≡ record { nodes = map node_of work.drafts.items; starts = starts }) }
+pub(crate) fn graph_of(
+    alloc: Global,
+    growing: GrowingGraph,
+    starts: List<u32>,
+) -> Result<Graph, NoMemory>
+    requires sound { IsSoundSoFar growing }
+    requires drafts { (setting : Setting) × (begin : List State) × AreDrafts setting begin (drafts_in growing) }
+    ensures { IfOk result (λ graph. graph ≡ record { nodes = map node_of (drafts_in growing); starts = starts }) }
 {
-    let Work {
-        keys: _,
-        drafts,
+    let GrowingGraph {
+        states,
+        nodes,
         stack: _,
         pairs: _,
         limit: _,
-    } = work;
-    let nodes = nodes_of(alloc, List::from_vec(drafts))?;
+    } = growing;
+    let nodes = nodes_of(alloc, states, List::from_vec(nodes))?;
     Ok(Graph::new(nodes, starts))
 }
 
-/// The nodes that drafts become.
-fn nodes_of(alloc: Global, drafts: List<Draft>) -> Result<List<Node>, NoMemory>
-    ensures { IfOk result (λ nodes. nodes ≡ map node_of drafts) }
+/// The nodes of states, each with the arms of its types.
+fn nodes_of(
+    alloc: Global,
+    states: IndexSet<Key>,
+    types: List<NodeTypes>,
+) -> Result<List<Node>, NoMemory>
+    ensures { IfOk result (λ nodes. nodes ≡ map node_of (drafts_of states.keys types)) }
 {
     let mut nodes = List::new(alloc);
-    for draft in drafts {
-        nodes.push(Node {
-            state: draft.state,
-            arms: draft.arms,
-        })?;
+    let mut left = types.into_iter();
+    for key in states {
+        match left.next() {
+            Some(of_node) => nodes.push(Node {
+                state: key.into_state(),
+                arms: of_node.arms,
+            })?,
+            None => return Ok(nodes),
+        }
     }
     Ok(nodes)
 }

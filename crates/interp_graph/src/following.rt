@@ -1,6 +1,6 @@
 //! How the steps of a state are followed.
 
-ghost use Rattle.std.specs.Prelude.{◌≡◌, ◌<◌, ◌∷◌, [], List, true, false, map, vec_len, IfOk, OnOk, IsErrOf};
+ghost use Rattle.std.specs.Prelude.{◌≡◌, ◌<◌, ◌∷◌, [], List, true, false, map, length, IfOk, OnOk, IsErrOf};
 ghost use Rattle.std.specs.List.{AllZip};
 ghost use Rattle.dns_data.specs.TypeSet.{has_bit};
 ghost use Rattle.dns_data.specs.declared.rr_type.RrType.{RrType};
@@ -8,11 +8,11 @@ ghost use Rattle.net_model.specs.Step.{Setting};
 ghost use Rattle.net_model.specs.declared.walk.State.{State};
 ghost use Rattle.zone_lookup.specs.Steps.{branch_of};
 ghost use Rattle.interp_graph.specs.Drafts.{TellsBranch, AreDrafts};
-ghost use Rattle.interp_graph.specs.Work.{IsSoundWork, Advances, StillWaits, Waits, ComeOn, HasMoreComing, IsForkAt, AreForksAt, SplitWaiting, IsRid};
+ghost use Rattle.interp_graph.specs.Growing.{IsSoundSoFar, Advances, StillWaits, Waits, ComeOn, HasMoreComing, IsForkAt, AreForksAt, SplitWaiting, IsRid, drafts_in};
 
 use crate::fault::GraphFault;
+use crate::growing::GrowingGraph;
 use crate::step::Fork;
-use crate::work::Work;
 use dns_data::{List, TypeSet};
 use graph_form::{Arm, Branch};
 use std::alloc::Global;
@@ -22,95 +22,105 @@ use zone_lookup::Step;
 /// wait any more.
 pub(crate) fn put_forks(
     alloc: Global,
-    work: &mut Work,
+    growing: &mut GrowingGraph,
     at: usize,
     forks: List<Fork>,
 ) -> Result<(), GraphFault>
-    requires sound { IsSoundWork work.old }
-    requires there { at < vec_len work.old.drafts }
-    requires split { SplitWaiting work.old.drafts.items at forks }
-    ensures sound { OnOk result (IsSoundWork work.new) }
-    ensures advances { OnOk result (Advances work.old work.new) }
-    ensures rid { OnOk result (IsRid work.new at) }
-    ensures drafts { OnOk result ((setting : Setting) (begin : List State) → AreDrafts setting begin work.old.drafts.items
-        → AreForksAt setting work.old.drafts.items at forks → AreDrafts setting begin work.new.drafts.items) }
+    requires sound { IsSoundSoFar growing.old }
+    requires there { at < length (drafts_in growing.old) }
+    requires split { SplitWaiting (drafts_in growing.old) at forks }
+    ensures sound { OnOk result (IsSoundSoFar growing.new) }
+    ensures advances { OnOk result (Advances growing.old growing.new) }
+    ensures rid { OnOk result (IsRid growing.new at) }
+    ensures drafts { OnOk result ((setting : Setting) (begin : List State) → AreDrafts setting begin (drafts_in growing.old)
+        → AreForksAt setting (drafts_in growing.old) at forks → AreDrafts setting begin (drafts_in growing.new)) }
     ensures passed { IsErrOf result GraphFault.StatesPassed → (setting : Setting) (begin : List State)
-        → AreDrafts setting begin work.old.drafts.items → AreForksAt setting work.old.drafts.items at forks
-        → HasMoreComing setting begin work.old.limit }
+        → AreDrafts setting begin (drafts_in growing.old) → AreForksAt setting (drafts_in growing.old) at forks
+        → HasMoreComing setting begin growing.old.limit }
 {
     for fork in forks {
-        put_fork(alloc, work, at, fork)?;
+        put_fork(alloc, growing, at, fork)?;
     }
     Ok(())
 }
 
 /// Gives a node the arm that one fork of its state tells.
-fn put_fork(alloc: Global, work: &mut Work, at: usize, fork: Fork) -> Result<(), GraphFault>
-    requires sound { IsSoundWork work.old }
-    requires there { at < vec_len work.old.drafts }
-    requires waits { (rtype : RrType) → has_bit fork.types rtype ≡ true → Waits work.old.drafts.items at rtype }
-    ensures sound { OnOk result (IsSoundWork work.new) }
-    ensures advances { OnOk result (Advances work.old work.new) }
-    ensures done { OnOk result ((rtype : RrType) → has_bit fork.types rtype ≡ true → Waits work.new.drafts.items at rtype → ⊥) }
-    ensures others { OnOk result ((rtype : RrType) → has_bit fork.types rtype ≡ false → Waits work.old.drafts.items at rtype → Waits work.new.drafts.items at rtype) }
-    ensures drafts { OnOk result ((setting : Setting) (begin : List State) → AreDrafts setting begin work.old.drafts.items
-        → IsForkAt setting work.old.drafts.items at fork → AreDrafts setting begin work.new.drafts.items) }
+fn put_fork(
+    alloc: Global,
+    growing: &mut GrowingGraph,
+    at: usize,
+    fork: Fork,
+) -> Result<(), GraphFault>
+    requires sound { IsSoundSoFar growing.old }
+    requires there { at < length (drafts_in growing.old) }
+    requires waits { (rtype : RrType) → has_bit fork.types rtype ≡ true → Waits (drafts_in growing.old) at rtype }
+    ensures sound { OnOk result (IsSoundSoFar growing.new) }
+    ensures advances { OnOk result (Advances growing.old growing.new) }
+    ensures done { OnOk result ((rtype : RrType) → has_bit fork.types rtype ≡ true → Waits (drafts_in growing.new) at rtype → ⊥) }
+    ensures others { OnOk result ((rtype : RrType) → has_bit fork.types rtype ≡ false → Waits (drafts_in growing.old) at rtype → Waits (drafts_in growing.new) at rtype) }
+    ensures drafts { OnOk result ((setting : Setting) (begin : List State) → AreDrafts setting begin (drafts_in growing.old)
+        → IsForkAt setting (drafts_in growing.old) at fork → AreDrafts setting begin (drafts_in growing.new)) }
     ensures passed { IsErrOf result GraphFault.StatesPassed → (setting : Setting) (begin : List State)
-        → AreDrafts setting begin work.old.drafts.items → IsForkAt setting work.old.drafts.items at fork
-        → HasMoreComing setting begin work.old.limit }
+        → AreDrafts setting begin (drafts_in growing.old) → IsForkAt setting (drafts_in growing.old) at fork
+        → HasMoreComing setting begin growing.old.limit }
 {
     let types = fork.types;
     if types.first().is_none() {
         return Ok(());
     }
-    let branches = branches(alloc, work, types, fork.steps)?;
-    work.put_arm(at, Arm { types, branches })?;
+    let branches = branches(alloc, growing, types, fork.steps)?;
+    growing.put_arm(at, Arm { types, branches })?;
     Ok(())
 }
 
 /// The branches for some types by the steps of a state. They lead to the nodes of the next states, to which the types come.
 pub(crate) fn branches(
     alloc: Global,
-    work: &mut Work,
+    growing: &mut GrowingGraph,
     types: TypeSet,
     steps: List<Step>,
 ) -> Result<List<Branch>, GraphFault>
-    requires sound { IsSoundWork work.old }
+    requires sound { IsSoundSoFar growing.old }
     requires some { (rtype : RrType) × (has_bit types rtype ≡ true) }
-    ensures sound { OnOk result (IsSoundWork work.new) }
-    ensures advances { OnOk result (Advances work.old work.new) }
-    ensures still { OnOk result (StillWaits work.old work.new) }
-    ensures told { IfOk result (λ branches. AllZip (TellsBranch work.new.drafts.items types) branches (map branch_of steps)) }
-    ensures drafts { OnOk result ((setting : Setting) (begin : List State) → AreDrafts setting begin work.old.drafts.items
-        → ComeOn setting begin types (map branch_of steps) → AreDrafts setting begin work.new.drafts.items) }
+    ensures sound { OnOk result (IsSoundSoFar growing.new) }
+    ensures advances { OnOk result (Advances growing.old growing.new) }
+    ensures still { OnOk result (StillWaits growing.old growing.new) }
+    ensures told { IfOk result (λ branches. AllZip (TellsBranch (drafts_in growing.new) types) branches (map branch_of steps)) }
+    ensures drafts { OnOk result ((setting : Setting) (begin : List State) → AreDrafts setting begin (drafts_in growing.old)
+        → ComeOn setting begin types (map branch_of steps) → AreDrafts setting begin (drafts_in growing.new)) }
     ensures passed { IsErrOf result GraphFault.StatesPassed → (setting : Setting) (begin : List State)
-        → AreDrafts setting begin work.old.drafts.items → ComeOn setting begin types (map branch_of steps)
-        → HasMoreComing setting begin work.old.limit }
+        → AreDrafts setting begin (drafts_in growing.old) → ComeOn setting begin types (map branch_of steps)
+        → HasMoreComing setting begin growing.old.limit }
 {
     let mut branches = List::new(alloc);
     for step in steps {
-        branches.push(branch(alloc, work, types, step)?)?;
+        branches.push(branch(alloc, growing, types, step)?)?;
     }
     Ok(branches)
 }
 
 /// The branch for some types by one step of a state.
-fn branch(alloc: Global, work: &mut Work, types: TypeSet, step: Step) -> Result<Branch, GraphFault>
-    requires sound { IsSoundWork work.old }
+fn branch(
+    alloc: Global,
+    growing: &mut GrowingGraph,
+    types: TypeSet,
+    step: Step,
+) -> Result<Branch, GraphFault>
+    requires sound { IsSoundSoFar growing.old }
     requires some { (rtype : RrType) × (has_bit types rtype ≡ true) }
-    ensures sound { OnOk result (IsSoundWork work.new) }
-    ensures advances { OnOk result (Advances work.old work.new) }
-    ensures still { OnOk result (StillWaits work.old work.new) }
-    ensures told { IfOk result (λ branch. TellsBranch work.new.drafts.items types branch (branch_of step)) }
-    ensures drafts { OnOk result ((setting : Setting) (begin : List State) → AreDrafts setting begin work.old.drafts.items
-        → ComeOn setting begin types (branch_of step ∷ []) → AreDrafts setting begin work.new.drafts.items) }
+    ensures sound { OnOk result (IsSoundSoFar growing.new) }
+    ensures advances { OnOk result (Advances growing.old growing.new) }
+    ensures still { OnOk result (StillWaits growing.old growing.new) }
+    ensures told { IfOk result (λ branch. TellsBranch (drafts_in growing.new) types branch (branch_of step)) }
+    ensures drafts { OnOk result ((setting : Setting) (begin : List State) → AreDrafts setting begin (drafts_in growing.old)
+        → ComeOn setting begin types (branch_of step ∷ []) → AreDrafts setting begin (drafts_in growing.new)) }
     ensures passed { IsErrOf result GraphFault.StatesPassed → (setting : Setting) (begin : List State)
-        → AreDrafts setting begin work.old.drafts.items → ComeOn setting begin types (branch_of step ∷ [])
-        → HasMoreComing setting begin work.old.limit }
+        → AreDrafts setting begin (drafts_in growing.old) → ComeOn setting begin types (branch_of step ∷ [])
+        → HasMoreComing setting begin growing.old.limit }
 {
     match step {
         Step::Go(hop, state) => {
-            let to = work.reach(alloc, state, types)?;
+            let to = growing.reach(alloc, state, types)?;
             Ok(Branch::Go { hop, to })
         }
         Step::End(hop, leaf) => Ok(Branch::End { hop, leaf }),

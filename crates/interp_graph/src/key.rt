@@ -39,6 +39,13 @@ impl Key {
     {
         &self.state
     }
+
+    /// The state, by value.
+    pub fn into_state(self) -> State
+        ensures { result ≡ self }
+    {
+        self.state
+    }
 }
 
 impl PartialEq for Key {

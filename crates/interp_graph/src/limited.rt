@@ -4,7 +4,7 @@ ghost use Rattle.std.specs.Prelude.{◌≡◌, ◌≢◌, false, true, List, Con
 ghost use Rattle.std.specs.List.{AllZip};
 ghost use Rattle.dns_data.specs.TypeSet.{has_bit};
 ghost use Rattle.dns_data.specs.declared.rr_type.RrType.{RrType};
-ghost use Rattle.net_model.specs.Step.{Setting, End, may_follow};
+ghost use Rattle.net_model.specs.Step.{Setting, Go, End, may_follow};
 ghost use Rattle.net_model.specs.declared.place.Cut.{Cut};
 ghost use Rattle.net_model.specs.declared.walk.Hop.TheVariants as hop_as;
 ghost use Rattle.net_model.specs.declared.walk.Leaf.TheVariants as leaf_as;
@@ -36,12 +36,7 @@ pub(crate) struct Limited<'g, 'a> {
 
 impl<'g, 'a> Limited<'g, 'a> {
     /// What a state of the graph leads to for these types, each of which its node has.
-    pub fn forks(
-        &self,
-        alloc: Global,
-        state: &State,
-        types: TypeSet,
-    ) -> Result<List<Fork>, NoMemory>
+    pub fn forks(&self, alloc: Global, state: &Key, types: TypeSet) -> Result<List<Fork>, NoMemory>
         requires numbered { IsNumbered self.now.numbers.keys self.now.graph.now }
         requires built { (setting : Setting) × (begin : List State) × IsRestriction self.now.hosts.now self.now.graph.now self.now.followed.now setting begin }
         requires has { HasTypes self.now.graph.now types state.now }
@@ -52,8 +47,7 @@ impl<'g, 'a> Limited<'g, 'a> {
     {
         // The number of nodes is read, so that it is known here that it is a u32.
         let _ = self.graph.nodes();
-        let key = Key::new(state.copy(alloc)?);
-        match self.numbers.get_index_of(&key) {
+        match self.numbers.get_index_of(state) {
             Some(at) => self.node_forks(alloc, self.graph.node(at as u32), types),
             None => Ok(List::new(alloc)),
         }
@@ -109,7 +103,7 @@ impl<'g, 'a> Limited<'g, 'a> {
         match branch {
             Branch::Go { hop, to } => match self.unknown(hop) {
                 Some(cut) => no_address(alloc, cut),
-                None => Ok(Step::Go(hop.copy(alloc)?, self.graph.node(*to).state.copy(alloc)?)),
+                None => gone(alloc, hop, &self.graph.node(*to).state),
             },
             Branch::End {
                 hop: Some(hop),
@@ -128,7 +122,9 @@ impl<'g, 'a> Limited<'g, 'a> {
                 return no_address(alloc, cut);
             }
         }
-        Ok(Step::End(Some(hop.copy(alloc)?), leaf.copy(alloc)?))
+        let hop = hop.copy(alloc)?;
+        let leaf = leaf.copy(alloc)?;
+        Ok(Step::End(Some(hop), leaf))
     }
 
     /// The name server of a referral, where it may not be followed.
@@ -153,10 +149,18 @@ impl<'g, 'a> Limited<'g, 'a> {
 fn no_address(alloc: Global, cut: &Cut) -> Result<Step, NoMemory>
     ensures { IfOk result (λ step. branch_of step ≡ End (Some (hop_as.Refer cut.now)) (leaf_as.NoAddress cut.now.ns)) }
 {
-    Ok(Step::End(
-        Some(Hop::Refer(cut.copy(alloc)?)),
-        Leaf::NoAddress(cut.ns.copy(alloc)?),
-    ))
+    let ns = cut.ns.copy(alloc)?;
+    let cut = cut.copy(alloc)?;
+    Ok(Step::End(Some(Hop::Refer(cut)), Leaf::NoAddress(ns)))
+}
+
+/// The step to a state.
+fn gone(alloc: Global, hop: &Hop, to: &State) -> Result<Step, NoMemory>
+    ensures { IfOk result (λ step. branch_of step ≡ Go hop.now to.now) }
+{
+    let hop = hop.copy(alloc)?;
+    let to = to.copy(alloc)?;
+    Ok(Step::Go(hop, to))
 }
 
 /// The numbers of a graph's nodes by their states, no two of which are equal.

@@ -9,13 +9,13 @@ ghost use Rattle.graph_form.specs.GraphOf.{IsExactIn, IsGraphOf};
 ghost use Rattle.interp_graph.specs.Asked.{IsBuilt};
 ghost use Rattle.interp_graph.specs.Drafts.{AreDrafts, Grows};
 ghost use Rattle.interp_graph.specs.Restricted.{IsNumbered, IsRestriction};
-ghost use Rattle.interp_graph.specs.Work.{IsSoundWork, AreToFollow, Waits, HasMoreComing, AwaitAll};
+ghost use Rattle.interp_graph.specs.Growing.{IsSoundSoFar, AreToFollow, Waits, HasMoreComing, AwaitAll, drafts_in};
 
 use crate::building::{begin, graph_of};
 use crate::fault::GraphFault;
 use crate::following::put_forks;
+use crate::growing::GrowingGraph;
 use crate::limited::{Limited, numbers_of, starts_of};
-use crate::work::Work;
 use dns_data::{List, Name, NoMemory};
 use graph_form::Graph;
 use net_model::State;
@@ -42,10 +42,22 @@ pub fn restrict(
         followed,
         numbers: numbers_of(alloc, graph)?,
     };
-    let states = starts_of(alloc, graph)?;
-    let mut work = Work::new(alloc, graph.pairs());
-    match follow_all(alloc, &limited, &mut work, states) {
-        Ok(starts) => graph_of(alloc, work, starts),
+    restricted(alloc, &limited)
+}
+
+/// Of a graph that was built, the graph of the same query's walks while some servers are followed.
+fn restricted(alloc: Global, limited: &Limited<'_, '_>) -> Result<Graph, NoMemory>
+    requires numbered { IsNumbered limited.now.numbers.keys limited.now.graph.now }
+    requires built { (rewrites : ℕ) × (query : Labels) × IsBuilt limited.now.hosts.now rewrites query limited.now.graph.now }
+    ensures graph { IfOk result (λ restricted. (rewrites : ℕ) (query : Labels) → IsBuilt limited.now.hosts.now rewrites query limited.now.graph.now
+        → IsGraphOf (following limited.now.hosts.now rewrites limited.now.followed.now) query restricted) }
+    ensures exact { IfOk result (λ restricted. (rewrites : ℕ) (query : Labels) → IsBuilt limited.now.hosts.now rewrites query limited.now.graph.now
+        → IsExactIn (following limited.now.hosts.now rewrites limited.now.followed.now) query restricted) }
+{
+    let states = starts_of(alloc, limited.graph)?;
+    let mut growing = GrowingGraph::new(alloc, limited.graph.pairs());
+    match follow_all(alloc, limited, &mut growing, states) {
+        Ok(starts) => graph_of(alloc, growing, starts),
         Err(GraphFault::NoMemory) => Err(NoMemory),
         Err(GraphFault::StatesPassed) => unreachable!(),
     }
@@ -55,48 +67,51 @@ pub fn restrict(
 fn follow_all(
     alloc: Global,
     limited: &Limited<'_, '_>,
-    work: &mut Work,
+    growing: &mut GrowingGraph,
     states: List<State>,
 ) -> Result<List<u32>, GraphFault>
-    requires sound { IsSoundWork work.old }
-    requires none { work.old.drafts.items ≡ [] }
+    requires sound { IsSoundSoFar growing.old }
+    requires none { (drafts_in growing.old) ≡ [] }
     requires numbered { IsNumbered limited.now.numbers.keys limited.now.graph.now }
     requires built { (setting : Setting) × IsRestriction limited.now.hosts.now limited.now.graph.now limited.now.followed.now setting states }
-    ensures sound { OnOk result (IsSoundWork work.new) }
-    ensures starts { IfOk result (λ starts. AwaitAll work.new.drafts.items starts states) }
-    ensures none { OnOk result ((at : ℕ) (rtype : RrType) → Waits work.new.drafts.items at rtype → ⊥) }
+    ensures sound { OnOk result (IsSoundSoFar growing.new) }
+    ensures starts { IfOk result (λ starts. AwaitAll (drafts_in growing.new) starts states) }
+    ensures none { OnOk result ((at : ℕ) (rtype : RrType) → Waits (drafts_in growing.new) at rtype → ⊥) }
     ensures drafts { OnOk result ((setting : Setting)
-        → IsRestriction limited.now.hosts.now limited.now.graph.now limited.now.followed.now setting states → AreDrafts setting states work.new.drafts.items) }
+        → IsRestriction limited.now.hosts.now limited.now.graph.now limited.now.followed.now setting states → AreDrafts setting states (drafts_in growing.new)) }
     ensures passed { IsErrOf result GraphFault.StatesPassed → (setting : Setting)
-        → IsRestriction limited.now.hosts.now limited.now.graph.now limited.now.followed.now setting states → HasMoreComing setting states work.old.limit }
+        → IsRestriction limited.now.hosts.now limited.now.graph.now limited.now.followed.now setting states → HasMoreComing setting states growing.old.limit }
 {
-    let starts = begin(alloc, work, states)?;
-    follow(alloc, limited, work)?;
+    let starts = begin(alloc, growing, states)?;
+    follow(alloc, limited, growing)?;
     Ok(starts)
 }
 
 /// Follows each type that waits at a node, while some servers are followed.
-fn follow(alloc: Global, limited: &Limited<'_, '_>, work: &mut Work) -> Result<(), GraphFault>
-    requires sound { IsSoundWork work.old }
-    requires listed { AreToFollow work.old }
+fn follow(
+    alloc: Global,
+    limited: &Limited<'_, '_>,
+    growing: &mut GrowingGraph,
+) -> Result<(), GraphFault>
+    requires sound { IsSoundSoFar growing.old }
+    requires listed { AreToFollow growing.old }
     requires numbered { IsNumbered limited.now.numbers.keys limited.now.graph.now }
     requires built { (setting : Setting) × (begin : List State)
-        × IsRestriction limited.now.hosts.now limited.now.graph.now limited.now.followed.now setting begin × AreDrafts setting begin work.old.drafts.items }
-    ensures sound { OnOk result (IsSoundWork work.new) }
-    ensures limit { OnOk result (work.new.limit ≡ work.old.limit) }
-    ensures grows { OnOk result (Grows work.old.drafts.items work.new.drafts.items) }
-    ensures none { OnOk result ((at : ℕ) (rtype : RrType) → Waits work.new.drafts.items at rtype → ⊥) }
+        × IsRestriction limited.now.hosts.now limited.now.graph.now limited.now.followed.now setting begin × AreDrafts setting begin (drafts_in growing.old) }
+    ensures sound { OnOk result (IsSoundSoFar growing.new) }
+    ensures limit { OnOk result (growing.new.limit ≡ growing.old.limit) }
+    ensures grows { OnOk result (Grows (drafts_in growing.old) (drafts_in growing.new)) }
+    ensures none { OnOk result ((at : ℕ) (rtype : RrType) → Waits (drafts_in growing.new) at rtype → ⊥) }
     ensures drafts { OnOk result ((setting : Setting) (begin : List State)
         → IsRestriction limited.now.hosts.now limited.now.graph.now limited.now.followed.now setting begin
-        → AreDrafts setting begin work.old.drafts.items → AreDrafts setting begin work.new.drafts.items) }
+        → AreDrafts setting begin (drafts_in growing.old) → AreDrafts setting begin (drafts_in growing.new)) }
     ensures passed { IsErrOf result GraphFault.StatesPassed → (setting : Setting) (begin : List State)
         → IsRestriction limited.now.hosts.now limited.now.graph.now limited.now.followed.now setting begin
-        → AreDrafts setting begin work.old.drafts.items → HasMoreComing setting begin work.old.limit }
+        → AreDrafts setting begin (drafts_in growing.old) → HasMoreComing setting begin growing.old.limit }
 {
-    while let Some(at) = work.take() {
-        let draft = &work.drafts[at];
-        let forks = limited.forks(alloc, &draft.state, draft.waiting)?;
-        put_forks(alloc, work, at, forks)?;
+    while let Some(at) = growing.take() {
+        let forks = limited.forks(alloc, growing.key(at), growing.waiting(at))?;
+        put_forks(alloc, growing, at, forks)?;
     }
     Ok(())
 }

@@ -43,6 +43,7 @@ StaysTold-placed (Ok _) old new name octets failures none put kept =
 StaysTold-placed (Err _) old new name octets failures none put kept =
     λ other. inr (ap (λ after. tells after other) kept)
 
+-- of each other name the same is told, whether octets were put under the name or, for want of memory, not
 pub SameElsewhere-placed : {T E : Type 0} (r : Result T E) (old new : FileMap) (name octets : List ℕ) (failures : ℕ) → OnOk r (new ≡ with_octets old name octets failures) → OnErr r (new ≡ old) → SameElsewhere name (tells old) (tells new)
 SameElsewhere-placed (Ok _) old new name octets failures put kept =
     subst (λ after. SameElsewhere name (tells old) (tells after)) (sym put) (SameElsewhere-put old name octets failures)

@@ -1,5 +1,5 @@
 pub mod Disk
+pub mod FilesByName
 pub mod Loops
 pub mod Memory
-pub mod Shelves
 pub mod Told

@@ -11,6 +11,7 @@ pub record FilesOnDisk : Type 0 where
   -- how many calls failed, at any name
   pub failures : ℕ
 
+-- how files on a disk are coded as one plain value, and read back from it
 abbrev pub disk_code : Coded FilesOnDisk
 disk_code =
     code_by (FileMap × ℕ) (coded× file_map_code coded_ℕ) (λ d. (d.files, d.failures)) (λ p. record { files = p.0; failures = p.1 }) (λ _. refl)

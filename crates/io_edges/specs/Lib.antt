@@ -4,4 +4,4 @@ pub mod Files
 pub mod MemoryFiles
 pub mod MemorySink
 pub mod OutSink
-pub mod Shelf
+pub mod NamedFiles

@@ -22,6 +22,7 @@ stored_code =
 abbrev pub FileMap : Type 0
 FileMap = map.FinMap (slice_cmp nat_cmp) Stored
 
+-- how files by name are coded as one plain value, and read back from it
 abbrev pub file_map_code : Coded FileMap
 file_map_code = map.code (coded_list coded_ℕ) stored_code
 
@@ -53,6 +54,7 @@ pub record FilesInMemory : Type 0 where
   -- how many calls there were
   pub calls : ℕ
 
+-- how files in memory are coded as one plain value, and read back from it
 abbrev pub files_code : Coded FilesInMemory
 files_code =
     code_by ((FileMap × ℕ) × (List ℕ × ℕ)) (coded× (coded× file_map_code coded_ℕ) (coded× (coded_list coded_ℕ) coded_ℕ))

@@ -16,6 +16,7 @@ pub record SinkInMemory : Type 0 where
   -- how many calls there were
   pub calls : ℕ
 
+-- how an output in memory is coded as one plain value, and read back from it
 abbrev pub sink_code : Coded SinkInMemory
 sink_code =
     code_by ((List ℕ × ℕ) × (ℕ × (List ℕ × ℕ))) (coded× (coded× (coded_list coded_ℕ) coded_ℕ) (coded× coded_ℕ (coded× (coded_list coded_ℕ) coded_ℕ)))

@@ -10,7 +10,7 @@ use crate::counts::raise;
 use crate::failed::Failed;
 use crate::files::Files;
 use crate::fill::fill;
-use crate::shelf::Shelf;
+use crate::named_files::NamedFiles;
 use dns_data::Octets;
 use std::marker::Model;
 use std::{fs, rt};
@@ -22,7 +22,7 @@ use std::{fs, rt};
 #[derive(Drop)]
 pub struct DiskFiles<'a, R: rt::Files + AllocGlobal> {
     rt: &'a R,
-    shelf: Shelf,
+    files: NamedFiles,
     failures: u64,
 }
 
@@ -34,7 +34,7 @@ impl<'a, R: rt::Files + AllocGlobal> Model for DiskFiles<'a, R> {
     ghost coded = { disk_code };
 
     ghost view = { λ d. record {
-      files = d.shelf;
+      files = d.files;
       failures = d.failures;
     } };
 }
@@ -46,7 +46,7 @@ impl<'a, R: rt::Files + AllocGlobal> DiskFiles<'a, R> {
     {
         DiskFiles {
             rt,
-            shelf: Shelf::new(rt.alloc()),
+            files: NamedFiles::new(rt.alloc()),
             failures: 0,
         }
     }
@@ -57,13 +57,13 @@ impl<'a, R: rt::Files + AllocGlobal> DiskFiles<'a, R> {
         ensures others { SameElsewhere name.now (told_by_disk self.old) (told_by_disk self.new) }
         ensures failures { self.new.failures ≡ self.old.failures }
     {
-        if self.shelf.get(name).is_some() {
+        if self.files.get(name).is_some() {
             return Ok(());
         }
         let Ok(octets) = fs::read(self.rt, name) else {
             return Err(Failed);
         };
-        match self.shelf.place(name, Octets::from_vec(octets), 0) {
+        match self.files.place(name, Octets::from_vec(octets), 0) {
             Ok(()) => Ok(()),
             Err(_) => Err(Failed),
         }
@@ -77,7 +77,7 @@ impl<R: rt::Files + AllocGlobal> Files for DiskFiles<'_, R> {
 
     fn read(&mut self, name: &str, at: u64, into: &mut [u8]) -> Result<usize, Failed> {
         let kept = self.keep(name);
-        match self.shelf.get(name) {
+        match self.files.get(name) {
             Some(file) if kept.is_ok() => Ok(fill(file.octets.items(), at, into)),
             _ => {
                 self.failures = raise(self.failures);

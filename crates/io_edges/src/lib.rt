@@ -20,8 +20,8 @@ mod gate;
 mod laws;
 mod memory_files;
 mod memory_sink;
+mod named_files;
 mod out_sink;
-mod shelf;
 mod sink;
 
 pub use disk_files::DiskFiles;

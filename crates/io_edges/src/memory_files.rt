@@ -10,7 +10,7 @@ use crate::counts::raise;
 use crate::failed::Failed;
 use crate::files::Files;
 use crate::fill::fill;
-use crate::shelf::Shelf;
+use crate::named_files::NamedFiles;
 use dns_data::{List, NoMemory};
 use std::alloc::Global;
 use std::marker::Model;
@@ -19,7 +19,7 @@ use std::marker::Model;
 /// isn't held, and nowhere else.
 #[derive(Drop)]
 pub struct MemoryFiles {
-    shelf: Shelf,
+    files: NamedFiles,
     absent: u64,
     calls: Calls,
 }
@@ -32,7 +32,7 @@ impl Model for MemoryFiles {
     ghost coded = { files_code };
 
     ghost view = { λ m. record {
-      files = m.shelf;
+      files = m.files;
       absent = m.absent;
       fails = m.calls.fails;
       calls = m.calls.made;
@@ -46,7 +46,7 @@ impl MemoryFiles {
         ensures { result ≡ no_files fails }
     {
         MemoryFiles {
-            shelf: Shelf::new(alloc),
+            files: NamedFiles::new(alloc),
             absent: 0,
             calls: Calls::new(fails),
         }
@@ -60,11 +60,11 @@ impl MemoryFiles {
         ensures err { OnErr result (self.new ≡ self.old) }
         ensures counts { (other : List ℕ) → failures_of self.new other ≡ failures_of self.old other }
     {
-        let failures = match self.shelf.get(name) {
-            Some(kept) => kept.failures,
+        let failures = match self.files.get(name) {
+            Some(file) => file.failures,
             None => self.absent,
         };
-        self.shelf.put(name, bytes, failures)
+        self.files.put(name, bytes, failures)
     }
 
     /// Counts one failure more at the name.
@@ -74,7 +74,7 @@ impl MemoryFiles {
         ensures same_told { told_by self.new ≡ told_by self.old }
         ensures never_fall { NoneFell (failures_of self.old) (failures_of self.new) }
     {
-        if !self.shelf.count_failure(name) {
+        if !self.files.count_failure(name) {
             self.absent = raise(self.absent);
         }
     }
@@ -105,8 +105,8 @@ impl Files for MemoryFiles {
         ensures after { self.new ≡ after_call self.old name.now }
     {
         let listed = self.calls.count();
-        match self.shelf.get(name) {
-            Some(kept) if !listed => Ok(fill(kept.octets.items(), at, into)),
+        match self.files.get(name) {
+            Some(file) if !listed => Ok(fill(file.octets.items(), at, into)),
             _ => {
                 self.count_failure(name);
                 Err(Failed)

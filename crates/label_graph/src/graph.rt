@@ -79,6 +79,7 @@ impl LabelGraph {
         ensures { IfOk result (IsLiveSet self.now []) }
     {
         let root = self.table.base.root();
+        // Named, since the proof speaks of the live set that comes where memory suffices.
         let live = close(alloc, &self.table, &self.reads, LiveSet::one(root))?;
         Ok(live)
     }
@@ -89,6 +90,7 @@ impl LabelGraph {
         ensures { IfOk result (λ next. (name : Labels) → IsLiveSet self.now name live.now → IsLiveSet self.now (name ++ label.now ∷ []) next) }
     {
         let places = step(alloc, &self.table.base, live.places(), label.items())?;
+        // Named, since the proof speaks of the live set that comes where memory suffices.
         let next = close(alloc, &self.table, &self.reads, places)?;
         Ok(next)
     }

@@ -35,10 +35,15 @@ pub(crate) fn next_names(
     ensures order { IfOk result (λ names. AllPairs (λ a b. label_cmp a b ≡ Less) (map (λ next. next.label) names.items)) }
     ensures live { IfOk result (λ names. All (λ next. IsLiveBelow table.now reads.now places.now next.label next.live) names.items) }
 {
-    match places {
-        [place] => next_of_one(alloc, table, reads, *place),
-        _ => next_of_all(alloc, table, reads, places),
+    if let [place] = places {
+        return next_of_one(alloc, table, reads, *place);
     }
+    let labels = labels_below(alloc, &table.base, places)?;
+    let mut names = Vec::with_capacity(alloc, labels.len())?;
+    for label in labels.as_slice() {
+        names.push(next_with(alloc, table, reads, places, label)?)?;
+    }
+    Ok(names)
 }
 
 /// The labels below a place, which stand in order there, with what is live there.
@@ -76,27 +81,6 @@ fn next_at(
     let label = Label::with_octets(alloc, table.base.last_label(place, other))?;
     let live = close(alloc, table, reads, LiveSet::one(other))?;
     Ok(NextName { label, live })
-}
-
-/// The labels below all these places, put in order, with what is live there.
-fn next_of_all(
-    alloc: Global,
-    table: &TargetTable,
-    reads: &Rows,
-    places: &[usize],
-) -> Result<Vec<NextName>, NoMemory>
-    requires within { All (λ place. place < length table.now.names) places.now }
-    requires len { length reads.now ≡ length table.now.fronts }
-    ensures labels { IfOk result (λ names. (label : List ℕ) → Contains (map (λ next. next.label) names.items) label ↔ SomeItem (HasChild table.now.names label) places.now) }
-    ensures order { IfOk result (λ names. AllPairs (λ a b. label_cmp a b ≡ Less) (map (λ next. next.label) names.items)) }
-    ensures live { IfOk result (λ names. All (λ next. IsLiveBelow table.now reads.now places.now next.label next.live) names.items) }
-{
-    let labels = labels_below(alloc, &table.base, places)?;
-    let mut names = Vec::with_capacity(alloc, labels.len())?;
-    for label in labels.as_slice() {
-        names.push(next_with(alloc, table, reads, places, label)?)?;
-    }
-    Ok(names)
 }
 
 /// A label with what is live where it is put below these places.

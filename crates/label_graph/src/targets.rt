@@ -114,6 +114,7 @@ fn with_pair(
         front: target,
         base: owner,
     };
+    // Named, since the proof speaks of the links that come where memory suffices.
     let links = links.with(alloc, link)?;
     Ok(links)
 }

@@ -49,6 +49,7 @@ same_by octet text false false false false false true _ = refl
 same_by octet text false false false false false false true = refl
 same_by octet text false false false false false false false = refl
 
+-- the pieces of a text are those that the kind of its first octet tells
 pub pieces_by_kind : (octet : ℕ) (text : List ℕ) → pieces (octet ∷ text) ≡ by_kind (kind octet) octet text
 unfolding kind
 pieces_by_kind octet text =
@@ -56,6 +57,7 @@ pieces_by_kind octet text =
 
 -- ---- octets of a token, and more of it
 
+-- octets of a token in front of more of it are all of them in front of what is behind
 pub before_before : (quoted : Bool) (octets more : List ℕ) (rest : List Piece) → before quoted octets (before quoted more rest) ≡ before quoted (octets ++ more) rest
 before_before false octets more (Written false others ∷ rest) = ap (λ (w : List ℕ). Written false w ∷ rest) (sym (append_assoc octets more others))
 before_before true octets more (Written true others ∷ rest) = ap (λ (w : List ℕ). Written true w ∷ rest) (sym (append_assoc octets more others))

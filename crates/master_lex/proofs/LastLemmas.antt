@@ -47,6 +47,7 @@ end_by (Faulty f) s tidy none empty = absurd cc
 end_here : (s : State) → IsTidy s → last_fault s.position ≡ None → is_empty (whole s).tokens ≡ true → LastTaken s (whole s) answers.End
 end_here s tidy none empty = end_by s.position.mode s tidy none empty
 
+-- where a text ends without a fault and no token is left, there is no last entry to take
 pub end_taken : (s w : State) → IsTidy s → last_fault s.position ≡ None → w ≡ whole s → is_empty w.tokens ≡ true → LastTaken s w answers.End
 end_taken s w tidy none e empty = rw e (end_here s tidy none (rw e at empty))
 
@@ -65,5 +66,7 @@ entry_by (Faulty f) s tidy none some = absurd cc
 entry_here : (s : State) → IsTidy s → last_fault s.position ≡ None → is_empty (whole s).tokens ≡ false → LastTaken s (after_last (whole s)) (answers.Entry (entry_of (whole s)))
 entry_here s tidy none some = entry_by s.position.mode s tidy none some
 
+-- where a text ends without a fault and a token is left, the entry of the tokens is the last one, and nothing is left behind
+-- it
 pub entry_taken : (s w n : State) (entry : Entry) → IsTidy s → last_fault s.position ≡ None → w ≡ whole s → is_empty w.tokens ≡ false → n ≡ after_last w → entry ≡ entry_of w → LastTaken s n (answers.Entry entry)
 entry_taken s w n entry tidy none e some to is = rw (to, is, e) (entry_here s tidy none (rw e at some))

@@ -118,6 +118,7 @@ kept_between s s' octets m count k = record {
   passed = k.kept ∙ sym (between_run s octets count m k.plain k.short);
 }
 
+-- plain octets that are kept in a token, quoted or not, were passed over
 pub kept_in_token : (q : Bool) (s s' : State) (octets : List ℕ) → s.position.mode ≡ InToken q Outside → (count : ℕ) → KeptPlain s s' octets q count → PassedFirst s s' octets count
 kept_in_token q s s' octets m count k = record {
   within = omega (arith, k.plain, prefix_len-le-length (λ octet. stands q (kind octet)) octets);
@@ -136,6 +137,7 @@ comment_run s (c ∷ cs) (suc n) h =
       same LineFeed h = absurd cc
       same _ h = refl
 
+-- the octets in front of the line feed that ends a comment are passed over, and change nothing
 pub comment_first : (s : State) (octets : List ℕ) (count : ℕ) → s.position.mode ≡ Comment → count ≡ prefix_len (λ octet. not (is_feed (kind octet))) octets → PassedFirst s s octets count
 comment_first s octets count m e =
     let same = ap (with_mode s) m in
@@ -153,6 +155,7 @@ blank_run s (c ∷ cs) (suc n) m h =
     let e = passed_between s c m ∙ ap (λ k. between_by k s c) (blank_is (kind c) p.0) ∙ sym (ap (with_mode s) m) in
     ap (λ x. run x (take n cs)) e ∙ blank_run s cs n m p.1
 
+-- the white space in front is passed over between tokens, and changes nothing
 pub blank_first : (s : State) (octets : List ℕ) (count : ℕ) → s.position.mode ≡ Between → count ≡ prefix_len (λ octet. is_blank (kind octet)) octets → PassedFirst s s octets count
 blank_first s octets count m e = record {
   within = omega (arith, prefix_len-le-length (λ octet. is_blank (kind octet)) octets);

@@ -33,12 +33,14 @@ pub record Reached (s s' : State) (octets : List ℕ) (n : ℕ) : Type 0 where
   pub far : MovesFar n s s'
   pub grew : Grew s s'
 
+-- where the octets in front were passed over, what is held grew, and moved on by as many octets
 pub reached : (s s' : State) (octets : List ℕ) (n : ℕ) → IsTidy s → PassedFirst s s' octets n → Reached s s' octets n
 reached s s' octets n tidy first =
     let moved = moves_far s (take n octets) tidy in
     let far = subst (λ x. MovesFar n s x) (sym first.passed) (subst (λ (k : ℕ). MovesFar k s (run s (take n octets))) (length-take-le n octets first.within) moved) in
     record { first = first; far = far; grew = far.grew s (grew_none s) }
 
+-- octets that are passed over behind others are passed over together with them
 pub reached_more : (s s' s'' : State) (octets : List ℕ) (n m : ℕ) → IsTidy s → PassedFirst s s' octets n → PassedFirst s' s'' (take (length octets - n) (drop n octets)) m
     → Reached s s'' octets (n + m)
 reached_more s s' s'' octets n m tidy first more = reached s s'' octets (n + m) tidy (first_more s s' s'' octets n m first more)

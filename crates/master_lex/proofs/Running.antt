@@ -13,6 +13,7 @@ use Rattle.master_lex.specs.States.{State, token_ended, passed, run, Fits, IsTid
 use Rattle.master_lex.proofs.UndoLemmas.{moves}
 use Rattle.master_lex.proofs.Steps.{ended_ahead, bad_ahead, step}
 
+-- two texts, one behind the other, make of what is held what the second makes of what the first makes
 pub run-append : (s : State) (xs ys : List ℕ) → run s (xs ++ ys) ≡ run (run s xs) ys
 run-append s [] ys = refl
 run-append s (x ∷ xs) ys = run-append (passed s x) xs ys

@@ -61,6 +61,7 @@ same_made Comment s ready = refl
 same_made (InToken quoted escape) s ready = refl
 same_made (Faulty fault) s ready = refl
 
+-- which whole entries are held plays no part in the last one
 pub same_last : (s : State) (ready : List Entry) → last_entry (record s { ready = ready }) ≡ last_entry s
 same_last s ready = ap (without_fault (last_fault s.position)) (same_made s.position.mode s ready)
 
@@ -109,10 +110,12 @@ taken_with given answers.End = sym (append-nil given)
 what_was_given : (given ready last total given' ready' last' : List Entry) → total ≡ given ++ ready ++ last → ready ≡ [] → given' ≡ given ++ last → ready' ≡ ready → last' ≡ [] → total ≡ given' ++ ready' ++ last'
 what_was_given given ready last total given' ready' last' e none a b c = e ∙ rw (a, c, b, none) (simp append-nil)
 
+-- a list that is its own rest behind the first item is empty
 pub no_first : (xs ys : List Entry) → xs ≡ ys → ys ≡ drop 1 xs → xs ≡ []
 no_first [] ys e f = refl
 no_first (x ∷ xs) ys e f = absurd (omega (arith, ap length e, ap length f))
 
+-- where a call that fails leaves what is held as it was, it leaves the lexer so
 pub same_lexer : (s s' : State) (n : ℕ) (finished : Bool) (result : Result Taken TakeFault) → OnErr result (s' ≡ s)
     → OnErr result (◌≡◌ {A = Lexing} (record { state = s'; fed = n; finished = finished }) (record { state = s; fed = n; finished = finished }))
 same_lexer s s' n finished result h = on_err_weaker result (λ e. rw e refl) h
@@ -128,6 +131,8 @@ last_stands s s' n text given taken none h l = record {
   };
 }
 
+-- behind the end of a text, with no whole entry left, a lexer that gave the last entry, or that there is none, still stands
+-- for the text with what was given
 pub last_keeps : (s s' : State) (n : ℕ) (finished : Bool) (result : Result Taken TakeFault) → finished ≡ true → s.ready ≡ [] → IfOk result (LastTaken s s')
     → (text : List ℕ) (given : List Entry) → IsLexerOf (record { state = s; fed = n; finished = finished }) text given
     → IfOk result (λ taken. IsLexerOf (record { state = s'; fed = n; finished = finished }) text (given_with given taken))
@@ -137,16 +142,19 @@ last_keeps s s' n finished result ended none l text given h =
 
 -- ---- what is answered
 
+-- where a whole entry is held, the first is what is to be answered
 pub first_answer : (s : State) (n : ℕ) (finished : Bool) (entry : Entry) (rest : List Entry) → s.ready ≡ entry ∷ rest
     → left_answer finished (left (record { state = s; fed = n; finished = finished })) (known_fault (record { state = s; fed = n; finished = finished })) ≡ Ok (answers.Entry entry)
 first_answer s n true entry rest e = rw e refl
 first_answer s n false entry rest e = rw e refl
 
+-- where no whole entry is held and a fault is met, the fault is what is to be answered
 pub fault_answer : (s : State) (n : ℕ) (finished : Bool) (fault : LexFault) → s.ready ≡ [] → s.position.mode ≡ Faulty fault
     → left_answer finished (left (record { state = s; fed = n; finished = finished })) (known_fault (record { state = s; fed = n; finished = finished })) ≡ Err (Lex fault.line fault.kind)
 fault_answer s n true fault none e = rw (none, e) refl
 fault_answer s n false fault none e = rw (none, e) refl
 
+-- where no whole entry is held, no fault is met and the text hasn't ended, more of it is to be asked for
 pub more_answer : (s : State) (n : ℕ) (finished : Bool) → s.ready ≡ [] → finished ≡ false → ((fault : LexFault) → s.position.mode ≡ Faulty fault → ⊥)
     → left_answer finished (left (record { state = s; fed = n; finished = finished })) (known_fault (record { state = s; fed = n; finished = finished })) ≡ Ok answers.More
 more_answer s n finished none unended not_faulty = rw (unended, none) (by s.position.mode refl) where
@@ -157,6 +165,8 @@ more_answer s n finished none unended not_faulty = rw (unended, none) (by s.posi
   by (InToken quoted escape) e = refl
   by (Faulty fault) e = absurd (not_faulty fault e)
 
+-- where no whole entry is held and the text has ended, the last entry is what is to be answered, or else the last fault or
+-- the end
 pub last_answer : (s : State) (n : ℕ) (finished : Bool) → s.ready ≡ [] → finished ≡ true
     → left_answer finished (left (record { state = s; fed = n; finished = finished })) (known_fault (record { state = s; fed = n; finished = finished }))
     ≡ left_answer true (last_entry s) (last_fault s.position)

@@ -52,6 +52,7 @@ module _ (r : List Entry) (t : List Token) (w : List ℕ) where
   none_or_more R e [] W none same g = g
   none_or_more R e (x ∷ xs) W none same g = entries_end R e W none (rw (← same) at g)
 
+-- what is held grew from what it is
 pub grew_none : (s : State) → Grew s s
 grew_none s = inl (refl, inl (refl, ([], sym (append-nil s.raw))))
 
@@ -157,6 +158,7 @@ moves_by Comment s c tidy none = moves_comment (kind c) s tidy none
 moves_by (InToken q e) s c tidy (go, room) = moves_token_octet q e s c room
 moves_by (Faulty fault) s c tidy none = record { grew = λ before g. g; line = omega arith; depth = omega arith; tidy = tidy }
 
+-- one octet lets what is held grow, and takes it on by at most one line and one parenthesis
 pub moves : (s : State) (c : ℕ) → IsTidy s → Moves s (passed s c)
 unfolding passed
 moves s c tidy = moves_by s.position.mode s c tidy tidy
@@ -168,6 +170,7 @@ pub record MovesFar (count : ℕ) (s s' : State) : Type 0 where
   pub depth : s'.position.depth ≤ s.position.depth + count
   pub tidy : IsTidy s'
 
+-- octets let what is held grow, and take it on by at most as many lines and parentheses
 pub moves_far : (s : State) (octets : List ℕ) → IsTidy s → MovesFar (length octets) s (run s octets)
 moves_far s [] tidy = record { grew = λ before g. g; line = omega arith; depth = omega arith; tidy = tidy }
 moves_far s (c ∷ cs) tidy =
@@ -179,6 +182,7 @@ moves_far s (c ∷ cs) tidy =
 pub same_grew : (before s s' : State) → SameStores s s' → Grew before s → Grew before s'
 same_grew before s s' same g = rw (same.ready, same.tokens, same.raw) g
 
+-- what is held grew also where the next octet isn't passed over
 pub halfway_grew : (before s s' : State) → IsHalfway s s' → Grew before s → Grew before s'
 halfway_grew before s s' (inl same) g = same_grew before s s' same g
 halfway_grew before s s' (inr same) g = same_grew before (token_ended s false) s' same ((moves_token s false).grew before g)

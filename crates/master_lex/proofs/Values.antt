@@ -65,17 +65,20 @@ module _ (lexer : Lexing) (text : List ℕ) (given : List Entry) (ended : lexer.
       let e = r.entries ∙ append_assoc given lexer.state.ready (last_entry lexer.state) in
       e ∙ ap (λ (x : List Entry). given ++ x) (sym (ap (drop (length given)) e ∙ drop_front given (lexer.state.ready ++ last_entry lexer.state)))
 
+  -- where the end is answered, the entries that were given are all of the text, and it has no fault
   pub taken_all : IsNextEntry lexer.finished text given (Ok answers.End) → (given ≡ text_entries text) × (None ≡ text_fault text)
   taken_all answer =
       let a : IsNextEntry true text given (Ok answers.End) = rw ended at answer in
       let p = end_by (drop (length given) (text_entries text)) a.0 a.1.1 in
       (all_given given (drop (length given) (text_entries text)) (text_entries text) split p.0, p.1 ∙ a.1.0)
 
+  -- a lexer whose text has ended asks for no more of it
   pub never_more : IsNextEntry lexer.finished text given (Ok answers.More) → ⊥
   never_more answer =
       let a : IsNextEntry true text given (Ok answers.More) = rw ended at answer in
       more_by (drop (length given) (text_entries text)) a.0 a.1.1
 
+  -- where a fault is answered, it is that of the text, and the entries that were given are all of the text
   pub taken_to_fault : (line : ℕ) (kind : LexKind) → IsNextEntry lexer.finished text given (Err (faults.Lex line kind)) → (given ≡ text_entries text) × (Some (made_fault line kind) ≡ text_fault text)
   taken_to_fault line kind answer =
       let a : IsNextEntry true text given (Err (faults.Lex line kind)) = rw ended at answer in
@@ -98,6 +101,7 @@ nothing_left [] (suc i) l = refl
 nothing_left (x ∷ xs) zero l = absurd (omega arith)
 nothing_left (x ∷ xs) (suc i) l = nothing_left xs i (omega arith)
 
+-- what the items up to the last make, one after the other, is the whole where no item is left
 pub joined_all : {B : Type 0} (f : B → List ℕ) (xs : List B) (i : ℕ) (so_far total : List ℕ) → length xs ≤ i → so_far ++ flat_map f (drop i xs) ≡ total → so_far ≡ total
 joined_all f xs i so_far total l h = sym (ap (λ zs. so_far ++ flat_map f zs) (nothing_left xs i l) ∙ append-nil so_far) ∙ h
 

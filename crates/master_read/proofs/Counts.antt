@@ -311,6 +311,8 @@ included_asks limits (suc levels) file line name origin p asked e =
 
 -- ---- texts
 
+-- where texts give records, so many were seen as the opened files have record entries, and no more than there is room for,
+-- and no more files were included than may be
 pub texts_count : (origin : Labels) (room includes : ℕ) (texts : List (List ℕ)) (given : ZoneText) → zone_text origin room includes texts ≡ Ok given
     → (given.seen ≡ length (opened_record_entries given.included texts)) × (given.seen ≤ room) × (given.included ≤ includes)
 unfolding zone_text
@@ -337,6 +339,7 @@ texts_count origin room includes (text ∷ later) given e =
       counts.includes (omega arith),
     )
 
+-- where a file more is asked for, there are at most as many texts as files may be included
 pub texts_ask : (origin : Labels) (room includes : ℕ) (texts : List (List ℕ)) (file : List ℕ) → zone_text origin room includes texts ≡ Err (Asks file) → length texts ≤ includes
 unfolding zone_text
 texts_ask origin room includes [] file e = absurd cc

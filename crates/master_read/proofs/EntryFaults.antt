@@ -206,6 +206,7 @@ abbrev pub IsUnread : Unread → Type 0
 IsUnread (Faulty fault) = IsTextFault fault
 IsUnread (Asks file) = Unit {0}
 
+-- a fault of texts, or the file that they ask for, is no want of memory, and none stands in it
 pub unread_tells : (unread : Unread) → IsUnread unread → TellsOfUnread unread
 unread_tells (Faulty fault) said = said.tells
 unread_tells (Asks file) said = tt
@@ -249,6 +250,7 @@ next_told : (include : Include) → ToldBy include → (room : ℕ) (name : List
 next_told include told room name origin progress [] = tt
 next_told include told room name origin progress (text ∷ texts) = with_file_told include told room origin text _
 
+-- whatever may be included below a file, its fault is no want of memory, and none stands in it
 pub included_told : (limits : Limits) (levels : ℕ) → ToldBy (included limits levels)
 unfolding included
 included_told limits zero file line name origin progress = record { own = λ e. cc; tells = refl }

@@ -47,6 +47,7 @@ entry_fault include room file entry records texts (Cause cause) (inr same) = by 
   by (Ok effect) e = absurd cc
   by (Err other) e = let is : other ≡ cause = cc in inr (ap (λ (c : TextCause). Err (Faulty (At file entry.line c))) is)
 
+-- a fault of the first entry is the fault of the entries
 pub fault_of_entries : (include : Include) (room file : ℕ) (entry : Entry) (entries : List Entry) (progress : Progress) (fault : TextFault)
     → IsFaultOf fault (with_entry include room file entry progress) → IsFaultOf fault (with_entries include room file (entry ∷ entries) progress)
 unfolding with_entries
@@ -54,6 +55,7 @@ fault_of_entries include room file entry entries progress fault (inl free) = inl
 fault_of_entries include room file entry entries progress fault (inr same) =
     inr (ap (λ (r : Result Progress Unread). r >>= with_entries include room file entries) same)
 
+-- what the first entry may not do is the fault of the entries, at its file and its line
 pub first_fault : (include : Include) (room file : ℕ) (entry : Entry) (entries : List Entry) (records : Records) (texts : List (List ℕ)) (fault : EntryFault)
     → AnswersOr WantsMemory (Err fault) (with_fault Cause (effect_of room file records entry))
     → IsFaultOf (fault_at file entry.line fault) (with_entries include room file (entry ∷ entries) (record { records = records; texts = texts }))
@@ -68,6 +70,7 @@ pub same_rest : (limits : Limits) (file : File) (xs ys : List Entry) (fault : Op
 unfolding with_rest
 same_rest limits file xs ys fault p q e = ap (λ (r : Result Progress Unread). r >>= ended file.number file.before fault) e
 
+-- where the entries that are left of a file end in a fault, or ask for a file, the steps behind them change nothing
 pub unread_rest : (limits : Limits) (file : File) (xs : List Entry) (fault : Option LexFault) (p : Progress) (unread : Unread) (next : Progress → Result Progress Unread)
     → with_entries (included limits file.levels) limits.room file.number xs p ≡ Err unread
     → as_zone_text (rest_of limits file xs fault p >>= next) ≡ Err unread
@@ -77,6 +80,7 @@ unread_rest limits file xs fault p unread next e =
 
 -- ---- steps one behind another
 
+-- a step behind which nothing is done is the step alone
 pub behind_ok : {T E : Type 0} (said : Result T E) → (said >>= Ok) ≡ said
 behind_ok (Ok value) = refl
 behind_ok (Err fault) = refl
@@ -161,6 +165,7 @@ module _ (limits : Limits) (file : File) (around : List File) (origin : Labels) 
       ∙ ap (λ (es : List Entry). as_zone_text (rest_of limits file es (text_fault text) (record { records = records; texts = later }) >>= rest_around limits around)) (sym whole)
       ∙ ap (λ (f : Option LexFault). as_zone_text (rest_of limits file waiting f (record { records = records; texts = later }) >>= rest_around limits around)) (sym is)
 
+  -- entries that are read on from where a file pauses leave it to pause behind them
   pub pause_reads : (records records' : Records) (entries entries' : List Entry) (fault : Option LexFault) (texts : List (List ℕ)) → ReadsOn limits.room file.number records entries records' entries'
       → Pauses records entries fault texts → Pauses records' entries' fault texts
   pause_reads records records' entries entries' fault texts on before later =
@@ -177,6 +182,7 @@ module _ (limits : Limits) (file : File) (around : List File) (origin : Labels) 
       → texts_give limits origin texts ≡ as_zone_text (rest_of limits file entries fault (record { records = records; texts = [] }) >>= rest_around limits around)
   now records entries fault texts before = ap (texts_give limits origin) (sym (append-nil texts)) ∙ before []
 
+  -- a fault of the entries at which a file pauses is what the texts give, unless memory ran out
   pub pause_fault : (records : Records) (entries : List Entry) (end : Option LexFault) (texts : List (List ℕ)) (fault : TextFault) → HasFault limits.room file.number records entries fault
       → Pauses records entries end texts → fault ≢ NoMemory → texts_give limits origin texts ≡ Err (Faulty fault)
   pause_fault records entries end texts fault has before named = by (has (included limits file.levels) [] []) where
@@ -271,6 +277,7 @@ made_too_deep held entry texts name origin e none =
     inr (entry_opens (included held.limits held.file.levels) held.limits.room held.file.number entry held.records texts name origin e
     ∙ too_deep held.limits held.file.levels held.file.number entry.line name origin (record { records = held.records; texts = texts }) none)
 
+-- an entry that asks for a file more than may be included has this fault, at its file and its line
 pub made_too_many : (held : Held) (entry : Entry) (texts : List (List ℕ)) (name : List ℕ) (origin : Labels) → effect_of held.limits.room held.file.number held.records entry ≡ Ok (Opens name origin)
     → 0 < held.file.levels → held.limits.includes ≤ held.records.included → IsFaultOf (At held.file.number entry.line TooManyIncludes) (entry_makes held entry texts)
 made_too_many held entry texts name origin e deep less =
@@ -318,6 +325,7 @@ module _ (held new : Held) (entry : Entry) (name : List ℕ) (below : Labels) (m
 
 -- ---- its fault
 
+-- a fault that the first entry makes where all was taken is what the texts give, unless memory ran out
 pub pause_makes : (held : Held) (entry : Entry) (fault : TextFault) (origin : Labels) (texts : List (List ℕ)) → IsFaultOf fault (entry_makes held entry [])
     → IsPausing held origin texts (entry ∷ held.file.entries.items) → fault ≢ NoMemory → texts_give held.limits origin texts ≡ Err (Faulty fault)
 pause_makes held entry fault origin texts (inl free) before named = absurd (named free)

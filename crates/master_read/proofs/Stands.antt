@@ -44,11 +44,13 @@ settled_now held fault origin room includes ended text some h =
       ap (λ (t : List ℕ). texts_give held.limits origin (ended ++ t ∷ [])) (sym (append-nil text)) ∙ settled.1 [] [],
     )
 
+-- behind a fault that is settled no file is asked for
 pub settled_asks : (held : Held) (fault : TextFault) (origin : Labels) (room includes : ℕ) (ended : List (List ℕ)) (text : List ℕ) → held.fault ≡ Some fault
     → IsReaderOf held origin room includes ended text → Done ≡ asked_by (zone_text origin room includes (ended ++ text ∷ []))
 settled_asks held fault origin room includes ended text some h =
     sym (ap asked_by (by_limits held room includes origin (ended ++ text ∷ []) h.limits ∙ (settled_now held fault origin room includes ended text some h).1))
 
+-- a reader with a fault that is settled ends with it
 pub settled_ends : (held new : Held) (fault : TextFault) (origin : Labels) (room includes : ℕ) (ended : List (List ℕ)) (text : List ℕ) → held.fault ≡ Some fault → new ≡ record held { ended = true }
     → IsReaderOf held origin room includes ended text → GoesOn Done new origin room includes (ended ++ text ∷ [])
 settled_ends held new fault origin room includes ended text some is h =
@@ -64,9 +66,11 @@ module _ (old new : Held) (origin : Labels) (room includes : ℕ) (ended : List 
   pub reading : IsReading old origin ended text
   reading = rw none at h.agrees
 
+  -- where the reading has come to a file, the texts ask for this file
   pub file_asked : (file : List ℕ) → HasComeTo (Some file) new origin (ended ++ text ∷ []) → Include file ≡ asked_by (zone_text origin room includes (ended ++ text ∷ []))
   file_asked file comes = sym (ap asked_by (given ∙ comes.0))
 
+  -- where the reading has come to a file, of which nothing was fed, the reader stands for the texts and an empty one
   pub file_stands : (file : List ℕ) → new.ended ≡ false → new.fed ≡ 0 → new.fault ≡ old.fault → HasComeTo (Some file) new origin (ended ++ text ∷ [])
       → GoesOn (Include file) new origin room includes (ended ++ text ∷ [])
   file_stands file unended fed fault comes = (unended, fed, record { limits = rw limits h.limits; fed_is = fed; agrees = rw (fault, none) comes.1 })
@@ -75,6 +79,7 @@ module _ (old new : Held) (origin : Labels) (room includes : ℕ) (ended : List 
   pub all_asked : HasComeTo None new origin (ended ++ text ∷ []) → Done ≡ asked_by (zone_text origin room includes (ended ++ text ∷ []))
   all_asked comes = sym (ap asked_by (given ∙ comes))
 
+  -- where all was read, the reader ends with what the texts give
   pub all_ends : (last : Held) → last ≡ record new { ended = true } → new.fault ≡ old.fault → HasComeTo None new origin (ended ++ text ∷ [])
       → GoesOn Done last origin room includes (ended ++ text ∷ [])
   all_ends last is fault comes = rw is (refl, record { limits = rw limits h.limits; gives = rw (fault, none) comes })

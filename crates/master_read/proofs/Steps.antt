@@ -29,6 +29,7 @@ last_owner_is context entry owner e blank = there_is context.owner NoOwner owner
 pub utf8 : (octets : List ℕ) → IsUtf8 octets → is_utf8 octets ≡ true
 utf8 = is_utf8-from_IsUtf8
 
+-- octets that aren't UTF-8 don't pass its test
 pub no_utf8 : (octets : List ℕ) → ¬ (IsUtf8 octets) → is_utf8 octets ≡ false
 no_utf8 octets none = by (is_utf8 octets) refl where
   by : (b : Bool) → is_utf8 octets ≡ b → is_utf8 octets ≡ false
@@ -41,6 +42,7 @@ both true true e = (refl, refl)
 both true false e = absurd cc
 both false b e = absurd cc
 
+-- an `$INCLUDE` is a directive, and its first token is that word
 pub include_is : (entry : Entry) → is_include entry ≡ true → (is_directive entry ≡ true) × (includes entry.tokens ≡ true)
 include_is entry e = both (is_directive entry) (includes entry.tokens) e
 
@@ -51,6 +53,7 @@ unfolding effect_of
 directive_opens room file records entry name origin is e =
     rw is (ap (λ (said : Result Directive TextCause). said >>= (λ directive. Ok (said_by records directive))) e)
 
+-- a fault of a directive is that of its entry
 pub directive_fault : (room file : ℕ) (records : Records) (entry : Entry) (fault : EntryFault) → is_directive entry ≡ true
     → AnswersOr WantsMemory (Err fault) (with_fault Cause (directive_of records.context entry.tokens)) → AnswersOr WantsMemory (Err fault) (with_fault Cause (effect_of room file records entry))
 unfolding effect_of

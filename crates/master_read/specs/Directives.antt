@@ -29,11 +29,12 @@ begins_with_dollar (token ∷ tokens) = not token.quoted && starts_with nat_eq t
 abbrev pub is_directive : Entry → Bool
 is_directive entry = not entry.blank_start && begins_with_dollar entry.tokens
 
--- the entry is an `$INCLUDE`
+-- the first of the tokens is the word `$INCLUDE`
 abbrev pub includes : List Token → Bool
 includes [] = false
 includes (word ∷ arguments) = is_word (codes "$INCLUDE") word.raw
 
+-- the entry is an `$INCLUDE`
 abbrev pub is_include : Entry → Bool
 is_include entry = is_directive entry && includes entry.tokens
 

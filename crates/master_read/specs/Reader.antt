@@ -121,6 +121,7 @@ GoesOn Done held origin room includes texts = (held.ended ≡ true) × HasEnded 
 abbrev pub HasFailed : Held → Type 0
 HasFailed held = held.fault ≡ Some NoMemory
 
+-- the fault is want of memory
 abbrev pub is_no_memory : Option TextFault → Bool
 is_no_memory (Some NoMemory) = true
 is_no_memory _ = false

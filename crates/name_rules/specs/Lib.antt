@@ -1,2 +1,3 @@
 pub use Rattle.dns_data.specs.Name
+pub use Rattle.net_model.specs.Lookup
 pub mod SymName

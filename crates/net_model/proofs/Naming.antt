@@ -29,6 +29,7 @@ passed_in test names name true first e h all later =
     subst (λ (n : Labels). test n ≡ true) (sym same) (and_parts (test first) (list_all test names) all).0
 passed_in test names name false first e h all later = later h
 
+-- a listed name passes a test that every name of the list passes
 pub passed : (test : Labels → Bool) (names : List Labels) (name : Labels) → listed names name ≡ true → list_all test names ≡ true
     → test name ≡ true
 passed test [] name h all = cc

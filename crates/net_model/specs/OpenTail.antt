@@ -17,7 +17,7 @@ pub record IsOpenTail (zone : Zone) (known tail : Labels) : Type 0 where
   pub inside : is_prefix zone.origin known ≡ true
   pub free : exists_in zone (known ++ first ∷ []) ≡ false
 
--- the same as a test
+-- the test whether the labels are an open tail of the known name
 abbrev pub is_open_tail : Zone → Labels → Labels → Bool
 is_open_tail zone known [] = false
 is_open_tail zone known (first ∷ rest) = is_prefix zone.origin known && not (exists_in zone (known ++ first ∷ []))

@@ -49,7 +49,7 @@ pub record WalksAs (setting : Setting) (rtype : RrType) (above own other : Label
   -- where no walk of the query ends overlong, the two names have the same walks, item by item
   pub bounded : IsBoundedWith setting (above ++ own) rtype → (walks : List Walk) → AreWalks setting (above ++ own) rtype walks
       → AreWalks setting (above ++ other) rtype (map (retail (length own) other) walks)
-  -- and by each list of numbers
+  -- where no walk of the query ends overlong, each list of numbers leads the two names along the same walk, or along none
   pub along : IsBoundedWith setting (above ++ own) rtype → (numbers : List ℕ)
       → walk_along setting (above ++ other) rtype numbers
       ≡ option_map (retail (length own) other) (walk_along setting (above ++ own) rtype numbers)

@@ -53,11 +53,13 @@ module _ (setting : Setting) (name : Labels) (rtype : RrType) (walks : List Walk
 pub test_while : Config → ℕ → List Labels → Labels → Bool
 test_while config rewrites followed name = (learns_decided (following config rewrites followed) name).0
 
+-- the test passes exactly the names of which an address is learnt
 pub test_tells : (config : Config) (rewrites : ℕ) (followed : List Labels) (name : Labels)
     → (test_while config rewrites followed name ≡ true) ↔ Learns (following config rewrites followed) name
 unfolding test_while
 test_tells config rewrites followed name = (learns_decided (following config rewrites followed) name).1
 
+-- a test that passes exactly where an address of the name is learnt answers as this one does
 pub test_is : (config : Config) (rewrites : ℕ) (followed : List Labels) (name : Labels) (test : Bool)
     → (test ≡ true) ↔ Learns (following config rewrites followed) name → test_while config rewrites followed name ≡ test
 test_is config rewrites followed name test tells =
@@ -94,6 +96,7 @@ pub next_few : (config : Config) (rewrites most : ℕ) (begin followed : List La
 next_few config rewrites most begin followed rounds none after few =
     subst (NoneInRounds config rewrites most begin) (let e : suc rounds ≡ rounds + 1 = omega arith in e) (one_more config rewrites most begin followed rounds none after few)
 
+-- what a round makes of what is learnt after so many is learnt after one more
 pub next_round : (config : Config) (rewrites : ℕ) (begin followed learnt : List Labels) (rounds : ℕ) → AfterRounds config rewrites rounds begin followed
     → IsRound config rewrites followed learnt → AfterRounds config rewrites (rounds + 1) begin learnt
 next_round config rewrites begin followed learnt rounds after round =

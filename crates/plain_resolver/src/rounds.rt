@@ -102,34 +102,13 @@ fn learns(
     ensures few { OnOk result (HasTooMany hosts.now rewrites most followed.now name.now → ⊥) }
     ensures passed { (other : Labels) → IsErrOf result (LearntFault.WalksPassed other) → (name.now ≡ other) × HasTooMany hosts.now rewrites most followed.now name.now }
 {
-    match learns_by_either(alloc, hosts, rewrites, followed, name, most) {
-        Ok(learns) => Ok(learns),
-        Err(ResolveFault::WalksPassed) => Err(LearntFault::WalksPassed(name.copy(alloc)?)),
-        Err(ResolveFault::NoMemory) => Err(LearntFault::NoMemory),
-    }
-}
-
-/// Whether a walk of the name with type A or AAAA gives an address. It is `WalksPassed` where there are more than `most`
-/// of one type.
-fn learns_by_either(
-    alloc: Global,
-    hosts: &Hosts<'_>,
-    rewrites: u32,
-    followed: &[Name],
-    name: &Name,
-    most: u32,
-) -> Result<bool, ResolveFault>
-    ensures learns { IfOk result (λ learns. (learns ≡ true) ↔ Learns (following hosts.now rewrites followed.now) name.now) }
-    ensures few { OnOk result (HasTooMany hosts.now rewrites most followed.now name.now → ⊥) }
-    ensures passed { IsErrOf result ResolveFault.WalksPassed → HasTooMany hosts.now rewrites most followed.now name.now }
-{
     let four = learns_by(alloc, hosts, rewrites, followed, name, RrType::A, most)?;
     let six = learns_by(alloc, hosts, rewrites, followed, name, RrType::Aaaa, most)?;
     Ok(four || six)
 }
 
-/// Whether a walk of the name with this type gives an address. It is `WalksPassed` where there are more than `most`. The
-/// walks are counted and looked at, and none is made.
+/// Whether a walk of the name with this type gives an address. It is `WalksPassed` with the name where there are more than
+/// `most`. The walks are counted and looked at, and none is made.
 fn learns_by(
     alloc: Global,
     hosts: &Hosts<'_>,
@@ -138,13 +117,16 @@ fn learns_by(
     name: &Name,
     t: RrType,
     most: u32,
-) -> Result<bool, ResolveFault>
+) -> Result<bool, LearntFault>
     ensures learns { IfOk result (λ learns. (learns ≡ true) ↔ LearnsBy (following hosts.now rewrites followed.now) name.now t) }
     ensures few { OnOk result (HasMoreWalks (following hosts.now rewrites followed.now) name.now t most → ⊥) }
-    ensures passed { IsErrOf result ResolveFault.WalksPassed → HasMoreWalks (following hosts.now rewrites followed.now) name.now t most }
+    ensures passed { (other : Labels) → IsErrOf result (LearntFault.WalksPassed other) → (name.now ≡ other) × HasMoreWalks (following hosts.now rewrites followed.now) name.now t most }
 {
     let resolver = Resolver::new(hosts, rewrites, followed, name, t);
     let mut address = AddressSeen::new();
-    visit_walks(alloc, &resolver, most, &mut address)?;
-    Ok(address.seen())
+    match visit_walks(alloc, &resolver, most, &mut address) {
+        Ok(()) => Ok(address.seen()),
+        Err(ResolveFault::WalksPassed) => Err(LearntFault::WalksPassed(name.copy(alloc)?)),
+        Err(ResolveFault::NoMemory) => Err(LearntFault::NoMemory),
+    }
 }

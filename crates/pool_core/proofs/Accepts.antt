@@ -96,6 +96,7 @@ pub record AcceptsFile (pool : Pool) (w t c : ℕ) : Type 0 where
   pub kept : slice_get pool.spots t ≡ Some (Claimed w)
   pub room : length pool.spots + c ≤ pool.limit
 
+-- an accepted push is of a ticket that the worker has as it was issued
 pub accepts_push : (pool : Pool) (w t : ℕ) → refusal pool (Push w t) ≡ None → AcceptsPush pool w t
 accepts_push pool w t h =
     let a = or_none _ _ h in
@@ -109,6 +110,7 @@ accepts_push pool w t h =
       kept = m.1 ∙ ap Some (push_from w t m.0 m.2);
     }
 
+-- an accepted pop is of a deque of the worker's own that holds a ticket
 pub accepts_pop : (pool : Pool) (w : ℕ) → refusal pool (Pop w) ≡ None → AcceptsTake pool w w
 accepts_pop pool w h =
     let a = or_none _ _ h in
@@ -123,6 +125,7 @@ accepts_pop pool w h =
       held = n.2;
     }
 
+-- an accepted steal is of a worker's deque that holds a ticket
 pub accepts_steal : (pool : Pool) (w from : ℕ) → refusal pool (Steal w from) ≡ None → AcceptsTake pool w from
 accepts_steal pool w from h =
     let a = or_none _ _ h in
@@ -138,6 +141,7 @@ accepts_steal pool w from h =
       held = n.2;
     }
 
+-- an accepted claim is of a ticket that the worker holds, or has as it was issued, in a pool that isn't stopped
 pub accepts_claim : (pool : Pool) (w t : ℕ) → refusal pool (Claim w t) ≡ None → AcceptsClaim pool w t
 accepts_claim pool w t h =
     let a = or_none _ _ h in
@@ -153,6 +157,7 @@ accepts_claim pool w t h =
       going = none_from_test pool.stop (cond_none (is_some pool.stop) Stopped None c.0).0;
     }
 
+-- an accepted filing is of a ticket that the worker claimed, with room for the children
 pub accepts_file : (pool : Pool) (w t c : ℕ) → refusal pool (File w t c) ≡ None → AcceptsFile pool w t c
 accepts_file pool w t c h =
     let a = or_none _ _ h in

@@ -11,7 +11,7 @@ use Rattle.std.proofs.Math.Bool.{or-false}
 use Rattle.pool_core.specs.declared.event.Event.{Event}
 use Rattle.pool_core.specs.declared.event.Event.TheVariants.{Claim, File, Stop}
 use Rattle.pool_core.specs.declared.event.StopCause.{StopCause}
-use Rattle.pool_core.specs.declared.entry.Entry.TheVariants.{Claim as ClaimEntry, File as FileEntry, Stop as StopEntry}
+use Rattle.pool_core.specs.declared.history.HistoryEntry.TheVariants.{Claim as ClaimEntry, File as FileEntry, Stop as StopEntry}
 use Rattle.pool_core.specs.declared.spot.Spot.{Spot}
 use Rattle.pool_core.specs.declared.spot.Spot.TheVariants.{Issued, Claimed, Filed}
 use Rattle.pool_core.specs.History.{children_of, claims, files, issued_in, is_claimed_in, is_filed_in, first_stop, all_may_follow}

@@ -31,6 +31,7 @@ unfolding run
 run_more w l es es' pool event view ok more =
     ap (fold after (new_pool w l)) more ∙ fold_push after (new_pool w l) es event ∙ rw (view, ok) refl
 
+-- before any event the pool is the new one
 pub run_none : (w l : ℕ) → run w l [] ≡ new_pool w l
 unfolding run
 run_none w l = refl
@@ -78,6 +79,7 @@ module _ (w l : ℕ) (es : List Event) (spots : List Spot) (queues : List (List 
   here : IsPoolAfter pool w l es spots queues stop
   here = subst (λ (p : Pool). IsPoolAfter p w l es spots queues stop) view kept
 
+  -- the pool is sound, as each pool is that is reached
   pub sound_here : Sound pool
   sound_here = subst Sound view (sound_run w l es kept.some_ticket)
 
@@ -107,12 +109,15 @@ module _ (w l : ℕ) (es : List Event) (spots : List Spot) (queues : List (List 
       let a = accepts_push pool worker t ok in
       (omega (arith, a.worker, here.workers_are, queue_count), omega (arith, a.ticket, ap length here.spots_are))
 
+  -- a pop that is accepted is of a queue that is there
   pub pop_within : (worker : ℕ) → refusal pool (Pop worker) ≡ None → worker < length queues
   pop_within worker ok = omega (arith, (accepts_pop pool worker ok).worker, here.workers_are, queue_count)
 
+  -- a steal that is accepted is from a queue that is there
   pub steal_within : (worker from : ℕ) → refusal pool (Steal worker from) ≡ None → from < length queues
   steal_within worker from ok = omega (arith, (accepts_steal pool worker from ok).deque, here.workers_are, queue_count)
 
+  -- a filing that is accepted is of a ticket that was issued, with room for the children
   pub file_within : (worker t c : ℕ) → refusal pool (File worker t c) ≡ None → (t < length spots) × (length spots + c ≤ l)
   file_within worker t c ok =
       let a = accepts_file pool worker t c ok in
@@ -142,6 +147,7 @@ module _ (w l : ℕ) (es es' : List Event) (spots : List Spot) (queues : List (L
         some_ticket = kept.some_ticket;
       })
 
+  -- the fields after an accepted push are those of the pool after it
   pub kept_push : (worker t : ℕ) (queue : List ℕ) → refusal pool (Push worker t) ≡ None → es' ≡ es ++ Push worker t ∷ [] → queue ≡ get_or queues worker [] ++ t ∷ []
       → IsPoolAfter (run w l es') w l es' (set spots t (Waiting worker)) (set queues worker queue) stop
   kept_push worker t queue ok more q =
@@ -162,22 +168,26 @@ module _ (w l : ℕ) (es es' : List Event) (spots : List Spot) (queues : List (L
       ∙ ap (λ (x : List (List ℕ)). set x from (front_taken worker (deque_of pool from) (deque_of pool from).held).held) (here w l es spots queues stop pool view kept).queues_are
       ∙ ap (set queues from) (rest_held worker (deque_of pool from) (deque_of pool from).held refl ∙ ap (drop 1) (queue_at w l es spots queues stop pool view kept from))
 
+  -- the fields after an accepted pop are those of the pool after it
   pub kept_pop : (worker : ℕ) (spots' : List Spot) (queues' : List (List ℕ)) → refusal pool (Pop worker) ≡ None → es' ≡ es ++ Pop worker ∷ []
       → spots' ≡ first_held spots worker (get_or queues worker []) → queues' ≡ set queues worker (drop 1 (get_or queues worker []))
       → IsPoolAfter (run w l es') w l es' spots' queues' stop
   kept_pop worker spots' queues' ok more s q =
       kept_more (Pop worker) spots' queues' stop ok more (spots_taken worker worker ∙ sym s) (queues_taken worker worker ∙ sym q) (here w l es spots queues stop pool view kept).stop_is
 
+  -- the fields after an accepted steal are those of the pool after it
   pub kept_steal : (worker from : ℕ) (spots' : List Spot) (queues' : List (List ℕ)) → refusal pool (Steal worker from) ≡ None → es' ≡ es ++ Steal worker from ∷ []
       → spots' ≡ first_held spots worker (get_or queues from []) → queues' ≡ set queues from (drop 1 (get_or queues from []))
       → IsPoolAfter (run w l es') w l es' spots' queues' stop
   kept_steal worker from spots' queues' ok more s q =
       kept_more (Steal worker from) spots' queues' stop ok more (spots_taken worker from ∙ sym s) (queues_taken worker from ∙ sym q) (here w l es spots queues stop pool view kept).stop_is
 
+  -- the fields after an accepted claim are those of the pool after it
   pub kept_claim : (worker t : ℕ) → refusal pool (Claim worker t) ≡ None → es' ≡ es ++ Claim worker t ∷ [] → IsPoolAfter (run w l es') w l es' (set spots t (Claimed worker)) queues stop
   kept_claim worker t ok more =
       kept_more (Claim worker t) (set spots t (Claimed worker)) queues stop ok more (ap (λ (s : List Spot). set s t (Claimed worker)) (here w l es spots queues stop pool view kept).spots_are) (here w l es spots queues stop pool view kept).queues_are (here w l es spots queues stop pool view kept).stop_is
 
+  -- the fields after an accepted filing are those of the pool after it
   pub kept_file : (worker t c : ℕ) (spots' : List Spot) → refusal pool (File worker t c) ≡ None → es' ≡ es ++ File worker t c ∷ []
       → spots' ≡ spots ++ replicate c (Issued worker) → IsPoolAfter (run w l es') w l es' (set spots' t Filed) queues stop
   kept_file worker t c spots' ok more s =
@@ -187,6 +197,7 @@ module _ (w l : ℕ) (es es' : List Event) (spots : List Spot) (queues : List (L
       ∙ sym (set-append_left spots (replicate c (Issued worker)) t Filed within.0) ∙ ap (λ (x : List Spot). set x t Filed) (sym s))
       (here w l es spots queues stop pool view kept).queues_are (here w l es spots queues stop pool view kept).stop_is
 
+  -- the fields after a stop are those of the pool after it
   pub kept_stop : (cause : StopCause) (stop' : Option StopCause) → es' ≡ es ++ Stop cause ∷ [] → stop' ≡ option_or stop (Some cause) → IsPoolAfter (run w l es') w l es' spots queues stop'
   kept_stop cause stop' more s =
       kept_more (Stop cause) spots queues stop' refl more (here w l es spots queues stop pool view kept).spots_are (here w l es spots queues stop pool view kept).queues_are (ap (λ (o : Option StopCause). option_or o (Some cause)) (here w l es spots queues stop pool view kept).stop_is ∙ sym s)

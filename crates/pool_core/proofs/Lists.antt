@@ -5,11 +5,13 @@ use Rattle.std.proofs.lemmas.Bool.{cases_eq}
 use Rattle.std.proofs.lemmas.List.Sums.{sum_by_push, sum_by-cons, sum_by-append}
 use Rattle.std.proofs.Math.Bool.{or-false}
 
+-- at the place of a write stands what was written
 pub slice_get-set_same : {X : Type 0} (xs : List X) (i : ℕ) (y : X) → i < length xs → slice_get (set xs i y) i ≡ Some y
 slice_get-set_same [] i y h = absurd (omega arith)
 slice_get-set_same (x ∷ xs) zero y h = refl
 slice_get-set_same (x ∷ xs) (suc i) y h = slice_get-set_same xs i y (omega arith)
 
+-- at each other place stands what stood there before a write
 pub slice_get-set_other : {X : Type 0} (xs : List X) (i k : ℕ) (y : X) → (k ≡ i → ⊥) → slice_get (set xs i y) k ≡ slice_get xs k
 slice_get-set_other [] i k y ne = refl
 slice_get-set_other (x ∷ xs) zero zero y ne = absurd (ne refl)
@@ -47,15 +49,19 @@ slice_get_push_cases (x ∷ xs) y z (suc k) h =
     (λ (p : (k ≡ length xs) × (y ≡ z)). inr (ap suc p.0, p.1))
     (slice_get_push_cases xs y z k h)
 
+-- an item at the end counts once more where it passes
 pub count_by_push : {X : Type 0} (p : X → Bool) (xs : List X) (y : X) → count_by p (xs ++ y ∷ []) ≡ count_by p xs + cond (p y) 1 0
 count_by_push p xs y = sum_by_push (λ x. cond (p x) 1 0) xs y
 
+-- an item in front counts once more where it passes
 pub count_by-cons : {X : Type 0} (p : X → Bool) (x : X) (xs : List X) → count_by p (x ∷ xs) ≡ cond (p x) 1 0 + count_by p xs
 count_by-cons p x xs = sum_by-cons (λ y. cond (p y) 1 0) x xs
 
+-- some item of a list with one more at its end passes where one before does, or the last one
 pub list_any_push : {X : Type 0} (p : X → Bool) (xs : List X) (y : X) → list_any p (xs ++ y ∷ []) ≡ (list_any p xs || p y)
 list_any_push p [] y = or-false (p y)
 list_any_push p (x ∷ xs) y = elim (p x) as (λ b. (b || list_any p (xs ++ y ∷ [])) ≡ ((b || list_any p xs) || p y)) [ true ↦ refl | false ↦ list_any_push p xs y ]
 
+-- of two lists together as many items pass as of each
 pub count_by-append : {X : Type 0} (p : X → Bool) (xs ys : List X) → count_by p (xs ++ ys) ≡ count_by p xs + count_by p ys
 count_by-append p xs ys = sum_by-append (λ y. cond (p y) 1 0) xs ys

@@ -19,23 +19,28 @@ at_most_one n true h = omega arith
 at_most_one n false h = omega arith
 
 module _ (pool : Pool) (s : Sound pool) where
+  -- each issued ticket has one spot
   pub each_has_one_spot : EachHasOneSpot pool
   each_has_one_spot t h =
       let is = slice_get-get_or pool.spots t Filed h in
       record { spot = get_or pool.spots t Filed; is = is; no_other = λ other e. cc (is, e) }
 
+  -- a ticket waits in a deque exactly where it stands once in it
   pub waits_where_it_stands : WaitsWhereItStands pool
   waits_where_it_stands t d = (
     λ e. s.queued.stands t d ∙ rw (e, eq-eqb d d refl) refl,
     λ e. waits_from_times d 0 (spot_of pool t) (sym e ∙ s.queued.stands t d),
   )
 
+  -- no ticket stands in a deque twice
   pub stands_once_at_most : StandsOnceAtMost pool
   stands_once_at_most t d = at_most_one _ (waits_in d (slice_get pool.spots t)) (s.queued.stands t d)
 
+  -- what was taken from a deque is the beginning of what was pushed on it
   pub takes_in_order : TakesInOrder pool
   takes_in_order d = ((deque_of pool d).held, s.queued.splits d)
 
+  -- what was pushed on a deque is balanced by what it holds and what each worker took from it
   pub keeps_balance : HasBalancedDeques pool
   keeps_balance d t =
       let deque = deque_of pool d in
@@ -43,21 +48,27 @@ module _ (pool : Pool) (s : Sound pool) where
       let each = times_of_each t pool.workers deque.taken (s.queued.takers d) in
       ap (times t) (sym (s.queued.splits d)) ∙ omega (arith, whole, each)
 
+  -- each ticket is claimed at most once
   pub claims_once : ClaimsOnce pool
   claims_once t = at_most_one _ _ (s.booked.claims t)
 
+  -- each ticket is filed at most once
   pub files_once : FilesOnce pool
   files_once t = at_most_one _ _ (s.booked.filings t)
 
+  -- before each filing stands the claim of its ticket by the same worker
   pub files_after_claim : FilesAfterClaim pool
   files_after_claim = s.booked.filed_after
 
+  -- the accepted events make a legal history of the verdict book
   pub has_legal_shadow : HasLegalShadow pool
   has_legal_shadow = and_from _ _ s.booked.legal (le-leb _ _ (omega (arith, s.booked.issued, s.booked.within)))
 
+  -- the history replays to the pool's issued, claimed and filed tickets, and to the cause of its first stop
   pub replays_to_itself : ReplaysToItself pool
   replays_to_itself = record { issued = s.booked.issued; claimed = s.booked.claimed; filed = s.booked.filed; stopped = s.booked.stopped }
 
+  -- the pool is the one after its accepted events alone
   pub is_run_of_accepted : IsRunOfAccepted pool
   unfolding run
   is_run_of_accepted = sym s.replayed
@@ -76,6 +87,7 @@ pub record Lawful (pool : Pool) : Type 0 where
   pub replay : ReplaysToItself pool
   pub run : IsRunOfAccepted pool
 
+-- all sentences of the law hold of a sound pool
 pub lawful : (pool : Pool) → Sound pool → Lawful pool
 lawful pool s =
     record {
@@ -92,9 +104,11 @@ lawful pool s =
       run = is_run_of_accepted pool s;
     }
 
+-- all sentences of the law hold of a pool after any events, if a ticket may be issued
 pub lawful_run : (workers limit : ℕ) (events : List Event) → 1 ≤ limit → Lawful (run workers limit events)
 lawful_run workers limit events some = lawful (run workers limit events) (sound_run workers limit events some)
 
+-- all sentences of the law hold of a new pool, if a ticket may be issued
 pub lawful_new : (workers limit : ℕ) → 1 ≤ limit → Lawful (new_pool workers limit)
 lawful_new workers limit some = lawful (new_pool workers limit) (sound_new workers limit some)
 

@@ -36,6 +36,7 @@ at_first : {Y : Type 0} (f : Option Spot → Y) → f None ≡ f (Some (Issued 0
 at_first f e zero = sym e
 at_first f e (suc t) = refl
 
+-- a new pool is sound, if a ticket may be issued
 pub sound_new : (workers limit : ℕ) → 1 ≤ limit → Sound (new_pool workers limit)
 sound_new workers limit some =
     record {

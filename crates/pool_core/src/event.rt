@@ -3,7 +3,7 @@
 ghost use Rattle.std.specs.Prelude.{◌≡◌};
 ghost use Rattle.pool_core.specs.Shadow.{history_entry};
 
-use crate::entry::Entry;
+use crate::history::HistoryEntry;
 
 /// Why a pool was stopped.
 #[derive(Clone, Copy, Debug, PartialEq, Eq)]
@@ -50,17 +50,17 @@ pub enum Event {
 
 impl Event {
     /// The entry that the event makes in the history of the verdict book, or `None` where it makes none.
-    pub fn entry(self) -> Option<Entry>
+    pub fn entry(self) -> Option<HistoryEntry>
         ensures { result ≡ history_entry self }
     {
         match self {
-            Event::Claim { ticket, .. } => Some(Entry::Claim { ticket }),
+            Event::Claim { ticket, .. } => Some(HistoryEntry::Claim { ticket }),
             Event::File {
                 ticket,
                 children,
                 ..
-            } => Some(Entry::File { ticket, children }),
-            Event::Stop { cause } => Some(Entry::Stop { cause }),
+            } => Some(HistoryEntry::File { ticket, children }),
+            Event::Stop { cause } => Some(HistoryEntry::Stop { cause }),
             Event::Push { .. } | Event::Pop { .. } | Event::Steal { .. } => None,
         }
     }

@@ -4,16 +4,16 @@
 //! workers claimed, filed and stopped is a legal history of the verdict book.
 #![tactic(auto)]
 
-mod entry;
 mod event;
 mod fault;
+mod history;
 pub mod laws;
 mod machine;
 mod queue;
 mod spot;
 
-pub use entry::Entry;
 pub use event::{Event, StopCause};
 pub use fault::StepFault;
+pub use history::HistoryEntry;
 pub use machine::Core;
 pub use spot::Spot;

@@ -128,6 +128,7 @@ reads-caa fields = reads-count
 reads-target : {T : Type 0} (origin : Labels) (fields : List (List ℕ)) (put : Labels → T) → Reads (one_name origin fields >>= λ target. Ok (put target))
 reads-target origin fields put = if_err_then IsSaid (one_name origin fields) _ (reads-one_name origin fields) (λ target. tt)
 
+-- where the fields of a type give no data, the fault is one that the format speaks of
 pub reads-fields : (rtype : RrType) (fields : List (List ℕ)) (origin : Labels) → Reads (fields_of rtype fields origin)
 reads-fields types.A fields origin = reads-a fields
 reads-fields types.Ns fields origin = reads-target origin fields data_of.Ns

@@ -82,6 +82,7 @@ group_then-some seconds group text = added (seconds_after true None text) where
   added None = refl
   added (Some others) = ap if_ttl (sym (add_assoc seconds group others))
 
+-- a group that reads and keeps the sum within the largest time goes to the seconds
 pub group_then-taken : (seconds sum : ℕ) (group : Option ℕ) (text : List ℕ) → option_and_then if_ttl (option_map (λ more. seconds + more) group) ≡ Some sum → group_then seconds group (seconds_after true None text) ≡ time_from sum true None text
 group_then-taken seconds sum None text h = cc
 group_then-taken seconds sum (Some group) text h =

@@ -128,9 +128,11 @@ steps_are_deep leaf all [] hops = end_is_deep leaf all
 steps_are_deep leaf all (state ∷ states) [] = end_is_deep leaf all
 steps_are_deep leaf all (state ∷ states) (hop ∷ hops) = omega (arith, hop_is_deep state hop, steps_are_deep leaf all states hops)
 
+-- the value of a walk is plain
 pub walk_is_plain : (walk : Walk) → IsPlain (walk_value walk)
 walk_is_plain walk = steps_are_plain walk.leaf walk.states walk.states walk.hops
 
+-- the value of a walk nests three deep at most
 pub walk_is_deep : (walk : Walk) → depth (walk_value walk) ≤ 3
 walk_is_deep walk = omega (arith, steps_are_deep walk.leaf walk.states walk.states walk.hops)
 
@@ -160,17 +162,21 @@ fault_is_deep (faults.Answers class rtype) = omega arith
 fault_is_deep (faults.Overlong place) = omega arith
 fault_is_deep (faults.NoAddress cut) = omega arith
 
+-- the value of an entry is plain
 pub entry_is_plain : (entry : ReportEntry) → IsPlain (entry_value entry)
 entry_is_plain entry = ((refl, (refl, (refl, (refl, (refl, tt))))), tt, ((refl, (refl, (refl, (refl, tt)))), fault_is_plain entry.seen.fault, ((refl, (refl, (refl, tt))), tt, ((refl, (refl, tt)), tt, ((refl, tt), tt, (tt, each_plain walk_value walk_is_plain entry.walks, tt))))))
 
+-- the value of an entry nests five deep at most
 pub entry_is_deep : (entry : ReportEntry) → depth (entry_value entry) ≤ 5
 entry_is_deep entry = omega (arith, fault_is_deep entry.seen.fault, each_deep walk_value 3 walk_is_deep entry.walks)
 
 -- ---- the report
 
+-- the value of a report whose numbers take 64 bits is plain
 pub report_is_plain : (report : Report) → report.classes < 2 ^ 64 → report.names < 2 ^ 64 → report.rewrites < 2 ^ 64 → IsPlain (report_value report)
 report_is_plain report classes names rewrites = ((refl, (refl, (refl, tt))), classes, ((refl, (refl, tt)), each_plain entry_value entry_is_plain report.entries, ((refl, tt), names, (tt, rewrites, tt))))
 
+-- the value of a report nests seven deep at most
 pub report_is_deep : (report : Report) → depth (report_value report) ≤ 7
 report_is_deep report = omega (arith, each_deep entry_value 5 entry_is_deep report.entries)
 
@@ -180,11 +186,14 @@ report_no_float report = rw (items_no_float (json_items (map entry_value report.
 
 -- ---- the answer of `ask`
 
+-- the value of an answer of `ask` is plain
 pub ask_is_plain : (name : Labels) (rtype : RrType) (walks : List Walk) → IsPlain (ask_value name rtype walks)
 ask_is_plain name rtype walks = ((refl, (refl, tt)), tt, ((refl, tt), tt, (tt, each_plain walk_value walk_is_plain walks, tt)))
 
+-- the value of an answer of `ask` nests seven deep at most
 pub ask_is_deep : (name : Labels) (rtype : RrType) (walks : List Walk) → depth (ask_value name rtype walks) ≤ 7
 ask_is_deep name rtype walks = omega (arith, each_deep walk_value 3 walk_is_deep walks)
 
+-- the value of an answer of `ask` has no number with a fraction
 pub ask_no_float : (name : Labels) (rtype : RrType) (walks : List Walk) → has_float (ask_value name rtype walks) ≡ false
 ask_no_float name rtype walks = no_float (ask_value name rtype walks) (ask_is_plain name rtype walks)

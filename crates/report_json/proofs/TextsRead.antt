@@ -24,17 +24,21 @@ walk_is_shallow walk = shallow (walk_value walk) (omega (arith, walk_is_deep wal
 entry_is_shallow : (entry : ReportEntry) → depth (entry_value entry) ≤ max_depth
 entry_is_shallow entry = shallow (entry_value entry) (omega (arith, entry_is_deep entry))
 
+-- the text of a walk is read as its value
 pub walk_reads_back : (walk : Walk) → read (walk_text walk) ≡ Some (walk_value walk)
 walk_reads_back walk = reads_back (walk_value walk) (walk_is_plain walk) (walk_is_shallow walk)
 
+-- the text of an entry is read as its value
 pub entry_reads_back : (entry : ReportEntry) → read (entry_text entry) ≡ Some (entry_value entry)
 entry_reads_back entry = reads_back (entry_value entry) (entry_is_plain entry) (entry_is_shallow entry)
 
+-- the text of a report whose numbers take 64 bits is read as its value
 pub report_reads_back : (report : Report) → report.classes < 2 ^ 64 → report.names < 2 ^ 64 → report.rewrites < 2 ^ 64
     → read (report_text report) ≡ Some (report_value report)
 report_reads_back report classes names rewrites =
     line_reads_back (report_value report) (report_is_plain report classes names rewrites) (shallow (report_value report) (report_is_deep report))
 
+-- the text of an answer of `ask` is read as its value
 pub ask_reads_back : (name : Labels) (rtype : RrType) (walks : List Walk) → read (ask_text name rtype walks) ≡ Some (ask_value name rtype walks)
 ask_reads_back name rtype walks =
     line_reads_back (ask_value name rtype walks) (ask_is_plain name rtype walks) (shallow (ask_value name rtype walks) (ask_is_deep name rtype walks))

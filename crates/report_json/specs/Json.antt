@@ -12,6 +12,7 @@ abbrev pub json_items : List Data → Items
 json_items [] = no_items
 json_items (value ∷ values) = item value (json_items values)
 
+-- an array of the values of a list, in order
 abbrev pub array_of : List Data → Data
 array_of values = array (json_items values)
 
@@ -20,6 +21,7 @@ abbrev pub json_members : List (List ℕ × Data) → Members
 json_members [] = no_members
 json_members (one ∷ more) = member one.0 one.1 (json_members more)
 
+-- an object with these members, in order
 abbrev pub object_of : List (List ℕ × Data) → Data
 object_of members = object (json_members members)
 

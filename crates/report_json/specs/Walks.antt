@@ -1,6 +1,7 @@
 -- Walks as values of JSON: the list of their steps.
 use Rattle.std.specs.Prelude.{ℕ, Bool, List, [], ◌∷◌, ◌++◌, codes, Option, Some, None, if◌then◌else◌}
 use Rattle.dns_data.specs.Name.{Labels}
+use Rattle.dns_data.specs.declared.rdata.Rdata.{Rdata}
 use Rattle.net_model.specs.declared.place.Place.{Place}
 use Rattle.net_model.specs.declared.walk.Hop.{Hop}
 use Rattle.net_model.specs.declared.walk.Hop.TheVariants.{Refer, Rewrite}
@@ -38,6 +39,14 @@ hop_value state (Rewrite place by_dname to) = object_of (
     ∷ (codes "to", name_value to)
     ∷ (codes "zone", name_value place.zone) ∷ [])
 
+-- a server that answers with data
+abbrev pub answer_value : State → List Rdata → Data
+answer_value state rdata = object_of (
+    (codes "did", string (codes "answer"))
+    ∷ (codes "name", name_value state.name)
+    ∷ (codes "rdata", texts_value rdata)
+    ∷ (codes "server", name_value state.server) ∷ zone_member state.zone)
+
 -- a server that has no data, no such name, or no zone for the name
 abbrev pub absence_value : State → List ℕ → Data
 absence_value state did = object_of (
@@ -62,11 +71,7 @@ unmade_value state did place = object_of (
 
 -- the last step
 abbrev pub leaf_value : State → Leaf → Data
-leaf_value state (Answer rdata) = object_of (
-    (codes "did", string (codes "answer"))
-    ∷ (codes "name", name_value state.name)
-    ∷ (codes "rdata", texts_value rdata)
-    ∷ (codes "server", name_value state.server) ∷ zone_member state.zone)
+leaf_value state (Answer rdata) = answer_value state rdata
 leaf_value state NoData = absence_value state (codes "nodata")
 leaf_value state NxDomain = absence_value state (codes "nxdomain")
 leaf_value state Outside = absence_value state (codes "outside")

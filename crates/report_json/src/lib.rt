@@ -14,6 +14,7 @@ pub mod laws;
 mod object;
 mod report;
 mod walk;
+mod written;
 
 pub use ask::ask_text;
 pub use report::{entry_text, report_text};

@@ -1,73 +1,48 @@
 //! Reports and their entries.
 
-ghost use Rattle.std.specs.Prelude.{◌≡◌, map, IfOk, OnOk};
+ghost use Rattle.std.specs.Prelude.{◌≡◌, IfOk, OnOk};
 ghost use Rattle.serde_json.specs.Events.{SendsValue, SendsMembers};
-ghost use Rattle.report_json.specs.Json.{array_of, json_members};
+ghost use Rattle.report_json.specs.Json.{json_members};
 ghost use Rattle.report_json.specs.Report.{showing_members, entry_value, entry_text, report_value, report_text};
 
 use crate::fault::{kind_word, send_fault};
 use crate::object::send_name;
-use crate::walk::send_walks;
+use crate::written::{Written, compact_text, send_list};
 use dns_data::{NoMemory, Octets};
 use graph_form::{Report, ReportEntry};
-use serde::{Described, Serialize, Serializer};
+use serde::Serializer;
 use std::alloc::Global;
 
-/// A report, and where memory for the texts of its names comes from.
-#[derive(Drop)]
-struct Written<'a> {
-    alloc: Global,
-    report: &'a Report,
-}
-
-impl Described for Written<'_> {
-    ghost writes = { λ written. SendsValue (report_value written.report.now) };
-}
-
-impl Serialize for Written<'_> {
-    fn serialize<S: Serializer>(&self, out: &mut S) -> Result<(), S::Error> {
-        send_report(self.alloc, self.report, out)
-    }
+/// The text of an entry, as it stands in a report, without a line feed.
+pub fn entry_text(alloc: Global, entry: &ReportEntry) -> Result<Octets, NoMemory>
+    ensures { IfOk result (λ text. text ≡ entry_text entry.now) }
+{
+    Ok(Octets::from_vec(compact_text(alloc, entry)?))
 }
 
 /// The text of a report, its entries in the order in which they stand: a line of JSON.
 pub fn report_text(alloc: Global, report: &Report) -> Result<Octets, NoMemory>
     ensures { IfOk result (λ text. text ≡ report_text report.now) }
 {
-    let written = Written { alloc, report };
-    let Ok(mut text) = serde_json::to_vec(alloc, &written) else {
-        return Err(NoMemory);
-    };
+    let mut text = compact_text(alloc, report)?;
     text.push(b'\n')?;
     Ok(Octets::from_vec(text))
 }
 
-/// An entry, and where memory for the texts of its names comes from.
-#[derive(Drop)]
-struct WrittenEntry<'a> {
-    alloc: Global,
-    entry: &'a ReportEntry,
-}
+impl Written for Report {
+    ghost value = { report_value };
 
-impl Described for WrittenEntry<'_> {
-    ghost writes = { λ written. SendsValue (entry_value written.entry.now) };
-}
-
-impl Serialize for WrittenEntry<'_> {
-    fn serialize<S: Serializer>(&self, out: &mut S) -> Result<(), S::Error> {
-        send_entry(self.alloc, self.entry, out)
+    fn send<S: Serializer>(&self, alloc: Global, out: &mut S) -> Result<(), S::Error> {
+        send_report(alloc, self, out)
     }
 }
 
-/// The text of an entry, as it stands in a report, without a line feed.
-pub fn entry_text(alloc: Global, entry: &ReportEntry) -> Result<Octets, NoMemory>
-    ensures { IfOk result (λ text. text ≡ entry_text entry.now) }
-{
-    let written = WrittenEntry { alloc, entry };
-    let Ok(text) = serde_json::to_vec(alloc, &written) else {
-        return Err(NoMemory);
-    };
-    Ok(Octets::from_vec(text))
+impl Written for ReportEntry {
+    ghost value = { entry_value };
+
+    fn send<S: Serializer>(&self, alloc: Global, out: &mut S) -> Result<(), S::Error> {
+        send_entry(alloc, self, out)
+    }
 }
 
 /// Writes a report.
@@ -78,27 +53,12 @@ fn send_report<S: Serializer>(alloc: Global, report: &Report, out: &mut S) -> Re
     out.key("classes")?;
     out.u64(u64::from(report.classes))?;
     out.key("faults")?;
-    send_entries(alloc, report.entries.items(), out)?;
+    send_list(alloc, report.entries.items(), out)?;
     out.key("names")?;
     out.u64(u64::from(report.names))?;
     out.key("rewrites")?;
     out.u64(u64::from(report.rewrites))?;
     out.end_map()
-}
-
-/// Writes the list of entries.
-fn send_entries<S: Serializer>(
-    alloc: Global,
-    entries: &[ReportEntry],
-    out: &mut S,
-) -> Result<(), S::Error>
-    ensures { OnOk result (SendsValue (array_of (map entry_value entries.now)) (S.written out.old) (S.written out.new)) }
-{
-    out.begin_seq(Some(entries.len()))?;
-    for entry in entries {
-        send_entry(alloc, entry, out)?;
-    }
-    out.end_seq()
 }
 
 /// Writes an entry.
@@ -132,6 +92,6 @@ fn send_showing<S: Serializer>(
     out.key("type")?;
     out.str(entry.seen.rtype.word())?;
     out.key("walks")?;
-    send_walks(alloc, entry.walks.items(), out)?;
+    send_list(alloc, entry.walks.items(), out)?;
     out.end_map()
 }

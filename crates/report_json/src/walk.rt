@@ -1,58 +1,30 @@
 //! Walks, as lists of their steps.
 
-ghost use Rattle.std.specs.Prelude.{◌≡◌, ◌++◌, length, map, IfOk, OnOk};
+ghost use Rattle.std.specs.Prelude.{◌≡◌, ◌++◌, length, IfOk, OnOk};
 ghost use Rattle.serde.specs.Event.{WritesEach};
 ghost use Rattle.serde_json.specs.Events.{SendsValue};
-ghost use Rattle.report_json.specs.Json.{array_of};
-ghost use Rattle.report_json.specs.Walks.{hop_value, hop_values, leaf_value, end_values, absence_value, stop_value, unmade_value, walk_value, walk_text, rewrite_word};
+ghost use Rattle.report_json.specs.Walks.{hop_value, hop_values, leaf_value, end_values, answer_value, absence_value, stop_value, unmade_value, walk_value, walk_text, rewrite_word};
 
 use crate::object::{name, send_object, texts, word};
-use dns_data::{Name, NoMemory, Octets};
+use crate::written::{Written, compact_text};
+use dns_data::{Name, NoMemory, Octets, Rdata};
 use net_model::{Hop, Leaf, Place, State, Walk};
-use serde::{Described, Serialize, Serializer};
+use serde::Serializer;
 use std::alloc::Global;
-
-/// A walk, and where memory for the texts of its names comes from.
-#[derive(Drop)]
-struct WrittenWalk<'a> {
-    alloc: Global,
-    walk: &'a Walk,
-}
-
-impl Described for WrittenWalk<'_> {
-    ghost writes = { λ written. SendsValue (walk_value written.walk.now) };
-}
-
-impl Serialize for WrittenWalk<'_> {
-    fn serialize<S: Serializer>(&self, out: &mut S) -> Result<(), S::Error> {
-        send_walk(self.alloc, self.walk, out)
-    }
-}
 
 /// The text of a walk, as it stands in a report, without a line feed.
 pub fn walk_text(alloc: Global, walk: &Walk) -> Result<Octets, NoMemory>
     ensures { IfOk result (λ text. text ≡ walk_text walk.now) }
 {
-    let written = WrittenWalk { alloc, walk };
-    let Ok(text) = serde_json::to_vec(alloc, &written) else {
-        return Err(NoMemory);
-    };
-    Ok(Octets::from_vec(text))
+    Ok(Octets::from_vec(compact_text(alloc, walk)?))
 }
 
-/// Writes the list of walks.
-pub(crate) fn send_walks<S: Serializer>(
-    alloc: Global,
-    walks: &[Walk],
-    out: &mut S,
-) -> Result<(), S::Error>
-    ensures { OnOk result (SendsValue (array_of (map walk_value walks.now)) (S.written out.old) (S.written out.new)) }
-{
-    out.begin_seq(Some(walks.len()))?;
-    for walk in walks {
-        send_walk(alloc, walk, out)?;
+impl Written for Walk {
+    ghost value = { walk_value };
+
+    fn send<S: Serializer>(&self, alloc: Global, out: &mut S) -> Result<(), S::Error> {
+        send_walk(alloc, self, out)
     }
-    out.end_seq()
 }
 
 /// Writes a walk: its hops, and its end in the last state.
@@ -163,15 +135,7 @@ fn send_leaf<S: Serializer>(
     ensures { OnOk result (SendsValue (leaf_value state.now leaf.now) (S.written out.old) (S.written out.new)) }
 {
     match leaf {
-        Leaf::Answer(rdata) => {
-            let members = [
-                word("did", "answer"),
-                name("name", &state.name),
-                texts("rdata", rdata.items()),
-                name("server", &state.server),
-            ];
-            send_object(alloc, members.as_slice(), state.zone.as_ref(), out)
-        }
+        Leaf::Answer(rdata) => send_answer(alloc, state, rdata.items(), out),
         Leaf::NoData => send_absence(alloc, state, "nodata", out),
         Leaf::NxDomain => send_absence(alloc, state, "nxdomain", out),
         Leaf::Outside => send_absence(alloc, state, "outside", out),
@@ -181,6 +145,24 @@ fn send_leaf<S: Serializer>(
         Leaf::Overlong(place) => send_unmade(alloc, state, "overlong", place, out),
         Leaf::NoAddress(ns) => send_stop(alloc, state, "no-address", ns, out),
     }
+}
+
+/// Writes that a server answers with data.
+fn send_answer<S: Serializer>(
+    alloc: Global,
+    state: &State,
+    rdata: &[Rdata],
+    out: &mut S,
+) -> Result<(), S::Error>
+    ensures { OnOk result (SendsValue (answer_value state.now rdata.now) (S.written out.old) (S.written out.new)) }
+{
+    let members = [
+        word("did", "answer"),
+        name("name", &state.name),
+        texts("rdata", rdata),
+        name("server", &state.server),
+    ];
+    send_object(alloc, members.as_slice(), state.zone.as_ref(), out)
 }
 
 /// Writes that there is nothing at the state's name.

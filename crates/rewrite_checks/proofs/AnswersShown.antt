@@ -77,6 +77,8 @@ module _ (setting : Setting) (query : Labels) (class : Class) (represents : Bool
     pub type_is : t ≡ rtype
     pub differ : Differ graph rtype
 
+  -- where the query shows differing answers with a type, they are of its class and this type, and two authoritative ends of
+  -- the graph differ
   pub shown_differ : (other_class : Class) (t : RrType) → Shows (with_sets setting) query rtype (Answers other_class t) → IsOfAnswers other_class t
   shown_differ other_class t shows =
       let two = two_walks other_class t shows.walks shows.show in
@@ -104,15 +106,18 @@ tells_other_than_none leaves.NoData e = refl
 tells_other_than_none leaves.NxDomain e = refl
 tells_other_than_none leaf e = cc
 
+-- a leaf that tells another thing is authoritative
 pub authoritative : (than leaf : Leaf) → is_other than leaf ≡ true → is_authoritative leaf ≡ true
 authoritative than leaf e = (and_parts (is_authoritative leaf) (not (answer_eq than leaf)) e).0
 
+-- a leaf that tells another thing isn't the same leaf
 pub tells_another : (than leaf : Leaf) → is_other than leaf ≡ true → than ≢ leaf
 tells_another than leaf e same =
     let parts = and_parts (is_authoritative leaf) (not (answer_eq than leaf)) e in
     let equal : answer_eq than leaf ≡ true = ap (λ (l : Leaf). answer_eq l leaf) same ∙ answer_itself leaf parts.0 in
     true≢false (sym parts.1 ∙ ap not equal)
 
+-- an authoritative leaf that isn't the same leaf tells another thing
 pub is_another : (than leaf : Leaf) → is_authoritative leaf ≡ true → than ≢ leaf → is_other than leaf ≡ true
 is_another than leaf told differ = and_from (is_authoritative leaf) (not (answer_eq than leaf)) told (by (answer_eq than leaf) refl) where
   by : (b : Bool) → answer_eq than leaf ≡ b → not b ≡ true

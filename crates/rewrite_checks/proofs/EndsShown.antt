@@ -109,6 +109,7 @@ module _ (setting : Setting) (query : Labels) (class : Class) (represents : Bool
   of_branch state (Go hop to) fault is = cc
   of_branch state (End hop leaf) fault is = by_kind represents state.last leaf fault is
 
+  -- what was collected of the ends of a graph is a fault that one end tells
   pub candidate_of_end : (seen : Seen) → Contains (seen_by (end_faults represents) graph) seen → OfEnd seen.fault
   candidate_of_end =
       each_seen setting query graph for.is_graph (end_faults represents) (λ rtype fault. OfEnd fault)
@@ -152,6 +153,8 @@ module _ (setting : Setting) (query : Labels) (class : Class) (represents : Bool
       ∙ ap (λ (b : Bool). if b then Some (faults.Overlong place) else None) flag
   leaf_of rtype fault of walk end may show = absurd of
 
+  -- a fault that one end tells, and that the query shows with a type, was collected, with this type or one with a lower
+  -- number
   pub shown_collected : (rtype : RrType) (fault : Fault) → OfEnd fault → Shown rtype fault → IsCollected rtype fault
   shown_collected rtype fault of shows =
       let one = one_walk fault of shows.walks shows.show in

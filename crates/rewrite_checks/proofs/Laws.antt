@@ -31,6 +31,7 @@ module _ (setting : Setting) (query : Labels) (class : Class) (represents : Bool
     (shown : List Seen) (are : AreShownOf (with_sets setting) query is_of_rewrites shown) where
   -- ---- a walk that comes back
 
+  -- where a walk comes back to a server and a name, the rewrite limit is told at a rewrite that it makes in between
   pub told_back : (rtype : RrType) (walk : Walk) → IsWalk setting query rtype walk → (back : ComesBack walk)
       → (place : Place) × RewritesAt (hops_round walk back) place × Contains (map (λ seen. seen.fault) shown) (faults.Limit place)
   told_back rtype walk is back =
@@ -62,6 +63,7 @@ module _ (setting : Setting) (query : Labels) (class : Class) (represents : Bool
       let found = overlong_too setting above tails.0 tails.1 tails.4 rtype long.walk is long.is_long in
       record { walk = found.0; is_walk = subst (λ n. IsWalk setting n rtype found.0) (sym tails.2) found.1; is_long = found.2 }
 
+  -- where an overlong rewrite is told with a type, each member of the class has a walk of this type that ends overlong
   pub members_meet : (seen : Seen) → Contains shown seen → (place : Place) → seen.fault ≡ faults.Overlong place
       → (member : Labels) → IsName member → IsClassOf (ground_of setting.config) member class
       → (walk : Walk) × IsWalk setting member seen.rtype walk × (is_overlong walk.leaf ≡ true)

@@ -80,9 +80,11 @@ module _ (setting : Setting) (query : Labels) (class : Class) (represents : Bool
 -- ---- the faults of types, put one after the other
 
 module _ (class : Class) (graph : PlainGraph) where
+  -- for no type nothing is put
   pub none_put : (old : List Seen) → PutsAnswers class graph [] old old
   none_put old = record { kept = λ s has. has; from = λ s has. inl has; all = λ t none differ. absurd (none_in_nil t none) }
 
+  -- what is put for some types, and then for one more, is put for all of them
   pub more_put : (ts : List RrType) (t : RrType) (old mid new : List Seen) → PutsAnswers class graph ts old mid → PutsAnswers class graph (t ∷ []) mid new
       → PutsAnswers class graph (ts ++ t ∷ []) old new
   more_put ts t old mid new one other =

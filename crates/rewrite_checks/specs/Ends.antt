@@ -17,11 +17,11 @@ leaf_fault represents last leaves.NxDomain = option_map faults.Blackhole last
 leaf_fault represents last (leaves.Overlong place) = if represents then Some (faults.Overlong place) else None
 leaf_fault represents last leaf = None
 
--- the fault of a branch
+-- the fault of a branch, which has one only where it ends
 abbrev pub end_fault : Bool → State → Branch → Option Fault
 end_fault represents state (Go hop to) = None
 end_fault represents state (End hop leaf) = leaf_fault represents state.last leaf
 
--- as a list
+-- the fault of a branch as a list, which is empty where it has none
 abbrev pub end_faults : Bool → State → Branch → List Fault
 end_faults represents state branch = option_to_list (end_fault represents state branch)

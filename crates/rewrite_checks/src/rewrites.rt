@@ -47,6 +47,7 @@ pub fn rewrite_faults(
     let mut seen = List::new(alloc);
     put_ends(alloc, represents, graph, &mut seen)?;
     put_answers(alloc, class, graph, &mut seen)?;
+    // Named, since the proof speaks of the list that comes where memory suffices.
     let shown = first_types(alloc, seen)?;
     Ok(shown)
 }

@@ -3,8 +3,8 @@ use Rattle.std.proofs.Common.{◌≡◌, ℕ, ◌+◌, ◌<◌, ◌≤◌, Bool,
 use Rattle.std.specs.Prelude.{if◌then◌else◌, Result, Ok, Err, OnOk}
 use Rattle.std.proofs.Math.Bool.{or-true}
 use Rattle.std.proofs.lemmas.Bool.{eq-eqb, lt-ltb, cases_eq}
-use Rattle.pool_core.specs.declared.entry.Entry.{Entry}
-use Rattle.pool_core.specs.declared.entry.Entry.TheVariants.{Claim, File}
+use Rattle.pool_core.specs.declared.history.HistoryEntry.{HistoryEntry}
+use Rattle.pool_core.specs.declared.history.HistoryEntry.TheVariants.{Claim, File}
 use Rattle.pool_core.specs.History.{issued_in, is_claimed_in, is_filed_in}
 use Rattle.pool_core.proofs.Lists.{count_by_push}
 use Rattle.pool_core.proofs.Histories.{filed_push, first_stop_push}
@@ -22,7 +22,7 @@ on_ok (Ok x) P Q p f = f p
 on_ok (Err e) P Q p f = tt
 
 -- a claim of the next ticket that was filed at once leaves one ticket more below which all are filed
-pub filed_next : (h a b : List Entry) (t n : ℕ) → IsFiledBelow h t → a ≡ h ++ Claim t ∷ [] → b ≡ a ++ File t n ∷ [] → IsFiledBelow b (t + 1)
+pub filed_next : (h a b : List HistoryEntry) (t n : ℕ) → IsFiledBelow h t → a ≡ h ++ Claim t ∷ [] → b ≡ a ++ File t n ∷ [] → IsFiledBelow b (t + 1)
 filed_next h a b t n f a_is b_is =
     subst (λ l. IsFiledBelow l (t + 1)) (sym (b_is ∙ ap (λ l. l ++ File t n ∷ []) a_is))
     (record {
@@ -50,7 +50,7 @@ refused_gone said fault k answers is =
     answers
 
 -- a ticket of which no claim is given was filed
-pub gone_next : (h : List Entry) (t : ℕ) (k : Kept) → IsFiledBelow h t → NoneInHand h → t < issued_in h → claim_refusal h t ≡ Some (Gone k) → IsFiledBelow h (t + 1)
+pub gone_next : (h : List HistoryEntry) (t : ℕ) (k : Kept) → IsFiledBelow h t → NoneInHand h → t < issued_in h → claim_refusal h t ≡ Some (Gone k) → IsFiledBelow h (t + 1)
 gone_next h t k f none_in_hand low gone =
     record {
       unstopped = f.unstopped;
@@ -70,7 +70,7 @@ gone_next h t k f none_in_hand low gone =
     is_filed = by_flags (is_filed_in h t) (is_claimed_in h t) (none_in_hand t) (sym (rw (lt-ltb t (issued_in h) low) refl) ∙ refused)
 
 -- when no ticket is left, as many are claimed and filed as were issued
-pub all_finished : (h : List Entry) (t : ℕ) → IsFiledBelow h t → issued_in h ≤ t → CountsTickets h → (unfiled_in h ≡ 0) × (filings_in h ≡ issued_in h) × (claims_in h ≡ issued_in h)
+pub all_finished : (h : List HistoryEntry) (t : ℕ) → IsFiledBelow h t → issued_in h ≤ t → CountsTickets h → (unfiled_in h ≡ 0) × (filings_in h ≡ issued_in h) × (claims_in h ≡ issued_in h)
 all_finished h t f end counts =
     let none = counts.all_filed (λ k low. f.below k (omega (arith, low, end))) in
     (none, omega (arith, none, counts.filings, counts.claims), omega (arith, none, counts.filings, counts.claims))

@@ -48,9 +48,11 @@ stands [] port v e = absurd (some-ne-none v (sym e))
 stands (x ∷ xs) zero v e = (0, omega arith, some-injective x v e)
 stands (x ∷ xs) (suc port) v e = let rest = stands xs port v e in (suc rest.0, omega (arith, rest.1), rest.2)
 
+-- a deque that holds nothing, with a new seat alone, is balanced
 pub begins : KeepsBalance [] (new_seat ∷ [])
 begins t = refl
 
+-- the owner's pushes keep the balance, and stand behind what it pushed before
 pub pushes : (port : ℕ) (v : SeatView) (xs : List ℕ) → port ≡ 0 → Pushes KeepsBalance port v xs (λ w. w ≡ seat_view (v.pushed ++ xs) v.taken)
 pushes port v xs first held views h at =
     let w : SeatView = seat_view (v.pushed ++ xs) v.taken in
@@ -62,6 +64,7 @@ pushes port v xs first held views h at =
       refl,
     )
 
+-- taking the first ticket keeps the balance, and it stands behind what the seat took before
 pub takes : (port : ℕ) (v : SeatView) → Takes KeepsBalance port v 1 (λ xs w. w ≡ seat_view v.pushed (v.taken ++ xs))
 takes port v xs held views some_ticket one h at =
     let w : SeatView = seat_view v.pushed (v.taken ++ xs) in (
@@ -72,20 +75,25 @@ takes port v xs held views some_ticket one h at =
       refl,
     )
 
+-- a seat that finds nothing was at a deque that held nothing
 pub finds : (port : ℕ) (v : SeatView) → Finds KeepsBalance port v (WasEmpty v)
 finds port v views h at = (views, h, stands views port v at)
 
+-- a seat that finds no more than none was at a deque that held nothing
 pub finds_few : (most port : ℕ) (v : SeatView) → most ≡ 0 → FindsFew KeepsBalance most port v (WasEmpty v)
 finds_few most port v none [] views few h at = (views, h, stands views port v at)
 finds_few most port v none (x ∷ xs) views few h at = absurd (omega (arith, few, none))
 
+-- what a seat learns of the length is what the deque holds beside it
 pub learns : (port : ℕ) (v : SeatView) → Learns KeepsBalance port v (IsHeldBeside v)
 learns port v held views h at = (views, h, stands views port v at)
 
+-- a new seat keeps the balance
 pub admits : Admits KeepsBalance new_seat
 admits held [] h = λ t. h t
 admits held (x ∷ xs) h = λ t. h t ∙ ap (λ n. times t held + n) (sym (taken_more t (x ∷ xs)))
 
+-- what a seat took that is joined stands behind what the owner's seat took, and the balance is kept
 pub merges : (port : ℕ) (v : SeatView) (other : ℕ) (u : SeatView) → port ≡ 0 → Merges KeepsBalance port v other u (seat_view v.pushed (v.taken ++ u.taken)) new_seat
 merges port v other u first held views h at two at' = λ t.
     let both : SeatView = seat_view v.pushed (v.taken ++ u.taken) in
@@ -105,6 +113,7 @@ set_same [] port v e = refl
 set_same (x ∷ xs) zero v e = ap (λ u. u ∷ xs) (sym (some-injective x v e))
 set_same (x ∷ xs) (suc port) v e = ap (λ l. x ∷ l) (set_same xs port v e)
 
+-- a seat that is split off is a new one, and keeps the balance
 pub forks : (port : ℕ) (v : SeatView) → Forks KeepsBalance port v v new_seat
 forks port v held views h at = λ t.
     let same = set_same views port v at in

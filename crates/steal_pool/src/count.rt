@@ -1,13 +1,10 @@
-//! What a run of the pool counts, and why it gives no list.
+//! What a run of the pool counts, and the fault of one that was stopped.
 
 ghost use Rattle.std.specs.Prelude.{◌≡◌};
-ghost use Rattle.steal_pool.specs.Faults.{fault_of, fault_of_walk};
-ghost use Rattle.steal_pool.specs.declared.count.PoolFault.TheVariants.{NoMemory};
+ghost use Rattle.steal_pool.specs.Faults.{fault_of};
 
-use dns_data::NoMemory;
 use pool_core::StopCause;
-use thiserror::Error;
-use verdict_book::WalkFault;
+use verdict_book::PoolFault;
 
 /// What a run counted, of the claims, filings and judging calls of its one book.
 #[derive(Clone, Copy, Debug, PartialEq, Eq)]
@@ -32,36 +29,6 @@ impl PoolCount {
             filed: 0,
             judged: 0,
             foreign: 0,
-        }
-    }
-}
-
-/// Why there is no list.
-#[derive(Clone, Copy, Debug, PartialEq, Eq, Error)]
-pub enum PoolFault {
-    /// More items are reached than this limit.
-    #[error("more than {0} items")]
-    TooMany(u32),
-    /// Memory ran out.
-    #[error("no memory")]
-    NoMemory,
-}
-
-impl From<NoMemory> for PoolFault {
-    ghost from_gives = { λ _ fault. fault ≡ NoMemory };
-
-    fn from(_fault: NoMemory) -> PoolFault {
-        PoolFault::NoMemory
-    }
-}
-
-impl From<WalkFault> for PoolFault {
-    ghost from_gives = { λ walk fault. fault ≡ fault_of_walk walk };
-
-    fn from(walk: WalkFault) -> PoolFault {
-        match walk {
-            WalkFault::TooMany(limit) => PoolFault::TooMany(limit),
-            WalkFault::NoMemory => PoolFault::NoMemory,
         }
     }
 }

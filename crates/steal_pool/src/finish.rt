@@ -1,7 +1,7 @@
 //! What the caller does where the workers left some tickets.
 
 ghost use Rattle.std.specs.Prelude.{◌≡◌, ◌+◌, ◌-◌, ◌<◌, ◌≤◌, ◌^◌, ◌∷◌, [], ◌++◌, length, IfErr, OnOk, OnErr, Some, None, min};
-ghost use Rattle.pool_core.specs.declared.entry.Entry.TheVariants.{File as FileOf};
+ghost use Rattle.pool_core.specs.declared.history.HistoryEntry.TheVariants.{File as FileOf};
 ghost use Rattle.pool_core.specs.History.{issued_in};
 ghost use Rattle.verdict_book.specs.Books.{NoneInHand, claims_in, filings_in, unfiled_in};
 ghost use Rattle.verdict_book.specs.Items.{Reached};

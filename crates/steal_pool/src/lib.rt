@@ -17,9 +17,10 @@ mod slots;
 mod taking;
 mod turn;
 
-pub use count::{PoolCount, PoolFault};
+pub use count::PoolCount;
 pub use locked::{Capped, LockedBook};
-pub use row::{OtherRow, OwnRow, Taken};
+pub use row::{OtherRow, OwnRow, StealOutcome};
 pub use rule::SeatView;
 pub use run::{run_tree, run_tree_counted};
 pub use slot::{Ended, Slot};
+pub use verdict_book::PoolFault;

@@ -3,11 +3,10 @@
 ghost use Rattle.std.specs.Prelude.{◌≡◌, ◌+◌, ◌≤◌, ◌<◌, ◌^◌, length, IfOk, IfErr, OnOk};
 ghost use Rattle.verdict_book.specs.Books.{claims_in, filings_in};
 ghost use Rattle.verdict_book.specs.Items.{ReachesMore};
-ghost use Rattle.verdict_book.specs.Lists.{IsWholeTree};
-ghost use Rattle.steal_pool.specs.Faults.{IsPoolFault};
+ghost use Rattle.verdict_book.specs.Lists.{IsWholeTree, IsPoolFault};
 ghost use Rattle.steal_pool.specs.Runs.{IsGathered};
 
-use crate::count::{PoolCount, PoolFault, fault_of};
+use crate::count::{PoolCount, fault_of};
 use crate::finish::finish;
 use crate::gather::{Gathered, gather};
 use crate::locked::{Capped, LockedBook};
@@ -19,7 +18,7 @@ use std::marker::Brand;
 use std::sync::ledger::{Blank, Ledger};
 use std::sync::{Mutex, Wait};
 use std::thread::Threads;
-use verdict_book::{Book, Filed, JudgeShare, Work, walk_tree};
+use verdict_book::{Book, Filed, JudgeShare, PoolFault, Work, walk_tree};
 
 /// The reached items of the work with their verdicts, each once, sorted by item, judged by so many workers
 /// in threads. `TooMany` comes exactly where more than `limit` items are reached.
@@ -154,7 +153,7 @@ fn answer<W: Work>(
     }
     if tally.foreign > 0 {
         *count = count_of(&book, tally.judged, tally.foreign);
-        return Ok(walk_tree(alloc, work, limit)?);
+        return walk_tree(alloc, work, limit);
     }
     let mut share = JudgeShare::new();
     let finished = finish(&mut book, work, &mut share);

@@ -1,6 +1,5 @@
 pub use Rattle.net_model.specs.Shown
 pub use Rattle.net_model.specs.Tree
-pub mod MadeOf
 pub mod Regions
 pub mod Searching
 pub mod Straight

@@ -1,5 +1,5 @@
--- Names by the longest origin of a zone at or above them, for all of which walks are the same as long as no zone answers: for the
--- contracts of inner calls alone.
+-- Names by the longest origin of a zone at or above them, for all of which walks are the same as long as no zone answers. A public
+-- clause cites AreRegionsFor alone.
 use Rattle.std.specs.Prelude.{◌≡◌, ◌<◌, ℕ, true, List, [], ◌∷◌, ◌++◌, ◌⊎◌, map, length, None, Contains}
 use Rattle.std.specs.List.{AllByRecursion}
 use Rattle.std.specs.List.Sorted.{IsStrictlySortedBy}
@@ -17,6 +17,7 @@ use Rattle.straight_walks.specs.Straight.{StepsStraight}
 use Rattle.straight_walks.specs.declared.queue.Queued.{Queued}
 use Rattle.straight_walks.specs.declared.searching.Search.{Search}
 use Rattle.straight_walks.specs.declared.region.Region.{Region}
+use Rattle.straight_walks.specs.declared.regions.Regions.{Regions}
 
 -- the origin is at or above the name, and no server has a zone whose origin is and has more labels
 pub record IsNearestOrigin (config : Config) (origin name : Labels) : Type 0 where
@@ -61,3 +62,7 @@ pub record AreRegions (config : Config) (deps : Deps) (regions : List Region) : 
   pub ordered : IsStrictlySortedBy name_cmp (region_origins regions)
   pub each : AllByRecursion (IsRegion config deps) regions
   pub all : HasEachOrigin config (region_origins regions)
+
+-- these are the regions of the configuration, with the two sets of learnt addresses
+abbrev pub AreRegionsFor : Config → Deps → Regions → Type 0
+AreRegionsFor config deps made = AreRegions config deps made.regions.items

@@ -7,7 +7,7 @@ ghost use Rattle.net_model.specs.Shown.{Shows, with_lists};
 ghost use Rattle.net_model.specs.Step.{Setting, following};
 ghost use Rattle.net_model.specs.Tree.{HasMoreThan, IsReached};
 ghost use Rattle.straight_walks.specs.Searching.{HasPassed, IsSearch, IsSettingOf};
-ghost use Rattle.straight_walks.specs.MadeOf.{regions_for};
+ghost use Rattle.straight_walks.specs.Regions.{AreRegionsFor};
 ghost use Rattle.straight_walks.specs.Straight.{GoesStraight};
 
 use crate::queue::Queued;
@@ -36,7 +36,7 @@ pub fn goes_straight<'a>(
     query: &Name,
     states: u32,
 ) -> Result<bool, NoMemory>
-    requires { regions.now ≡ regions_for hosts.now sets.now }
+    requires { AreRegionsFor hosts.now sets.now regions.now }
     ensures few { IfOk result (λ straight. straight ≡ true → (rewrites : ℕ) → HasMoreThan (IsReached hosts.now rewrites query.now) states → ⊥) }
     ensures shows_nothing { IfOk result (λ straight. straight ≡ true → (rewrites : ℕ) (rtype : RrTypeValue) (fault : FaultValue)
         → Shows (with_lists (following hosts.now rewrites sets.now.least) sets.now.least sets.now.greatest) query.now rtype fault → ⊥) }
@@ -56,7 +56,7 @@ fn straight_by_region<'a>(
     query: &Name,
     most: usize,
 ) -> Result<bool, NoMemory>
-    requires { regions.now ≡ regions_for hosts.now sets.now }
+    requires { AreRegionsFor hosts.now sets.now regions.now }
     ensures { IfOk result (λ straight. straight ≡ true → (setting : Setting) → IsSettingOf hosts.now sets.now setting → GoesStraight setting sets.now most query.now) }
 {
     match regions.search_for(near, query) {

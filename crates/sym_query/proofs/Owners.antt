@@ -36,6 +36,7 @@ tail_is_short : (tail : Option (List ℕ)) → length (tail_labels tail) ≤ 1
 tail_is_short None = omega arith
 tail_is_short (Some label) = omega arith
 
+-- an owner that the known name with its tail begins with, and that is shorter, is at or above the known name
 pub owner_of_known : (known owner : Labels) (tail : Option (List ℕ)) → Begins owner (known ++ tail_labels tail)
     → length owner < length (known ++ tail_labels tail) → is_prefix owner known ≡ true
 owner_of_known known owner tail (below, e) shorter =

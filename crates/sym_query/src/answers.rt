@@ -14,8 +14,8 @@ ghost use Rattle.sym_query.specs.Answers.{AreAlike, AreAnswers, IsOneAnswer, Red
 ghost use Rattle.sym_query.specs.TypedFound.{HasSome};
 
 use crate::typed_found::TypedFound;
-use dns_data::{JoinFault, List, Name, NoMemory, RrType, TypeSet};
-use name_rules::{SymName, substitute_whole};
+use dns_data::{List, NoMemory, RrType, TypeSet};
+use name_rules::{SymName, redirected_whole};
 use net_model::Found;
 use std::alloc::Global;
 use zone_tree::{Decider, NodeId, Tree, at_name, referral};
@@ -68,21 +68,7 @@ fn redirected(
     requires owner { is_prefix (name_of tree.now owner) name.now.known ≡ true }
     ensures { IfOk result (λ answer. answer ≡ redirected (whole name.now) (name_of tree.now owner) (first_name (targets_at tree.now.zone (name_of tree.now owner) rr_type.Dname))) }
 {
-    let Some(target) = tree.redirection(owner) else {
-        return Ok(Found::NxDomain);
-    };
-    let owner = tree.name(owner);
-    match substitute_whole(alloc, name, owner, target) {
-        Ok(to) => Ok(Found::Rewrite {
-            by_dname: true,
-            owner: owner.copy(alloc)?,
-            to,
-        }),
-        Err(JoinFault::TooLong) => Ok(Found::TooLong {
-            owner: owner.copy(alloc)?,
-        }),
-        Err(JoinFault::NoMemory) => Err(NoMemory),
-    }
+    redirected_whole(alloc, name, tree.name(owner), tree.redirection(owner))
 }
 
 /// What the records of an existing name answer to each type of a set: one answer to the types that go the same way, and

@@ -4,8 +4,8 @@ use Rattle.std.specs.Prelude.{slice_index_or, nat_lt, is_none}
 use Rattle.std.proofs.lemmas.Option.{slice_get_within, slice_get-get_or}
 use Rattle.std.proofs.lemmas.List.{append-nil}
 use Rattle.std.proofs.lemmas.Bool.{eqb-true, eq-eqb, and_parts, ltb-true, not-true}
-use Rattle.pool_core.specs.declared.entry.Entry.{Entry}
-use Rattle.pool_core.specs.declared.entry.Entry.TheVariants.{Claim, File, Stop}
+use Rattle.pool_core.specs.declared.history.HistoryEntry.{HistoryEntry}
+use Rattle.pool_core.specs.declared.history.HistoryEntry.TheVariants.{Claim, File, Stop}
 use Rattle.pool_core.specs.History.{children_of, claims, files, issued_in, is_claimed_in, is_filed_in, first_stop, may_come_next, all_may_follow, is_legal}
 use Rattle.verdict_book.specs.Items.{IsChildAt, IsChain, Reached, ParentsApart, item_step, items_from, items_of, CountsRight, AllCountRight, AreReachedItems, FilesAllReached}
 use Rattle.verdict_book.proofs.Places.{get_left, get_right, get_cases, some_same, one_value}
@@ -18,6 +18,7 @@ module _ {I : Type 0} (first : I) (children : I → List I) where
       let rest = chain_more next path parent place item chain.1 child in
       (next ∷ rest.0, (chain.0, rest.1))
 
+  -- a child of a reached item is reached
   pub reached_child : (parent : I) (place : ℕ) (item : I) → Reached first children parent → IsChildAt children parent place item → Reached first children item
   reached_child parent place item r child = chain_more first r.0 parent place item r.1 child
 
@@ -25,10 +26,10 @@ module _ {I : Type 0} (first : I) (children : I → List I) where
   At items k item = slice_get items k ≡ Some item
 
   -- where an item of a history comes from: it is the first one, or a child of the item of a filed ticket
-  abbrev Origin : List I → List Entry → I → Type 0
+  abbrev Origin : List I → List HistoryEntry → I → Type 0
   Origin items h item = (item ≡ first) ⊎ ((t : ℕ) × (parent : I) × (place : ℕ) × (is_filed_in h t ≡ true) × At items t parent × IsChildAt children parent place item)
 
-  pub record Known (h : List Entry) (items : List I) : Type 0 where
+  pub record Known (h : List HistoryEntry) (items : List I) : Type 0 where
     pub len : length items ≡ issued_in h
     pub head : At items 0 first
     pub reached : (k : ℕ) (item : I) → At items k item → Reached first children item
@@ -38,14 +39,14 @@ module _ {I : Type 0} (first : I) (children : I → List I) where
     pub claimed : (t : ℕ) → is_claimed_in h t ≡ true → t < issued_in h
     pub filed : (t : ℕ) → is_filed_in h t ≡ true → t < issued_in h
 
-  same_filed : (h : List Entry) (e : Entry) → ((t : ℕ) → files t e ≡ false) → (t : ℕ) → is_filed_in (h ++ e ∷ []) t ≡ true → is_filed_in h t ≡ true
+  same_filed : (h : List HistoryEntry) (e : HistoryEntry) → ((t : ℕ) → files t e ≡ false) → (t : ℕ) → is_filed_in (h ++ e ∷ []) t ≡ true → is_filed_in h t ≡ true
   same_filed h e none t f = ⊎_elim (λ x. x) (λ y. absurd (cc (y, none t))) (filed_cases h e t f)
 
-  was_filed : (h : List Entry) (e : Entry) (t : ℕ) → is_filed_in h t ≡ true → is_filed_in (h ++ e ∷ []) t ≡ true
+  was_filed : (h : List HistoryEntry) (e : HistoryEntry) (t : ℕ) → is_filed_in h t ≡ true → is_filed_in (h ++ e ∷ []) t ≡ true
   was_filed h e t f = filed_push h e t ∙ rw f refl
 
   -- an entry that files nothing
-  quiet : (h : List Entry) (e : Entry) (items : List I) → Known h items → children_of e ≡ 0 → ((t : ℕ) → files t e ≡ false) → ((t : ℕ) → claims t e ≡ true → t < issued_in h) → Known (h ++ e ∷ []) items
+  quiet : (h : List HistoryEntry) (e : HistoryEntry) (items : List I) → Known h items → children_of e ≡ 0 → ((t : ℕ) → files t e ≡ false) → ((t : ℕ) → claims t e ≡ true → t < issued_in h) → Known (h ++ e ∷ []) items
   quiet h e items k no_child no_filing issued =
       let same : issued_in (h ++ e ∷ []) ≡ issued_in h = omega (arith, issued_push h e, no_child) in
       record {
@@ -61,7 +62,7 @@ module _ {I : Type 0} (first : I) (children : I → List I) where
 
   module _ (apart : ParentsApart first children) where
     -- the children of an item that wasn't filed are new
-    no_old_child : (h : List Entry) (items : List I) (t : ℕ) (parent : I) → Known h items → At items t parent → is_filed_in h t ≡ false → (k place : ℕ) (item : I) → At items k item → IsChildAt children parent place item → ⊥
+    no_old_child : (h : List HistoryEntry) (items : List I) (t : ℕ) (parent : I) → Known h items → At items t parent → is_filed_in h t ≡ false → (k place : ℕ) (item : I) → At items k item → IsChildAt children parent place item → ⊥
     no_old_child h items t parent known at unfiled k place item old child =
         ⊎_elim
         (λ (is_first : item ≡ first). apart.none_of_first parent place (known.reached t parent at) (subst (λ i. IsChildAt children parent place i) is_first child))
@@ -72,7 +73,7 @@ module _ {I : Type 0} (first : I) (children : I → List I) where
         cc (f, unfiled))
         (known.origin k item old)
 
-    filing : (h : List Entry) (items : List I) (t n : ℕ) (parent : I) → Known h items → At items t parent → is_claimed_in h t ≡ true → is_filed_in h t ≡ false → n ≡ length (children parent) → Known (h ++ File t n ∷ []) (items ++ children parent)
+    filing : (h : List HistoryEntry) (items : List I) (t n : ℕ) (parent : I) → Known h items → At items t parent → is_claimed_in h t ≡ true → is_filed_in h t ≡ false → n ≡ length (children parent) → Known (h ++ File t n ∷ []) (items ++ children parent)
     filing h items t n parent k at was_claimed unfiled count =
         let e = File t n in
         let cs = children parent in
@@ -113,7 +114,7 @@ module _ {I : Type 0} (first : I) (children : I → List I) where
               (filed_cases h e u f);
         }
 
-    pub step : (h : List Entry) (e : Entry) (items : List I) → Known h items → may_come_next h e ≡ true → CountsRight first children items e → Known (h ++ e ∷ []) (item_step first children items e)
+    pub step : (h : List HistoryEntry) (e : HistoryEntry) (items : List I) → Known h items → may_come_next h e ≡ true → CountsRight first children items e → Known (h ++ e ∷ []) (item_step first children items e)
     step h (Claim t) items k may count =
         let parts = and_parts (nat_lt t (issued_in h) && not (is_claimed_in h t)) (is_none (first_stop h)) may in
         let open_ticket = and_parts (nat_lt t (issued_in h)) (not (is_claimed_in h t)) parts.0 in
@@ -125,7 +126,7 @@ module _ {I : Type 0} (first : I) (children : I → List I) where
         filing h items t n (slice_index_or items t first) k (slice_get-get_or items t first (omega (arith, low, k.len))) parts.0 (not-true _ parts.1) count
     step h (Stop cause) items k may count = quiet h (Stop cause) items k refl (λ u. refl) (λ u c. absurd cc)
 
-    pub walk : (before h : List Entry) (items : List I) → Known before items → all_may_follow before h ≡ true → AllCountRight first children items h → Known (before ++ h) (items_from first children items h)
+    pub walk : (before h : List HistoryEntry) (items : List I) → Known before items → all_may_follow before h ≡ true → AllCountRight first children items h → Known (before ++ h) (items_from first children items h)
     walk before [] items k legal counts = rw append-nil k
     walk before (e ∷ h) items k legal counts =
         let parts = and_parts _ _ legal in
@@ -150,14 +151,14 @@ module _ {I : Type 0} (first : I) (children : I → List I) where
         only zero item at = some_same first item at
         only (suc k) item at = absurd cc
 
-    all_there : (h : List Entry) (items : List I) → Known h items → ((t : ℕ) → t < issued_in h → is_filed_in h t ≡ true) → (from : I) (k : ℕ) → At items k from → (path : List I) (item : I) → IsChain children from path item → (place : ℕ) × At items place item
+    all_there : (h : List HistoryEntry) (items : List I) → Known h items → ((t : ℕ) → t < issued_in h → is_filed_in h t ≡ true) → (from : I) (k : ℕ) → At items k from → (path : List I) (item : I) → IsChain children from path item → (place : ℕ) × At items place item
     all_there h items known all from k at [] item chain = (k, subst (At items k) chain at)
     all_there h items known all from k at (next ∷ path) item chain =
         let low = slice_get_within items k from at in
         let there = known.closed k from chain.0.0 next (all k (omega (arith, low, known.len))) at chain.0.1 in
         all_there h items known all next there.0 there.1 path item chain.1
 
-    pub are_reached : (limit : ℕ) (h : List Entry) → is_legal limit h ≡ true → AllCountRight first children (first ∷ []) h → ((t : ℕ) → t < issued_in h → is_filed_in h t ≡ true) → AreReachedItems first children (items_of first children h)
+    pub are_reached : (limit : ℕ) (h : List HistoryEntry) → is_legal limit h ≡ true → AllCountRight first children (first ∷ []) h → ((t : ℕ) → t < issued_in h → is_filed_in h t ≡ true) → AreReachedItems first children (items_of first children h)
     are_reached limit h legal counts all =
         let known = walk [] h (first ∷ []) begins (and_parts _ _ legal).0 counts in
         record {
@@ -165,5 +166,6 @@ module _ {I : Type 0} (first : I) (children : I → List I) where
           once = λ i j item a b. known.once i j item a b;
         }
 
+-- where the children of items are apart, a legal history that files every issued ticket has each reached item once
 pub files_all : {I : Type 0} (first : I) (children : I → List I) → ParentsApart first children → FilesAllReached first children
 files_all first children apart limit history legal counts all = are_reached first children apart limit history legal counts all

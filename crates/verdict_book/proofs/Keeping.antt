@@ -11,8 +11,8 @@ use Rattle.std.proofs.lemmas.List.{length-map, map-append, length-set}
 use Rattle.std.proofs.lemmas.List.Sums.{count_by-le-length}
 use Rattle.std.proofs.Math.Bool.{or-true, or-false}
 use Rattle.std.proofs.lemmas.Bool.{cases_eq, ne_eqb, eq-eqb, and_parts, and_from, lt-ltb, leb-true, le-leb, le-ltb}
-use Rattle.pool_core.specs.declared.entry.Entry.{Entry}
-use Rattle.pool_core.specs.declared.entry.Entry.TheVariants.{Claim, File, Stop}
+use Rattle.pool_core.specs.declared.history.HistoryEntry.{HistoryEntry}
+use Rattle.pool_core.specs.declared.history.HistoryEntry.TheVariants.{Claim, File, Stop}
 use Rattle.pool_core.specs.declared.event.StopCause.{StopCause}
 use Rattle.pool_core.specs.declared.event.StopCause.TheVariants.{Full}
 use Rattle.pool_core.specs.History.{issued_in, is_claimed_in, is_filed_in, first_stop, may_come_next, all_may_follow}
@@ -21,8 +21,8 @@ use Rattle.pool_core.proofs.Histories.{issued_push, claimed_push, filed_push, al
 use Rattle.verdict_book.specs.Items.{Reached, ParentsApart, AreReachedItems, ReachesExactly, ReachesMore, item_step, items_from, items_of, item_of, CountsRight, AllCountRight}
 use Rattle.verdict_book.specs.Books.{EachOnce, CountsTickets, Pages, kept_in, claims_in, unfiled_in, is_claim, is_filing, is_stop}
 use Rattle.verdict_book.specs.Keeping.{StateIs, IsBookAfter, kept_state, kept_row, new_row, rows_filed, is_taken, is_filed}
-use Rattle.verdict_book.specs.declared.row.State.{State}
-use Rattle.verdict_book.specs.declared.row.State.TheVariants.{Issued, Claimed, Filed}
+use Rattle.verdict_book.specs.declared.row.TicketState.{TicketState}
+use Rattle.verdict_book.specs.declared.row.TicketState.TheVariants.{Issued, Claimed, Filed}
 use Rattle.verdict_book.specs.declared.row.Row.{Row}
 use Rattle.verdict_book.specs.declared.claim.Claim.{Claim as ClaimedTicket}
 use Rattle.verdict_book.specs.declared.claim.Kept.{Kept}
@@ -34,40 +34,40 @@ use Rattle.verdict_book.proofs.Places.{get_cases, get_map, map_set_same, some_sa
 use Rattle.verdict_book.proofs.Items.{Known, step, walk, begins, are_reached}
 
 -- these pages
-abbrev pub pages_of : ℕ → List Entry → Pages
+abbrev pub pages_of : ℕ → List HistoryEntry → Pages
 pages_of limit h = record { limit = limit; history = h }
 
 -- the row of a ticket in a later state
-abbrev pub row_in : {I V : Type 0} → I → State V → Row I V
+abbrev pub row_in : {I V : Type 0} → I → TicketState V → Row I V
 row_in item state = record { item = item; state = state }
 
 -- the item of a claimed or filed ticket's row stays in its state's flags
-claimed_is : {I V : Type 0} (verdict_of : I → V) (item : I) (state : State V) (c f : Bool) → StateIs verdict_of item state c f → is_taken state ≡ c
+claimed_is : {I V : Type 0} (verdict_of : I → V) (item : I) (state : TicketState V) (c f : Bool) → StateIs verdict_of item state c f → is_taken state ≡ c
 claimed_is verdict_of item Issued c f s = sym s.0
 claimed_is verdict_of item Claimed c f s = sym s.0
 claimed_is verdict_of item (Filed v) c f s = sym s.0
 
-filed_is_so : {I V : Type 0} (verdict_of : I → V) (item : I) (state : State V) (c f : Bool) → StateIs verdict_of item state c f → is_filed state ≡ f
+filed_is_so : {I V : Type 0} (verdict_of : I → V) (item : I) (state : TicketState V) (c f : Bool) → StateIs verdict_of item state c f → is_filed state ≡ f
 filed_is_so verdict_of item Issued c f s = sym s.1
 filed_is_so verdict_of item Claimed c f s = sym s.1
 filed_is_so verdict_of item (Filed v) c f s = sym s.1
 
-judged_flags : {I V : Type 0} (verdict_of : I → V) (item : I) (state : State V) (c f : Bool) → StateIs verdict_of item state c f → is_filed state ≡ true → (c ≡ true) × (f ≡ true)
+judged_flags : {I V : Type 0} (verdict_of : I → V) (item : I) (state : TicketState V) (c f : Bool) → StateIs verdict_of item state c f → is_filed state ≡ true → (c ≡ true) × (f ≡ true)
 judged_flags verdict_of item Issued c f s is = absurd cc
 judged_flags verdict_of item Claimed c f s is = absurd cc
 judged_flags verdict_of item (Filed v) c f s is = (s.0, s.1)
 
-judged_state : {I V : Type 0} (verdict_of : I → V) (item : I) (state : State V) (c f : Bool) → StateIs verdict_of item state c f → is_filed state ≡ true → JudgesState verdict_of item state
+judged_state : {I V : Type 0} (verdict_of : I → V) (item : I) (state : TicketState V) (c f : Bool) → StateIs verdict_of item state c f → is_filed state ≡ true → JudgesState verdict_of item state
 judged_state verdict_of item Issued c f s is = absurd cc
 judged_state verdict_of item Claimed c f s is = absurd cc
 judged_state verdict_of item (Filed v) c f s is = s.2
 
-issued_state : {V : Type 0} (state : State V) → kept_state state ≡ KeptIssued → state ≡ Issued
+issued_state : {V : Type 0} (state : TicketState V) → kept_state state ≡ KeptIssued → state ≡ Issued
 issued_state Issued is = refl
 issued_state Claimed is = absurd cc
 issued_state (Filed v) is = absurd cc
 
-claimed_state : {V : Type 0} (state : State V) → kept_state state ≡ KeptClaimed → state ≡ Claimed
+claimed_state : {V : Type 0} (state : TicketState V) → kept_state state ≡ KeptClaimed → state ≡ Claimed
 claimed_state Issued is = absurd cc
 claimed_state Claimed is = refl
 claimed_state (Filed v) is = absurd cc
@@ -80,7 +80,7 @@ claimed_means KeptClaimed is = refl
 claimed_means KeptFiled is = absurd cc
 
 -- a history with no cause has no stop
-no_stop : (h : List Entry) → first_stop h ≡ None → count_by is_stop h ≡ 0
+no_stop : (h : List HistoryEntry) → first_stop h ≡ None → count_by is_stop h ≡ 0
 no_stop [] none = refl
 no_stop (Claim t ∷ h) none = omega (arith, count_by-cons is_stop (Claim t) h, no_stop h none)
 no_stop (File t n ∷ h) none = omega (arith, count_by-cons is_stop (File t n) h, no_stop h none)
@@ -92,12 +92,12 @@ not_yet true t n low past = absurd (let l = low refl in omega (arith, l, past))
 not_yet false t n low past = refl
 
 -- a filed ticket is counted among the claimed ones
-filed_in_taken : {V : Type 0} (state : State V) → cond (is_filed state) 1 0 ≤ cond (is_taken state) 1 0
+filed_in_taken : {V : Type 0} (state : TicketState V) → cond (is_filed state) 1 0 ≤ cond (is_taken state) 1 0
 filed_in_taken Issued = omega arith
 filed_in_taken Claimed = omega arith
 filed_in_taken (Filed v) = omega arith
 
-taken_then_filed : {V : Type 0} (state : State V) → cond (is_taken state) 1 0 ≤ cond (is_filed state) 1 0 → is_taken state ≡ true → is_filed state ≡ true
+taken_then_filed : {V : Type 0} (state : TicketState V) → cond (is_taken state) 1 0 ≤ cond (is_filed state) 1 0 → is_taken state ≡ true → is_filed state ≡ true
 taken_then_filed Issued le is = absurd cc
 taken_then_filed Claimed le is = absurd (omega (arith, le))
 taken_then_filed (Filed v) le is = refl
@@ -124,15 +124,15 @@ module _ {I V : Type 0} where
       taken_are_filed rows (omega (arith, e, count_by-cons filed_row x rows, count_by-cons taken_row x rows, filed_in_taken x.state, filed_at_most_taken rows)) k r at is
 
 module _ {I V : Type 0} (first : I) (children : I → List I) (verdict_of : I → V) where
-  items_push : (items : List I) (h : List Entry) (e : Entry) → items_from first children items (h ++ e ∷ []) ≡ item_step first children (items_from first children items h) e
+  items_push : (items : List I) (h : List HistoryEntry) (e : HistoryEntry) → items_from first children items (h ++ e ∷ []) ≡ item_step first children (items_from first children items h) e
   items_push items [] e = refl
   items_push items (x ∷ h) e = items_push (item_step first children items x) h e
 
-  counts_push : (items : List I) (h : List Entry) (e : Entry) → AllCountRight first children items h → CountsRight first children (items_from first children items h) e → AllCountRight first children items (h ++ e ∷ [])
+  counts_push : (items : List I) (h : List HistoryEntry) (e : HistoryEntry) → AllCountRight first children items h → CountsRight first children (items_from first children items h) e → AllCountRight first children items (h ++ e ∷ [])
   counts_push items [] e all one = (one, tt)
   counts_push items (x ∷ h) e all one = (all.0, counts_push (item_step first children items x) h e all.1 one)
 
-  module _ (apart : ParentsApart first children) (limit : ℕ) (h : List Entry) (rows : List (Row I V)) (stopped : Option StopCause) (filed places : ℕ) (kept : IsBookAfter first children verdict_of (pages_of limit h) rows stopped filed places) where
+  module _ (apart : ParentsApart first children) (limit : ℕ) (h : List HistoryEntry) (rows : List (Row I V)) (stopped : Option StopCause) (filed places : ℕ) (kept : IsBookAfter first children verdict_of (pages_of limit h) rows stopped filed places) where
     parts : (all_may_follow [] h ≡ true) × (nat_le (issued_in h) limit ≡ true)
     parts = and_parts (all_may_follow [] h) (nat_le (issued_in h) limit) kept.right.legal
 
@@ -151,7 +151,7 @@ module _ {I V : Type 0} (first : I) (children : I → List I) (verdict_of : I �
     pub reached_at : (t : ℕ) (r : Row I V) → slice_get rows t ≡ Some r → Reached first children r.item
     reached_at t r at = known.reached t r.item (item_at t r at)
 
-    by_state : (t : ℕ) (item : I) (state : State V) (c f : Bool) → StateIs verdict_of item state c f → kept_state state ≡ cond f KeptFiled (cond c KeptClaimed KeptIssued)
+    by_state : (t : ℕ) (item : I) (state : TicketState V) (c f : Bool) → StateIs verdict_of item state c f → kept_state state ≡ cond f KeptFiled (cond c KeptClaimed KeptIssued)
     by_state t item Issued c f s = rw (s.0, s.1) refl
     by_state t item Claimed c f s = rw (s.0, s.1) refl
     by_state t item (Filed v) c f s = rw (s.1) refl
@@ -172,7 +172,7 @@ module _ {I V : Type 0} (first : I) (children : I → List I) (verdict_of : I �
     claims_few = let le = count_by-le-length (λ (r : Row I V). is_taken r.state) rows in omega (arith, le, kept.claimed_rows, within)
 
     -- more room keeps the book
-    pub room_keeps : (h' : List Entry) (places' : ℕ) → h' ≡ h → places ≤ places' → IsBookAfter first children verdict_of (pages_of limit h') rows stopped filed places'
+    pub room_keeps : (h' : List HistoryEntry) (places' : ℕ) → h' ≡ h → places ≤ places' → IsBookAfter first children verdict_of (pages_of limit h') rows stopped filed places'
     room_keeps h' places' same more =
         subst (λ l. IsBookAfter first children verdict_of (pages_of limit l) rows stopped filed places') (sym same)
         (record {
@@ -285,7 +285,7 @@ module _ {I V : Type 0} (first : I) (children : I → List I) (verdict_of : I �
               let ne : t ≡ k → ⊥ = λ q. omega (arith, q, past, below) in
               let c : is_claimed_in (h ++ e ∷ []) k ≡ false = claimed_push h e k ∙ or-false _ ∙ not_yet _ k (issued_in h) (known.claimed k) past in
               let f : is_filed_in (h ++ e ∷ []) k ≡ false = filed_push h e k ∙ rw (ne_eqb t k ne) (or-false _) ∙ not_yet _ k (issued_in h) (known.filed k) past in
-              subst (λ (x : State V). StateIs verdict_of s.item x (is_claimed_in (h ++ e ∷ []) k) (is_filed_in (h ++ e ∷ []) k)) (sym (new_state cs right.0 s right.2)) (c, f))
+              subst (λ (x : TicketState V). StateIs verdict_of s.item x (is_claimed_in (h ++ e ∷ []) k) (is_filed_in (h ++ e ∷ []) k)) (sym (new_state cs right.0 s right.2)) (c, f))
               (get_cases mid new k s got);
           stop_is = stop' ∙ kept.stop_is;
           filed_is = omega (arith, count_by_push is_filing h e, kept.filed_is);
@@ -400,7 +400,7 @@ module _ {I V : Type 0} (first : I) (children : I → List I) (verdict_of : I �
         (there.0, there.1, there.2, sym item_is ∙ same _ _ ((Equal-is _).0 p.1))
 
     -- a filing of a claim that is kept, with the verdict and the children of its item, keeps the book
-    pub filing_keeps : (cmp : I → I → Ordering) (same : (x y : I) → cmp x y ≡ Equal → x ≡ y) (claim : ClaimedTicket I) (verdict : V) (kids : List I) (before after : List (Row I V)) (h' : List Entry) (places' : ℕ)
+    pub filing_keeps : (cmp : I → I → Ordering) (same : (x y : I) → cmp x y ≡ Equal → x ≡ y) (claim : ClaimedTicket I) (verdict : V) (kids : List I) (before after : List (Row I V)) (h' : List HistoryEntry) (places' : ℕ)
         → keeps_claim cmp first children h claim ≡ true → issued_in h + length kids ≤ limit → verdict ≡ verdict_of claim.item → kids ≡ children claim.item
         → before ≡ rows → IfSome (slice_get before claim.ticket) (λ row. after ≡ rows_filed before claim.ticket verdict kids row)
         → h' ≡ h ++ File claim.ticket (length kids) ∷ [] → length h + 2 ≤ places'

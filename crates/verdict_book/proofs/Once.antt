@@ -3,13 +3,13 @@ use Rattle.std.proofs.Common.{◌≡◌, ℕ, ◌+◌, Bool, true, false, not, �
 use Rattle.std.specs.Prelude.{nat_lt, is_none}
 use Rattle.std.proofs.lemmas.Bool.{and_parts, eqb-true, not-true}
 use Rattle.std.proofs.lemmas.List.{append-nil}
-use Rattle.pool_core.specs.declared.entry.Entry.{Entry}
-use Rattle.pool_core.specs.declared.entry.Entry.TheVariants.{Claim, File, Stop}
+use Rattle.pool_core.specs.declared.history.HistoryEntry.{HistoryEntry}
+use Rattle.pool_core.specs.declared.history.HistoryEntry.TheVariants.{Claim, File, Stop}
 use Rattle.pool_core.specs.History.{claims, files, issued_in, is_claimed_in, is_filed_in, first_stop, may_come_next, all_may_follow}
 use Rattle.pool_core.proofs.Lists.{count_by_push}
 use Rattle.pool_core.proofs.Histories.{claimed_push, filed_push}
 
-unclaimed_before : (h : List Entry) (e : Entry) (t : ℕ) → may_come_next h e ≡ true → claims t e ≡ true → is_claimed_in h t ≡ false
+unclaimed_before : (h : List HistoryEntry) (e : HistoryEntry) (t : ℕ) → may_come_next h e ≡ true → claims t e ≡ true → is_claimed_in h t ≡ false
 unclaimed_before h (Claim u) t may is =
     let parts = and_parts (nat_lt u (issued_in h) && not (is_claimed_in h u)) (is_none (first_stop h)) may in
     let open_ticket = and_parts (nat_lt u (issued_in h)) (not (is_claimed_in h u)) parts.0 in
@@ -17,7 +17,7 @@ unclaimed_before h (Claim u) t may is =
 unclaimed_before h (File u n) t may is = absurd cc
 unclaimed_before h (Stop cause) t may is = absurd cc
 
-unfiled_before : (h : List Entry) (e : Entry) (t : ℕ) → may_come_next h e ≡ true → files t e ≡ true → is_filed_in h t ≡ false
+unfiled_before : (h : List HistoryEntry) (e : HistoryEntry) (t : ℕ) → may_come_next h e ≡ true → files t e ≡ true → is_filed_in h t ≡ false
 unfiled_before h (Claim u) t may is = absurd cc
 unfiled_before h (File u n) t may is =
     let parts = and_parts (is_claimed_in h u) (not (is_filed_in h u)) may in
@@ -31,7 +31,7 @@ counted_more n false true so new = omega (arith, so)
 counted_more n false false so new = omega (arith, so)
 
 -- where it claims a ticket, it does so once
-pub claims_counted : (before h : List Entry) → all_may_follow before h ≡ true → ((t : ℕ) → count_by (claims t) before ≡ cond (is_claimed_in before t) 1 0) → (t : ℕ) → count_by (claims t) (before ++ h) ≡ cond (is_claimed_in (before ++ h) t) 1 0
+pub claims_counted : (before h : List HistoryEntry) → all_may_follow before h ≡ true → ((t : ℕ) → count_by (claims t) before ≡ cond (is_claimed_in before t) 1 0) → (t : ℕ) → count_by (claims t) (before ++ h) ≡ cond (is_claimed_in (before ++ h) t) 1 0
 claims_counted before [] legal so t = subst (λ l. count_by (claims t) l ≡ cond (is_claimed_in l t) 1 0) (sym (append-nil before)) (so t)
 claims_counted before (e ∷ h) legal so t =
     let p = and_parts (may_come_next before e) (all_may_follow (before ++ e ∷ []) h) legal in
@@ -40,7 +40,7 @@ claims_counted before (e ∷ h) legal so t =
     subst (λ l. count_by (claims t) l ≡ cond (is_claimed_in l t) 1 0) (append_assoc before (e ∷ []) h) (claims_counted (before ++ e ∷ []) h p.1 next t)
 
 -- where it files a ticket, it does so once
-pub filings_counted : (before h : List Entry) → all_may_follow before h ≡ true → ((t : ℕ) → count_by (files t) before ≡ cond (is_filed_in before t) 1 0) → (t : ℕ) → count_by (files t) (before ++ h) ≡ cond (is_filed_in (before ++ h) t) 1 0
+pub filings_counted : (before h : List HistoryEntry) → all_may_follow before h ≡ true → ((t : ℕ) → count_by (files t) before ≡ cond (is_filed_in before t) 1 0) → (t : ℕ) → count_by (files t) (before ++ h) ≡ cond (is_filed_in (before ++ h) t) 1 0
 filings_counted before [] legal so t = subst (λ l. count_by (files t) l ≡ cond (is_filed_in l t) 1 0) (sym (append-nil before)) (so t)
 filings_counted before (e ∷ h) legal so t =
     let p = and_parts (may_come_next before e) (all_may_follow (before ++ e ∷ []) h) legal in

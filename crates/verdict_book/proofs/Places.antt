@@ -31,6 +31,7 @@ module _ {X : Type 0} where
   get_cases (y ∷ xs) ys zero x h = inl h
   get_cases (y ∷ xs) ys (suc k) x h = ⊎_elim (λ l. inl l) (λ r. inr (r.0, omega (arith, r.1), r.2)) (get_cases xs ys k x h)
 
+  -- of two options that are equal and have a value, the values are equal
   pub some_same : (x y : X) → Some x ≡ Some y → x ≡ y
   some_same x y e = cc
 
@@ -38,22 +39,27 @@ module _ {X : Type 0} where
   pub one_value : (xs : List X) (k : ℕ) (x y : X) → slice_get xs k ≡ Some x → slice_get xs k ≡ Some y → x ≡ y
   one_value xs k x y a b = some_same x y (sym a ∙ b)
 
+  -- what holds of whatever value is there holds of the value, if there is one
   pub if_some : (o : Option X) (P : X → Type 0) → ((x : X) → o ≡ Some x → P x) → IfSome o P
   if_some None P each = tt
   if_some (Some x) P each = each x refl
 
+  -- what holds of the value, if there is one, holds of the value that is there
   pub some_in : (o : Option X) (P : X → Type 0) (x : X) → IfSome o P → o ≡ Some x → P x
   some_in None P x h e = absurd cc
   some_in (Some y) P x h e = subst P (some_same y x e) h
 
+  -- what holds where a call gives a value holds, if the call has no error
   pub ok_means : {E : Type 0} (r : Result X E) (P : Type 0) → is_err r ≡ false → OnOk r P → P
   ok_means (Ok x) P e h = h
   ok_means (Err x) P e h = absurd cc
 
+  -- what follows from two things that hold of a value holds of the value, if the call gives one
   pub both_ok : {E : Type 0} (r : Result X E) (P Q R : X → Type 0) → IfOk r P → IfOk r Q → ((x : X) → P x → Q x → R x) → IfOk r R
   both_ok (Ok x) P Q R p q each = each x p q
   both_ok (Err e) P Q R p q each = tt
 
+  -- a list of length 0 is empty
   pub none_left : (xs : List X) → length xs ≡ 0 → xs ≡ []
   none_left [] e = refl
   none_left (x ∷ xs) e = absurd cc
@@ -173,6 +179,7 @@ module _ {A B I : Type 0} (cmp : I → I → Ordering) (f : A → I) (g : B → 
       cons_tail : map f (x ∷ xs) ≡ map g (y ∷ ys) → map f xs ≡ map g ys
       cons_tail s = cc
 
+  -- two lists with the same keys, item by item, are in order together
   pub sorted_alike : (xs : List A) (ys : List B) → map f xs ≡ map g ys → IsSortedByKey f cmp xs → IsSortedByKey g cmp ys
   sorted_alike [] [] same sorted k e low high = absurd (omega (arith, high))
   sorted_alike [] (y ∷ ys) same sorted k e low high = absurd cc

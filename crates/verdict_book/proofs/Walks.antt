@@ -2,15 +2,15 @@
 use Rattle.std.proofs.Common.{◌≡◌, ℕ, ◌+◌, ◌<◌, ◌≤◌, false, List, [], ◌∷◌, ◌++◌, None, refl, sym, ◌∙◌, subst, arith, append_assoc}
 use Rattle.std.proofs.lemmas.Bool.{ne_eqb}
 use Rattle.std.proofs.Math.Bool.{or-false}
-use Rattle.pool_core.specs.declared.entry.Entry.{Entry}
-use Rattle.pool_core.specs.declared.entry.Entry.TheVariants.{Claim, File}
+use Rattle.pool_core.specs.declared.history.HistoryEntry.{HistoryEntry}
+use Rattle.pool_core.specs.declared.history.HistoryEntry.TheVariants.{Claim, File}
 use Rattle.pool_core.specs.History.{issued_in, is_claimed_in, is_filed_in, first_stop}
 use Rattle.pool_core.proofs.Lists.{count_by_push}
 use Rattle.pool_core.proofs.Histories.{issued_push, claimed_push, filed_push, first_stop_push}
 use Rattle.verdict_book.specs.Books.{filings_in, unfiled_in, is_filing}
 
 -- the tickets below this one are filed, and no other one was claimed
-pub record Walked (limit : ℕ) (h : List Entry) (t : ℕ) : Type 0 where
+pub record Walked (limit : ℕ) (h : List HistoryEntry) (t : ℕ) : Type 0 where
   pub stop : first_stop h ≡ None
   pub filed : filings_in h ≡ t
   pub unclaimed : (k : ℕ) → t ≤ k → is_claimed_in h k ≡ false
@@ -18,11 +18,11 @@ pub record Walked (limit : ℕ) (h : List Entry) (t : ℕ) : Type 0 where
   pub issued : t ≤ issued_in h
   pub few : issued_in h ≤ limit
 
-pub walked_low : (limit : ℕ) (h : List Entry) (t : ℕ) → Walked limit h t → (unfiled_in h ≡ 0 → ⊥) → t < issued_in h
+pub walked_low : (limit : ℕ) (h : List HistoryEntry) (t : ℕ) → Walked limit h t → (unfiled_in h ≡ 0 → ⊥) → t < issued_in h
 walked_low limit h t w some = omega (arith, some, w.filed, w.issued)
 
 -- once it was claimed and filed, the one after it is next
-pub walked_step : (limit : ℕ) (h h' : List Entry) (t n : ℕ) → Walked limit h t → (unfiled_in h ≡ 0 → ⊥) → h' ≡ h ++ Claim t ∷ File t n ∷ [] → issued_in h' ≤ limit → Walked limit h' (t + 1)
+pub walked_step : (limit : ℕ) (h h' : List HistoryEntry) (t n : ℕ) → Walked limit h t → (unfiled_in h ≡ 0 → ⊥) → h' ≡ h ++ Claim t ∷ File t n ∷ [] → issued_in h' ≤ limit → Walked limit h' (t + 1)
 walked_step limit h h' t n w some is few =
     let a = h ++ Claim t ∷ [] in
     let b = a ++ File t n ∷ [] in

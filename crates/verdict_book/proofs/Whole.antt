@@ -12,12 +12,12 @@ use Rattle.verdict_book.specs.Items.{NoneTwice, AreReachedItems, ReachesMore}
 use Rattle.verdict_book.specs.Lists.{Judges, JudgesState, IsWholeTree}
 use Rattle.verdict_book.specs.declared.filed.Filed.{Filed}
 use Rattle.verdict_book.specs.declared.row.Row.{Row}
-use Rattle.verdict_book.specs.declared.row.State.{State}
-use Rattle.verdict_book.specs.declared.row.State.TheVariants.{Issued, Claimed, Filed as FiledState}
+use Rattle.verdict_book.specs.declared.row.TicketState.{TicketState}
+use Rattle.verdict_book.specs.declared.row.TicketState.TheVariants.{Issued, Claimed, Filed as FiledState}
 use Rattle.verdict_book.proofs.Places.{none_twice_permuted, items_permuted, sorted_alike}
 
 -- a state that isn't that of a filed ticket has no verdict
-pub not_judged : {I V : Type 0} (verdict_of : I → V) (item : I) (state : State V) → JudgesState verdict_of item state → ((v : V) → state ≡ FiledState v → ⊥) → ⊥
+pub not_judged : {I V : Type 0} (verdict_of : I → V) (item : I) (state : TicketState V) → JudgesState verdict_of item state → ((v : V) → state ≡ FiledState v → ⊥) → ⊥
 not_judged verdict_of item Issued right none = right
 not_judged verdict_of item Claimed right none = right
 not_judged verdict_of item (FiledState v) right none = none v refl
@@ -28,9 +28,11 @@ gone_over f r [] y row rest e = ap (λ v. v ∷ map r rest) e
 gone_over f r (x ∷ xs) y row rest e = ap (λ l. f x ∷ l) (gone_over f r xs y row rest e)
 
 module _ {X : Type 0} (P : X → Type 0) where
+  -- what holds of all items holds of the first
   pub all_head : (x : X) (xs : List X) → All P (x ∷ xs) → P x
   all_head x xs all = all 0 x (omega arith)
 
+  -- what holds of all items holds of those behind the first
   pub all_tail : (x : X) (xs : List X) → All P (x ∷ xs) → All P xs
   all_tail x xs all k d low = all (suc k) d (omega (arith, low))
 

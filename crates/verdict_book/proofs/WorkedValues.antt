@@ -1,8 +1,8 @@
 -- A book of the work with the items 0 to 6, call by call. It has room for three tickets.
 use Rattle.std.proofs.Common.{◌≡◌, ℕ, true, List, [], ◌∷◌, ◌++◌, Some, None, refl}
 use Rattle.std.specs.Ordering.{nat_cmp}
-use Rattle.pool_core.specs.declared.entry.Entry.{Entry}
-use Rattle.pool_core.specs.declared.entry.Entry.TheVariants.{Claim, File}
+use Rattle.pool_core.specs.declared.history.HistoryEntry.{HistoryEntry}
+use Rattle.pool_core.specs.declared.history.HistoryEntry.TheVariants.{Claim, File}
 use Rattle.pool_core.specs.declared.event.StopCause.TheVariants.{Full as FullCause, NoMemory}
 use Rattle.pool_core.specs.History.{is_legal}
 use Rattle.verdict_book.specs.Items.{items_of}
@@ -14,7 +14,7 @@ use Rattle.verdict_book.specs.declared.claim.ClaimFault.TheVariants.{Stopped, Go
 use Rattle.verdict_book.specs.declared.filing.Back.{Back}
 use Rattle.verdict_book.specs.declared.filing.FileFault.TheVariants.{Foreign, Full}
 
-abbrev pages : List Entry → Pages
+abbrev pages : List HistoryEntry → Pages
 pages history = record { limit = 3; history = history }
 
 -- the claim of a ticket with this item, with its children
@@ -22,10 +22,10 @@ abbrev back : ℕ → ℕ → Back ℕ ℕ ℕ
 back ticket item = handed_back (record { ticket = ticket; item = item }) item (children item)
 
 -- ticket 0 was claimed and filed; then ticket 1 was claimed
-abbrev one_filed : List Entry
+abbrev one_filed : List HistoryEntry
 one_filed = Claim 0 ∷ File 0 2 ∷ []
 
-abbrev one_claimed : List Entry
+abbrev one_claimed : List HistoryEntry
 one_claimed = one_filed ++ Claim 1 ∷ []
 
 first_is_given : claim_refusal [] 0 ≡ None

@@ -1,7 +1,7 @@
 -- Items of a work: which are reached, and which tickets of a history have which items.
 use Rattle.std.specs.Prelude.{◌≡◌, ◌↔◌, ℕ, ◌<◌, ◌++◌, true, List, [], ◌∷◌, length, fold, Some, slice_get, slice_index_or}
-use Rattle.pool_core.specs.declared.entry.Entry.{Entry}
-use Rattle.pool_core.specs.declared.entry.Entry.TheVariants.{File}
+use Rattle.pool_core.specs.declared.history.HistoryEntry.{HistoryEntry}
+use Rattle.pool_core.specs.declared.history.HistoryEntry.TheVariants.{File}
 use Rattle.pool_core.specs.History.{issued_in, is_filed_in, is_legal}
 
 -- the item stands at this place among the children of its parent
@@ -52,30 +52,30 @@ pub record ReachesMore {I : Type 0} (first : I) (children : I → List I) (count
   pub once : NoneTwice items
 
 -- the items after an entry: a filing adds the children of the filed item, in order
-abbrev pub item_step : {I : Type 0} → I → (I → List I) → List I → Entry → List I
+abbrev pub item_step : {I : Type 0} → I → (I → List I) → List I → HistoryEntry → List I
 item_step first children items (File ticket count) = items ++ children (slice_index_or items ticket first)
 item_step first children items entry = items
 
 -- the items after these entries
-abbrev pub items_from : {I : Type 0} → I → (I → List I) → List I → List Entry → List I
+abbrev pub items_from : {I : Type 0} → I → (I → List I) → List I → List HistoryEntry → List I
 items_from first children items history = fold (item_step first children) items history
 
 -- the items of a history, by ticket: ticket 0 has the first item, and the tickets of each filing have the children of
 -- the filed item, in order
-abbrev pub items_of : {I : Type 0} → I → (I → List I) → List Entry → List I
+abbrev pub items_of : {I : Type 0} → I → (I → List I) → List HistoryEntry → List I
 items_of first children history = items_from first children (first ∷ []) history
 
 -- the item of an issued ticket
-abbrev pub item_of : {I : Type 0} → I → (I → List I) → List Entry → ℕ → I
+abbrev pub item_of : {I : Type 0} → I → (I → List I) → List HistoryEntry → ℕ → I
 item_of first children history ticket = slice_index_or (items_of first children history) ticket first
 
 -- the number in an entry is that of the children of the filed item
-abbrev pub CountsRight : {I : Type 0} → I → (I → List I) → List I → Entry → Type 0
+abbrev pub CountsRight : {I : Type 0} → I → (I → List I) → List I → HistoryEntry → Type 0
 CountsRight first children items (File ticket count) = count ≡ length (children (slice_index_or items ticket first))
 CountsRight first children items entry = Unit {0}
 
 -- the same of each entry, where the history before had these items
-abbrev pub AllCountRight : {I : Type 0} → I → (I → List I) → List I → List Entry → Type 0
+abbrev pub AllCountRight : {I : Type 0} → I → (I → List I) → List I → List HistoryEntry → Type 0
 AllCountRight first children items [] = Unit {0}
 AllCountRight first children items (entry ∷ entries) =
     CountsRight first children items entry × AllCountRight first children (item_step first children items entry) entries
@@ -84,7 +84,7 @@ AllCountRight first children items (entry ∷ entries) =
 -- item, its items are the reached items, each once
 abbrev pub FilesAllReached : {I : Type 0} → I → (I → List I) → Type 0
 FilesAllReached first children =
-    (limit : ℕ) (history : List Entry) → is_legal limit history ≡ true
+    (limit : ℕ) (history : List HistoryEntry) → is_legal limit history ≡ true
     → AllCountRight first children (first ∷ []) history
     → ((ticket : ℕ) → ticket < issued_in history → is_filed_in history ticket ≡ true)
     → AreReachedItems first children (items_of first children history)

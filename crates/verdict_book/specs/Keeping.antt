@@ -4,14 +4,14 @@ use Rattle.pool_core.specs.declared.event.StopCause.{StopCause}
 use Rattle.pool_core.specs.History.{is_claimed_in, is_filed_in, first_stop}
 use Rattle.verdict_book.specs.Items.{items_of}
 use Rattle.verdict_book.specs.Books.{Pages, IsBookOf, claims_in, filings_in}
-use Rattle.verdict_book.specs.declared.row.State.{State}
-use Rattle.verdict_book.specs.declared.row.State.TheVariants.{Issued, Claimed, Filed}
+use Rattle.verdict_book.specs.declared.row.TicketState.{TicketState}
+use Rattle.verdict_book.specs.declared.row.TicketState.TheVariants.{Issued, Claimed, Filed}
 use Rattle.verdict_book.specs.declared.row.Row.{Row}
 use Rattle.verdict_book.specs.declared.claim.Kept.{Kept}
 use Rattle.verdict_book.specs.declared.claim.Kept.TheVariants.{Unknown, Issued as KeptIssued, Claimed as KeptClaimed, Filed as KeptFiled}
 
 -- what is kept of a ticket, by its state
-abbrev pub kept_state : {V : Type 0} → State V → Kept
+abbrev pub kept_state : {V : Type 0} → TicketState V → Kept
 kept_state Issued = KeptIssued
 kept_state Claimed = KeptClaimed
 kept_state (Filed verdict) = KeptFiled
@@ -31,19 +31,19 @@ rows_filed rows place verdict children row =
     slice_set rows place (record { item = row.item; state = Filed verdict }) ++ map new_row children
 
 -- a state of a ticket that was claimed, and perhaps filed
-abbrev pub is_taken : {V : Type 0} → State V → Bool
+abbrev pub is_taken : {V : Type 0} → TicketState V → Bool
 is_taken Issued = false
 is_taken Claimed = true
 is_taken (Filed verdict) = true
 
 -- a state of a ticket that was filed
-abbrev pub is_filed : {V : Type 0} → State V → Bool
+abbrev pub is_filed : {V : Type 0} → TicketState V → Bool
 is_filed Issued = false
 is_filed Claimed = false
 is_filed (Filed verdict) = true
 
 -- the state is what the history says of the ticket, and the verdict is that of its item
-abbrev pub StateIs : {I V : Type 0} → (I → V) → I → State V → Bool → Bool → Type 0
+abbrev pub StateIs : {I V : Type 0} → (I → V) → I → TicketState V → Bool → Bool → Type 0
 StateIs verdict_of item Issued claimed filed = (claimed ≡ false) × (filed ≡ false)
 StateIs verdict_of item Claimed claimed filed = (claimed ≡ true) × (filed ≡ false)
 StateIs verdict_of item (Filed verdict) claimed filed = (claimed ≡ true) × (filed ≡ true) × (verdict ≡ verdict_of item)

@@ -4,11 +4,11 @@ use Rattle.std.specs.List.Sorted.{IsSortedByKey}
 use Rattle.std.specs.declared.cmp.Ordering.{Ordering}
 use Rattle.verdict_book.specs.Items.{AreReachedItems, ReachesMore}
 use Rattle.verdict_book.specs.Books.{Pages}
-use Rattle.verdict_book.specs.declared.walk.WalkFault.{WalkFault}
-use Rattle.verdict_book.specs.declared.walk.WalkFault.TheVariants.{TooMany, NoMemory}
+use Rattle.verdict_book.specs.declared.walk.PoolFault.{PoolFault}
+use Rattle.verdict_book.specs.declared.walk.PoolFault.TheVariants.{TooMany, NoMemory}
 use Rattle.verdict_book.specs.declared.filed.Filed.{Filed}
-use Rattle.verdict_book.specs.declared.row.State.{State}
-use Rattle.verdict_book.specs.declared.row.State.TheVariants.{Issued, Claimed, Filed as FiledState}
+use Rattle.verdict_book.specs.declared.row.TicketState.{TicketState}
+use Rattle.verdict_book.specs.declared.row.TicketState.TheVariants.{Issued, Claimed, Filed as FiledState}
 use Rattle.verdict_book.specs.declared.row.Row.{Row}
 
 -- the verdict is that of the item
@@ -16,7 +16,7 @@ abbrev pub Judges : {W I V : Type 0} → (I → V) → Filed W I V → Type 0
 Judges verdict_of filed = filed.verdict ≡ verdict_of filed.item
 
 -- the state is that of a filed ticket, with the verdict of its item
-abbrev pub JudgesState : {I V : Type 0} → (I → V) → I → State V → Type 0
+abbrev pub JudgesState : {I V : Type 0} → (I → V) → I → TicketState V → Type 0
 JudgesState verdict_of item Issued = ⊥
 JudgesState verdict_of item Claimed = ⊥
 JudgesState verdict_of item (FiledState verdict) = verdict ≡ verdict_of item
@@ -32,10 +32,10 @@ pub record IsWholeTree {W I V : Type 0} (cmp : I → I → Ordering) (first : I)
   pub sorted : IsSortedByKey (λ (f : Filed W I V). f.item) cmp list
   pub verdicts : All (Judges verdict_of) list
 
--- what a refused walk says: more items are reached than the limit, which it carries; or memory ran out
-abbrev pub IsWalkFault : {I : Type 0} → I → (I → List I) → ℕ → WalkFault → Type 0
-IsWalkFault first children limit (TooMany most) = (most ≡ limit) × ReachesMore first children limit
-IsWalkFault first children limit NoMemory = Unit {0}
+-- what is said where there is no list: more items are reached than the limit, which it carries; or memory ran out
+abbrev pub IsPoolFault : {I : Type 0} → I → (I → List I) → ℕ → PoolFault → Type 0
+IsPoolFault first children limit (TooMany most) = (most ≡ limit) × ReachesMore first children limit
+IsPoolFault first children limit NoMemory = Unit {0}
 
 -- no entry stands in the book
 abbrev pub IsNewBook : Pages → Type 0

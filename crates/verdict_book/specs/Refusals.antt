@@ -2,7 +2,7 @@
 use Rattle.std.specs.Prelude.{ℕ, ◌+◌, Bool, true, false, ◌&&◌, nat_le, if◌then◌else◌, List, length, Option, Some, None}
 use Rattle.std.specs.Ordering.{is_eq}
 use Rattle.std.specs.declared.cmp.Ordering.{Ordering}
-use Rattle.pool_core.specs.declared.entry.Entry.{Entry}
+use Rattle.pool_core.specs.declared.history.HistoryEntry.{HistoryEntry}
 use Rattle.pool_core.specs.declared.event.StopCause.{StopCause}
 use Rattle.pool_core.specs.History.{issued_in, first_stop}
 use Rattle.verdict_book.specs.declared.claim.Kept.{Kept}
@@ -27,7 +27,7 @@ stopped_or (Some cause) other = Some (Stopped cause)
 stopped_or None other = other
 
 -- why no claim of the ticket is given
-abbrev pub claim_refusal : List Entry → ℕ → Option ClaimFault
+abbrev pub claim_refusal : List HistoryEntry → ℕ → Option ClaimFault
 claim_refusal history ticket = stopped_or (first_stop history) (not_issued (kept_in history ticket))
 
 -- the ticket is kept as claimed and unfiled
@@ -36,7 +36,7 @@ is_claimed Claimed = true
 is_claimed kept = false
 
 -- the ticket of the claim is kept as claimed, unfiled and with the claim's item
-abbrev pub keeps_claim : {I : Type 0} → (I → I → Ordering) → I → (I → List I) → List Entry → Claim I → Bool
+abbrev pub keeps_claim : {I : Type 0} → (I → I → Ordering) → I → (I → List I) → List HistoryEntry → Claim I → Bool
 keeps_claim cmp first children history claim =
     is_claimed (kept_in history claim.ticket) && is_eq (cmp (item_of first children history claim.ticket) claim.item)
 

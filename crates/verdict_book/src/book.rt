@@ -2,7 +2,7 @@
 
 ghost use Rattle.std.specs.Prelude.{◌≡◌, ◌∷◌, [], ◌++◌, ◌+◌, ◌≤◌, length, nat_le, true, IfOk, IfErr, OnOk, OnErr, Some, None, Err};
 ghost use Rattle.pool_core.specs.declared.event.StopCause.TheVariants.{Full};
-ghost use Rattle.pool_core.specs.declared.entry.Entry.TheVariants.{Claim as ClaimOf, File as FileOf};
+ghost use Rattle.pool_core.specs.declared.history.HistoryEntry.TheVariants.{Claim as ClaimOf, File as FileOf};
 ghost use Rattle.pool_core.specs.History.{issued_in, first_stop};
 ghost use Rattle.pool_core.specs.Refusals.{RefusesOr};
 ghost use Rattle.verdict_book.specs.Items.{Reached, AreReachedItems, ReachesExactly, ReachesMore, item_of, items_of};
@@ -14,10 +14,10 @@ ghost use Rattle.verdict_book.specs.Refusals.{claim_refusal, file_refusal, keeps
 use crate::claim::{Claim, ClaimFault, Kept, is_claimed};
 use crate::filed::{Filed, list_rows};
 use crate::filing::{Back, FileFault, Issued};
-use crate::row::{Row, State, file_row, kept_at, sort_rows};
+use crate::row::{Row, TicketState, file_row, kept_at, sort_rows};
 use crate::work::Work;
 use dns_data::{List, NoMemory};
-use pool_core::{Entry, StopCause};
+use pool_core::{HistoryEntry, StopCause};
 use std::alloc::Global;
 use std::marker::Model;
 
@@ -34,7 +34,7 @@ use std::marker::Model;
 pub struct Book<W: Work> {
     limit: u32,
     rows: Vec<Row<W::Item, W::Verdict>>,
-    history: Vec<Entry>,
+    history: Vec<HistoryEntry>,
     stopped: Option<StopCause>,
     filed: u32,
 }
@@ -62,7 +62,7 @@ impl<W: Work> Book<W> {
         let item = work.first()?;
         rows.push(Row {
             item,
-            state: State::Issued,
+            state: TicketState::Issued,
         })?;
         history.reserve(1)?;
         Ok(Book {
@@ -126,8 +126,8 @@ impl<W: Work> Book<W> {
         let place = ticket as usize;
         let item = work.copy_item(&self.rows[place].item)?;
         self.history.reserve(2)?;
-        self.rows[place].state = State::Claimed;
-        self.history.push_reserved(Entry::Claim { ticket });
+        self.rows[place].state = TicketState::Claimed;
+        self.history.push_reserved(HistoryEntry::Claim { ticket });
         Ok(Claim { ticket, item })
     }
 
@@ -211,7 +211,7 @@ impl<W: Work> Book<W> {
             count: count as u32,
         };
         file_row(&mut self.rows, ticket as usize, back.verdict, back.children);
-        self.history.push_reserved(Entry::File {
+        self.history.push_reserved(HistoryEntry::File {
             ticket,
             children: issued.count,
         });
@@ -228,7 +228,7 @@ impl<W: Work> Book<W> {
     {
         if self.stopped.is_none() {
             self.stopped = Some(cause);
-            self.history.push_reserved(Entry::Stop { cause });
+            self.history.push_reserved(HistoryEntry::Stop { cause });
         }
     }
 
@@ -274,7 +274,7 @@ impl<W: Work> Book<W> {
     {
         self.history
             .iter()
-            .filter(|entry| matches!(entry, Entry::Claim { .. }))
+            .filter(|entry| matches!(entry, HistoryEntry::Claim { .. }))
             .count()
     }
 

@@ -3,7 +3,7 @@
 ghost use Rattle.std.specs.Prelude.{◌≡◌, All, IfOk, map};
 ghost use Rattle.verdict_book.specs.Lists.{Judges, JudgesRow};
 
-use crate::row::{Row, State};
+use crate::row::{Row, TicketState};
 use crate::work::Work;
 use dns_data::{List, NoMemory};
 use std::alloc::Global;
@@ -27,7 +27,7 @@ pub fn list_rows<W: Work>(
     let mut list = Vec::with_capacity(alloc, rows.len())?;
     for row in rows {
         let Row { item, state } = row;
-        if let State::Filed(verdict) = state {
+        if let TicketState::Filed(verdict) = state {
             list.push(Filed { item, verdict })?;
         }
     }

@@ -18,5 +18,5 @@ pub use book::Book;
 pub use claim::{Claim, ClaimFault, Kept};
 pub use filed::Filed;
 pub use filing::{Back, FileFault, Issued};
-pub use walk::{WalkFault, walk_tree};
+pub use walk::{PoolFault, walk_tree};
 pub use work::{JudgeShare, Work};

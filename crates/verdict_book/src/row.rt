@@ -9,7 +9,7 @@ use dns_data::{List, NoMemory};
 
 /// How far a ticket has come.
 #[derive(Drop)]
-pub enum State<V> {
+pub enum TicketState<V> {
     Issued,
     Claimed,
     Filed(V),
@@ -21,7 +21,7 @@ pub enum State<V> {
 pub struct Row<I, V> {
     pub item: I,
     #[derive_where(skip(EqHashOrd))]
-    pub state: State<V>,
+    pub state: TicketState<V>,
 }
 
 /// What is kept of a ticket.
@@ -35,13 +35,13 @@ pub fn kept_at<I, V>(rows: &[Row<I, V>], ticket: u32) -> Kept
 }
 
 /// What is kept of an issued ticket that has come so far.
-fn kept_state<V>(state: &State<V>) -> Kept
+fn kept_state<V>(state: &TicketState<V>) -> Kept
     ensures { result ≡ kept_state state.now }
 {
     match state {
-        State::Issued => Kept::Issued,
-        State::Claimed => Kept::Claimed,
-        State::Filed(_) => Kept::Filed,
+        TicketState::Issued => Kept::Issued,
+        TicketState::Claimed => Kept::Claimed,
+        TicketState::Filed(_) => Kept::Filed,
     }
 }
 
@@ -56,11 +56,11 @@ pub fn file_row<I: Drop, V: Drop>(
     requires room { vec_len rows.old + length children ≤ vec_capacity rows.old }
     ensures { IfSome (slice_get rows.old.items place) (λ row. rows.new.items ≡ rows_filed rows.old.items place verdict children row) }
 {
-    rows[place].state = State::Filed(verdict);
+    rows[place].state = TicketState::Filed(verdict);
     for item in children.into_vec() {
         rows.push_reserved(Row {
             item,
-            state: State::Issued,
+            state: TicketState::Issued,
         });
     }
 }

@@ -59,7 +59,9 @@ module _ (configs : List Config) (names : List Labels) where
       (subst (Contains (map (λ (rr : Rr). rr.owner) (records of.0))) (sym (owner_is rr.0.owner rr.0.rdata redirection rr.2))
       (map_has (λ (rr : Rr). rr.owner) (records of.0) rr.0 rr.1)))
 
-  -- so the ground covers each configuration
+  -- So the joined ground covers each of its configurations: it has the root, the origins and owners of the configuration
+  -- (of_config), the prefixes of each of its names (above_base), the owners of its redirections (owned, by owner_is), and all
+  -- redirections of the configuration.
   pub joined_covers : (config : Config) → Contains configs config → Covers (joined_ground configs names) config
   joined_covers config has = record {
     root = has_first [] (flat_map prefixes (flat_map origins_and_owners configs ++ names));
@@ -69,7 +71,7 @@ module _ (configs : List Config) (names : List Labels) where
     dnames = λ redirection there. flat_map_has redirections_of configs config redirection has there;
   }
 
-  -- what was given is named
+  -- a name that was given is a base name of the joined ground (base), so the ground names it
   pub given_named : (name : Labels) → Contains names name → IsNamed (joined_ground configs names) name
   given_named name has = record { base = name; among = base name (Contains-append_right (flat_map origins_and_owners configs) names name has); reads = ([], refl) }
 
@@ -82,5 +84,7 @@ alone_is_own : (config : Config) → joined_ground (config ∷ []) [] ≡ ground
 alone_is_own config =
     ap₂ ground_from (append-nil (origins_and_owners config ++ []) ∙ append-nil (origins_and_owners config)) (append-nil (redirections_of config))
 
+-- A configuration's own ground covers it: it is the joined ground of this configuration alone, without names beside
+-- (alone_is_own), and a joined ground covers each of its configurations (joined_covers).
 pub own_covers : (config : Config) → Covers (ground_of config) config
 own_covers config = subst (λ (ground : Ground). Covers ground config) (alone_is_own config) (joined_covers (config ∷ []) [] config (has_first config []))

@@ -405,6 +405,8 @@ module _ (setting : Setting) (query : Labels) (rtype : RrType) where
         whole.leaf,
       )
 
+  -- a walk of a query that comes back to a server and a name rewrites in between at a place at which a walk of the query,
+  -- with the same type, ends at the limit
   pub limit_between : (walk : Walk) → IsWalk setting query rtype walk → (back : ComesBack walk) → LimitBetween setting query rtype walk back
   limit_between walk (numbers, e) back =
       let begun = begins_at setting query rtype numbers walk e in

@@ -6,8 +6,7 @@ ghost use Rattle.net_model.specs.Lookup.{first_name, redirected};
 ghost use Rattle.net_model.specs.Zone.{targets_at};
 ghost use Rattle.zone_tree.specs.Tree.{IsNode, name_of};
 
-use dns_data::{JoinFault, Name, NoMemory};
-use name_rules::substitute;
+use dns_data::{Name, NoMemory};
 use net_model::Found;
 use std::alloc::Global;
 use zone_tree::{NodeId, Tree};
@@ -22,19 +21,5 @@ pub(crate) fn redirected(
     requires { IsNode tree.now owner }
     ensures { IfOk result (λ answer. answer ≡ redirected name.now (name_of tree.now owner) (first_name (targets_at tree.now.zone (name_of tree.now owner) rr_type.Dname))) }
 {
-    let Some(target) = tree.redirection(owner) else {
-        return Ok(Found::NxDomain);
-    };
-    let owner = tree.name(owner);
-    match substitute(alloc, name, owner, target) {
-        Ok(to) => Ok(Found::Rewrite {
-            by_dname: true,
-            owner: owner.copy(alloc)?,
-            to,
-        }),
-        Err(JoinFault::TooLong) => Ok(Found::TooLong {
-            owner: owner.copy(alloc)?,
-        }),
-        Err(JoinFault::NoMemory) => Err(NoMemory),
-    }
+    name_rules::redirected(alloc, name, tree.name(owner), tree.redirection(owner))
 }

@@ -1,6 +1,8 @@
 //! Rewrites of a name, and the states in which a query begins.
 
-ghost use Rattle.std.specs.Prelude.{◌≡◌, ◌+◌, ◌*◌, ◌^◌, ◌<◌, ◌&&◌, map, Some, IfOk};
+ghost use Rattle.std.specs.Prelude.{◌≡◌, ◌+◌, ◌*◌, ◌^◌, ◌<◌, ◌&&◌, map, None, Some, IfOk};
+ghost use Rattle.std.specs.Option.{option_map};
+ghost use Rattle.net_model.specs.Nearest.{nearest_of};
 ghost use Rattle.net_model.specs.Step.{Go, arrived, rewritten, start};
 ghost use Rattle.net_model.specs.declared.walk.Hop.TheVariants as hop_as;
 ghost use Rattle.zone_lookup.specs.Steps.{branch_of};
@@ -18,7 +20,7 @@ pub fn starts(alloc: Global, hosts: &Hosts<'_>, query: &Name) -> Result<List<Sta
 {
     let mut states = List::new(alloc);
     for server in hosts.config().tops.items() {
-        states.push(arrived(alloc, hosts, query, true, 0, None, server)?)?;
+        states.push(arrived(alloc, hosts, query, true, 0, server)?)?;
     }
     Ok(states)
 }
@@ -61,40 +63,80 @@ fn rewrite(
     requires { state.now.used + 1 < 2 ^ 32 }
     ensures { IfOk result (λ step. branch_of step ≡ Go (hop_as.Rewrite place.now by_dname to.now) (arrived hosts.now to.now (state.now.carried && by_dname) (state.now.used + 1) (Some place.now) server.now)) }
 {
-    let hop = Hop::Rewrite {
-        place: place.copy(alloc)?,
-        by_dname,
-        to: to.copy(alloc)?,
-    };
-    let carried = state.carried && by_dname;
-    let last = Some(place.copy(alloc)?);
-    let to = arrived(alloc, hosts, to, carried, state.used + 1, last, server)?;
+    let hop = hop_of(alloc, place, by_dname, to)?;
+    let to = rewritten(alloc, hosts, state, place, by_dname, to, server)?;
     Ok(Step::Go(hop, to))
 }
 
-/// The state at a server to which no zone cut led.
+/// The hop of a rewrite.
+fn hop_of(alloc: Global, place: &Place, by_dname: bool, to: &Name) -> Result<Hop, NoMemory>
+    ensures { IfOk result (λ hop. hop ≡ hop_as.Rewrite place.now by_dname to.now) }
+{
+    let to = to.copy(alloc)?;
+    let place = place.copy(alloc)?;
+    Ok(Hop::Rewrite {
+        place,
+        by_dname,
+        to,
+    })
+}
+
+/// The state at a server to which a rewrite leads.
+fn rewritten(
+    alloc: Global,
+    hosts: &Hosts<'_>,
+    state: &State,
+    place: &Place,
+    by_dname: bool,
+    to: &Name,
+    server: &Name,
+) -> Result<State, NoMemory>
+    requires { state.now.used + 1 < 2 ^ 32 }
+    ensures { IfOk result (λ made. made ≡ arrived hosts.now to.now (state.now.carried && by_dname) (state.now.used + 1) (Some place.now) server.now) }
+{
+    let last = place.copy(alloc)?;
+    let carried = state.carried && by_dname;
+    let mut made = arrived(alloc, hosts, to, carried, state.used + 1, server)?;
+    made.last = Some(last);
+    Ok(made)
+}
+
+/// The state at a server to which neither a zone cut nor a rewrite led.
 fn arrived(
     alloc: Global,
     hosts: &Hosts<'_>,
     name: &Name,
     carried: bool,
     used: u32,
-    last: Option<Place>,
     server: &Name,
 ) -> Result<State, NoMemory>
-    ensures { IfOk result (λ state. state ≡ arrived hosts.now name.now carried used last server.now) }
+    ensures { IfOk result (λ state. state ≡ arrived hosts.now name.now carried used None server.now) }
 {
-    let zone = match hosts.nearest_of(server, name) {
-        Some(tree) => Some(tree.zone().origin.copy(alloc)?),
-        None => None,
-    };
+    let at = server.copy(alloc)?;
+    let asked = name.copy(alloc)?;
+    let zone = origin_for(alloc, hosts, server, name)?;
     Ok(State {
-        server: server.copy(alloc)?,
-        name: name.copy(alloc)?,
+        server: at,
+        name: asked,
         carried,
         cut: 0,
         used,
-        last,
+        last: None,
         zone,
     })
+}
+
+/// The origin of the server's nearest zone for the name, or `None` where it has none.
+fn origin_for(
+    alloc: Global,
+    hosts: &Hosts<'_>,
+    server: &Name,
+    name: &Name,
+) -> Result<Option<Name>, NoMemory>
+    ensures { IfOk result (λ origin. origin ≡ option_map (λ zone. zone.origin) (nearest_of hosts.now server.now name.now)) }
+{
+    match hosts.nearest_of(server, name) {
+        Some(tree) => Ok(Some(tree.zone().origin.copy(alloc)?)),
+        None => Ok(None),
+    }
 }

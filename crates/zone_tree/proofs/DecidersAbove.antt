@@ -34,6 +34,8 @@ module _ (tree : ZoneTree) (name : Labels) (found : Preceding) (inside : is_pref
   both : take found.shared (name_of tree found.node) ≡ take found.shared whole
   both = precedes.both ∙ front
 
+  -- where the first name that decides at those below the node's has more labels than the name shares with the node's,
+  -- nothing decides at the shared front
   pub none_so_far : found.shared < length first → Undecided tree.zone whole (take found.shared name)
   none_so_far longer =
       subst (λ (x : Labels). Undecided tree.zone whole x) (sym front)

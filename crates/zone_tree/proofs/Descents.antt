@@ -65,9 +65,11 @@ encloser_at zone name k inside long below exists absent =
 less : (a b : ℕ) → a < b → nat_lt a b ≡ true
 less a b h = grind (arith, nat_tests)
 
+-- a number that is at most another is so by the test
 pub up_to : (a b : ℕ) → a ≤ b → nat_le a b ≡ true
 up_to a b h = grind (arith, nat_tests)
 
+-- a number above another isn't at most the other by the test
 pub not_up_to : (a b : ℕ) → b < a → nat_le a b ≡ false
 not_up_to a b h = grind (arith, nat_tests)
 
@@ -255,12 +257,14 @@ module _ (zone : Zone) (name : Labels) (k : ℕ) (below : k < length name) (so_f
   longer_name : length (take k name ++ label ∷ []) < length (take k name ++ label ∷ rest) → length next < length name
   longer_name less = omega (arith, less, ap (λ (x : Labels). length x) step, ap (λ (x : Labels). length x) in_two)
 
+  -- where the next front of the name owns an NS record, it is the zone cut that decides at the name
   pub cut_at : owns zone next types.Ns ≡ true → deciding zone name ≡ ByCut next
   cut_at owner =
       ap (deciding zone) (sym in_two)
       ∙ cut_decides zone (take k name) label rest here (ap (λ (x : Labels). owns zone x types.Ns) (sym step) ∙ owner)
       ∙ ap (λ (x : Labels). ByCut x) (sym step)
 
+  -- where the next front of the name owns a DNAME record and no NS record, and labels stand below it, it redirects the name
   pub redirection_at : length next < length name → owns zone next types.Ns ≡ false → owns zone next types.Dname ≡ true → deciding zone name ≡ by_dname zone next
   redirection_at less uncut owner =
       ap (deciding zone) (sym in_two)
@@ -268,6 +272,7 @@ module _ (zone : Zone) (name : Labels) (k : ℕ) (below : k < length name) (so_f
       (ap (λ (x : Labels). owns zone x types.Ns) (sym step) ∙ uncut) (ap (λ (x : Labels). owns zone x types.Dname) (sym step) ∙ owner)
       ∙ ap (by_dname zone) (sym step)
 
+  -- where the next front of the name exists, and neither cuts nor redirects, nothing has decided up to it
   pub goes_on_at : exists_in zone next ≡ true → owns zone next types.Ns ≡ false → (length next < length name → owns zone next types.Dname ≡ false) → Undecided zone name next
   goes_on_at exists uncut other =
       subst (λ (x : Labels). Undecided zone name x) (sym step)
@@ -275,6 +280,7 @@ module _ (zone : Zone) (name : Labels) (k : ℕ) (below : k < length name) (so_f
       (goes_on zone (take k name) label rest here (ap (exists_in zone) (sym step) ∙ exists) (ap (λ (x : Labels). owns zone x types.Ns) (sym step) ∙ uncut)
       (λ less. ap (λ (x : Labels). owns zone x types.Dname) (sym step) ∙ other (longer_name less))))
 
+  -- where the next front of the name doesn't exist, the source of synthesis below the one before it decides
   pub source_at : exists_in zone next ≡ false → deciding zone name ≡ synthesized zone (Some (take k name))
   source_at absent =
       ap (deciding zone) (sym in_two) ∙ source_decides zone (take k name) label rest here (ap (exists_in zone) (sym step) ∙ absent)

@@ -49,6 +49,7 @@ not_itself name less = never_before_itself name_cmp names_total name less
 -- ---- where a search leaves it
 
 module _ (names : List Labels) (name : Labels) (ordered : Ordered names) where
+  -- a name that is found at a place stands at the last place up to it
   pub last_found : (place : ℕ) → place < length names → name_cmp (get_or names place []) name ≡ Equal → IsLastUpTo names name place
   last_found place within tied = record {
     within = within;
@@ -150,6 +151,7 @@ module _ (zone : Zone) (names : List Labels) (name : Labels) (place : ℕ) (exis
       ap (λ (x : Labels). x ++ drop shared before) (sym (both ∙ take_all shared name (omega (arith, all)))) ∙ take-append-drop shared before in
       both_up_to before name last.up_to (begins_up_to name before (drop shared before, whole))
 
+  -- the name at the last place up to another shares with it the labels of its longest existing prefix
   pub preceding : (found : Preceding) → found.node ≡ place → found.shared ≡ shared → IsPreceding (record { zone = zone; names = names }) name found
   preceding found here many = record {
     node = subst (λ (n : ℕ). n < length names) (sym here) last.within;

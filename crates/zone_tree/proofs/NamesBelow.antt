@@ -26,9 +26,11 @@ module _ (zone : Zone) (name : Labels) (open_below : Bool) (below : Labels) (sta
   tested : test ≡ nat_lt count (length (name ++ below))
   tested = is ∙ ap (λ (n : ℕ). open_below || nat_lt count n) many ∙ same_test zone name open_below below count stands short
 
+  -- where the test passes, so many labels are fewer than those of the name with the others
   pub proper : test ≡ true → count < length (name ++ below)
   proper e = ltb-true count (length (name ++ below)) (sym tested ∙ e)
 
+  -- where the test doesn't pass, so many labels are no fewer than those of the name with the others
   pub improper : test ≡ false → length (name ++ below) ≤ count
   improper e = ltb-false count (length (name ++ below)) (sym tested ∙ e)
 

@@ -45,6 +45,7 @@ up_to_other name other le differs = by (name_cmp name other) refl le where
   by Greater e h = absurd (true≢false h)
 
 module _ (name : Labels) where
+  -- the first records of a name are no more than the records
   pub leading_within : (rrs : List Rr) → leading name rrs ≤ length rrs
   leading_within [] = omega arith
   leading_within (rr ∷ rrs) = by (name_eq rr.owner name) (leading_within rrs) where
@@ -200,6 +201,7 @@ abbrev pub stands_before : Bor Rr → Bor Rr → Bool
 stands_before a b = is_lt (name_cmp a.now.owner b.now.owner)
 
 module _ (old new : List (Bor Rr)) (same : IsPermutation old new) (stable : IsStableBy stands_before old new) where
+  -- a stable sort by owners keeps the data of each name, in their order
   pub data_stay : (name : Labels) → data_of (map now_of new) name ≡ data_of (map now_of old) name
   data_stay name =
       owned_now name new ∙ ap (map (λ (rr : Bor Rr). rr.now.rdata)) (by (list_any of_name old) refl) ∙ sym (owned_now name old)

@@ -90,6 +90,7 @@ module _ (test : Labels → Bool) where
   pub found_begins : (name found : Labels) → shortest test name ≡ Some found → Begins found name
   found_begins name found is = from_prefixes name found (found_there test (prefixes name) found is).0
 
+  -- the shortest prefix that is found passes the test
   pub found_passes : (name found : Labels) → shortest test name ≡ Some found → test found ≡ true
   found_passes name found is = (found_there test (prefixes name) found is).1
 

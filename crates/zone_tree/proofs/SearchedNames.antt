@@ -84,6 +84,7 @@ module _ (names : List Labels) (place : ℕ) (ordered : Ordered names) (within :
       let begins = between above next (below.first ∷ below.rest) low (subst (UpTo next) below.is high) in
       true≢false (sym (is_prefix_told above next begins) ∙ apart inside)
 
+  -- a name below that at the place is none of the names
   pub none_below : ⊥
   none_below = elim (cases_lt has.0 place) [
     | inl lower ↦ not_before lower

@@ -216,11 +216,13 @@ module _ (rtype : RrType) (held : (rdata : Rdata) → has_type rtype rdata ≡ t
       ∙ first_held all
       ∙ ap (λ (xs : List Rdata). first_name (filter_map target_of xs)) (sym (data_of_type name rtype zone.rrs))
 
+-- the first CNAME datum of the sets of a name has the first target of the name's CNAME records
 pub alias_told : (zone : Zone) (name : Labels) (sets : List Set) (found : Option (Bor Rdata)) → AreRecordSets (data_of zone.rrs name) [] sets
     → option_map (λ (rdata : Bor Rdata). rdata.now) found ≡ first_in sets Cname
     → option_and_then target_of (option_map (λ (rdata : Bor Rdata). rdata.now) found) ≡ first_name (targets_at zone name Cname)
 alias_told = first_told Cname cname_target
 
+-- the first DNAME datum of the sets of a name has the first target of the name's DNAME records
 pub redirection_told : (zone : Zone) (name : Labels) (sets : List Set) (found : Option (Bor Rdata)) → AreRecordSets (data_of zone.rrs name) [] sets
     → option_map (λ (rdata : Bor Rdata). rdata.now) found ≡ first_in sets Dname
     → option_and_then target_of (option_map (λ (rdata : Bor Rdata). rdata.now) found) ≡ first_name (targets_at zone name Dname)

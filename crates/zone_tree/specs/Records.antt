@@ -12,7 +12,7 @@ use Rattle.dns_data.specs.declared.rr_type.RrType.TheVariants as rr_type
 use Rattle.net_model.specs.declared.config.Zone.{Zone}
 use Rattle.net_model.specs.Order.{in_order}
 use Rattle.net_model.specs.Zone.{target_of, data_cmp}
-use Rattle.zone_tree.specs.declared.records.Records.{Records}
+use Rattle.zone_tree.specs.declared.records.OwnedRecords.{OwnedRecords}
 use Rattle.zone_tree.specs.declared.records.Set.{Set}
 use Rattle.zone_tree.specs.Names.{AreExisting}
 
@@ -24,11 +24,12 @@ data_of rrs name = map (λ rr. rr.rdata) (filter (λ rr. name_eq rr.owner name) 
 abbrev pub targets_of : List Rdata → RrType → List Labels
 targets_of all rtype = filter_map target_of (filter (has_type rtype) all)
 
--- the data of a set: the first, or all where there are several
+-- one datum, or all where there are several
 abbrev pub all_of : Rdata → List Rdata → List Rdata
 all_of first [] = first ∷ []
 all_of first (one ∷ more) = one ∷ more
 
+-- the data of a set: the first, or all where there are several
 abbrev pub all_in : Set → List Rdata
 all_in set = all_of set.first.now set.several
 
@@ -63,13 +64,13 @@ pub record AreRecordSets (all : List Rdata) (left : List RrType) (sets : List Se
       → (list_any (λ other. type_eq other rtype) left || list_any (λ set. type_eq set.rtype rtype) sets) ≡ true
 
 -- the records tell of all data of a name
-pub record TellsData (all : List Rdata) (records : Records) : Type 0 where
+pub record TellsData (all : List Rdata) (records : OwnedRecords) : Type 0 where
   pub types : TellsTypes all records.types
   pub servers : map (λ server. server.now) records.servers ≡ in_order name_cmp (targets_of all rr_type.Ns)
   pub sets : AreRecordSets all [] records.sets
 
 -- the names are those that exist in the zone, and beside each stands what tells of its data
-pub record IsTree (zone : Zone) (names : List Labels) (records : List Records) : Type 0 where
+pub record IsTree (zone : Zone) (names : List Labels) (records : List OwnedRecords) : Type 0 where
   pub existing : AreExisting zone names
   pub many : length records ≡ length names
-  pub each : (k : ℕ) (d : Records) → k < length names → TellsData (data_of zone.rrs (slice_index_or names k [])) (slice_index_or records k d)
+  pub each : (k : ℕ) (d : OwnedRecords) → k < length names → TellsData (data_of zone.rrs (slice_index_or names k [])) (slice_index_or records k d)

@@ -11,7 +11,7 @@ use std::slice;
 
 /// Where items are kept: one in the value, more in a vector.
 #[derive(Debug, Drop)]
-enum Storage<T> {
+enum ItemStorage<T> {
     Empty,
     One(T),
     More(Vec<T>),
@@ -20,7 +20,7 @@ enum Storage<T> {
 /// Items in order, of which none or one takes no memory of its own.
 #[derive(Debug, Drop)]
 pub(crate) struct Few<T> {
-    storage: Storage<T>,
+    storage: ItemStorage<T>,
 }
 
 impl<T> Model for Few<T> {
@@ -38,7 +38,7 @@ impl<T: Drop> Few<T> {
         ensures { result ≡ [] }
     {
         Few {
-            storage: Storage::Empty,
+            storage: ItemStorage::Empty,
         }
     }
 
@@ -47,7 +47,7 @@ impl<T: Drop> Few<T> {
         ensures { result ≡ items.items }
     {
         Few {
-            storage: Storage::More(items),
+            storage: ItemStorage::More(items),
         }
     }
 
@@ -57,14 +57,14 @@ impl<T: Drop> Few<T> {
         ensures { result.now ≡ self.now }
     {
         match &self.storage {
-            Storage::Empty => &[],
-            Storage::One(only) => slice::from_ref(only),
-            Storage::More(items) => items.as_slice(),
+            ItemStorage::Empty => &[],
+            ItemStorage::One(only) => slice::from_ref(only),
+            ItemStorage::More(items) => items.as_slice(),
         }
     }
 
     /// Where the items are kept.
-    fn into_storage(self) -> Storage<T>
+    fn into_storage(self) -> ItemStorage<T>
         ensures { items_in result ≡ self }
     {
         self.storage
@@ -75,16 +75,16 @@ impl<T: Drop> Few<T> {
         ensures { IfOk result (λ few. few ≡ self ++ item ∷ []) }
     {
         match self.into_storage() {
-            Storage::Empty => Ok(Few {
-                storage: Storage::One(item),
+            ItemStorage::Empty => Ok(Few {
+                storage: ItemStorage::One(item),
             }),
-            Storage::One(only) => {
+            ItemStorage::One(only) => {
                 let mut items = Vec::with_capacity(alloc, 2)?;
                 items.push(only)?;
                 items.push(item)?;
                 Ok(Few::from_vec(items))
             }
-            Storage::More(items) => {
+            ItemStorage::More(items) => {
                 let mut items = items;
                 items.push(item)?;
                 Ok(Few::from_vec(items))

@@ -9,7 +9,7 @@ ghost use Rattle.zone_tree.specs.FirstDecider.{is_cut, decides_below, IsFirstDec
 ghost use Rattle.zone_tree.specs.Records.{IsTree};
 
 use crate::node::NodeId;
-use crate::records::Records;
+use crate::records::OwnedRecords;
 use dns_data::{Name, NoMemory, RrType, TypeSet};
 use net_model::Zone;
 use std::alloc::Global;
@@ -20,7 +20,7 @@ pub(crate) fn first_deciders(
     alloc: Global,
     zone: &Zone,
     names: &[Name],
-    records: &[Records<'_>],
+    records: &[OwnedRecords<'_>],
 ) -> Result<Vec<NodeId>, NoMemory>
     requires { IsTree zone.now names.now records.now }
     ensures { IfOk result (λ firsts. AreFirstDeciders zone.now names.now firsts.items) }
@@ -38,7 +38,7 @@ pub(crate) fn first_deciders(
 fn first_decider_at(
     zone: &Zone,
     names: &[Name],
-    records: &[Records<'_>],
+    records: &[OwnedRecords<'_>],
     before: NodeId,
     place: usize,
 ) -> NodeId

@@ -8,7 +8,7 @@ ghost use Rattle.zone_tree.specs.Names.{Ordered};
 ghost use Rattle.zone_tree.specs.Owners.{AreByOwner, leading};
 ghost use Rattle.zone_tree.specs.Records.{data_of, TellsData};
 
-use crate::records::{Records, records_of};
+use crate::records::{OwnedRecords, records_of};
 use dns_data::{Name, NoMemory, Rr};
 use net_model::Zone;
 use std::alloc::Global;
@@ -40,7 +40,7 @@ pub(crate) fn records_by_name<'a>(
     alloc: Global,
     names: &[Name],
     rrs: &[&'a Rr],
-) -> Result<Vec<Records<'a>>, NoMemory>
+) -> Result<Vec<OwnedRecords<'a>>, NoMemory>
     requires names { Ordered names.now }
     requires sorted { IsSorted name_cmp (map (λ rr. rr.owner) (map (λ rr. rr.now) rrs.now)) }
     requires among { (rr : Rr) → Contains (map (λ rr. rr.now) rrs.now) rr → Contains names.now rr.owner }

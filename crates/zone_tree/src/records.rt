@@ -15,7 +15,7 @@ use std::slice;
 
 /// What a name owns: its types, its name servers in the order of names, and the data of each type.
 #[derive(Debug, Drop)]
-pub(crate) struct Records<'a> {
+pub(crate) struct OwnedRecords<'a> {
     pub types: TypeSet,
     pub servers: Few<&'a Name>,
     pub sets: Few<Set<'a>>,
@@ -43,11 +43,11 @@ impl<'a> Set<'a> {
 }
 
 /// What tells of the records that a name owns, which are in file order.
-pub(crate) fn records_of<'a>(alloc: Global, own: &[&'a Rr]) -> Result<Records<'a>, NoMemory>
+pub(crate) fn records_of<'a>(alloc: Global, own: &[&'a Rr]) -> Result<OwnedRecords<'a>, NoMemory>
     ensures { IfOk result (λ records. TellsData (map (λ rr. rr.now.rdata) own.now) records) }
 {
     let types = types_of(own);
-    Ok(Records {
+    Ok(OwnedRecords {
         types,
         servers: servers_of(alloc, own)?,
         sets: sets_of(alloc, own, types)?,

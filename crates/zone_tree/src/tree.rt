@@ -22,7 +22,7 @@ use crate::node::NodeId;
 use crate::order::merged;
 use crate::owners::{records_by_name, rrs_in_order};
 use crate::places::{Preceding, is_leaf_at, place_among, place_behind, place_below, place_up_to};
-use crate::records::{Records, data_in, first_in, target_of};
+use crate::records::{OwnedRecords, data_in, first_in, target_of};
 use dns_data::{Label, Labels, List, Name, NoMemory, Rdata, RrType, TypeSet};
 use net_model::Zone;
 use std::alloc::Global;
@@ -34,7 +34,7 @@ use std::marker::Model;
 pub struct Tree<'a> {
     zone: &'a Zone,
     names: Vec<Name>,
-    records: Vec<Records<'a>>,
+    records: Vec<OwnedRecords<'a>>,
     first_deciders: Vec<NodeId>,
 }
 
@@ -249,7 +249,7 @@ impl<'a> Tree<'a> {
     }
 
     /// What tells of all data of a node's name.
-    fn records(&self, node: NodeId) -> &Records<'a>
+    fn records(&self, node: NodeId) -> &OwnedRecords<'a>
         requires { IsNode self.now node }
         ensures { TellsData (data_of self.now.zone.rrs (name_of self.now node)) result.now }
     {

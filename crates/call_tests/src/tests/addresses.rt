@@ -2,12 +2,13 @@
 
 ghost use Rattle.std.specs.Prelude.{◌≡◌, IfOk, length};
 
-use super::configs::{graph_of, loaded, name};
+use super::configs::{graph_of, loaded, name, spells};
 use address_deps::dependencies;
-use dns_data::{List, Name};
-use graph_form::{Deps, Graph};
+use dns_data::{List, Name, NameFault};
+use graph_form::Graph;
+use interp_graph::GraphFault;
 use net_model::Config;
-use plain_resolver::learnt;
+use plain_resolver::{LearntFault, learnt};
 use std::alloc::Global;
 use std::test::Fail;
 use zone_lookup::Hosts;
@@ -33,38 +34,36 @@ const CIRCLE: [(&str, &str); 3] = [
 ];
 
 // Begun with no server nothing is learnt, and begun with all both are, so that each depends on the other (RFC 1034 section
-// 4.2.1).
+// 4.2.1). The graphs of the servers' names give the same two sets.
 #[test]
 fn addresses_in_a_circle_are_learnt_from_each_other_alone(rt: HostRuntime) -> Result<(), Fail> {
     let config = loaded(rt.alloc(), TWO_FIRMS, &CIRCLE)?;
-    let least = are_learnt(rt.alloc(), &config, &[], &[])?;
-    assert!(rt; least, "begun with no server");
-    let all = ["a.r.", "ns.q.", "ns.p."];
-    let greatest = are_learnt(rt.alloc(), &config, &all, &["ns.q.", "ns.p."])?;
-    assert!(rt; greatest, "begun with all servers");
+    assert!(rt; are_learnt_in_a_circle(rt.alloc(), &config)?);
     Ok(())
 }
 
-/// Whether the servers whose addresses are learnt, begun with some, are these.
-fn are_learnt(
-    alloc: Global,
-    config: &Config,
-    from: &[&str],
-    wanted: &[&str],
-) -> Result<bool, Fail> {
-    let from = names(alloc, from)?;
-    let found = learnt(alloc, config, 12, &from, 10)?;
-    are_named(alloc, &found, wanted)
+/// Whether walks and graphs give the empty set and that of both firms' servers.
+fn are_learnt_in_a_circle(alloc: Global, config: &Config) -> Result<bool, Fail> {
+    let is_least = none_is_learnt(alloc, config)?;
+    let is_greatest = both_are_learnt(alloc, config)?;
+    Ok(is_least && is_greatest && graphs_give_both_sets(alloc, config)?)
 }
 
-/// Whether the names are those that the texts spell.
-fn are_named(alloc: Global, found: &List<Name>, wanted: &[&str]) -> Result<bool, Fail> {
-    let wanted = names(alloc, wanted)?;
-    Ok(*found == wanted)
+/// Whether no address is learnt, begun with no server.
+fn none_is_learnt(alloc: Global, config: &Config) -> Result<bool, LearntFault> {
+    let found = learnt(alloc, config, 12, &List::new(alloc), 10)?;
+    Ok(found.is_empty())
+}
+
+/// Whether the addresses of both firms' servers are learnt, begun with all servers.
+fn both_are_learnt(alloc: Global, config: &Config) -> Result<bool, Fail> {
+    let all = names(alloc, &["a.r.", "ns.q.", "ns.p."])?;
+    let found = learnt(alloc, config, 12, &all, 10)?;
+    Ok(are_both(alloc, found.items()))
 }
 
 /// The names that texts spell.
-fn names(alloc: Global, texts: &[&str]) -> Result<List<Name>, Fail> {
+fn names(alloc: Global, texts: &[&str]) -> Result<List<Name>, NameFault> {
     let mut names = List::new(alloc);
     for text in texts {
         names.push(name(alloc, text)?)?;
@@ -72,28 +71,28 @@ fn names(alloc: Global, texts: &[&str]) -> Result<List<Name>, Fail> {
     Ok(names)
 }
 
-// The same two sets, by the graphs of the servers' names.
-#[test]
-fn graphs_of_servers_names_give_the_least_and_the_greatest_set(
-    rt: HostRuntime,
-) -> Result<(), Fail> {
-    let config = loaded(rt.alloc(), TWO_FIRMS, &CIRCLE)?;
-    let deps = deps_of(rt.alloc(), &config)?;
-    assert!(rt; deps.least.is_empty(), "the least set");
-    let greatest = are_named(rt.alloc(), &deps.greatest, &["ns.q.", "ns.p."])?;
-    assert!(rt; greatest, "the greatest set");
-    Ok(())
+/// Whether the names are those of both firms' servers, in the order of the metadata.
+fn are_both(alloc: Global, found: &[Name]) -> bool {
+    match found {
+        [first, second] => spells(alloc, "ns.q.", first) && spells(alloc, "ns.p.", second),
+        _ => false,
+    }
 }
 
-/// The least and the greatest set.
-fn deps_of(alloc: Global, config: &Config) -> Result<Deps, Fail> {
+/// Whether by the graphs of the servers' names the least set is empty, and the greatest has both firms' servers.
+fn graphs_give_both_sets(alloc: Global, config: &Config) -> Result<bool, GraphFault> {
     let hosts = Hosts::build(alloc, config)?;
     let graphs = server_graphs(alloc, config, &hosts)?;
-    Ok(dependencies(alloc, config, graphs.items())?)
+    let deps = dependencies(alloc, config, graphs.items())?;
+    Ok(deps.least.is_empty() && are_both(alloc, deps.greatest.items()))
 }
 
 /// The graph of each server's name, in their order.
-fn server_graphs(alloc: Global, config: &Config, hosts: &Hosts<'_>) -> Result<List<Graph>, Fail>
+fn server_graphs(
+    alloc: Global,
+    config: &Config,
+    hosts: &Hosts<'_>,
+) -> Result<List<Graph>, GraphFault>
     ensures { IfOk result (λ graphs. length graphs ≡ length config.now.servers) }
 {
     let mut graphs = List::new(alloc);

@@ -1,9 +1,9 @@
 //! Classes of query names.
 
-use super::configs::{alone, name};
-use dns_data::{Name, NoMemory};
+use super::configs::{alone, name, spells};
+use dns_data::{Name, NameFault, NoMemory};
 use label_graph::{LabelGraph, base_of};
-use net_model::Class;
+use net_model::{Class, Config};
 use query_classes::{children, class_of, representative};
 use std::alloc::Global;
 use std::test::Fail;
@@ -14,55 +14,70 @@ fn wildcard_graph(alloc: Global) -> Result<LabelGraph, Fail> {
         alloc,
         "t. 60 SOA ns.t. h.t. 1 2 3 4 5\n*.a.t. 60 CNAME foo.a.t.\n",
     )?;
-    let base = base_of(alloc, &config)?;
-    let graph = LabelGraph::build(alloc, base.names.items(), base.dnames.items())?;
-    Ok(graph)
+    Ok(graph_by_names(alloc, &config)?)
 }
 
-// A name that is named is alone, any other is in the class below its longest named prefix.
+/// The graph of the configuration's base names and redirections.
+fn graph_by_names(alloc: Global, config: &Config) -> Result<LabelGraph, NoMemory> {
+    let base = base_of(alloc, config)?;
+    LabelGraph::build(alloc, base.names.items(), base.dnames.items())
+}
+
+// A name that is named is alone, any other is in the class below its longest named prefix. The first label that is free
+// below `a.t.` is `a`, and below `t.` it is `b`, since `a.t.` alone is directly below.
 #[test]
 fn names_below_a_wildcards_parent_are_in_one_class(rt: HostRuntime) -> Result<(), Fail> {
-    let alloc = rt.alloc();
-    let graph = wildcard_graph(alloc)?;
-    let cases = [
-        ("*.a.t.", "*.a.t.", true),
-        ("foo.a.t.", "a.t.", false),
-        ("y.x.a.t.", "a.t.", false),
-        ("ns.t.", "t.", false),
-    ];
-    for (query, class, is_alone) in cases {
-        let found = class_of(alloc, &graph, &name(alloc, query)?)?;
-        let wanted = name(alloc, class)?;
-        assert!(rt; is_class(&found, &wanted, is_alone), "the class of {query}");
-    }
+    let graph = wildcard_graph(rt.alloc())?;
+    assert!(rt; are_classed(rt.alloc(), &graph)?);
     Ok(())
 }
 
-/// Whether the class is that of the name alone, or that below the name.
-fn is_class(class: &Class, name: &Name, is_alone: bool) -> bool {
-    match class {
-        Class::Exact(alone) => is_alone && alone == name,
-        Class::Below(above) => !is_alone && above == name,
+/// Whether each query is in its class, for which its name stands, and `a.t.` alone is directly below `t.`.
+fn are_classed(alloc: Global, graph: &LabelGraph) -> Result<bool, NameFault> {
+    let cases = [
+        ("*.a.t.", "*.a.t.", true, "*.a.t."),
+        ("foo.a.t.", "a.t.", false, "a.a.t."),
+        ("y.x.a.t.", "a.t.", false, "a.a.t."),
+        ("ns.t.", "t.", false, "b.t."),
+    ];
+    for (query, class, is_alone, stands) in cases {
+        let is_class = is_in(alloc, graph, query, class, is_alone)?;
+        if !is_class || !is_stood_for(alloc, graph, query, stands)? {
+            return Ok(false);
+        }
+    }
+    is_only_child(alloc, graph, "a.t.", "t.")
+}
+
+/// Whether the name's class is that of the other name alone, or that below it.
+fn is_in(
+    alloc: Global,
+    graph: &LabelGraph,
+    query: &str,
+    class: &str,
+    is_alone: bool,
+) -> Result<bool, NameFault> {
+    let query = name(alloc, query)?;
+    let found = class_of(alloc, graph, &query)?;
+    match &found {
+        Class::Exact(alone) => Ok(is_alone && spells(alloc, class, alone)),
+        Class::Below(above) => Ok(!is_alone && spells(alloc, class, above)),
     }
 }
 
-// The first label that is free below `a.t.` is `a`, and below `t.` it is `b`.
-#[test]
-fn the_first_free_label_stands_for_a_class(rt: HostRuntime) -> Result<(), Fail> {
-    let alloc = rt.alloc();
-    let graph = wildcard_graph(alloc)?;
-    let cases = [
-        ("*.a.t.", "*.a.t."),
-        ("foo.a.t.", "a.a.t."),
-        ("y.x.a.t.", "a.a.t."),
-        ("ns.t.", "b.t."),
-    ];
-    for (query, stands) in cases {
-        let found = standing(alloc, &graph, &name(alloc, query)?)?;
-        let wanted = Some(name(alloc, stands)?);
-        assert_eq!(rt; found, wanted, "the representative of {query}");
+/// Whether the other name stands for the name's class.
+fn is_stood_for(
+    alloc: Global,
+    graph: &LabelGraph,
+    query: &str,
+    stands: &str,
+) -> Result<bool, NameFault> {
+    let query = name(alloc, query)?;
+    let found = standing(alloc, graph, &query)?;
+    match &found {
+        Some(found) => Ok(spells(alloc, stands, found)),
+        None => Ok(false),
     }
-    Ok(())
 }
 
 /// The name that stands for the class of a name.
@@ -71,12 +86,17 @@ fn standing(alloc: Global, graph: &LabelGraph, query: &Name) -> Result<Option<Na
     representative(alloc, graph, &class)
 }
 
-#[test]
-fn one_name_is_directly_below_the_zones_origin(rt: HostRuntime) -> Result<(), Fail> {
-    let alloc = rt.alloc();
-    let graph = wildcard_graph(alloc)?;
-    let below = children(alloc, &graph, &name(alloc, "t.")?)?;
-    let wanted = [name(alloc, "a.t.")?];
-    assert_eq!(rt; below.items(), wanted.as_slice(), "the names below t.");
-    Ok(())
+/// Whether the name is the only one directly below the other.
+fn is_only_child(
+    alloc: Global,
+    graph: &LabelGraph,
+    child: &str,
+    above: &str,
+) -> Result<bool, NameFault> {
+    let above = name(alloc, above)?;
+    let below = children(alloc, graph, &above)?;
+    match below.items() {
+        [one] => Ok(spells(alloc, child, one)),
+        _ => Ok(false),
+    }
 }

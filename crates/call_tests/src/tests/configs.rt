@@ -1,7 +1,12 @@
 //! What several tests begin with: files, configurations, names and graphs.
 
+ghost use Rattle.std.specs.Prelude.{IfOk};
+ghost use Rattle.graph_form.specs.GraphOf.{IsGraphOf};
+ghost use Rattle.net_model.specs.Nearest.{server_names};
+ghost use Rattle.net_model.specs.Step.{following};
+
 use config_load::load;
-use dns_data::{List, Name, NoMemory};
+use dns_data::{List, Name, NameFault, NoMemory};
 use graph_form::Graph;
 use interp_graph::{GraphFault, build};
 use io_edges::MemoryFiles;
@@ -47,12 +52,22 @@ pub fn first_zone(config: &Config) -> Option<&Zone> {
 }
 
 /// The name that a text spells.
-pub fn name(alloc: Global, text: &str) -> Result<Name, Fail> {
-    Ok(Name::from_text(alloc, text.as_bytes(), &Name::root())?)
+pub fn name(alloc: Global, text: &str) -> Result<Name, NameFault> {
+    Name::from_text(alloc, text.as_bytes(), &Name::root())
+}
+
+/// Whether the text spells the name.
+pub fn spells(alloc: Global, text: &str, spelt: &Name) -> bool {
+    match name(alloc, text) {
+        Ok(name) => name == *spelt,
+        Err(_) => false,
+    }
 }
 
 /// The graph of a query's walks, while every configured server is followed.
-pub fn graph_of(alloc: Global, hosts: &Hosts<'_>, query: Name) -> Result<Graph, GraphFault> {
+pub fn graph_of(alloc: Global, hosts: &Hosts<'_>, query: Name) -> Result<Graph, GraphFault>
+    ensures { IfOk result (IsGraphOf (following hosts.now 12 (server_names hosts.now)) query) }
+{
     let asked = SymName {
         known: query,
         tail: None,

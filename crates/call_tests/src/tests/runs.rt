@@ -2,10 +2,9 @@
 
 use super::configs::{ALONE, files};
 use dns_data::{List, NoMemory};
-use groot_run::{Status, groot};
+use groot_run::groot;
 use io_edges::{FreeGate, Gate, MemoryFiles, MemorySink};
 use std::alloc::Global;
-use std::process::Abort;
 use std::sync::Wait;
 use std::sync::atomic::{AtomicU64, Ordering};
 use std::test::Fail;
@@ -30,51 +29,82 @@ fn sink(alloc: Global, room: u32) -> Result<MemorySink, NoMemory> {
     MemorySink::new(alloc, room, List::new(alloc))
 }
 
-/// How a run ends that tells this line on err.
-fn run<G: Gate + Sync, R: Abort + Threads + Wait + Sync>(
+/// What a run writes on.
+#[derive(Drop)]
+struct Outputs {
+    out: MemorySink,
+    err: MemorySink,
+}
+
+/// An out that takes so many octets, and an err that takes any line.
+fn two_outputs(alloc: Global, room: u32) -> Result<Outputs, NoMemory> {
+    let out = sink(alloc, room)?;
+    let err = sink(alloc, 100)?;
+    Ok(Outputs { out, err })
+}
+
+/// The number with which a run ends.
+fn run<G: Gate + Sync, R: Threads + Wait + Sync>(
     rt: &R,
     alloc: Global,
     words: &[&str],
     files: &mut MemoryFiles,
-    out: &mut MemorySink,
+    outputs: &mut Outputs,
     gate: &G,
-    line: &str,
-) -> Result<Status, NoMemory> {
-    let mut err = sink(alloc, 100)?;
-    let status = groot(rt, alloc, words, files, out, &mut err, gate);
-    assert_eq!(rt; err.taken(), line.as_bytes(), "err");
-    Ok(status)
+) -> u8 {
+    let Outputs { out, err } = outputs;
+    let status = groot(rt, alloc, words, files, out, err, gate);
+    status.number()
 }
 
-/// Asserts how a check ends of which the read with this number fails, and whose output has so much room.
-fn ends<R: Abort + Threads + Wait + Sync>(
+/// How a run ends: its number, and what out and err took.
+#[derive(Drop)]
+struct End {
+    number: u8,
+    out: &'static str,
+    err: &'static str,
+}
+
+/// Whether the run has ended so.
+fn has_ended(number: u8, outputs: &Outputs, end: &End) -> bool {
+    number == end.number
+        && outputs.out.taken() == end.out.as_bytes()
+        && outputs.err.taken() == end.err.as_bytes()
+}
+
+/// Whether a check ends so of which the read with this number fails, and whose out has so much room.
+fn ends<R: Threads + Wait + Sync>(
     rt: &R,
     alloc: Global,
     fails: u32,
     room: u32,
-    number: u8,
-    taken: &str,
-    line: &str,
-) -> Result<(), NoMemory> {
-    let words = ["check", "m.json"];
+    end: &End,
+) -> Result<bool, NoMemory> {
     let mut files = source(alloc, ZONE, fails)?;
-    let mut out = sink(alloc, room)?;
-    let status = run(rt, alloc, &words, &mut files, &mut out, &FreeGate, line)?;
-    assert_eq!(rt; status.number(), number, "read {fails}, room {room}");
-    assert_eq!(rt; out.taken(), taken.as_bytes(), "read {fails}, room {room}");
-    Ok(())
+    let mut outputs = two_outputs(alloc, room)?;
+    let words = ["check", "m.json"];
+    let number = run(rt, alloc, &words, &mut files, &mut outputs, &FreeGate);
+    Ok(has_ended(number, &outputs, end))
 }
 
 // Reads 1 and 2 are of the metadata and its end, 3 and 4 of the zone file and its end. Out takes what fits, so it has
 // nothing of the report, or a front of it, or the whole.
 #[test]
 fn reads_and_writes_that_fail_are_told(rt: HostRuntime) -> Result<(), Fail> {
-    let alloc = rt.alloc();
-    ends(&rt, alloc, 1, 50, 5, "", "m.json: read failed\n")?;
-    ends(&rt, alloc, 4, 50, 5, "", "t.zone: read failed\n")?;
-    ends(&rt, alloc, 5, 50, 0, REPORT, "")?;
-    ends(&rt, alloc, 0, 10, 6, "{\"classes\"", "output failed\n")?;
-    ends(&rt, alloc, 0, 0, 6, "", "output failed\n")?;
+    let cases = [
+        (1, 50, 5, "", "m.json: read failed\n"),
+        (4, 50, 5, "", "t.zone: read failed\n"),
+        (5, 50, 0, REPORT, ""),
+        (0, 10, 6, "{\"classes\"", "output failed\n"),
+        (0, 0, 6, "", "output failed\n"),
+    ];
+    for (fails, room, number, out, err) in cases {
+        let end = End { number, out, err };
+        assert!(rt;
+            ends(&rt, rt.alloc(), fails, room, &end)?,
+            "read {fails}, room {room}"
+        );
+    }
     Ok(())
 }
 
@@ -119,12 +149,25 @@ fn two_workers_judge_at_once(rt: HostRuntime) -> Result<(), Fail> {
         later: AtomicU64::new(0),
         met: AtomicU64::new(0),
     };
-    let words = ["check", "m.json", "--workers", "2"];
-    let mut files = source(rt.alloc(), REDIRECTED, 0)?;
-    let mut out = sink(rt.alloc(), 1000)?;
-    let status = run(&rt, rt.alloc(), &words, &mut files, &mut out, &gate, "")?;
-    assert_eq!(rt; status.number(), 1, "the status");
-    assert_eq!(rt; out.taken(), BLACKHOLE.as_bytes(), "the report");
-    assert_eq!(rt; gate.met.load(Ordering::SeqCst), 1, "a second call came");
+    assert!(rt; finds_the_blackhole(&rt, rt.alloc(), &gate)?);
+    assert!(rt; gate.met.load(Ordering::SeqCst) == 1);
     Ok(())
+}
+
+/// Whether two workers come to the report of the redirection.
+fn finds_the_blackhole<R: Threads + Wait + Sync>(
+    rt: &R,
+    alloc: Global,
+    gate: &PairGate,
+) -> Result<bool, NoMemory> {
+    let mut files = source(alloc, REDIRECTED, 0)?;
+    let mut outputs = two_outputs(alloc, 1000)?;
+    let words = ["check", "m.json", "--workers", "2"];
+    let number = run(rt, alloc, &words, &mut files, &mut outputs, gate);
+    let end = End {
+        number: 1,
+        out: BLACKHOLE,
+        err: "",
+    };
+    Ok(has_ended(number, &outputs, &end))
 }

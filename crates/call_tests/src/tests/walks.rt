@@ -2,10 +2,11 @@
 
 use super::configs::{graph_of, loaded, name};
 use delegation_checks::delegation_faults;
-use dns_data::{List, NoMemory, RrType};
+use dns_data::{List, Name, NoMemory, RrType};
 use graph_form::{Branch, Deps, Graph, Node, Seen};
 use net_model::{Config, Fault, Leaf, State, Walk};
 use plain_resolver::resolve;
+use report_json::walk_text;
 use std::alloc::Global;
 use std::test::Fail;
 use zone_lookup::Hosts;
@@ -27,46 +28,69 @@ const DELEGATED: [(&str, &str); 2] = [
     ),
 ];
 
-// Name servers are referred to in the order of their names. A name server with glue is followed, whatever is learnt.
+/// The walk by the first name server, and the one by the second.
+const FIRST: &str =
+    "[{\"cut\":\"c.t.\",\"did\":\"refer\",\"name\":\"c.t.\",\"ns\":\"ns1.c.t.\",\"server\":\"ns.t.\",\"zone\":\"t.\"},{\"did\":\"nodata\",\"name\":\"c.t.\",\"server\":\"ns1.c.t.\",\"zone\":\"c.t.\"}]";
+
+const SECOND: &str =
+    "[{\"cut\":\"c.t.\",\"did\":\"refer\",\"name\":\"c.t.\",\"ns\":\"ns2.c.t.\",\"server\":\"ns.t.\",\"zone\":\"t.\"},{\"did\":\"unhosted\",\"name\":\"c.t.\",\"ns\":\"ns2.c.t.\"}]";
+
+// Name servers are referred to in the order of their names. A name server with glue is followed, whatever is learnt. Both
+// name servers are at or below the cut.
 #[test]
-fn paths_of_a_graph_are_the_walks_that_are_followed(rt: HostRuntime) -> Result<(), Fail> {
+fn walks_of_a_delegation_are_paths_of_a_graph_that_shows_its_faults(
+    rt: HostRuntime,
+) -> Result<(), Fail> {
     let config = loaded(rt.alloc(), TWO_SERVERS, &DELEGATED)?;
-    let walks = walks_of(rt.alloc(), &config)?;
-    let graph = graph_in(rt.alloc(), &config)?;
-    let cases: [(&[usize], &str); 2] = [(&[0, 0], "nodata"), (&[1], "unhosted")];
-    assert_eq!(rt; walks.len(), 2, "the walks");
-    for (walk, (path, end)) in walks.iter().zip(cases) {
-        assert_eq!(rt; word(&walk.leaf), end, "the walk {path:?}");
-        assert_eq!(rt;
-            end_along(&graph, path, walk.states.items()),
-            Some(end),
-            "the path {path:?}"
-        );
-    }
+    assert!(rt; are_walked_and_shown(rt.alloc(), &config)?);
     Ok(())
 }
 
-/// The walks of `c.t.` with type A, while no server is followed for a learnt address.
-fn walks_of(alloc: Global, config: &Config) -> Result<List<Walk>, Fail> {
-    let query = name(alloc, "c.t.")?;
-    Ok(resolve(alloc, config, 12, &[], &query, RrType::A, 2)?)
+/// Whether the paths of the graph of `c.t.` are its walks, and show the faults of both sides.
+fn are_walked_and_shown(alloc: Global, config: &Config) -> Result<bool, Fail> {
+    let hosts = Hosts::build(alloc, config)?;
+    let graph = graph_in(alloc, &hosts)?;
+    let are_walks = paths_are_walks(alloc, config, &graph)?;
+    Ok(are_walks && both_sides_show(alloc, &hosts, &graph)?)
 }
 
 /// The graph of `c.t.`.
-fn graph_in(alloc: Global, config: &Config) -> Result<Graph, Fail> {
-    let hosts = Hosts::build(alloc, config)?;
-    Ok(graph_of(alloc, &hosts, name(alloc, "c.t.")?)?)
+fn graph_in(alloc: Global, hosts: &Hosts<'_>) -> Result<Graph, Fail> {
+    let query = name(alloc, "c.t.")?;
+    Ok(graph_of(alloc, hosts, query)?)
 }
 
-/// The word for the end of the path with type A that takes the branches with these numbers, counted from 0, or `None` where
-/// there is no such path along these states.
-fn end_along(graph: &Graph, path: &[usize], states: &[State]) -> Option<&'static str> {
+/// Whether the walks of `c.t.` with type A are these two, and paths of the graph, while no server is followed for a learnt
+/// address.
+fn paths_are_walks(alloc: Global, config: &Config, graph: &Graph) -> Result<bool, Fail> {
+    let query = name(alloc, "c.t.")?;
+    let walks = resolve(alloc, config, 12, &[], &query, RrType::A, 2)?;
+    match walks.items() {
+        [first, second] => Ok(
+            is_path(alloc, graph, &[0, 0], first, FIRST)
+                && is_path(alloc, graph, &[1], second, SECOND),
+        ),
+        _ => Ok(false),
+    }
+}
+
+/// Whether the walk has this text, and ends as the path with type A that takes the branches with these numbers.
+fn is_path(alloc: Global, graph: &Graph, path: &[usize], walk: &Walk, text: &str) -> bool {
+    match end_along(graph, path, walk.states.items()) {
+        Some(leaf) => is_same(leaf, &walk.leaf) && is_text(alloc, walk, text),
+        None => false,
+    }
+}
+
+/// The end of the path with type A that takes the branches with these numbers, counted from 0, or `None` where there is no
+/// such path along these states.
+fn end_along<'g>(graph: &'g Graph, path: &[usize], states: &[State]) -> Option<&'g Leaf> {
     let mut at = *graph.starts().first()?;
     for (number, state) in path.iter().zip(states) {
         let node = node_like(graph, at, state)?;
         match node.branches(RrType::A).get(*number)? {
             Branch::Go { to, .. } => at = *to,
-            Branch::End { leaf, .. } => return Some(word(leaf)),
+            Branch::End { leaf, .. } => return Some(leaf),
         }
     }
     None
@@ -82,50 +106,50 @@ fn node_like<'g>(graph: &'g Graph, at: u32, state: &State) -> Option<&'g Node> {
     is_like.then_some(node)
 }
 
-/// The word that stands in a text of walks for an end that these have.
-fn word(leaf: &Leaf) -> &'static str {
+/// Whether both ends are that the name owns no record of the type, or that the same name server isn't configured.
+fn is_same(leaf: &Leaf, other: &Leaf) -> bool {
     match leaf {
-        Leaf::NoData => "nodata",
-        Leaf::Unhosted(_) => "unhosted",
-        _ => "another end",
+        Leaf::NoData => matches!(other, Leaf::NoData),
+        Leaf::Unhosted(ns) => is_unhosted(other, ns),
+        _ => false,
     }
 }
 
-// Both name servers are at or below the cut.
-#[test]
-fn the_two_sides_of_a_delegation_show_their_faults(rt: HostRuntime) -> Result<(), Fail> {
-    let config = loaded(rt.alloc(), TWO_SERVERS, &DELEGATED)?;
-    let shown = shown_in(rt.alloc(), &config)?;
-    assert_eq!(rt; shown.len(), 3, "the faults");
-    let kinds = ["delegation-differs", "missing-glue", "glue-differs"];
-    for (seen, wanted) in shown.iter().zip(kinds) {
-        assert_eq!(rt; kind(&seen.fault), wanted, "the kind");
+/// Whether the end is that the name server isn't configured.
+fn is_unhosted(leaf: &Leaf, server: &Name) -> bool {
+    match leaf {
+        Leaf::Unhosted(ns) => ns == server,
+        _ => false,
     }
-    Ok(())
 }
 
-/// The faults of delegations that `c.t.` shows.
-fn shown_in(alloc: Global, config: &Config) -> Result<List<Seen>, Fail> {
-    let hosts = Hosts::build(alloc, config)?;
-    let graph = graph_in(alloc, config)?;
-    Ok(shown_by(alloc, &hosts, &graph)?)
+/// Whether this is the walk's text.
+fn is_text(alloc: Global, walk: &Walk, wanted: &str) -> bool {
+    match walk_text(alloc, walk) {
+        Ok(text) => text.items() == wanted.as_bytes(),
+        Err(NoMemory) => false,
+    }
 }
 
-/// The faults of delegations that a graph's query shows, while no address is learnt.
-fn shown_by(alloc: Global, hosts: &Hosts<'_>, graph: &Graph) -> Result<List<Seen>, NoMemory> {
+/// Whether the query of the graph shows the three faults of its delegation, while no address is learnt.
+fn both_sides_show(alloc: Global, hosts: &Hosts<'_>, graph: &Graph) -> Result<bool, NoMemory> {
     let none = Deps {
         least: List::new(alloc),
         greatest: List::new(alloc),
     };
-    delegation_faults(alloc, hosts, &none, graph)
+    let shown = delegation_faults(alloc, hosts, &none, graph)?;
+    Ok(are_three(shown.items()))
 }
 
-/// The word that stands in a report for a kind of fault that these are of.
-fn kind(fault: &Fault) -> &'static str {
-    match fault {
-        Fault::Differs(_) => "delegation-differs",
-        Fault::NoGlue(_) => "missing-glue",
-        Fault::GlueDiffers(_) => "glue-differs",
-        _ => "another kind",
+/// Whether the faults are that the two sides list different name servers, that one of these has no glue, and that the other
+/// has other addresses below.
+fn are_three(shown: &[Seen]) -> bool {
+    match shown {
+        [first, second, third] => {
+            matches!(&first.fault, Fault::Differs(_))
+                && matches!(&second.fault, Fault::NoGlue(_))
+                && matches!(&third.fault, Fault::GlueDiffers(_))
+        }
+        _ => false,
     }
 }

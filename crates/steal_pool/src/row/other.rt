@@ -10,7 +10,7 @@ use crossbeam_deque::Steal;
 
 /// What a steal gives.
 #[derive(Clone, Copy, Debug, PartialEq, Eq)]
-pub enum Taken {
+pub enum StealOutcome {
     /// The first ticket.
     Ticket(u32),
     /// At one moment the deque held nothing.
@@ -21,14 +21,14 @@ pub enum Taken {
 
 impl OtherRow {
     /// Steals the first ticket.
-    pub fn steal(&mut self) -> Taken
+    pub fn steal(&mut self) -> StealOutcome
         ensures same { IsSameSeat self.old self.new }
         ensures taken { TakesOne (other_view self.old) (other_view self.new) result }
     {
         match self.deque.steal_as::<Takes>(&mut self.seat) {
-            Steal::Success(ticket) => Taken::Ticket(ticket),
-            Steal::Empty => Taken::Nothing,
-            Steal::Retry => Taken::Again,
+            Steal::Success(ticket) => StealOutcome::Ticket(ticket),
+            Steal::Empty => StealOutcome::Nothing,
+            Steal::Retry => StealOutcome::Again,
         }
     }
 }

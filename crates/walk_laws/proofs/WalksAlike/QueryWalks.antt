@@ -42,6 +42,7 @@ pub record BeginsAt (setting : Setting) (query : Labels) (rtype : RrType) (numbe
   pub starts : slice_get (start setting.config query) number ≡ Some state
   pub goes : walk_from setting rtype rest state ≡ Some walk
 
+-- the numbers of a walk begin with that of a start state of the query, from which the others lead along the walk
 pub begins_at : (setting : Setting) (query : Labels) (rtype : RrType) (numbers : List ℕ) (walk : Walk)
     → walk_along setting query rtype numbers ≡ Some walk → BeginsAt setting query rtype numbers walk
 begins_at setting query rtype [] walk e = cc

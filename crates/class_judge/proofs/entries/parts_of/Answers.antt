@@ -1,26 +1,23 @@
 use Rattle.std.proofs.Common.{◌≡◌, List, Some, sym, subst}
 use Rattle.std.specs.Prelude.{slice_get}
+use Rattle.net_model.specs.Step.{following}
 use Rattle.net_model.specs.declared.walk.Walk.{Walk}
-use Rattle.class_judge.proofs.ReportEntry.{is_entry, query_few, query_shows}
+use Rattle.class_judge.proofs.ReportEntry.{fault_shown, is_entry}
 use Rattle.class_judge.proofs.entries.parts_of.Goals as goal
 
-pub query_of-requires-clause-in_tree : goal.query_of-requires-clause-in_tree
-query_of-requires-clause-in_tree c = (c.requires.right.shows.is_class.named, c.requires.right.shows.is_class.is_name)
+pub trails-requires-clause-of_query : goal.trails-requires-clause-of_query
+trails-requires-clause-of_query c =
+    let of = c.requires.walked.of_query in
+    (following c.args.setup.now.trees c.args.setup.now.rewrites of.followed, c.args.walked.now.query, of.is_graph)
 
-pub query_of-requires-clause-some : goal.query_of-requires-clause-some
-query_of-requires-clause-some c = (c.requires.right.query, c.requires.right.shows.represents)
-
-pub walks_of-requires-clause-few : goal.walks_of-requires-clause-few
-walks_of-requires-clause-few c =
-    let setup = c.args.setup.now in query_few setup.trees setup.rewrites setup.states c.args.found.now c.requires.right c.in_ok-query.query c.in_ok-query.ensures
-
-pub walks_of-requires-clause-shown : goal.walks_of-requires-clause-shown
-walks_of-requires-clause-shown c =
-    let setup = c.args.setup.now in query_shows setup.trees setup.rewrites setup.states c.args.found.now c.requires.right c.in_ok-query.query c.in_ok-query.ensures
+pub trails-requires-clause-shown : goal.trails-requires-clause-shown
+trails-requires-clause-shown c =
+    let setup = c.args.setup.now in
+    fault_shown setup.trees setup.rewrites c.args.found.now c.requires.right c.args.walked.now c.requires.walked c.requires.class
 
 pub returns : goal.returns
 returns c =
     let setup = c.args.setup.now in
-    is_entry setup.trees setup.rewrites setup.states c.args.found.now c.requires.right c.in_ok-query.query c.in_ok-query.ensures c.args.deps.now.least c.requires.sets.least
+    rw c.in_ok-query.ensures (is_entry setup.trees setup.rewrites c.args.found.now c.requires.right c.args.walked.now c.requires.walked c.requires.class
     c.in_ok-repeats.repeats c.in_ok-walks.walks c.in_ok-walks.ensures
-    (λ first at. c.in_ok-repeats.ensures first (subst (λ (walks : List Walk). slice_get walks 0 ≡ Some first) (sym c.items.ensures) at))
+    (λ first at. c.in_ok-repeats.ensures first (subst (λ (walks : List Walk). slice_get walks 0 ≡ Some first) (sym c.items.ensures) at)))

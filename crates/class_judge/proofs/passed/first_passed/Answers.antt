@@ -2,49 +2,54 @@ use Rattle.std.proofs.Common.{◌≡◌, ◌∙◌, ℕ, ◌<◌, get_or, length
 use Rattle.std.proofs.lemmas.Bool.{cases_lt}
 use Rattle.std.proofs.lemmas.List.{get_or_default}
 use Rattle.std.proofs.lemmas.List.Elements.{All-contains}
+use Rattle.dns_data.specs.Name.{Labels}
 use Rattle.dns_data.proofs.Membership.{map_has}
+use Rattle.net_model.specs.Reading.{ground_of}
+use Rattle.query_classes.specs.Children.{IsInTree}
 use Rattle.class_judge.specs.Rows.{IsFirstPassedAt, IsPassedAt, NonePassesAt}
 use Rattle.class_judge.specs.Verdict.{IsNameVerdict}
-use Rattle.class_judge.specs.declared.rows.Row.{Row}
 use Rattle.class_judge.proofs.ReportPassed.{first_of_rows, none_of_rows}
 use Rattle.class_judge.proofs.passed.first_passed.Goals as goal
 
 pub passed_at-requires-clause-in_tree : goal.passed_at-requires-clause-in_tree
-passed_at-requires-clause-in_tree c =
-    let rows = c.args.rows.now in
-    let row = c.row-item.result in
-    (c.requires.rows.tree.all row.name).0 (map_has (λ (r : Row). r.name) rows row (c.loop-row.row-index, c.loop-row-test.true, sym c.row-item.is))
+passed_at-requires-clause-in_tree g c =
+    let rows = c.args.filed.now in
+    let row = c.one-item.result in
+    subst (IsInTree (ground_of c.args.setup.now.trees)) (sym c.live_name.ensures.name)
+    ((c.requires.rows.tree.all row.item).0 (map_has (λ r. r.item) rows row (c.loop-one.one-index, c.loop-one-test.true, sym c.one-item.is)))
 
 pub passed_at-requires-clause-verdict : goal.passed_at-requires-clause-verdict
-passed_at-requires-clause-verdict c =
+passed_at-requires-clause-verdict g c =
     let setup = c.args.setup.now in
-    All-contains (λ (r : Row). IsNameVerdict setup.trees setup.rewrites setup.states r.name r.verdict) c.args.rows.now c.row-item.result c.requires.rows.verdicts
-    (c.loop-row.row-index, c.loop-row-test.true, sym c.row-item.is)
+    let row = c.one-item.result in
+    subst (λ (name : Labels). IsNameVerdict setup.trees setup.rewrites setup.states name row.verdict) (sym c.live_name.ensures.name)
+    (All-contains (λ r. IsNameVerdict setup.trees setup.rewrites setup.states r.item r.verdict) c.args.filed.now row c.requires.rows.verdicts
+    (c.loop-one.one-index, c.loop-one-test.true, sym c.one-item.is))
 
 pub returns-in-Some : goal.returns-in-Some
-returns-in-Some c =
+returns-in-Some g c =
     let setup = c.args.setup.now in
-    let row = c.row-item.result in
-    first_of_rows setup.trees setup.rewrites setup.states c.args.rows.now c.requires.rows c.loop-row.row-index row c.loop-row-test.true c.loop-row.invariant c.in-Some.query
-    (subst (λ (r : Row). IsFirstPassedAt setup.trees setup.rewrites setup.states r.name c.in-Some.query) c.row-item.is
-    (subst (IsPassedAt setup.trees setup.rewrites setup.states row.name) c.in-Some.is c.in_ok-query.ensures))
+    let row = c.one-item.result in
+    first_of_rows setup.trees setup.rewrites setup.states c.args.filed.now c.requires.rows c.loop-one.one-index row c.loop-one-test.true c.loop-one.invariant c.in-Some.query
+    (subst (λ (name : Labels). IsFirstPassedAt setup.trees setup.rewrites setup.states name c.in-Some.query) (c.live_name.ensures.name ∙ ap (λ r. r.item) c.one-item.is)
+    (subst (IsPassedAt setup.trees setup.rewrites setup.states c.live_name.result.now.name) c.in-Some.is c.in_ok-query.ensures))
 
-pub loop-row-preserved : goal.loop-row-preserved
-loop-row-preserved c = λ k d less.
+pub loop-one-preserved : goal.loop-one-preserved
+loop-one-preserved g c = λ k d less.
     let setup = c.args.setup.now in
-    let rows = c.args.rows.now in
-    let row = c.row-item.result in
-    elim (cases_lt k c.loop-row.row-index) [
-      | inl before ↦ c.loop-row.invariant k d before
+    let rows = c.args.filed.now in
+    let row = c.one-item.result in
+    elim (cases_lt k c.loop-one.one-index) [
+      | inl before ↦ c.loop-one.invariant k d before
       | inr not_before ↦ (
-          let here : c.loop-row.row-index ≡ k = omega arith in
+          let here : c.loop-one.one-index ≡ k = omega arith in
           let within : k < length rows = omega arith in
-          let is : get_or rows k d ≡ row = get_or_default rows k d row within ∙ ap (λ (n : ℕ). get_or rows n row) (sym here) ∙ sym c.row-item.is in
-          subst (λ (r : Row). NonePassesAt setup.trees setup.rewrites setup.states r.name) (sym is)
-          (subst (IsPassedAt setup.trees setup.rewrites setup.states row.name) c.in_default.is c.in_ok-query.ensures))
+          let is : get_or rows k d ≡ row = get_or_default rows k d row within ∙ ap (λ (n : ℕ). get_or rows n row) (sym here) ∙ sym c.one-item.is in
+          subst (NonePassesAt setup.trees setup.rewrites setup.states) (c.live_name.ensures.name ∙ ap (λ r. r.item) (sym is))
+          (subst (IsPassedAt setup.trees setup.rewrites setup.states c.live_name.result.now.name) c.in_default.is c.in_ok-query.ensures))
     ]
 
 pub returns : goal.returns
-returns c =
+returns g c =
     let setup = c.args.setup.now in
-    none_of_rows setup.trees setup.rewrites setup.states c.args.rows.now c.requires.rows (λ k d within. c.loop-row.invariant k d (omega arith))
+    none_of_rows setup.trees setup.rewrites setup.states c.args.filed.now c.requires.rows (λ k d within. c.loop-one.invariant k d (omega arith))

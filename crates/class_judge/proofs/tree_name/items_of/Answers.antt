@@ -10,24 +10,20 @@ abbrev name_of : LiveName → Labels
 name_of one = one.name
 
 pub loop-one-init : goal.loop-one-init
-loop-one-init g c =
-    record {
-      items = search rules;
-      live = subst (All (λ (one : LiveName). IsLiveIn g.N.Naming.config one.name one.live)) (sym (c.from_vec-left.ensures.items ∙ c.into_vec.ensures)) c.requires;
-    }
+loop-one-init g c = rw c.into_iter-one-iterator.ensures.into_iter_gives.0 record { items = search rules; live = c.requires }
 
 pub of-requires : goal.of-requires
 of-requires g c =
-    subst (All (λ (one : LiveName). IsLiveIn g.N.Naming.config one.name one.live)) c.in-Some.ensures.items c.loop-one.invariant.live 0 c.in-Some.one (omega arith)
+    subst (All (λ (one : LiveName). IsLiveIn g.N.Naming.config one.name one.live)) c.in-Some.ensures.steps c.loop-one.invariant.live 0 c.in-Some.one (omega arith)
 
 pub loop-one-preserved : goal.loop-one-preserved
 loop-one-preserved g c =
     let P = λ (one : LiveName). IsLiveIn g.N.Naming.config one.name one.live in
-    let before = c.loop-one.names.items in
-    let left = c.pop_front.new.self.items in
+    let before = c.loop-one.items.items in
+    let left = c.next.new.self in
     let put = c.in_ok-push.ensures.items ∙ ap (λ (name : Labels). before ++ name ∷ []) c.of.ensures in
-    let passed = ap (λ (some : List LiveName). before ++ map name_of some) (sym c.in-Some.ensures.items) in
+    let passed = ap (λ (some : List LiveName). before ++ map name_of some) (sym c.in-Some.ensures.steps) in
     record {
       items = ap (λ (names : List Labels). names ++ map name_of left) put ∙ append_assoc before (c.in-Some.one.name ∷ []) (map name_of left) ∙ passed ∙ c.loop-one.invariant.items;
-      live = All-tail P c.in-Some.one left (subst (All P) c.in-Some.ensures.items c.loop-one.invariant.live);
+      live = All-tail P c.in-Some.one left (subst (All P) c.in-Some.ensures.steps c.loop-one.invariant.live);
     }

@@ -4,7 +4,7 @@ use Rattle.config_load.specs.Conf.{with_rows, no_rows}
 use Rattle.config_load.specs.Follows.{Follows}
 use Rattle.config_load.specs.Sources.{ReadsFor, HasAnswered}
 use Rattle.config_load.specs.declared.fault.LoadFault.{LoadFault}
-use Rattle.config_load.specs.declared.rows.Rows.{Rows}
+use Rattle.config_load.specs.declared.rows.ReadRows.{ReadRows}
 use Rattle.config_load.specs.Reading.{Reads}
 use Rattle.config_load.proofs.Follows.{Follows-same, Follows-then}
 use Rattle.config_load.proofs.ReadRows.{HasAnswered-first_row, Follows-first_row, ReadsFor-first_row}
@@ -17,10 +17,10 @@ loop-i-init g c =
     let meta = c.args.meta.now in
     let all = c.args.all.now in
     let told = g.F.Files.told c.args.files.now in
-    let first : Rows = record { left = c.everything.result; servers = c.new.result } in
+    let first : ReadRows = record { left = c.everything.result; servers = c.new.result } in
     let same : no_rows ≡ first = λ i. record { left = sym c.everything.ensures i; servers = sym c.new.ensures i } in
     record {
-      so_far = Follows-same told (with_rows meta 1 all no_rows) (with_rows meta 1 all first) (λ other. ap (λ (rows : Rows). with_rows meta 1 all rows other) same);
+      so_far = Follows-same told (with_rows meta 1 all no_rows) (with_rows meta 1 all first) (λ other. ap (λ (rows : ReadRows). with_rows meta 1 all rows other) same);
       source = ReadsFor-none told (g.F.Files.faults c.args.files.now) (with_rows meta 1 all no_rows);
     }
 
@@ -60,7 +60,7 @@ returns g c =
     let i = c.loop-i.i in
     let told = g.F.Files.told c.loop-i.files in
     let faults = g.F.Files.faults c.loop-i.files in
-    let answer : Result Rows LoadFault = Ok c.loop-i.rows in
+    let answer : Result ReadRows LoadFault = Ok c.loop-i.rows in
     HasAnswered-then {whole = with_rows meta 1 all no_rows} {rest = with_rows meta (i + 1) (drop i all) c.loop-i.rows} c.loop-i.invariant.so_far c.loop-i.invariant.source
     (HasAnswered-looked told faults (with_rows meta (i + 1) (drop i all) c.loop-i.rows) answer tt
     (Follows-same told (with_rows meta (i + 1) (drop i all) c.loop-i.rows) (λ _. Reads c.loop-i.rows) (λ other. with_rows-end meta all i c.loop-i.rows other c.loop-i-test.false)))

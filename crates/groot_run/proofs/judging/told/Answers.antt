@@ -1,8 +1,8 @@
 use Rattle.std.proofs.Common.{[], subst}
 use Rattle.class_judge.specs.Passed.{IsReportFault}
 use Rattle.class_judge.specs.declared.report.ReportFault.{ReportFault}
-use Rattle.steal_pool.specs.Faults.{IsPoolFault}
-use Rattle.steal_pool.specs.declared.count.PoolFault.{PoolFault}
+use Rattle.verdict_book.specs.Lists.{IsPoolFault}
+use Rattle.verdict_book.specs.declared.walk.PoolFault.{PoolFault}
 use Rattle.groot_run.proofs.JudgedTrees.{pool_passes, states_pass, is_told, list_is_short}
 use Rattle.groot_run.proofs.judging.told.Goals as goal
 

@@ -9,64 +9,65 @@ use Rattle.interp_graph.proofs.NodePairs.{few_pairs}
 use Rattle.interp_graph.proofs.OpenNames.{stands_for, reaches_most}
 use Rattle.interp_graph.proofs.Passing.{passed_on}
 use Rattle.interp_graph.proofs.building.build.Goals as goal
+use Rattle.interp_graph.specs.Growing.{drafts_in}
 
-pub whole_name-requires : goal.whole_name-requires
-whole_name-requires c = asked_short c.args.hosts.now c.args.name.now c.requires
+pub first_states-requires : goal.first_states-requires
+first_states-requires c = asked_short c.args.hosts.now c.args.name.now c.requires
 
 pub returns-in_err-starts-clause-passed : goal.returns-in_err-starts-clause-passed
 returns-in_err-starts-clause-passed c = λ is.
-    more_there c.args.hosts.now c.args.rewrites (whole c.args.name.now) c.following_all-walker.result c.in_ok-query.query c.in_ok-states.states
-    c.following_all-walker.ensures c.in_ok-query.ensures c.in_ok-states.ensures c.new-work.result.limit c.args.limit c.new-work.ensures.limit
+    more_there c.args.hosts.now c.args.rewrites (whole c.args.name.now) c.following_all-walker.result (whole c.args.name.now) c.in_ok-states.states
+    c.following_all-walker.ensures refl c.in_ok-states.ensures c.new-growing.result.limit c.args.limit c.new-growing.ensures.limit
     (c.in_err-starts.ensures.passed (passed_on c.from_residual-in_err-starts.result c.in_err-starts.field-0.0 _ c.from_residual-in_err-starts.ensures.1 is _ refl)
-    c.following_all-walker.result (no_drafts c.following_all-walker.result c.in_ok-states.states c.new-work.result.drafts.items c.new-work.ensures.drafts))
+    c.following_all-walker.result (no_drafts c.following_all-walker.result c.in_ok-states.states (drafts_in c.new-growing.result) c.new-growing.ensures.drafts))
 
 pub follow-requires-clause-listed : goal.follow-requires-clause-listed
 follow-requires-clause-listed c = λ at rtype waits.
     elim (c.in_ok-starts.ensures.advances.listed at rtype waits) [
-      | inl old ↦ absurd (none_at_first c.new-work.result.drafts.items at rtype c.new-work.ensures.drafts old)
+      | inl old ↦ absurd (none_at_first (drafts_in c.new-growing.result) at rtype c.new-growing.ensures.drafts old)
       | inr has ↦ has
     ]
 
 pub returns-in_err-follow-clause-passed : goal.returns-in_err-follow-clause-passed
 returns-in_err-follow-clause-passed c = λ is.
-    more_there c.args.hosts.now c.args.rewrites (whole c.args.name.now) c.following_all-walker.result c.in_ok-query.query c.in_ok-states.states
-    c.following_all-walker.ensures c.in_ok-query.ensures c.in_ok-states.ensures c.begin.new.work.limit c.args.limit
-    (c.in_ok-starts.ensures.advances.limit ∙ c.new-work.ensures.limit)
+    more_there c.args.hosts.now c.args.rewrites (whole c.args.name.now) c.following_all-walker.result (whole c.args.name.now) c.in_ok-states.states
+    c.following_all-walker.ensures refl c.in_ok-states.ensures c.begin.new.growing.limit c.args.limit
+    (c.in_ok-starts.ensures.advances.limit ∙ c.new-growing.ensures.limit)
     (c.in_err-follow.ensures.passed (passed_on c.from_residual-in_err-follow.result c.in_err-follow.field-0.0 _ c.from_residual-in_err-follow.ensures.1 is _ refl)
     c.in_ok-states.states (c.in_ok-starts.ensures.drafts c.following_all-walker.result
-    (no_drafts c.following_all-walker.result c.in_ok-states.states c.new-work.result.drafts.items c.new-work.ensures.drafts)))
+    (no_drafts c.following_all-walker.result c.in_ok-states.states (drafts_in c.new-growing.result) c.new-growing.ensures.drafts)))
 
 pub graph_of-requires-clause-drafts : goal.graph_of-requires-clause-drafts
 graph_of-requires-clause-drafts c = (
   c.following_all-walker.result,
   c.in_ok-states.states,
   c.in_ok-follow.ensures.drafts c.in_ok-states.states (c.in_ok-starts.ensures.drafts c.following_all-walker.result
-      (no_drafts c.following_all-walker.result c.in_ok-states.states c.new-work.result.drafts.items c.new-work.ensures.drafts)),
+      (no_drafts c.following_all-walker.result c.in_ok-states.states (drafts_in c.new-growing.result) c.new-growing.ensures.drafts)),
 )
 
 pub returns-clause-graph : goal.returns-clause-graph
 returns-clause-graph c =
     let are = c.in_ok-follow.ensures.drafts c.in_ok-states.states (c.in_ok-starts.ensures.drafts c.following_all-walker.result
-    (no_drafts c.following_all-walker.result c.in_ok-states.states c.new-work.result.drafts.items c.new-work.ensures.drafts)) in
+    (no_drafts c.following_all-walker.result c.in_ok-states.states (drafts_in c.new-growing.result) c.new-growing.ensures.drafts)) in
     subst (IsGraphOf (following c.args.hosts.now c.args.rewrites (server_names c.args.hosts.now)) (whole c.args.name.now)) (sym c.in_ok-graph_of.ensures)
-    (graph_there c.args.hosts.now c.args.rewrites (whole c.args.name.now) c.following_all-walker.result c.in_ok-query.query c.in_ok-states.states
-    c.following_all-walker.ensures c.in_ok-query.ensures c.in_ok-states.ensures c.follow.new.work.drafts.items c.in_ok-starts.starts are c.in_ok-follow.ensures.none
-    (still_await c.begin.new.work.drafts.items c.follow.new.work.drafts.items c.in_ok-starts.starts c.in_ok-states.states c.in_ok-follow.ensures.grows c.in_ok-starts.ensures.starts))
+    (graph_there c.args.hosts.now c.args.rewrites (whole c.args.name.now) c.following_all-walker.result (whole c.args.name.now) c.in_ok-states.states
+    c.following_all-walker.ensures refl c.in_ok-states.ensures (drafts_in c.follow.new.growing) c.in_ok-starts.starts are c.in_ok-follow.ensures.none
+    (still_await (drafts_in c.begin.new.growing) (drafts_in c.follow.new.growing) c.in_ok-starts.starts c.in_ok-states.states c.in_ok-follow.ensures.grows c.in_ok-starts.ensures.starts))
 
 pub returns-clause-exact : goal.returns-clause-exact
 returns-clause-exact c =
     let are = c.in_ok-follow.ensures.drafts c.in_ok-states.states (c.in_ok-starts.ensures.drafts c.following_all-walker.result
-    (no_drafts c.following_all-walker.result c.in_ok-states.states c.new-work.result.drafts.items c.new-work.ensures.drafts)) in
+    (no_drafts c.following_all-walker.result c.in_ok-states.states (drafts_in c.new-growing.result) c.new-growing.ensures.drafts)) in
     subst (IsExact c.args.hosts.now c.args.rewrites (whole c.args.name.now)) (sym c.in_ok-graph_of.ensures)
-    (built_exact c.args.hosts.now c.args.rewrites (whole c.args.name.now) c.follow.new.work.drafts.items c.in_ok-starts.starts
-    (drafts_there c.args.hosts.now c.args.rewrites (whole c.args.name.now) c.following_all-walker.result c.in_ok-query.query c.in_ok-states.states
-    c.following_all-walker.ensures c.in_ok-query.ensures c.in_ok-states.ensures c.follow.new.work.drafts.items are) c.in_ok-follow.ensures.sound.once)
+    (built_exact c.args.hosts.now c.args.rewrites (whole c.args.name.now) (drafts_in c.follow.new.growing) c.in_ok-starts.starts
+    (drafts_there c.args.hosts.now c.args.rewrites (whole c.args.name.now) c.following_all-walker.result (whole c.args.name.now) c.in_ok-states.states
+    c.following_all-walker.ensures refl c.in_ok-states.ensures (drafts_in c.follow.new.growing) are) c.in_ok-follow.ensures.sound.once)
 
 pub returns-clause-pairs : goal.returns-clause-pairs
 returns-clause-pairs c =
     let are = c.in_ok-follow.ensures.drafts c.in_ok-states.states (c.in_ok-starts.ensures.drafts c.following_all-walker.result
-    (no_drafts c.following_all-walker.result c.in_ok-states.states c.new-work.result.drafts.items c.new-work.ensures.drafts)) in
-    let few = few_pairs c.following_all-walker.result c.in_ok-states.states c.follow.new.work.drafts.items c.in_ok-starts.starts are in
+    (no_drafts c.following_all-walker.result c.in_ok-states.states (drafts_in c.new-growing.result) c.new-growing.ensures.drafts)) in
+    let few = few_pairs c.following_all-walker.result c.in_ok-states.states (drafts_in c.follow.new.growing) c.in_ok-starts.starts are in
     let same = ap (λ (graph : PlainGraph). length (pairs_of graph)) c.in_ok-graph_of.ensures in
     omega (
       arith,
@@ -76,7 +77,7 @@ returns-clause-pairs c =
       c.in_ok-follow.ensures.sound.within.few,
       c.in_ok-follow.ensures.limit,
       c.in_ok-starts.ensures.advances.limit,
-      c.new-work.ensures.limit,
+      c.new-growing.ensures.limit,
     )
 
 pub returns-clause-few : goal.returns-clause-few

@@ -1,44 +1,48 @@
-use Rattle.std.proofs.Common.{◌≡◌, ◌<◌, List, length, get_or, refl, subst, sym, arith}
+use Rattle.std.proofs.Common.{◌≡◌, ◌∙◌, Bool, List, Some, refl, subst, sym}
+use Rattle.std.specs.Prelude.{slice_get}
 use Rattle.net_model.specs.Step.{Setting}
 use Rattle.net_model.specs.declared.walk.State.{State}
-use Rattle.interp_graph.specs.Work.{Waits, AreForksAt}
-use Rattle.interp_graph.specs.Steps.{AreForks, IsFork}
-use Rattle.interp_graph.specs.declared.draft.Draft.{Draft}
+use Rattle.interp_graph.specs.Drafts.{Draft}
+use Rattle.interp_graph.specs.Growing.{Waits, AreForksAt, drafts_in}
+use Rattle.interp_graph.specs.Steps.{AreForks, AreSplit, IsFork}
 use Rattle.interp_graph.specs.declared.step.Fork.{Fork}
-use Rattle.interp_graph.proofs.Numbering.{item_is}
 use Rattle.interp_graph.proofs.Passing.{passed_on, where_none}
 use Rattle.interp_graph.proofs.Turns.{turns_passed, turns_more, none_wait}
-use Rattle.interp_graph.proofs.Working.{one_there}
 use Rattle.interp_graph.proofs.building.follow.Goals as goal
 
 -- the forks of a draft's state are those of the draft with its number
-forks_at : (setting in_force : Setting) (drafts : List Draft) (at : _) (draft : Draft) (types : _) (forks : List Fork) → at < length drafts
-    → draft ≡ get_or drafts at draft → setting ≡ in_force → AreForks in_force draft.state types forks → AreForksAt setting drafts at forks
-forks_at setting in_force drafts at draft types forks below is same are fork has other there =
+forks_at : (setting in_force : Setting) (drafts : List Draft) (at : _) (key state : State) (types : _) (forks : List Fork)
+    → ((draft : Draft) → slice_get drafts at ≡ Some draft → draft.state ≡ key) → state ≡ key → setting ≡ in_force → AreForks in_force state types forks
+    → AreForksAt setting drafts at forks
+forks_at setting in_force drafts at key state types forks named is same are fork has other there =
     subst (λ (s : Setting). IsFork s other.state fork) (sym same)
-    (subst (λ (d : Draft). IsFork in_force d.state fork) (one_there drafts at draft other (item_is drafts at draft below is) there) (are.tell fork has))
+    (subst (λ (s : State). IsFork in_force s fork) (is ∙ sym (named other there)) (are.tell fork has))
+
+pub put_forks-requires-clause-split : goal.put_forks-requires-clause-split
+put_forks-requires-clause-split c = λ draft there.
+    subst (λ (set : List Bool). AreSplit set c.in_ok-forks.forks) (sym (c.waiting.ensures draft there)) c.in_ok-forks.ensures.split
 
 pub loop-at-preserved : goal.loop-at-preserved
 loop-at-preserved c =
-    let below : c.in-Some.at < length c.take.new.self.drafts.items = omega (arith, c.in-Some.ensures.below, c.take.new.self.drafts.ok.0) in
-    turns_more (λ (setting : Setting) (begin : List State). setting ≡ c.args.walker.now) c.args.work.now c.loop-at.work c.take.new.self c.in-Some.at
-    c.loop-at.invariant c.in-Some.ensures.some c.in-Some.ensures.drafts c.in-Some.ensures.limit c.in-Some.ensures.pairs c.put_forks.new.work
+    turns_more (λ (setting : Setting) (begin : List State). setting ≡ c.args.walker.now) c.args.growing.now c.loop-at.growing c.take.new.self c.in-Some.at
+    c.loop-at.invariant c.in-Some.ensures.some c.in-Some.ensures.drafts c.in-Some.ensures.limit c.in-Some.ensures.pairs c.put_forks.new.growing
     c.in_ok-put_forks.ensures.sound c.in_ok-put_forks.ensures.advances c.in_ok-put_forks.ensures.rid
     (λ setting begin same are. c.in_ok-put_forks.ensures.drafts setting begin are
-    (forks_at setting c.args.walker.now c.take.new.self.drafts.items c.in-Some.at c.index-draft.result.now _ c.in_ok-forks.forks below c.index-draft.ensures same c.in_ok-forks.ensures))
+    (forks_at setting c.args.walker.now (drafts_in c.take.new.self) c.in-Some.at c.key.result.now c.state.result.now _ c.in_ok-forks.forks
+    c.key.ensures c.state.ensures same c.in_ok-forks.ensures))
 
 pub returns-in_err-put_forks-clause-passed : goal.returns-in_err-put_forks-clause-passed
 returns-in_err-put_forks-clause-passed c = λ is begin are.
-    let below : c.in-Some.at < length c.take.new.self.drafts.items = omega (arith, c.in-Some.ensures.below, c.take.new.self.drafts.ok.0) in
-    turns_passed (λ (setting : Setting) (begin : List State). setting ≡ c.args.walker.now) c.args.work.now c.loop-at.work c.take.new.self c.in-Some.at
+    turns_passed (λ (setting : Setting) (begin : List State). setting ≡ c.args.walker.now) c.args.growing.now c.loop-at.growing c.take.new.self c.in-Some.at
     c.loop-at.invariant c.in-Some.ensures.some c.in-Some.ensures.drafts c.in-Some.ensures.limit c.in-Some.ensures.pairs
     (λ setting begin same are. c.in_err-put_forks.ensures.passed
     (passed_on c.from_residual-in_err-put_forks.result c.in_err-put_forks.field-0.0 _ c.from_residual-in_err-put_forks.ensures.1 is _ refl) setting begin are
-    (forks_at setting c.args.walker.now c.take.new.self.drafts.items c.in-Some.at c.index-draft.result.now _ c.in_ok-forks.forks below c.index-draft.ensures same c.in_ok-forks.ensures))
+    (forks_at setting c.args.walker.now (drafts_in c.take.new.self) c.in-Some.at c.key.result.now c.state.result.now _ c.in_ok-forks.forks
+    c.key.ensures c.state.ensures same c.in_ok-forks.ensures))
     c.args.walker.now begin refl are
 
 pub returns-clause-none : goal.returns-clause-none
 returns-clause-none c = λ at rtype waits.
-    none_wait (λ (setting : Setting) (begin : List State). setting ≡ c.args.walker.now) c.args.work.now c.loop-at.work c.loop-at.invariant
+    none_wait (λ (setting : Setting) (begin : List State). setting ≡ c.args.walker.now) c.args.growing.now c.loop-at.growing c.loop-at.invariant
     (where_none c.take.result _ c.take.ensures.none c.in_default.is) at rtype
     (subst (λ (drafts : List Draft). Waits drafts at rtype) c.take.ensures.drafts waits)

@@ -6,8 +6,8 @@ use Rattle.interp_graph.proofs.building.follow.Given as goal
 
 -- the nodes followed so far
 abbrev pub invariant-loop-at : goal.invariant-loop-at
-invariant-loop-at l = TurnsSoFar (λ (setting : Setting) (begin : List State). setting ≡ l.walker) l.fn.work l.work
+invariant-loop-at l = TurnsSoFar (λ (setting : Setting) (begin : List State). setting ≡ l.walker) l.fn.growing l.growing
 
 -- of the pairs that are allowed those that aren't there yet, and what is to be followed
 abbrev pub decreases-loop-at : goal.decreases-loop-at
-decreases-loop-at l = l.work.limit + length l.work.stack.items - l.work.pairs
+decreases-loop-at l = l.growing.limit + length l.growing.stack.items - l.growing.pairs

@@ -4,7 +4,7 @@ use Rattle.net_model.specs.Step as step
 use Rattle.net_model.specs.Step.{Setting}
 use Rattle.net_model.specs.declared.walk.State.{State}
 use Rattle.zone_lookup.specs.Steps.{branch_of}
-use Rattle.interp_graph.specs.Work.{ComeOn, ComesTo}
+use Rattle.interp_graph.specs.Growing.{ComeOn, ComesTo}
 use Rattle.zone_lookup.specs.declared.steps.Step.{Step}
 use Rattle.zone_lookup.specs.declared.steps.Step.TheVariants.{Go}
 use Rattle.interp_graph.proofs.Passing.{passed_on}

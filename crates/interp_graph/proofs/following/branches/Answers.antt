@@ -6,17 +6,17 @@ use Rattle.interp_graph.proofs.following.branches.Goals as goal
 
 pub returns-in_err-branch-clause-passed : goal.returns-in_err-branch-clause-passed
 returns-in_err-branch-clause-passed c =
-    let so = subst (λ (left : List Step). BranchesSoFar c.args.work.now c.loop-step.work c.args.types c.args.steps left c.loop-step.branches)
+    let so = subst (λ (left : List Step). BranchesSoFar c.args.growing.now c.loop-step.growing c.args.types c.args.steps left c.loop-step.branches)
     c.in-Some.ensures.steps c.loop-step.invariant in
-    λ is. branches_passed c.args.work.now c.loop-step.work c.args.types c.args.steps c.next.new.self c.loop-step.branches c.in-Some.step so
+    λ is. branches_passed c.args.growing.now c.loop-step.growing c.args.types c.args.steps c.next.new.self c.loop-step.branches c.in-Some.step so
     (c.in_err-branch.ensures.passed (passed_on c.from_residual.result c.in_err-branch.field-0.0 _ c.from_residual.ensures.1 is _ refl))
 
 pub loop-step-preserved : goal.loop-step-preserved
 loop-step-preserved c =
-    let so = subst (λ (left : List Step). BranchesSoFar c.args.work.now c.loop-step.work c.args.types c.args.steps left c.loop-step.branches)
+    let so = subst (λ (left : List Step). BranchesSoFar c.args.growing.now c.loop-step.growing c.args.types c.args.steps left c.loop-step.branches)
     c.in-Some.ensures.steps c.loop-step.invariant in
     let h = c.in_ok-push.ensures.ok in
-    subst (BranchesSoFar c.args.work.now c.branch-alloc.new.work c.args.types c.args.steps c.next.new.self) (sym h)
-    (branches_more c.args.work.now c.loop-step.work c.args.types c.args.steps c.next.new.self c.loop-step.branches c.in-Some.step so
-    c.branch-alloc.new.work c.in_ok-branch.field-0 c.in_ok-branch.ensures.sound c.in_ok-branch.ensures.advances c.in_ok-branch.ensures.still
+    subst (BranchesSoFar c.args.growing.now c.branch-alloc.new.growing c.args.types c.args.steps c.next.new.self) (sym h)
+    (branches_more c.args.growing.now c.loop-step.growing c.args.types c.args.steps c.next.new.self c.loop-step.branches c.in-Some.step so
+    c.branch-alloc.new.growing c.in_ok-branch.field-0 c.in_ok-branch.ensures.sound c.in_ok-branch.ensures.advances c.in_ok-branch.ensures.still
     c.in_ok-branch.ensures.told c.in_ok-branch.ensures.drafts)

@@ -3,4 +3,4 @@ use Rattle.interp_graph.proofs.following.put_forks.Given as goal
 
 -- the arms of the forks so far
 abbrev pub invariant-loop-fork : goal.invariant-loop-fork
-invariant-loop-fork l = ForksSoFar l.fn.work l.work l.at l.fn.forks l.fork-iterator
+invariant-loop-fork l = ForksSoFar l.fn.growing l.growing l.at l.fn.forks l.fork-iterator

@@ -8,10 +8,10 @@ use Rattle.plain_resolver.proofs.Learning.{learns_told}
 use Rattle.plain_resolver.proofs.ShownWalks.{any_seen}
 use Rattle.plain_resolver.proofs.rounds.learns_by.Goals as goal
 
-pub returns-clause-learns : goal.returns-clause-learns
-returns-clause-learns c =
+pub returns-in-Ok-clause-learns : goal.returns-in-Ok-clause-learns
+returns-in-Ok-clause-learns c =
     let asked = c.new-resolver.result in
-    let shown = c.in_ok-visit_walks.ensures.shown in
+    let shown = c.in-Ok.ensures.shown in
     let gives = λ (walk : Walk). gives_address walk.leaf in
     subst (λ (asked : Asked). (c.seen.result ≡ true) ↔ LearnsBy asked.setting asked.query asked.rtype) c.new-resolver.ensures
     (learns_told asked.setting asked.query asked.rtype shown.0 shown.1 c.seen.result

@@ -1,5 +1,5 @@
 use Rattle.std.proofs.Common.{◌+◌, ◌∷◌, [], ◌++◌, length, sym, ◌∙◌, ap, subst}
-use Rattle.pool_core.specs.declared.entry.Entry.TheVariants.{File}
+use Rattle.pool_core.specs.declared.history.HistoryEntry.TheVariants.{File}
 use Rattle.verdict_book.specs.Books.{Pages}
 use Rattle.steal_pool.specs.Finish.{IsFiledBelow}
 use Rattle.steal_pool.proofs.Finishing.{on_ok, filed_next, gone_next, refused_gone}

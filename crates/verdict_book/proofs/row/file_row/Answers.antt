@@ -4,7 +4,7 @@ use Rattle.std.specs.Vec.Iter.{into_iter_items}
 use Rattle.std.proofs.lemmas.Option.{get_or_from_slice_get}
 use Rattle.verdict_book.specs.Keeping.{new_row, rows_filed}
 use Rattle.verdict_book.specs.declared.row.Row.{Row}
-use Rattle.verdict_book.specs.declared.row.State.TheVariants.{Filed}
+use Rattle.verdict_book.specs.declared.row.TicketState.TheVariants.{Filed}
 use Rattle.verdict_book.proofs.Places.{if_some, none_left}
 use Rattle.verdict_book.proofs.Keeping.{row_in}
 use Rattle.verdict_book.proofs.row.file_row.Goals as goal

@@ -7,13 +7,13 @@ use Rattle.net_model.specs.declared.config.Zone.{Zone}
 use Rattle.net_model.specs.Zone.{owns}
 use Rattle.zone_tree.specs.FirstDecider.{decides_below, IsFirstDecider}
 use Rattle.zone_tree.specs.Records.{IsTree}
-use Rattle.zone_tree.specs.declared.records.Records.{Records}
+use Rattle.zone_tree.specs.declared.records.OwnedRecords.{OwnedRecords}
 use Rattle.zone_tree.proofs.NameData.{owned}
 use Rattle.zone_tree.proofs.NextDeciders.{inside_at, as_before, as_itself, as_origin}
 use Rattle.zone_tree.proofs.first_deciders.first_decider_at.Goals as goal
 
 -- the types at a place are those that the name there owns
-types_at : (zone : Zone) (names : List Labels) (records : List Records) → IsTree zone names records → (k : ℕ) (d : Records) → k < length names
+types_at : (zone : Zone) (names : List Labels) (records : List OwnedRecords) → IsTree zone names records → (k : ℕ) (d : OwnedRecords) → k < length names
     → (rtype : RrType) → has_bit (get_or records k d).types rtype ≡ owns zone (get_or names k []) rtype
 types_at zone names records tree k d below rtype = (tree.each k d below).types rtype ∙ sym (owned (get_or names k []) rtype zone.rrs)
 

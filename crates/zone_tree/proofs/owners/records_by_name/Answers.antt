@@ -4,7 +4,7 @@ use Rattle.std.proofs.lemmas.Simd.{map-map}
 use Rattle.dns_data.specs.Name.{Labels}
 use Rattle.dns_data.specs.declared.rdata.Rdata.{Rdata}
 use Rattle.dns_data.specs.declared.rdata.Rr.{Rr}
-use Rattle.zone_tree.specs.declared.records.Records.{Records}
+use Rattle.zone_tree.specs.declared.records.OwnedRecords.{OwnedRecords}
 use Rattle.zone_tree.specs.Owners.{leading}
 use Rattle.zone_tree.specs.Records.{data_of, TellsData}
 use Rattle.zone_tree.proofs.Owned.{owner_of, rdata_of, now_of, data_leading, data_behind, order_behind, order_from_first, next_up_to, from_drop}
@@ -21,7 +21,7 @@ loop-name-init c =
     let rrs : List Rr = map now_of c.args.rrs.now in
     record {
       within = omega arith;
-      many = ap (λ (xs : List Records). length xs) c.in_ok-all.ensures.items;
+      many = ap (λ (xs : List OwnedRecords). length xs) c.in_ok-all.ensures.items;
       each = λ k d below. absurd (omega arith);
       left = λ k here below. refl;
       order = λ some. order_from_first c.args.names.now c.requires.names rrs c.requires.sorted c.requires.among;
@@ -36,7 +36,7 @@ loop-name-preserved c =
     let name : Labels = get_or names i [] in
     let rest : List Rr = drop at rrs in
     let own : List (Bor Rr) = c.split_at.result.0.now in
-    let new : Records = c.in_ok-records_of.field-0 in
+    let new : OwnedRecords = c.in_ok-records_of.field-0 in
     let whole : take (length c.args.rrs.now - at) (drop at c.args.rrs.now) ≡ drop at c.args.rrs.now =
     take_all (length c.args.rrs.now - at) (drop at c.args.rrs.now) (omega (arith, length-drop at c.args.rrs.now)) in
     let left : map now_of (take (length c.args.rrs.now - at) (drop at c.args.rrs.now)) ≡ rest =
@@ -62,8 +62,8 @@ loop-name-preserved c =
           omega (arith, c.leading.ensures.within, c.split_at.ensures.front_len, ap (λ (xs : List (Bor Rr)). length xs) whole, length-drop at c.args.rrs.now, c.loop-name.invariant.within);
       many = omega (arith, c.in_ok-push.ensures.len, c.loop-name.invariant.many);
       each = λ k d below.
-          subst (λ (xs : List Records). TellsData (data_of rrs (get_or names k [])) (get_or xs k d)) (sym c.in_ok-push.ensures.items)
-          (each_pushed (λ (j : ℕ) (records : Records). TellsData (data_of rrs (get_or names j [])) records)
+          subst (λ (xs : List OwnedRecords). TellsData (data_of rrs (get_or names k [])) (get_or xs k d)) (sym c.in_ok-push.ensures.items)
+          (each_pushed (λ (j : ℕ) (records : OwnedRecords). TellsData (data_of rrs (get_or names j [])) records)
           c.loop-name.all.items i new c.loop-name.invariant.many c.loop-name.invariant.each told k d below);
       left = λ k later below.
           ap (λ (xs : List Rr). data_of xs (get_or names k [])) next

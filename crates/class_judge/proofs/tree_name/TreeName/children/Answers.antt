@@ -1,5 +1,6 @@
-use Rattle.std.proofs.Common.{◌≡◌, ◌∙◌, List, map, All, sym, subst}
+use Rattle.std.proofs.Common.{sym, subst}
 use Rattle.std.proofs.lemmas.List.Elements.{All-weaker}
+use Rattle.std.proofs.lemmas.Result.{IfOk-weaker}
 use Rattle.dns_data.specs.Name.{Labels}
 use Rattle.query_classes.specs.Children.{AreChildren}
 use Rattle.class_judge.proofs.LiveInEach.{live_in_each}
@@ -15,5 +16,6 @@ items_of-requires g c =
 pub returns : goal.returns
 returns g c =
     let graph = c.args.graph.now in
-    subst (λ (name : Labels). AreChildren graph name c.from_vec.result) c.self.view_is
-    (subst (AreChildren graph c.self.inside.found.name) (sym (c.from_vec.ensures ∙ c.in_ok-names.ensures)) c.in_ok-found.ensures.names)
+    IfOk-weaker c.items_of.result _ (AreChildren graph c.args.self.now)
+    (λ items are. subst (λ (name : Labels). AreChildren graph name items) c.self.view_is (subst (AreChildren graph c.self.inside.found.name) (sym are) c.in_ok-found.ensures.names))
+    c.items_of.ensures

@@ -1,11 +1,10 @@
-use Rattle.std.proofs.Common.{List, sym, ap, subst, ◌∙◌}
+use Rattle.std.proofs.Common.{List, sym, subst}
 use Rattle.std.specs.Prelude.{Contains}
-use Rattle.std.specs.List.{AllZip, list_any}
+use Rattle.std.specs.List.{AllZip}
 use Rattle.std.proofs.lemmas.Result.{IfOk-weaker}
 use Rattle.net_model.specs.Step.{Setting}
 use Rattle.net_model.specs.declared.walk.State.{State}
 use Rattle.interp_graph.specs.Restricted.{IsCutOf, IsRestriction}
-use Rattle.interp_graph.specs.StateKey.{state_eq}
 use Rattle.interp_graph.specs.Steps.{AreSplit, IsFork}
 use Rattle.interp_graph.specs.declared.step.Fork.{Fork}
 use Rattle.interp_graph.proofs.InGraph.{forks_tell, forks_split, lead_within}
@@ -19,8 +18,8 @@ node_forks-requires c =
 
 pub returns-in-Some-clause-split : goal.returns-in-Some-clause-split
 returns-in-Some-clause-split c =
-    let is = node_is c.args.self.now.graph.now c.args.self.now.numbers.keys c.requires.numbered c.new-key.result c.in-Some.at c.node.result.now
-    (sym c.in-Some.ensures.index) c.node.ensures ∙ (c.new-key.ensures ∙ c.in_ok-copy.ensures) in
+    let is = node_is c.args.self.now.graph.now c.args.self.now.numbers.keys c.requires.numbered c.args.state.now c.in-Some.at c.node.result.now
+    (sym c.in-Some.ensures.index) c.node.ensures in
     IfOk-weaker c.node_forks.result
     (λ forks. AllZip (IsCutOf c.args.self.now.hosts.now c.args.self.now.graph.now c.args.self.now.followed.now c.args.types) forks c.node.result.now.arms)
     (AreSplit c.args.types)
@@ -31,8 +30,8 @@ returns-in-Some-clause-split c =
 
 pub returns-in-Some-clause-tell : goal.returns-in-Some-clause-tell
 returns-in-Some-clause-tell c =
-    let is = node_is c.args.self.now.graph.now c.args.self.now.numbers.keys c.requires.numbered c.new-key.result c.in-Some.at c.node.result.now
-    (sym c.in-Some.ensures.index) c.node.ensures ∙ (c.new-key.ensures ∙ c.in_ok-copy.ensures) in
+    let is = node_is c.args.self.now.graph.now c.args.self.now.numbers.keys c.requires.numbered c.args.state.now c.in-Some.at c.node.result.now
+    (sym c.in-Some.ensures.index) c.node.ensures in
     IfOk-weaker c.node_forks.result
     (λ forks. AllZip (IsCutOf c.args.self.now.hosts.now c.args.self.now.graph.now c.args.self.now.followed.now c.args.types) forks c.node.result.now.arms)
     (λ forks. (setting : Setting) (begin : List State) → IsRestriction c.args.self.now.hosts.now c.args.self.now.graph.now c.args.self.now.followed.now setting begin
@@ -41,8 +40,8 @@ returns-in-Some-clause-tell c =
     (forks_tell c.args.self.now.hosts.now c.args.self.now.graph.now c.args.self.now.followed.now setting begin restriction
     c.in-Some.at c.node.result.now c.args.types forks c.node.ensures cut fork has)) c.node_forks.ensures
 
-pub returns-clause-split : goal.returns-clause-split
-returns-clause-split c =
+pub returns-in-None-clause-split : goal.returns-in-None-clause-split
+returns-in-None-clause-split c =
     subst (AreSplit c.args.types) (sym c.new.ensures)
     (none_split c.args.self.now.graph.now c.args.self.now.numbers.keys c.requires.numbered c.args.types c.args.state.now c.requires.has
-    (ap (λ (s : State). list_any (state_eq s) c.args.self.now.numbers.keys) (sym (c.new-key.ensures ∙ c.in_ok-copy.ensures)) ∙ sym c.in-None.ensures.found))
+    (sym c.in-None.ensures.found))

@@ -1,7 +1,7 @@
 use Rattle.std.proofs.Common.{◌∷◌, [], ◌++◌, ◌+◌, ◌≤◌, length, sym, ◌∙◌, ap, subst, arith}
 use Rattle.std.specs.Vec.{vec_capacity}
 use Rattle.std.proofs.lemmas.Option.{slice_get_within}
-use Rattle.pool_core.specs.declared.entry.Entry.TheVariants.{File as FileOf}
+use Rattle.pool_core.specs.declared.history.HistoryEntry.TheVariants.{File as FileOf}
 use Rattle.pool_core.specs.History.{issued_in}
 use Rattle.verdict_book.specs.Books.{Pages}
 use Rattle.verdict_book.specs.Refusals.{keeps_claim}

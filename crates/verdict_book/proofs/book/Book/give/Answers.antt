@@ -1,13 +1,13 @@
 use Rattle.std.proofs.Common.{◌∷◌, [], ◌++◌, ◌+◌, ◌≤◌, length, set, sym, refl, ◌∙◌, ap, subst, arith}
 use Rattle.std.specs.Vec.{vec_capacity}
 use Rattle.std.proofs.lemmas.Option.{slice_get_within, get_or_from_slice_get}
-use Rattle.pool_core.specs.declared.entry.Entry.TheVariants.{Claim as ClaimOf}
+use Rattle.pool_core.specs.declared.history.HistoryEntry.TheVariants.{Claim as ClaimOf}
 use Rattle.verdict_book.specs.Books.{Pages, claims_in}
 use Rattle.verdict_book.specs.Refusals.{claim_refusal}
 use Rattle.verdict_book.specs.Items.{Reached, items_of, item_of}
 use Rattle.verdict_book.specs.Keeping.{IsBookAfter}
 use Rattle.verdict_book.specs.declared.row.Row.{Row}
-use Rattle.verdict_book.specs.declared.row.State.TheVariants.{Claimed}
+use Rattle.verdict_book.specs.declared.row.TicketState.TheVariants.{Claimed}
 use Rattle.verdict_book.proofs.Keeping.{open_there, claim_keeps, room_keeps, claims_few, reached_at, item_at, pages_of, row_in}
 use Rattle.verdict_book.proofs.book.Book.give.Goals as goal
 

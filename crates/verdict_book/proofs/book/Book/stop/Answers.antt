@@ -1,6 +1,6 @@
 use Rattle.std.proofs.Common.{◌≡◌, ◌∷◌, [], ◌++◌, Some, None, sym, ap, subst, rules}
 use Rattle.std.specs.Vec.{vec_capacity}
-use Rattle.pool_core.specs.declared.entry.Entry.TheVariants.{Stop as StopOf}
+use Rattle.pool_core.specs.declared.history.HistoryEntry.TheVariants.{Stop as StopOf}
 use Rattle.pool_core.specs.declared.event.StopCause.TheVariants.{Full}
 use Rattle.verdict_book.specs.Books.{Pages}
 use Rattle.verdict_book.specs.Items.{ReachesMore}

@@ -8,7 +8,7 @@ use Rattle.zone_tree.specs.FirstDecider.{AreFirstDeciders}
 use Rattle.zone_tree.specs.Names.{AreExisting}
 use Rattle.zone_tree.specs.Owners.{AreByOwner}
 use Rattle.zone_tree.specs.Records.{data_of, TellsData, IsTree}
-use Rattle.zone_tree.specs.declared.records.Records.{Records}
+use Rattle.zone_tree.specs.declared.records.OwnedRecords.{OwnedRecords}
 use Rattle.zone_tree.proofs.Existing.{existing_within, owners_among}
 use Rattle.zone_tree.proofs.Owned.{now_of}
 use Rattle.zone_tree.proofs.tree.Tree.build.Goals as goal
@@ -22,9 +22,9 @@ records_by_name-requires-clause-among c = λ rr has.
     (owners_among c.args.zone.now rrs c.in_ok-names.names.items are c.in_ok-names.ensures rr has)
 
 -- the names with what they own
-told : (zone : Zone) (rrs : List Rr) (names slice : List Labels) (records : List Records) → slice ≡ names → AreByOwner zone rrs → AreExisting zone names
+told : (zone : Zone) (rrs : List Rr) (names slice : List Labels) (records : List OwnedRecords) → slice ≡ names → AreByOwner zone rrs → AreExisting zone names
     → length records ≡ length slice
-    → ((k : ℕ) (d : Records) → k < length slice → TellsData (data_of rrs (get_or slice k [])) (get_or records k d)) → IsTree zone names records
+    → ((k : ℕ) (d : OwnedRecords) → k < length slice → TellsData (data_of rrs (get_or slice k [])) (get_or records k d)) → IsTree zone names records
 told zone rrs names slice records same are existing many each = record {
   existing = existing;
   many = many ∙ ap (λ (xs : List Labels). length xs) same;
@@ -43,7 +43,7 @@ first_deciders-requires c =
     let are : AreByOwner zone (map now_of c.as_slice-rrs.result.now) =
     subst (λ (xs : List (Bor Rr)). AreByOwner zone (map now_of xs)) (sym c.as_slice-rrs.ensures.value) c.in_ok-sorted.ensures in
     subst (λ (names : List Labels). IsTree zone names c.as_slice-3.result.now) (sym c.as_slice-2.ensures.value)
-    (subst (λ (records : List Records). IsTree zone c.in_ok-names.names.items records) (sym c.as_slice-3.ensures.value)
+    (subst (λ (records : List OwnedRecords). IsTree zone c.in_ok-names.names.items records) (sym c.as_slice-3.ensures.value)
     (told zone (map now_of c.as_slice-rrs.result.now) c.in_ok-names.names.items c.as_slice.result.now c.in_ok-records.records.items
     c.as_slice.ensures.value are c.in_ok-names.ensures c.in_ok-records.ensures.many c.in_ok-records.ensures.each))
 

@@ -1,0 +1,10 @@
+use Rattle.std.proofs.Common.{◌≡◌, sym, subst}
+use Rattle.std.specs.Prelude.{IfOk}
+use Rattle.std.specs.Option.{option_map}
+use Rattle.net_model.specs.Lookup.{redirected}
+use Rattle.name_rules.proofs.redirection.redirected.Goals as goal
+
+pub returns-in-Some : goal.returns-in-Some
+returns-in-Some c =
+    subst (λ target. IfOk c.answer_with.result (λ answer. answer ≡ redirected c.args.name.now c.args.owner.now (option_map (λ target. target.now) target))) (sym c.in-Some.is)
+    (c.answer_with.ensures c.args.name.now c.in-Some.target.now c.substitute.ensures.ok c.substitute.ensures.too_long)

@@ -1,0 +1,76 @@
+-- Two ends are equal exactly where they are one.
+use Rattle.std.proofs.Common.{◌≡◌, true, refl, ap, subst}
+use Rattle.std.specs.Prelude.{◌↔◌, ◌&&◌}
+use Rattle.std.proofs.lemmas.Bool.{and_parts, and_from, eqb-true, eq-eqb}
+use Rattle.std.specs.Cmp.Lexicographic.{pointwise_decides}
+use Rattle.dns_data.specs.Name.{Labels, name_eq}
+use Rattle.dns_data.specs.RrType.{number_of, type_eq}
+use Rattle.dns_data.proofs.EqualData.{equal_is_same}
+use Rattle.dns_data.proofs.Names.{name_eq_decides}
+use Rattle.graph_form.specs.FirstPath.{place_eq}
+use Rattle.net_model.specs.declared.place.Place.{Place}
+use Rattle.net_model.specs.declared.walk.Leaf.{Leaf}
+use Rattle.net_model.specs.declared.walk.Leaf.TheVariants.{Answer, NoData, NxDomain, Outside, Unhosted, Lame, Limit, Overlong, NoAddress}
+use Rattle.net_model.proofs.FaultOrder.{one_type}
+use Rattle.site_checks.specs.Ends.{leaf_eq, end_eq}
+use Rattle.site_checks.specs.declared.views.TypedEnd.{TypedEnd}
+
+same_name : (a b : Labels) → name_eq a b ≡ true → a ≡ b
+same_name a b e = (name_eq_decides a b).0 e
+
+name_itself : (a : Labels) → name_eq a a ≡ true
+name_itself a = (name_eq_decides a a).1 refl
+
+same_place : (a b : Place) → place_eq a b ≡ true → a ≡ b
+same_place a b e =
+    let two = and_parts (name_eq a.server b.server && name_eq a.zone b.zone) (name_eq a.owner b.owner) e in
+    let one = and_parts (name_eq a.server b.server) (name_eq a.zone b.zone) two.0 in
+    by (same_name a.server b.server one.0) (same_name a.zone b.zone one.1) (same_name a.owner b.owner two.1)
+  where
+    by : a.server ≡ b.server → a.zone ≡ b.zone → a.owner ≡ b.owner → a ≡ b
+    by server zone owner = λ i. record { server = server i; zone = zone i; owner = owner i }
+
+place_itself : (a : Place) → place_eq a a ≡ true
+place_itself a =
+    and_from (name_eq a.server a.server && name_eq a.zone a.zone) (name_eq a.owner a.owner)
+    (and_from (name_eq a.server a.server) (name_eq a.zone a.zone) (name_itself a.server) (name_itself a.zone)) (name_itself a.owner)
+
+same_leaf : (a b : Leaf) → leaf_eq a b ≡ true → a ≡ b
+same_leaf (Answer a) (Answer b) e = ap Answer ((pointwise_decides (λ x y. equal_is_same x y) a b).0 e)
+same_leaf NoData NoData e = refl
+same_leaf NxDomain NxDomain e = refl
+same_leaf Outside Outside e = refl
+same_leaf (Unhosted a) (Unhosted b) e = ap Unhosted (same_name a b e)
+same_leaf (Lame a) (Lame b) e = ap Lame (same_name a b e)
+same_leaf (Limit a) (Limit b) e = ap Limit (same_place a b e)
+same_leaf (Overlong a) (Overlong b) e = ap Overlong (same_place a b e)
+same_leaf (NoAddress a) (NoAddress b) e = ap NoAddress (same_name a b e)
+same_leaf a b e = cc
+
+leaf_itself : (a : Leaf) → leaf_eq a a ≡ true
+leaf_itself (Answer a) = (pointwise_decides (λ x y. equal_is_same x y) a a).1 refl
+leaf_itself NoData = refl
+leaf_itself NxDomain = refl
+leaf_itself Outside = refl
+leaf_itself (Unhosted a) = name_itself a
+leaf_itself (Lame a) = name_itself a
+leaf_itself (Limit a) = place_itself a
+leaf_itself (Overlong a) = place_itself a
+leaf_itself (NoAddress a) = name_itself a
+
+same_end : (a b : TypedEnd) → end_eq a b ≡ true → a ≡ b
+same_end a b e =
+    let two = and_parts (type_eq a.rtype b.rtype && name_eq a.server b.server) (leaf_eq a.leaf b.leaf) e in
+    let one = and_parts (type_eq a.rtype b.rtype) (name_eq a.server b.server) two.0 in
+    by (one_type a.rtype b.rtype (eqb-true (number_of a.rtype) (number_of b.rtype) one.0)) (same_name a.server b.server one.1) (same_leaf a.leaf b.leaf two.1)
+  where
+    by : a.rtype ≡ b.rtype → a.server ≡ b.server → a.leaf ≡ b.leaf → a ≡ b
+    by rtype server leaf = λ i. record { rtype = rtype i; server = server i; leaf = leaf i }
+
+end_itself : (a : TypedEnd) → end_eq a a ≡ true
+end_itself a =
+    and_from (type_eq a.rtype a.rtype && name_eq a.server a.server) (leaf_eq a.leaf a.leaf)
+    (and_from (type_eq a.rtype a.rtype) (name_eq a.server a.server) (eq-eqb (number_of a.rtype) (number_of a.rtype) refl) (name_itself a.server)) (leaf_itself a.leaf)
+
+pub end_decides : (a b : TypedEnd) → (end_eq a b ≡ true) ↔ (a ≡ b)
+end_decides a b = (same_end a b, λ e. subst (λ (other : TypedEnd). end_eq a other ≡ true) e (end_itself a))

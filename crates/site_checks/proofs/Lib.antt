@@ -1,0 +1,11 @@
+mod EqualEnds
+mod GoingOn
+mod InOrder
+mod Lines
+mod NodesAfter
+pub mod OneViews
+pub mod Places
+mod SearchSteps
+pub mod Seen
+mod WalksEnd
+mod WorkedFindings

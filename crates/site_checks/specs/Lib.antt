@@ -1,0 +1,11 @@
+pub use Rattle.dns_data.specs.Spelling
+pub use Rattle.graph_form.specs.GraphOf
+pub use Rattle.graph_form.specs.Report
+pub mod AOnly
+pub mod Answering
+pub mod Ends
+pub mod Line
+pub mod Once
+pub mod PathEnds
+pub mod Shown
+pub mod Views
