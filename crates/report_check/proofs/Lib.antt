@@ -1,0 +1,17 @@
+pub mod EntrySteps
+pub mod FewWalks
+pub mod HopsInside
+pub mod InOrder
+pub mod InsideZones
+pub mod Lasts
+pub mod ListedWalks
+pub mod NamedQueries
+pub mod OneAnswer
+pub mod ReportRead
+pub mod Represented
+pub mod RightByWalks
+pub mod Searched
+pub mod Shallow
+pub mod TwoWalks
+pub mod WalkShows
+mod Worked

@@ -1,0 +1,38 @@
+-- Names that represent their class.
+use Rattle.std.proofs.Common.{◌≡◌, ◌↔◌, sym, subst}
+use Rattle.dns_data.specs.Name.{Labels}
+use Rattle.label_graph.specs.Pairs.{AreSame}
+use Rattle.net_model.specs.Class.{class_name, IsClassOf, IsRepresentative}
+use Rattle.net_model.specs.Reading.{Ground, IsNamed}
+use Rattle.net_model.specs.declared.class.Class.{Class}
+use Rattle.net_model.specs.declared.class.Class.TheVariants.{Exact, Below}
+use Rattle.net_model.proofs.OneClass.{one_class}
+use Rattle.net_model.proofs.TrialOrder.{one_representative}
+use Rattle.query_classes.proofs.SameGrounds.{class_same, represents_same, same_back}
+
+-- the name represents its class
+abbrev pub StandsForIts : Ground → Labels → Type 0
+StandsForIts ground query = (class : Class) × IsClassOf ground query class × IsRepresentative ground class query
+
+-- a class of a name is that of a named one
+pub class_named : (ground : Ground) (query : Labels) (class : Class) → IsClassOf ground query class → IsNamed ground (class_name class)
+class_named ground query (Exact alone) is = subst (IsNamed ground) (sym is.0) is.1
+class_named ground query (Below above) is = is.1.named
+
+-- the name that stands for the class of a name is this one, where this one represents it
+pub stands_told : (ground : Ground) (query : Labels) (class : Class) → IsClassOf ground query class → (name : Labels) → IsRepresentative ground class name
+    → (name ≡ query) ↔ StandsForIts ground query
+stands_told ground query class is name stands = (
+  λ same. (class, is, subst (IsRepresentative ground class) same stands),
+  λ (other, also, represents).
+      one_representative ground class name query stands
+      (subst (λ (c : Class). IsRepresentative ground c query) (one_class ground query class other is also) represents),
+)
+
+-- under grounds that are the same
+pub stands_alike : (one other : Ground) → AreSame one other → (query : Labels) → StandsForIts one query → StandsForIts other query
+stands_alike one other same query (class, is, represents) =
+    (class, class_same one other same query class is, represents_same one other same class query represents)
+
+pub stands_both : (one other : Ground) → AreSame one other → (query : Labels) → StandsForIts one query ↔ StandsForIts other query
+stands_both one other same query = (stands_alike one other same query, stands_alike other one (same_back one other same) query)

@@ -1,0 +1,93 @@
+-- How an entry is looked at, and one entry after the other: for the contracts of inner calls alone.
+use Rattle.std.specs.Prelude.{◌≡◌, ℕ, Bool, true, false, List, [], ◌∷◌, length, Contains, Result, Ok, Err}
+use Rattle.std.specs.List.{AllByRecursion}
+use Rattle.dns_data.specs.Name.{Labels}
+use Rattle.dns_data.specs.declared.rr_type.RrType.{RrType}
+use Rattle.serde_json.specs.Data.{Data}
+use Rattle.net_model.specs.declared.config.Config.{Config}
+use Rattle.net_model.specs.declared.fault.Fault.{Fault}
+use Rattle.net_model.specs.declared.fault.Fault.TheVariants as faults
+use Rattle.net_model.specs.declared.walk.Walk.{Walk}
+use Rattle.net_model.specs.Learnt.{IsLeast, IsGreatest}
+use Rattle.net_model.specs.Shown.{MayShow, WalksShow, with_sets}
+use Rattle.net_model.specs.Step.{Setting}
+use Rattle.net_model.specs.declared.deps.Deps.{Deps}
+use Rattle.graph_form.specs.Report.{repeats}
+use Rattle.graph_form.specs.declared.report.ReportEntry.{ReportEntry}
+use Rattle.report_json.specs.Report.{entry_value}
+use Rattle.report_json.specs.Walks.{walk_value}
+use Rattle.report_check.specs.Checked.{IsConfirmed, IsFirst, IsWrong, PassesWalks}
+use Rattle.report_check.specs.declared.answer.Checked.{Checked}
+use Rattle.report_check.specs.declared.answer.Checked.TheVariants.{Right, Wrong}
+use Rattle.report_check.specs.declared.answer.CheckFault.{CheckFault}
+use Rattle.report_check.specs.declared.answer.CheckFault.TheVariants.{NotReport, Walks, NoMemory}
+
+-- the lists have the names of the two sets of learnt addresses
+pub record AreLearnt (config : Config) (rewrites : ℕ) (deps : Deps) : Type 0 where
+  pub least : IsLeast config rewrites deps.least
+  pub greatest : IsGreatest config rewrites deps.greatest
+
+-- the entry of a query and a type, with these walks
+abbrev pub entry_with : Labels → RrType → Bool → List Walk → Fault → ReportEntry
+entry_with query rtype repeats walks fault =
+    record { seen = record { fault = fault; rtype = rtype }; query = query; repeats = repeats; walks = walks }
+
+-- whether the first of the walks comes to a server twice with one name
+abbrev pub first_repeats : List Walk → Bool
+first_repeats [] = false
+first_repeats (walk ∷ walks) = repeats walk.states
+
+-- the value is that of an entry of the query and the type with these walks, which show its fault
+pub record IsShownBy (setting : Setting) (query : Labels) (rtype : RrType) (walks : List Walk) (value : Data) : Type 0 where
+  pub fault : Fault
+  pub may : MayShow setting.config query rtype fault
+  pub show : WalksShow (with_sets setting) walks fault
+  pub is : value ≡ entry_value (entry_with query rtype (first_repeats walks) walks fault)
+
+-- it is so by one of all walks, whose value is this
+pub record ByOne (setting : Setting) (query : Labels) (rtype : RrType) (all : List Walk) (steps value : Data) : Type 0 where
+  pub walk : Walk
+  pub among : Contains all walk
+  pub steps_are : steps ≡ walk_value walk
+  pub shown : IsShownBy setting query rtype (walk ∷ []) value
+
+-- by a walk and one of all walks, whose value is this
+pub record ByOther (setting : Setting) (query : Labels) (rtype : RrType) (one : Walk) (all : List Walk) (steps value : Data) : Type 0 where
+  pub walk : Walk
+  pub among : Contains all walk
+  pub steps_are : steps ≡ walk_value walk
+  pub shown : IsShownBy setting query rtype (one ∷ walk ∷ []) value
+
+-- by two of all walks, whose values are these
+pub record ByTwo (setting : Setting) (query : Labels) (rtype : RrType) (all : List Walk) (steps others value : Data) : Type 0 where
+  pub walk : Walk
+  pub among : Contains all walk
+  pub steps_are : steps ≡ walk_value walk
+  pub other : ByOther setting query rtype walk all others value
+
+-- by one of all walks, or by two of them
+pub record ByWalks (setting : Setting) (query : Labels) (rtype : RrType) (all : List Walk) (value : Data) : Type 0 where
+  pub walks : List Walk
+  pub among : (walk : Walk) → Contains walks walk → Contains all walk
+  pub shown : IsShownBy setting query rtype walks value
+
+-- the fault is told of the representatives of classes alone
+abbrev pub is_of_representatives : Fault → Bool
+is_of_representatives (faults.Overlong place) = true
+is_of_representatives fault = false
+
+-- whether the entry with this number is right, or too many walks of its query
+abbrev pub IsLookedAt : Config → ℕ → ℕ → Data → Result Bool CheckFault → Type 0
+IsLookedAt config rewrites number value (Ok true) = IsConfirmed config rewrites value
+IsLookedAt config rewrites number value (Ok false) = IsWrong config rewrites value
+IsLookedAt config rewrites number value (Err NotReport) = ⊥
+IsLookedAt config rewrites number value (Err (Walks entry)) = (entry ≡ number) × PassesWalks config rewrites value
+IsLookedAt config rewrites number value (Err NoMemory) = Unit {0}
+
+-- what entries come to
+abbrev pub ComesTo : Config → ℕ → List Data → Result Checked CheckFault → Type 0
+ComesTo config rewrites all (Ok (Right entries)) = AllByRecursion (IsConfirmed config rewrites) all × (entries ≡ length all)
+ComesTo config rewrites all (Ok (Wrong entry)) = IsFirst config rewrites (IsWrong config rewrites) all entry
+ComesTo config rewrites all (Err NotReport) = ⊥
+ComesTo config rewrites all (Err (Walks entry)) = IsFirst config rewrites (PassesWalks config rewrites) all entry
+ComesTo config rewrites all (Err NoMemory) = Unit {0}

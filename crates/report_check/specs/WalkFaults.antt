@@ -1,0 +1,75 @@
+-- The faults that one walk shows by itself, one after the other: for the contracts of inner calls alone.
+use Rattle.std.specs.Prelude.{Bool, ◌-◌, ◌&&◌, not, List, [], ◌∷◌, ◌++◌, length, Option, Some, None, slice_get, if◌then◌else◌}
+use Rattle.std.specs.List.{flat_map}
+use Rattle.dns_data.specs.Name.{Labels, name_eq, is_prefix}
+use Rattle.net_model.specs.declared.config.Config.{Config}
+use Rattle.net_model.specs.declared.deps.Deps.{Deps}
+use Rattle.net_model.specs.declared.fault.Fault.{Fault}
+use Rattle.net_model.specs.declared.fault.Fault.TheVariants as faults
+use Rattle.net_model.specs.declared.place.Cut.{Cut}
+use Rattle.net_model.specs.declared.place.Place.{Place}
+use Rattle.net_model.specs.declared.walk.Hop.{Hop}
+use Rattle.net_model.specs.declared.walk.Hop.TheVariants.{Refer, Rewrite}
+use Rattle.net_model.specs.declared.walk.Leaf.{Leaf}
+use Rattle.net_model.specs.declared.walk.Leaf.TheVariants as leaves
+use Rattle.net_model.specs.declared.walk.State.{State}
+use Rattle.net_model.specs.declared.walk.Walk.{Walk}
+use Rattle.zone_lookup.specs.LearntSets.{is_among}
+use Rattle.zone_lookup.specs.Sides.{addresses_differ, zones_differ}
+use Rattle.zone_lookup.specs.Sound.{depends_on_itself, wants_glue}
+
+-- a fault that is shown, or none
+abbrev pub if_shown : Bool → Fault → List Fault
+if_shown shown fault = if shown then fault ∷ [] else []
+
+-- the faults of a referral, whatever comes behind it
+abbrev pub referral_faults : Config → Deps → Cut → List Fault
+referral_faults config deps cut =
+    if_shown (zones_differ config cut) (faults.Differs cut) ++ if_shown (wants_glue config cut) (faults.NoGlue cut)
+    ++ if_shown (addresses_differ config cut) (faults.GlueDiffers cut) ++ if_shown (depends_on_itself config deps cut) (faults.Cyclic cut)
+
+-- where its zone cut is at or below its zone's origin, as that of every referral on a walk is
+abbrev pub cut_faults : Config → Deps → Cut → List Fault
+cut_faults config deps cut = if is_prefix cut.zone cut.cut then referral_faults config deps cut else []
+
+abbrev pub hop_faults : Config → Deps → Hop → List Fault
+hop_faults config deps (Refer cut) = cut_faults config deps cut
+hop_faults config deps (Rewrite place by_dname to) = []
+
+-- the last of some
+abbrev pub last_of : {X : Type 0} → List X → Option X
+last_of all = slice_get all (length all - 1)
+
+-- the fault of a lame name server behind a hop
+abbrev pub lame_behind : Labels → Option Hop → List Fault
+lame_behind ns (Some (Refer cut)) = if_shown (name_eq cut.ns ns) (faults.Lame cut)
+lame_behind ns hop = []
+
+-- and of one of which no address is learnt
+abbrev pub unlearnt_behind : Deps → Labels → Option Hop → List Fault
+unlearnt_behind deps ns (Some (Refer cut)) =
+    if_shown (name_eq cut.ns ns && not (is_among deps.greatest cut.ns)) (faults.NoAddress cut)
+unlearnt_behind deps ns hop = []
+
+-- the fault of a name that doesn't exist, in a state behind a rewrite
+abbrev pub blackhole_of : Option Place → List Fault
+blackhole_of (Some place) = faults.Blackhole place ∷ []
+blackhole_of None = []
+
+abbrev pub blackhole_in : Option State → List Fault
+blackhole_in (Some state) = blackhole_of state.last
+blackhole_in None = []
+
+-- the faults of an end, behind its last hop and in its last state
+abbrev pub end_faults : Deps → Option Hop → Option State → Leaf → List Fault
+end_faults deps hop state (leaves.Lame ns) = lame_behind ns hop
+end_faults deps hop state (leaves.NoAddress ns) = unlearnt_behind deps ns hop
+end_faults deps hop state (leaves.Limit place) = faults.Limit place ∷ []
+end_faults deps hop state (leaves.Overlong place) = faults.Overlong place ∷ []
+end_faults deps hop state leaves.NxDomain = blackhole_in state
+end_faults deps hop state leaf = []
+
+-- the faults of a walk, but those of two walks
+abbrev pub walk_faults : Config → Deps → Walk → List Fault
+walk_faults config deps walk =
+    flat_map (hop_faults config deps) walk.hops ++ end_faults deps (last_of walk.hops) (last_of walk.states) walk.leaf

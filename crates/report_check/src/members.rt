@@ -1,0 +1,41 @@
+//! What is read in a report's value.
+
+ghost use Rattle.std.specs.Prelude.{◌≡◌, map};
+ghost use Rattle.std.specs.Option.{option_map};
+ghost use Rattle.serde_json.specs.View.{view};
+ghost use Rattle.meta_read.specs.Members.{list_at, text_at};
+ghost use Rattle.report_check.specs.ReportIn.{if_allowed, rewrites_in};
+
+use serde_json::Value;
+
+/// How many rewrites a query may use by the report, or `None` where there is no whole number of 1 to 64.
+pub(crate) fn rewrites_in(value: &Value) -> Option<u32>
+    ensures { result ≡ rewrites_in (view value.now) }
+{
+    if_allowed(value.get("rewrites")?.as_u64()?)
+}
+
+/// The number, if it is one of 1 to 64.
+fn if_allowed(number: u64) -> Option<u32>
+    ensures { result ≡ if_allowed number }
+{
+    if 1 <= number && number <= 64 {
+        Some(number as u32)
+    } else {
+        None
+    }
+}
+
+/// The items of the list at a key, or `None` where no list stands there.
+pub(crate) fn list_at<'a>(value: &'a Value, key: &str) -> Option<&'a [Value]>
+    ensures { option_map (λ values. map view values.now) result ≡ list_at key.now (view value.now) }
+{
+    Some(value.get(key)?.as_array()?.as_slice())
+}
+
+/// The string at a key, or `None` where no string stands there.
+pub(crate) fn text_at<'a>(value: &'a Value, key: &str) -> Option<&'a str>
+    ensures { option_map (λ text. text.now) result ≡ text_at key.now (view value.now) }
+{
+    value.get(key)?.as_str()
+}
