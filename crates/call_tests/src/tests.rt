@@ -7,6 +7,7 @@ mod entries;
 mod open_tails;
 mod outputs;
 mod pool_machine;
+mod reports;
 mod runs;
 mod sites;
 mod texts;
