@@ -13,6 +13,7 @@ pub mod FaultOrder
 pub mod FirstLabel
 pub mod Followed
 pub mod InForce
+pub mod JoinedNames
 pub mod Leads
 pub mod LearntSets
 pub mod Naming
@@ -22,5 +23,6 @@ pub mod OpenTails
 pub mod Prefixes
 pub mod RoundsExist
 pub mod StepBounds
+pub mod TreeParts
 pub mod TrialOrder
 pub mod WalkEnds

@@ -34,7 +34,7 @@ shown_while config rewrites followed in_force query rtype fault numbers walk alo
     record {
       followed = followed;
       in_force = in_force;
-      shows = record { may = may; walks = walk ∷ []; are_walks = ((numbers, along), tt); show = show };
+      shows = record { walks = walk ∷ []; by = record { may = may; are_walks = ((numbers, along), tt); show = show } };
     }
 
 -- what a walk shows doesn't depend on the servers that are followed
@@ -86,10 +86,8 @@ shown_by_two config rewrites query rtype class numbers others one other along be
       followed = set.0;
       in_force = set.1;
       shows = record {
-        may = (refl, is);
         walks = one ∷ other ∷ [];
-        are_walks = ((numbers, along set.0), ((others, beside set.0), tt));
-        show = differ;
+        by = record { may = (refl, is); are_walks = ((numbers, along set.0), ((others, beside set.0), tt)); show = differ };
       };
     }
 

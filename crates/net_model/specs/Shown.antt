@@ -178,12 +178,17 @@ WalksShow setting (walk ∷ []) (faults.Overlong place) = ShowsOverlong walk pla
 WalksShow setting (walk ∷ []) (faults.NoAddress cut) = ShowsNoAddress setting walk cut
 WalksShow setting walks fault = ⊥
 
--- the query shows the fault with the type, by some of its walks
-pub record Shows (setting : FaultSetting) (query : Labels) (rtype : RrType) (fault : Fault) : Type 0 where
+-- the query shows the fault with the type by these walks: they are its own
+pub record ShowsBy (setting : FaultSetting) (query : Labels) (rtype : RrType) (fault : Fault) (walks : List Walk) : Type 0 where
   pub may : MayShow setting.walks.config query rtype fault
-  pub walks : List Walk
   pub are_walks : AllByRecursion (IsWalk setting.walks query rtype) walks
   pub show : WalksShow setting walks fault
+
+-- the query shows the fault with the type, by some of its walks
+pub record Shows (setting : FaultSetting) (query : Labels) (rtype : RrType) (fault : Fault) : Type 0 where
+  pub walks : List Walk
+  pub by : ShowsBy setting query rtype fault walks
+  pub open by use *
 
 -- the query shows the fault with the type in the configuration, with the set in force and the two sets of learnt
 -- addresses

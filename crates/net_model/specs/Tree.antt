@@ -1,8 +1,8 @@
 -- The class tree of a configuration, the state pairs of a query, and what it is that there are more than so many.
-use Rattle.std.specs.Prelude.{◌≡◌, ◌≢◌, ◌↔◌, ℕ, ◌<◌, List, length, Contains, AllPairs}
+use Rattle.std.specs.Prelude.{◌≡◌, ◌≢◌, ◌↔◌, ℕ, ◌<◌, true, List, length, Contains, AllPairs}
 use Rattle.std.specs.List.{AllByRecursion}
 use Rattle.std.specs.declared.cmp.Ordering.TheVariants.{Less}
-use Rattle.dns_data.specs.Name.{Labels, IsName, name_cmp}
+use Rattle.dns_data.specs.Name.{Labels, IsName, is_prefix, name_cmp}
 use Rattle.dns_data.specs.declared.rr_type.RrType.{RrType}
 use Rattle.net_model.specs.declared.class.Class.TheVariants.{Below}
 use Rattle.net_model.specs.declared.config.Config.{Config}
@@ -18,6 +18,17 @@ use Rattle.net_model.specs.Walk.{IsWalk}
 pub record IsClassTree (ground : Ground) (names : List Labels) : Type 0 where
   pub ordered : AllPairs (λ a b. name_cmp a b ≡ Less) names
   pub all : (name : Labels) → Contains names name ↔ (IsNamed ground name × IsName name)
+
+-- the name is in the class tree, at or below the other
+pub record IsInPart (ground : Ground) (above name : Labels) : Type 0 where
+  pub named : IsNamed ground name
+  pub is_name : IsName name
+  pub within : is_prefix above name ≡ true
+
+-- the part of the class tree at or below a name: its names there, in the order of names
+pub record IsTreePart (ground : Ground) (above : Labels) (part : List Labels) : Type 0 where
+  pub ordered : AllPairs (λ a b. name_cmp a b ≡ Less) part
+  pub all : (name : Labels) → Contains part name ↔ IsInPart ground above name
 
 -- the names of the tree below which there is a class that isn't empty, in the order of names
 pub record AreBelowClasses (ground : Ground) (names below : List Labels) : Type 0 where
