@@ -108,6 +108,7 @@ module _ (ground : Ground) (K : Labels → Labels → Type 0) where
         at_root here base (inr (redirection, among, same, reads)) =
             known_join [] redirection base here among (subst (K []) (sym same) (known_root here)) reads
 
+        -- so what is live at one is known of it
         pub live_known : (front base : Labels) → T front → Live front base → K front base
         live_known front base is live = known_from IsRoot [] front base (at_root (fronts [] front is)) is live
 
@@ -194,6 +195,7 @@ module _ (ground : Ground) (closed : IsClosed ground) where
       (step.0, (step.1.0, live_is_sound name step.1.0 step.1.1, step.1.2)))
       base (live_of_all (name ++ label ∷ []) base is)
 
+  -- and back
   pub steps_live : (name base : Labels) (label : List ℕ)
       → Closed ground (IsLive ground) (Stepped ground (IsLive ground) (IsLive ground name) label) base
       → IsLive ground (name ++ label ∷ []) base
@@ -205,6 +207,7 @@ module _ (ground : Ground) (closed : IsClosed ground) where
   pub live_at_root : (base : Labels) → IsLive ground [] base → Closed ground (IsLive ground) (IsRoot ground (IsLive ground)) base
   live_at_root base is = live_of_all [] base is
 
+  -- and back
   pub root_live : (base : Labels) → Closed ground (IsLive ground) (IsRoot ground (IsLive ground)) base → IsLive ground [] base
   root_live base is = live_is_sound [] base is
 
@@ -214,6 +217,7 @@ module _ (ground : Ground) (closed : IsClosed ground) where
   next_is_named name above label live has =
       record { base = above ++ label ∷ []; among = has; reads = reads_below ground.redirections name above (label ∷ []) live.1 }
 
+  -- and where it is named so, it reads on to one with the label below
   pub named_next : (name : Labels) (label : List ℕ) → IsNamed ground (name ++ label ∷ [])
       → (above : Labels) × IsLive ground name above × Contains ground.names (above ++ label ∷ [])
   named_next name label named = by (live_steps name named.base label (named.among, named.reads)) where

@@ -25,6 +25,7 @@ module _ {X : Type 0} (P : X → Type 0) (xs : List X) (k : ℕ) (x : X) (below 
     p,
   )
 
+  -- and back
   pub from_more : SomeItem P (take (k + 1) xs) → SomeItem P (take k xs) ⊎ P x
   from_more (y, has, p) =
       elim (Contains-append_cases (take k xs) (get_or xs k x ∷ []) y (subst (λ (l : List X). Contains l y) (take_more xs k x below) has)) [
@@ -35,14 +36,11 @@ module _ {X : Type 0} (P : X → Type 0) (xs : List X) (k : ℕ) (x : X) (below 
         ]
       ]
 
--- none of no items
-pub some_none : {X : Type 0} (P : X → Type 0) → SomeItem P [] → ⊥
-some_none P (x, has, p) = none_in_nil x has
-
 -- of all items in the end
 pub some_all : {X : Type 0} (P : X → Type 0) (xs : List X) (k : ℕ) → length xs ≤ k → SomeItem P (take k xs) → SomeItem P xs
 some_all {X} P xs k over some = subst (SomeItem P) (take_all k xs over) some
 
+-- and back
 pub all_some : {X : Type 0} (P : X → Type 0) (xs : List X) (k : ℕ) → length xs ≤ k → SomeItem P xs → SomeItem P (take k xs)
 all_some {X} P xs k over some = subst (SomeItem P) (sym (take_all k xs over)) some
 
@@ -81,8 +79,17 @@ pub all_iff : {X : Type 0} (P : X → Type 0) (xs : List X) (k : ℕ) → length
     → (there ↔ SomeItem P (take k xs)) → there ↔ SomeItem P xs
 all_iff P xs k over there was = (λ has. some_all P xs k over (was.0 has), λ some. was.1 (all_some P xs k over some))
 
-pub start_iff : {Y : Type 0} (P : Y → Type 0) (there : Type 0) → there ↔ (there ⊎ SomeItem P [])
-start_iff P there = (λ has. inl has, λ either. elim either [ inl has ↦ has | inr some ↦ absurd (some_none P some) ])
+-- what was there before, or comes from all items
+pub whole_iff : {X : Type 0} (P : X → Type 0) (xs : List X) (k : ℕ) → length xs ≤ k → (base there : Type 0)
+    → (there ↔ (base ⊎ SomeItem P (take k xs))) → there ↔ (base ⊎ SomeItem P xs)
+whole_iff {X} P xs k over base there was = subst (λ (l : List X). there ↔ (base ⊎ SomeItem P l)) (take_all k xs over) was
+
+-- what was there before, or is so, where that is told in other words
+pub told_iff : (base there one other : Type 0) → (there ↔ (base ⊎ one)) → (one ↔ other) → there ↔ (base ⊎ other)
+told_iff base there one other is same = (
+  λ has. elim (is.0 has) [ inl b ↦ inl b | inr x ↦ inr (same.0 x) ],
+  λ either. is.1 (elim either [ inl b ↦ inl b | inr y ↦ inr (same.1 y) ]),
+)
 
 -- a list with another behind it
 pub append_iff : {X : Type 0} (xs ys : List X) (x : X) → Contains (xs ++ ys) x ↔ (Contains xs x ⊎ Contains ys x)

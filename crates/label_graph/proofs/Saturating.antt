@@ -36,6 +36,7 @@ read_from_has front bases targets target base among has =
     flat_map_has (λ (t : ℕ). with_front front (get_or bases t [])) targets target (link front base) among
     (map_has (λ (b : ℕ). link front b) (get_or bases target []) base has)
 
+-- and no others
 pub from_read_from : (front : ℕ) (bases : List (List ℕ)) (targets : List ℕ) (one : Link) → Contains (read_from front bases targets) one
     → (target : ℕ) × (base : ℕ) × (Contains targets target × RowHas bases target base × (link front base ≡ one))
 from_read_from front bases targets one has =
@@ -50,6 +51,7 @@ read_by_has base fronts owners owner front among has =
     flat_map_has (λ (o : ℕ). with_base base (get_or fronts o [])) owners owner (link front base) among
     (map_has (λ (f : ℕ). link f base) (get_or fronts owner []) front has)
 
+-- and no others
 pub from_read_by : (base : ℕ) (fronts : List (List ℕ)) (owners : List ℕ) (one : Link) → Contains (read_by base fronts owners) one
     → (owner : ℕ) × (front : ℕ) × (Contains owners owner × RowHas fronts owner front × (link front base ≡ one))
 from_read_by base fronts owners one has =
@@ -292,6 +294,7 @@ module _ (targets : Targets) (are : AreTargets targets) where
         subst (Contains targets.fronts) (ap (λ (r : Redirection). r.target) is)
         (among_place targets.fronts tie.front (subst (λ (n : ℕ). tie.front < n) are.fronts_len within.0))
 
+    -- so where all links were looked at the rows have what each front reads on to
     pub all_found : length bases ≡ length targets.fronts → length fronts ≡ length targets.names → AreReads targets bases
     unfolding K
     all_found sizes names_sizes =
@@ -326,10 +329,12 @@ module _ (targets : Targets) (list : List Link) (bases fronts : List (List ℕ))
     fits : (front base : ℕ) → front < length targets.fronts → base < length targets.names → Fits (link front base)
     fits front base f b = (subst (λ (n : ℕ). front < n) (sym sizes) f, subst (λ (n : ℕ). base < n) (sym names_sizes) b)
 
+    -- the links that go on by a label fit the rows
     pub next_fits : (one : Link) (next : List Link) → ((other : Link) → Contains next other ↔ IsNextLink targets one other)
         → All (λ l. (l.front < length bases) × (l.base < length fronts)) next
     next_fits one next nexts = all_from_contains Fits next (λ other has. let goes = (nexts other).0 has in fits other.front other.base goes.front goes.base)
 
+    -- those of what is known of the targets do
     pub reads_fit : (one : Link) (row : List ℕ) → one.front < length targets.fronts
         → All (λ l. (l.front < length bases) × (l.base < length fronts)) (read_from one.front bases row)
     reads_fit one row front =
@@ -337,6 +342,7 @@ module _ (targets : Targets) (list : List Link) (bases fronts : List (List ℕ))
         let (target, base, (among, known, is)) = from_read_from one.front bases row other has in
         subst Fits is (fits one.front base front (All-contains (IsTrueLink targets) list (link target base) each_true ((kept.by_front target base).0 known)).base))
 
+    -- and those by the fronts that read on to the owners
     pub is_read_fits : (one : Link) (row : List ℕ) → one.base < length targets.names
         → All (λ l. (l.front < length bases) × (l.base < length fronts)) (read_by one.base fronts row)
     is_read_fits one row base =

@@ -116,6 +116,7 @@ module _ (names : List Labels) (dnames : List Pair) (closed : IsClosed (ground_w
               ap (λ (n : Labels). record { owner = n; target = name_at fronts target }) from
               ∙ ap (λ (n : Labels). record { owner = pair.from; target = n }) to
 
+    -- so their ground is closed
     pub closed_ground : HavePrefixes base → IsClosed (ground_in (record { names = base; fronts = fronts; links = links }))
     closed_ground have =
         record {

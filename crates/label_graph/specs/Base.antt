@@ -1,7 +1,8 @@
--- The base names of a configuration, zone by zone.
+-- The base names of configurations, zone by zone.
 use Rattle.std.specs.Prelude.{◌⊎◌, List}
 use Rattle.std.specs.List.{flat_map}
 use Rattle.dns_data.specs.Name.{Labels}
+use Rattle.net_model.specs.declared.config.Config.{Config}
 use Rattle.net_model.specs.declared.config.Server.{Server}
 use Rattle.net_model.specs.declared.config.Zone.{Zone}
 use Rattle.net_model.specs.Reading.{Redirection, redirection_of}
@@ -15,6 +16,10 @@ IsInZone name zone = IsPrefixFrom 0 zone.origin name ⊎ SomeItem (λ rr. IsPref
 -- the name is a front of the origin, or of the owner of a record, of one of the server's zones
 abbrev pub IsInServer : Labels → Server → Type 0
 IsInServer name server = SomeItem (IsInZone name) server.zones
+
+-- of one of the configuration's zones
+abbrev pub IsInConfig : Labels → Config → Type 0
+IsInConfig name config = SomeItem (IsInServer name) config.servers
 
 -- the redirections of a zone's records
 abbrev pub zone_redirections : Zone → List Redirection

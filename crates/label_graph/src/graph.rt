@@ -4,11 +4,11 @@ ghost use Rattle.std.specs.Prelude.{◌≡◌, ◌↔◌, ℕ, List, [], ◌∷�
 ghost use Rattle.std.specs.declared.cmp.Ordering.TheVariants.{Less};
 ghost use Rattle.dns_data.specs.Label.{label_cmp};
 ghost use Rattle.dns_data.specs.Name.{Labels};
-ghost use Rattle.net_model.specs.Reading.{IsNamed, ground_of};
+ghost use Rattle.net_model.specs.Reading.{IsNamed, ground_of, joined_ground};
 ghost use Rattle.label_graph.specs.LiveSet.{AreInOrder, IsClosed, IsLiveSet};
 ghost use Rattle.label_graph.specs.Pairs.{ground_with, AreSame};
 
-use crate::base::{BaseNames, base_of};
+use crate::base::{BaseNames, base_of_all};
 use crate::below::{has_step, step};
 use crate::closing::close;
 use crate::live::LiveSet;
@@ -48,7 +48,20 @@ impl LabelGraph {
         ensures same { IfOk result (λ graph. AreSame graph (ground_of config.now)) }
         ensures order { IfOk result (λ graph. AreInOrder graph.names) }
     {
-        let BaseNames { names, dnames } = base_of(alloc, config)?;
+        LabelGraph::of_names(alloc, &[config], &[])
+    }
+
+    /// The graph of several configurations and of some names more: of their base names and of the pairs of all DNAME
+    /// records.
+    pub fn of_names(
+        alloc: Global,
+        configs: &[&Config],
+        more: &[&Name],
+    ) -> Result<LabelGraph, NoMemory>
+        ensures same { IfOk result (λ graph. AreSame graph (joined_ground (map (λ config. config.now) configs.now) (map (λ name. name.now) more.now))) }
+        ensures order { IfOk result (λ graph. AreInOrder graph.names) }
+    {
+        let BaseNames { names, dnames } = base_of_all(alloc, configs, more)?;
         LabelGraph::of_ordered(alloc, names.into_vec(), dnames.items())
     }
 
