@@ -21,6 +21,7 @@ use Rattle.graph_form.proofs.Places.{pairs_joined}
 alone_pairs : {X : Type 0} (R : X → X → Type 0) (y : X) → AllPairs R (y ∷ [])
 alone_pairs R y i j d less within = absurd (omega arith)
 
+-- a list of no length is empty
 pub none_left : {X : Type 0} (xs : List X) → length xs ≡ 0 → xs ≡ []
 none_left [] e = refl
 none_left (x ∷ xs) e = absurd (omega arith)
@@ -141,6 +142,7 @@ module _ {T : Type 0} (fault_of : T → Fault) (rank : T → T → Ordering) (to
             less (fault_cmp (fault_of last) (fault_of next))
             (not_after last next (not_behind last (subst (λ xs. Contains xs last) (sym is) (Contains-append_right front (last ∷ []) last (has_first last []))))) differs
 
+    -- where the next one has the fault of the last, the first ones stay
     pub next_kept : is_next fault_of (slice_get first (length first - 1)) next ≡ false → AreFirsts fault_of rank (done ++ next ∷ []) first
     next_kept old = by (last_or_none first) where
       tie : (o : Ordering) → not (is_eq o) ≡ false → o ≡ Equal
@@ -157,6 +159,7 @@ module _ {T : Type 0} (fault_of : T → Fault) (rank : T → T → Ordering) (to
           covered last (subst (λ xs. Contains xs last) (sym is) (Contains-append_right front (last ∷ []) last (has_first last [])))
           (tie (fault_cmp (fault_of last) (fault_of next)) (sym (ap (λ l. is_next fault_of l next) at) ∙ old))
 
+    -- where it has another fault, it is one of them
     pub next_added : is_next fault_of (slice_get first (length first - 1)) next ≡ true → AreFirsts fault_of rank (done ++ next ∷ []) (first ++ next ∷ [])
     next_added new = added (by (last_or_none first)) where
       differs : (o : Ordering) → not (is_eq o) ≡ true → o ≢ Equal
@@ -172,6 +175,7 @@ module _ {T : Type 0} (fault_of : T → Fault) (rank : T → T → Ordering) (to
 
   -- ---- sorted lists
 
+  -- no item of a sorted list stands before an earlier one
   pub sorted_in_order : (xs : List T) → IsSortedBy (λ a b. is_lt (item_cmp fault_of rank a b)) xs → Ordered xs
   sorted_in_order xs sorted i j d less within e =
       let far = sorted_far (λ a b. is_lt (item_cmp fault_of rank a b)) (ranks_by items_total (λ (item : T). item)) xs sorted i j d (omega arith) within in
@@ -191,6 +195,7 @@ module _ {T : Type 0} (fault_of : T → Fault) (rank : T → T → Ordering) (to
 
   -- ---- the pass over the sorted list
 
+  -- at first nothing is passed over
   pub merging_begins : (all sorted : List T) → IsPermutation all sorted → Ordered sorted → Merging all sorted []
   merging_begins all sorted permuted order = record { done = []; permuted = permuted; order = order; firsts = none_yet }
 
@@ -204,19 +209,23 @@ module _ {T : Type 0} (fault_of : T → Fault) (rank : T → T → Ordering) (to
         firsts = firsts;
       }
 
+  -- where the next one has the fault of the last, it is passed over
   pub merging_keeps : (all left first : List T) (next : T) → Merging all (next ∷ left) first → is_next fault_of (slice_get first (length first - 1)) next ≡ false
       → Merging all left first
   merging_keeps all left first next merging old = further all left first first next merging (next_kept merging.done left first next merging.order merging.firsts old)
 
+  -- where it has another, it is kept
   pub merging_adds : (all left first : List T) (next : T) → Merging all (next ∷ left) first → is_next fault_of (slice_get first (length first - 1)) next ≡ true
       → Merging all left (first ++ next ∷ [])
   merging_adds all left first next merging new =
       further all left first (first ++ next ∷ []) next merging (next_added merging.done left first next merging.order merging.firsts new)
 
+  -- where none is left, what is kept are the first ones
   pub merging_ends : (all first : List T) → Merging all [] first → AreFirsts fault_of rank all first
   merging_ends all first merging =
       same_members all (merging.done ++ []) first merging.permuted (subst (λ xs. AreFirsts fault_of rank xs first) (sym (append-nil merging.done)) merging.firsts)
 
+  -- so the next one is kept unless the last has its fault
   pub merging_step : (all left first : List T) (next : T) → Merging all (next ∷ left) first
       → Merging all left (if is_next fault_of (slice_get first (length first - 1)) next then first ++ next ∷ [] else first)
   merging_step all left first next merging = by (is_next fault_of (slice_get first (length first - 1)) next) refl where

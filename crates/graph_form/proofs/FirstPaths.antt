@@ -168,6 +168,7 @@ module _ (shows : State → Branch → Bool) (graph : PlainGraph) (rtype : RrTyp
       (goes_first turn.taken turn.node turn.number at led.hop led.node rest led.has led.before
       (subst (λ t. IsFirstFrom shows graph rtype t at rest) led.taken_is first))
 
+  -- so it is with the numbers of these turns before it
   pub first_behind : (start : ℕ) (below : List Turn) (taken : Bool) (at : ℕ) (rest : List ℕ) → LedTo start below taken at
       → IsFirstFrom shows graph rtype taken at rest
       → IsFirstFrom shows graph rtype false start (map (λ turn. turn.number) (reverse below) ++ rest)

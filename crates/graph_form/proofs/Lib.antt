@@ -20,3 +20,4 @@ pub mod FirstFaults
 pub mod ReachedHops
 pub mod Verdicts
 pub mod TypedBranches
+pub mod TreeSizes

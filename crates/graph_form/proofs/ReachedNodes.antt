@@ -87,6 +87,7 @@ module _ (graph : PlainGraph) (rtype : RrType) where
     by (inl on) rest = subst EndOf on.made (goes_on on (rest on.to on.later on.goes))
     by (inr end) rest = subst EndOf end.made (ends_here end)
 
+  -- the branch by which a path ends
   pub end_of_path : (numbers : List ℕ) (walk : Walk) → path_along graph rtype numbers ≡ Some walk → EndOf walk
   end_of_path [] walk e = cc
   end_of_path (number ∷ numbers) walk e = by (slice_get graph.starts number) e where
@@ -185,6 +186,7 @@ module _ (graph : PlainGraph) (rtype : RrType) where
       pub hops : List Hop
       pub leads : (number : ℕ) (rest : List ℕ) → path_along graph rtype (numbers ++ number ∷ rest) ≡ option_map (behind states hops) (path_from graph rtype (number ∷ rest) at)
 
+    -- a node with a branch for the type is reached, since its state stands on a walk
     pub reached : (at number : ℕ) (node : Node) (branch : Branch) → HasBranch graph rtype at number node branch → IsReached at
     reached at number node branch has =
         let of = of_arm setting query graph rtype is at number node branch has in
@@ -220,6 +222,7 @@ module _ (graph : PlainGraph) (rtype : RrType) where
       pub hops_before : List Hop
       pub hops_are : walk.hops ≡ hops_before ++ option_to_list hop
 
+    -- so each branch that is an end ends one
     pub walk_by : (at number : ℕ) (node : Node) (hop : Option Hop) (leaf : Leaf) → HasBranch graph rtype at number node (End hop leaf) → WalkBy node hop leaf
     walk_by at number node hop leaf has =
         let to = reached at number node (End hop leaf) has in

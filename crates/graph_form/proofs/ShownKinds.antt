@@ -52,6 +52,7 @@ same_place a b e =
     let third : record { server = b.server; zone = b.zone; owner = a.owner } ≡ b = ap (λ x. record { server = b.server; zone = b.zone; owner = x }) owner in
     first ∙ (second ∙ third)
 
+-- and a place is equal to itself
 pub place_itself : (a : Place) → place_eq a a ≡ true
 place_itself a =
     and_from (name_eq a.server a.server && name_eq a.zone a.zone) (name_eq a.owner a.owner)
@@ -92,10 +93,12 @@ behind_is cut (Some hop) e = ap (λ h. Some h) (referral_is cut hop e)
 
 -- ---- the last of a list
 
+-- an empty list has no last one
 pub none_is_more : {A : Type 0} (xs : List A) (x : A) → [] ≡ xs ++ x ∷ [] → ⊥
 none_is_more [] x e = cc
 none_is_more (y ∷ xs) x e = cc
 
+-- the last of one is it
 pub one_is_last : {A : Type 0} (xs : List A) (x y : A) → y ∷ [] ≡ xs ++ x ∷ [] → y ≡ x
 one_is_last [] x y e = cc
 one_is_last (z ∷ xs) x y e =
@@ -216,6 +219,7 @@ module _ (graph : PlainGraph) (rtype : RrType) where
 
   -- the last referral, and the leaf, in a graph of a query
   module _ (setting : Setting) (query : Labels) (is : IsGraphOf setting query graph) where
+    -- a stop at a name server comes behind a referral alone
     pub stopped_behind : (at number : ℕ) (node : Node) (leaf : Leaf) → HasBranch graph rtype at number node (End None leaf) → is_stopped leaf ≡ true → ⊥
     stopped_behind at number node leaf has stopped =
         let told = told_step setting query graph rtype is at number node (End None leaf) has in
@@ -306,6 +310,7 @@ module _ (graph : PlainGraph) (rtype : RrType) where
       back (leaves.Overlong other) e = ap (λ p. leaves.Overlong p) (sym (same_place place other e))
       back leaf e = cc
 
+    -- of each fault the branches that show it tell the walks that take it
     pub tells : (fault : Fault) (walks : List Walk) → Tells graph rtype (IsTaken fault walks) (branch_shows fault walks)
     tells (faults.Lame cut) walks =
         tells_behind (faults.Lame cut) walks cut (leaves.Lame cut.ns) refl (λ hop. refl) (by_lame cut) (λ last hop leaf. refl)

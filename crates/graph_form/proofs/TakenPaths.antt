@@ -28,6 +28,7 @@ not_last number numbers = grind (arith, nat_tests)
 module _ (graph : PlainGraph) (rtype : RrType) where
   -- ---- the walk of a path, by its first branch
 
+  -- it is told by the branch with the first number
   pub path_by : (numbers : List ℕ) (at number : ℕ) (node : Node) (branch : Branch) → HasBranch graph rtype at number node branch
       → path_from graph rtype (number ∷ numbers) at ≡ by_branch (path_from graph rtype numbers) node.state (length numbers == 0) (Some branch)
   path_by numbers at number node branch has =
@@ -67,6 +68,7 @@ module _ (graph : PlainGraph) (rtype : RrType) where
       ap (λ (b : Bool). if b then Some (ended node.state hop leaf) else None) (not_last other numbers) in
       cc
 
+  -- a path goes on by its first branch, or ends by it
   pub path_parts : (numbers : List ℕ) (at number : ℕ) (walk : Walk) → path_from graph rtype (number ∷ numbers) at ≡ Some walk
       → GoesOn numbers at number walk ⊎ EndsSo numbers at number walk
   path_parts numbers at number walk e = by (slice_get graph.nodes at) refl e where
@@ -211,6 +213,7 @@ module _ (graph : PlainGraph) (rtype : RrType) where
   -- ---- from the starts
 
   module _ (P : Walk → Type 0) (shows : State → Branch → Bool) (tells : Tells P shows) where
+    -- a path whose walk is so takes a branch that shows
     pub takes_along_shown : (numbers : List ℕ) (walk : Walk) → path_along graph rtype numbers ≡ Some walk → P walk
         → takes_along shows graph rtype numbers ≡ true
     takes_along_shown [] walk e shown = cc
@@ -222,6 +225,7 @@ module _ (graph : PlainGraph) (rtype : RrType) where
           ap (λ start. option_map_or (takes_from shows graph rtype numbers false) start false) is
           ∙ takes_shown P shows tells numbers at false walk e (inr shown)
 
+    -- and a path that takes one has such a walk
     pub shown_along : (numbers : List ℕ) (walk : Walk) → path_along graph rtype numbers ≡ Some walk
         → takes_along shows graph rtype numbers ≡ true → P walk
     shown_along [] walk e takes = cc
@@ -232,6 +236,7 @@ module _ (graph : PlainGraph) (rtype : RrType) where
       by (Some at) is e takes =
           elim (shown_taken P shows tells numbers at false walk e takes) [ inl never ↦ absurd (true≢false (sym never)) | inr shown ↦ shown ]
 
+  -- a path that takes one is the path of a walk
   pub whole_along : (shows : State → Branch → Bool) (numbers : List ℕ) → takes_along shows graph rtype numbers ≡ true
       → (walk : Walk) × (path_along graph rtype numbers ≡ Some walk)
   whole_along shows [] takes = cc

@@ -2,7 +2,7 @@
 -- told apart, and the name at or below which queries are looked at, are parameters: of a whole configuration they are its
 -- own ground and the root.
 use Rattle.std.specs.Prelude.{◌≡◌, ◌≢◌, ℕ, ◌+◌, ◌≤◌, Bool, true, false, ◌||◌, ◌&&◌, List, [], ◌∷◌, length, map, Some, Contains, AllPairs, slice_get}
-use Rattle.std.specs.List.{list_any, filter, AllByRecursion}
+use Rattle.std.specs.List.{list_any, AllByRecursion}
 use Rattle.std.specs.Cmp.Lexicographic.{slice_cmp}
 use Rattle.std.specs.declared.cmp.Ordering.{Ordering}
 use Rattle.std.specs.declared.cmp.Ordering.TheVariants.{Less}
@@ -17,10 +17,10 @@ use Rattle.net_model.specs.declared.walk.Walk.{Walk}
 use Rattle.net_model.specs.Class.{class_cmp, class_name, IsRepresentative}
 use Rattle.net_model.specs.FaultOrder.{fault_cmp}
 use Rattle.net_model.specs.Learnt.{IsInForce}
-use Rattle.net_model.specs.Reading.{Ground, IsNamed}
+use Rattle.net_model.specs.Reading.{Ground}
 use Rattle.net_model.specs.Shown.{ShowsIn, WalksShow, with_sets}
 use Rattle.net_model.specs.Step.{Setting, following}
-use Rattle.net_model.specs.Tree.{IsClassTree, AreBelowClasses}
+use Rattle.net_model.specs.Tree.{IsInPart, IsTreePart, AreBelowClasses}
 use Rattle.net_model.specs.Walk.{walk_along, path_cmp}
 use Rattle.graph_form.specs.declared.report.Report.{Report}
 use Rattle.graph_form.specs.declared.report.ReportEntry.{ReportEntry}
@@ -43,10 +43,8 @@ repeats [] = false
 repeats (state ∷ states) = list_any (is_same_place state) states || repeats states
 
 -- it is a class of the tree, at or below the name: of a name that is named
-pub record IsClass (subject : Subject) (class : Class) : Type 0 where
-  pub named : IsNamed subject.ground (class_name class)
-  pub is_name : IsName (class_name class)
-  pub within : is_prefix subject.below (class_name class) ≡ true
+abbrev pub IsClass : Subject → Class → Type 0
+IsClass subject class = IsInPart subject.ground subject.below (class_name class)
 
 -- the class's representative shows the fault with the type
 pub record ClassShows (subject : Subject) (class : Class) (query : Labels) (rtype : RrType) (fault : Fault) : Type 0 where
@@ -85,15 +83,15 @@ pub record IsShown (subject : Subject) (fault : Fault) : Type 0 where
   pub within : is_prefix subject.below query ≡ true
   pub shows : ShowsIn subject.config subject.rewrites query rtype fault
 
--- the ground's class tree has so many names at or below a name, and with the classes below them that aren't empty so many
--- classes
+-- the part of the ground's class tree at or below a name has so many names, and with the classes below them that aren't
+-- empty so many classes
 pub record IsTreeSize (ground : Ground) (above : Labels) (names classes : ℕ) : Type 0 where
-  pub tree : List Labels
+  pub part : List Labels
   pub below : List Labels
-  pub is_tree : IsClassTree ground tree
-  pub are_below : AreBelowClasses ground tree below
-  pub counts_names : names ≡ length (filter (is_prefix above) tree)
-  pub counts_classes : classes ≡ length (filter (is_prefix above) tree) + length (filter (is_prefix above) below)
+  pub is_part : IsTreePart ground above part
+  pub are_below : AreBelowClasses ground part below
+  pub counts_names : names ≡ length part
+  pub counts_classes : classes ≡ length part + length below
 
 -- it is the report
 pub record IsReport (subject : Subject) (report : Report) : Type 0 where
