@@ -89,6 +89,7 @@ module _ (ground : Ground) (closed : IsClosed ground) where
       let short : wire_octets member ≤ 255 = is.short in
       omega arith
 
+  -- so it is where each label makes a named name
   pub empty_full : (above : Labels) → ((label : List ℕ) → IsLabel label → IsNamed ground (above ++ label ∷ [])) → IsEmptyClass ground (Below above)
   empty_full above full member is (unnamed, longest) = by longest.below longest.prefix where
     by : (below : Labels) → member ≡ above ++ below → ⊥

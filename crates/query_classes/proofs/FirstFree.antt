@@ -42,6 +42,7 @@ module _ (ground : Ground) (closed : IsClosed ground) (above : Labels) (live : L
       of_place : (place : ℕ) → Contains live place → place < length ground.names
       of_place place (k, within, is) = subst (λ (p : ℕ). p < length ground.names) is (of.within k place within)
 
+  -- and each label that makes a named name is taken
   pub named_taken : (label : List ℕ) → IsNamed ground (above ++ label ∷ []) → Contains taken (above ++ label ∷ [])
   named_taken label named =
       let (base, (there, reads), has) = named_next ground closed above label named in

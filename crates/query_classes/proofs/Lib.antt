@@ -1,10 +1,16 @@
 pub mod ChildLists
 pub mod ClassLaws
+pub mod ClassLists
+pub mod Decided
 pub mod FirstFree
 pub mod FreeLabels
+pub mod LiveInEach
+pub mod LiveSetsExist
 pub mod NamesBelow
 pub mod Partition
+pub mod ReadsDecided
 pub mod SameGrounds
+pub mod TreeItems
 pub mod TreeRows
 pub mod TreeWalk
 pub mod TrialSteps

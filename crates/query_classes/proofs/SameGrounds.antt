@@ -1,16 +1,19 @@
--- Grounds with the same names and the same redirections have the same named names, classes and class tree.
-use Rattle.std.proofs.Common.{ℕ, List, [], ◌∷◌, Contains, Option, None, Some}
-use Rattle.std.proofs.lemmas.List.Elements.{All-from_recursion, recursion_from_All, All-contains}
+-- Grounds with the same names and the same redirections have the same named names and classes, and of the class tree the same
+-- names.
+use Rattle.std.proofs.Common.{ℕ, List, [], ◌∷◌, Contains, Option, None, Some, refl}
+use Rattle.std.specs.Prelude.{◌↔◌}
 use Rattle.dns_data.specs.Name.{Labels}
-use Rattle.dns_data.proofs.Membership.{all_from_contains}
 use Rattle.net_model.specs.declared.class.Class.{Class}
 use Rattle.net_model.specs.declared.class.Class.TheVariants.{Exact, Below}
-use Rattle.net_model.specs.Class.{IsClassOf, IsFirstUnnamed, IsRepresentative}
+use Rattle.net_model.specs.Class.{IsClassOf, IsFirstUnnamed, IsRepresentative, class_name}
 use Rattle.net_model.specs.Reading.{Redirection, ReadsAlong, Ground, IsNamed}
-use Rattle.net_model.specs.Tree.{IsClassTree, AreBelowClasses, HasMoreThan}
+use Rattle.net_model.specs.Tree.{HasMoreThan, IsInPart}
+use Rattle.net_model.proofs.Counting.{more_images}
 use Rattle.label_graph.specs.LiveSet.{IsClosed}
 use Rattle.label_graph.specs.Pairs.{AreSame}
-use Rattle.query_classes.specs.Children.{IsInTree, IsBelow}
+use Rattle.label_graph.proofs.BaseGround.{base_closed}
+use Rattle.query_classes.specs.Children.{AreChildren, IsInTree, IsBelow}
+use Rattle.query_classes.specs.ClassList.{ListedClass, AreListed}
 use Rattle.query_classes.specs.Members.{IsEmptyClass, RepresentsClass}
 
 -- the other way round
@@ -45,18 +48,15 @@ module _ (one other : Ground) (same : AreSame one other) where
 
   -- a closed ground
   pub closed_same : IsClosed one → IsClosed other
-  closed_same closed =
-      record {
-        names = record {
-          root = (same.names []).0 closed.names.root;
-          prefixes = λ above below has. (same.names above).0 (closed.names.prefixes above below ((same.names _).1 has));
-        };
-        redirected = λ redirection has. (same.names redirection.owner).0 (closed.redirected redirection ((same.redirections redirection).1 has));
-      }
+  closed_same closed = base_closed other one (same_back one other same) closed
 
   -- a name of the class tree
   pub in_tree_same : (name : Labels) → IsInTree one name → IsInTree other name
   in_tree_same name (named, is) = (named_same name named, is)
+
+  -- and of the part of it at or below a name
+  pub in_part_same : (above name : Labels) → IsInPart one above name → IsInPart other above name
+  in_part_same above name is = record { named = named_same name is.named; is_name = is.is_name; within = is.within }
 
 -- a name that isn't named
 pub unnamed_same : (one other : Ground) → AreSame one other → (name : Labels) → (IsNamed one name → ⊥) → IsNamed other name → ⊥
@@ -109,37 +109,44 @@ pub below_same : (one other : Ground) → AreSame one other → (name : Labels) 
 below_same one other same name None empty = empty_same one other same (Below name) empty
 below_same one other same name (Some below) stands = stands_same one other same (Below name) below stands
 
--- the class tree
-pub tree_same : (one other : Ground) → AreSame one other → (names : List Labels) → IsClassTree one names → IsClassTree other names
-tree_same one other same names tree =
-    record {
-      ordered = tree.ordered;
-      all = λ name. (
-        λ has. in_tree_same one other same name ((tree.all name).0 has),
-        λ is. (tree.all name).1 (in_tree_same other one (same_back one other same) name is),
-      );
-    }
-
--- the classes below its names
-pub below_classes_same : (one other : Ground) → AreSame one other → (names below : List Labels) → AreBelowClasses one names below → AreBelowClasses other names below
-below_classes_same one other same names below are =
+-- the names of the class tree one label below a name
+pub children_same : (one other : Ground) → AreSame one other → (above : Labels) (names : List Labels) → AreChildren one above names → AreChildren other above names
+children_same one other same above names are =
     record {
       ordered = are.ordered;
-      all = λ above. (
-        λ has. (let (among, (name, stands)) = (are.all above).0 has in (among, (name, represents_same one other same (Below above) name stands))),
-        λ (among, (name, stands)). (are.all above).1 (among, (name, represents_same other one (same_back one other same) (Below above) name stands)),
+      all = λ name. (
+        λ has. (let (is, below) = (are.all name).0 has in (in_tree_same one other same name is, below)),
+        λ (is, below). (are.all name).1 (in_tree_same other one (same_back one other same) name is, below),
       );
     }
 
--- more names than so many
-pub more_same : (one other : Ground) → AreSame one other → (most : ℕ) → HasMoreThan (IsInTree one) most → HasMoreThan (IsInTree other) most
-more_same one other same most more =
+-- the classes that aren't empty
+pub listed_same : (one other : Ground) → AreSame one other → (above : Labels) (classes : List ListedClass) → AreListed one above classes → AreListed other above classes
+listed_same one other same above classes are =
     record {
-      items = more.items;
-      more = more.more;
-      differ = more.differ;
-      each =
-          recursion_from_All (IsInTree other) more.items
-          (all_from_contains (IsInTree other) more.items (λ name has. in_tree_same one other same name
-          (All-contains (IsInTree one) more.items name (All-from_recursion (IsInTree one) more.items more.each) has)));
+      ordered = are.ordered;
+      all = λ listed. (
+        λ has. (
+            let (is, represents) = (are.all listed).0 has in (
+              in_part_same one other same above (class_name listed.class) is,
+              represents_same one other same listed.class listed.representative represents,
+            )),
+        λ (is, represents). (are.all listed).1 (
+          in_part_same other one (same_back one other same) above (class_name listed.class) is,
+          represents_same other one (same_back one other same) listed.class listed.representative represents,
+        ),
+      );
     }
+
+-- more names of a part of the class tree than so many
+pub more_same : (one other : Ground) → AreSame one other → (above : Labels) (most : ℕ) → HasMoreThan (IsInPart one above) most → HasMoreThan (IsInPart other above) most
+more_same one other same above most =
+    more_images (IsInPart one above) (IsInPart other above) most (λ name. name) (in_part_same one other same above) (λ a b is also e. e)
+
+-- the part at or below the root is the whole tree
+pub more_in_whole : (ground : Ground) (most : ℕ) → HasMoreThan (IsInPart ground []) most ↔ HasMoreThan (IsInTree ground) most
+more_in_whole ground most = (
+  more_images (IsInPart ground []) (IsInTree ground) most (λ name. name) (λ name is. (is.named, is.is_name)) (λ a b is also e. e),
+  more_images (IsInTree ground) (IsInPart ground []) most (λ name. name)
+      (λ name is. record { named = is.0; is_name = is.1; within = refl }) (λ a b is also e. e),
+)

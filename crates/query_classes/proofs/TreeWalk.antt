@@ -1,17 +1,17 @@
--- A walk down the class tree: the names passed, in order, and those that wait, the next one last.
-use Rattle.std.proofs.Common.{◌≡◌, ◌∙◌, ℕ, ◌⊎◌, List, [], ◌∷◌, ◌++◌, length, reverse, get_or, Contains, AllPairs, Ordering, Less, Equal, Greater, inl, inr, sym, refl, ap, subst, append_assoc, append-nil, arith}
+-- A walk down the class tree from a name: the names passed, in order, and those that wait, the next one last.
+use Rattle.std.proofs.Common.{◌≡◌, ◌∙◌, ℕ, ◌⊎◌, true, List, [], ◌∷◌, ◌++◌, length, reverse, get_or, Contains, AllPairs, Ordering, Less, Equal, Greater, inl, inr, sym, refl, ap, subst, append_assoc, append-nil, arith}
 use Rattle.std.specs.Ordering.{ordering_then}
 use Rattle.std.proofs.lemmas.List.{length-append, reverse-append}
 use Rattle.std.proofs.lemmas.List.Elements.{recursion_from_All, Contains-append_left, Contains-append_right, Contains-append_cases}
 use Rattle.dns_data.specs.Label.{label_cmp}
-use Rattle.dns_data.specs.Name.{Labels, name_cmp}
+use Rattle.dns_data.specs.Name.{Labels, IsName, is_prefix, name_cmp}
 use Rattle.dns_data.proofs.Membership.{none_in_nil, has_first, first_or_later, all_from_contains, pairs_first, pairs_rest}
-use Rattle.dns_data.proofs.NameFronts.{Begins}
+use Rattle.dns_data.proofs.NameFronts.{Begins, begins_itself, is_prefix_tells, is_prefix_told}
 use Rattle.dns_data.proofs.NameOrder.{Before, Rising, names_total, same_labels, under_label, pairs_from_rising, rising_append}
-use Rattle.dns_data.proofs.Names.{prefix_is_name, root_is_name}
+use Rattle.dns_data.proofs.Names.{prefix_is_name}
 use Rattle.dns_data.proofs.OrderedLists.{never_before_itself}
 use Rattle.net_model.specs.Reading.{Ground, IsNamed}
-use Rattle.net_model.specs.Tree.{IsClassTree, HasMoreThan}
+use Rattle.net_model.specs.Tree.{IsInPart, IsTreePart, HasMoreThan}
 use Rattle.label_graph.specs.LiveSet.{IsClosed}
 use Rattle.label_graph.proofs.LiveNames.{prefix_is_named}
 use Rattle.query_classes.specs.Children.{AreChildren, IsInTree}
@@ -86,6 +86,7 @@ reverse_has {X} (y ∷ xs) x has =
       | inr later ↦ Contains-append_left (reverse xs) (y ∷ []) x (reverse_has xs x later)
     ])
 
+-- and no others
 pub from_reverse : {X : Type 0} (xs : List X) (x : X) → Contains (reverse xs) x → Contains xs x
 from_reverse [] x has = absurd (none_in_nil x has)
 from_reverse {X} (y ∷ xs) x has =
@@ -125,60 +126,87 @@ children_fall above (name ∷ names) order one =
         (subst (StandsApart (above ++ a ∷ [])) (sym also)
         (siblings_apart above a b (subst (λ (n : Labels). Before n (above ++ b ∷ [])) is (subst (Before name) also before)))))
 
--- the names passed are in order, those that wait come behind them, and each name of the tree is passed or at or below
--- one that waits
-pub record AreWalked (ground : Ground) (passed waiting : List Labels) : Type 0 where
-  pub in_tree : (name : Labels) → Contains passed name → IsInTree ground name
-  pub waits_in_tree : (name : Labels) → Contains waiting name → IsInTree ground name
+-- what is below a name at or below another is so too
+part_below : (above name below : Labels) → is_prefix above name ≡ true → is_prefix above (name ++ below) ≡ true
+part_below above name below is =
+    let (rest, e) = is_prefix_tells above name is in
+    is_prefix_told above (name ++ below) (rest ++ below, sym (append_assoc above rest below) ∙ ap (λ (n : Labels). n ++ below) e)
+
+-- the names passed are in order, those that wait come behind them, and each name of the part of the tree at or below the name
+-- is passed or at or below one that waits
+pub record AreWalked (ground : Ground) (from : Labels) (passed waiting : List Labels) : Type 0 where
+  pub in_part : (name : Labels) → Contains passed name → IsInPart ground from name
+  pub waits_in_part : (name : Labels) → Contains waiting name → IsInPart ground from name
   pub order : Rising passed
   pub across : (a b : Labels) → Contains passed a → Contains waiting b → Before a b
   pub apart : Falls waiting
-  pub all : (name : Labels) → IsInTree ground name → Contains passed name ⊎ ((above : Labels) × Contains waiting above × Begins above name)
+  pub all : (name : Labels) → IsInPart ground from name → Contains passed name ⊎ ((above : Labels) × Contains waiting above × Begins above name)
 
 -- one item alone
 only : {X : Type 0} (x y : X) → Contains (x ∷ []) y → x ≡ y
 only x y has = elim (first_or_later x [] y has) [ inl same ↦ same | inr none ↦ absurd (none_in_nil y none) ]
 
-module _ (ground : Ground) (closed : IsClosed ground) where
-  -- at first the root waits
-  pub walk_begins : AreWalked ground [] ([] ∷ [])
-  walk_begins =
+module _ (ground : Ground) (closed : IsClosed ground) (from : Labels) where
+  -- at first the name waits
+  pub walk_begins : IsNamed ground from → IsName from → AreWalked ground from [] (from ∷ [])
+  walk_begins named is =
       record {
-        in_tree = λ name has. absurd (none_in_nil name has);
-        waits_in_tree = λ name has. subst (IsInTree ground) (only [] name has) (record { base = []; among = closed.names.root; reads = ([], refl) }, root_is_name);
+        in_part = λ name has. absurd (none_in_nil name has);
+        waits_in_part = λ name has. subst (IsInPart ground from) (only from name has) (record { named = named; is_name = is; within = begins_itself from });
         order = tt;
         across = λ a b has there. absurd (none_in_nil a has);
         apart = (λ later has. absurd (none_in_nil later has), tt);
-        all = λ name is. inr ([], has_first [] [], (name, refl));
+        all = λ name in_part. inr (from, has_first from [], is_prefix_tells from name in_part.within);
       }
 
-  module _ (passed waiting : List Labels) (next : Labels) (walked : AreWalked ground passed (waiting ++ next ∷ [])) where
+  -- at or below a name that isn't named there is none
+  pub walk_of_none : (IsNamed ground from → ⊥) → AreWalked ground from [] []
+  walk_of_none unnamed =
+      record {
+        in_part = λ name has. absurd (none_in_nil name has);
+        waits_in_part = λ name has. absurd (none_in_nil name has);
+        order = tt;
+        across = λ a b has there. absurd (none_in_nil a has);
+        apart = tt;
+        all = λ name in_part.
+            let (below, e) = is_prefix_tells from name in_part.within in
+            absurd (unnamed (prefix_is_named ground closed from below (subst (IsNamed ground) (sym e) in_part.named)));
+      }
+
+  module _ (passed waiting : List Labels) (next : Labels) (walked : AreWalked ground from passed (waiting ++ next ∷ [])) where
     next_waits : Contains (waiting ++ next ∷ []) next
     next_waits = Contains-append_right waiting (next ∷ []) next (has_first next [])
 
-    pub next_in_tree : IsInTree ground next
-    next_in_tree = walked.waits_in_tree next next_waits
+    -- so it is in the part
+    pub next_in_part : IsInPart ground from next
+    next_in_part = walked.waits_in_part next next_waits
 
     order_more : Rising (passed ++ next ∷ [])
     order_more =
         rising_append passed (next ∷ []) walked.order (λ later has. absurd (none_in_nil later has), tt)
         (λ a b has there. subst (Before a) (only next b there) (walked.across a next has next_waits))
 
-    in_tree_more : (name : Labels) → Contains (passed ++ next ∷ []) name → IsInTree ground name
-    in_tree_more name has =
+    in_part_more : (name : Labels) → Contains (passed ++ next ∷ []) name → IsInPart ground from name
+    in_part_more name has =
         elim (Contains-append_cases passed (next ∷ []) name has) [
-          | inl old ↦ walked.in_tree name old
-          | inr new ↦ subst (IsInTree ground) (only next name new) next_in_tree
+          | inl old ↦ walked.in_part name old
+          | inr new ↦ subst (IsInPart ground from) (only next name new) next_in_part
         ]
 
     -- with the names below it in its place
-    pub walk_on : (below : List Labels) → AreChildren ground next below → AreWalked ground (passed ++ next ∷ []) (waiting ++ reverse below)
+    pub walk_on : (below : List Labels) → AreChildren ground next below → AreWalked ground from (passed ++ next ∷ []) (waiting ++ reverse below)
     walk_on below children =
         record {
-          in_tree = in_tree_more;
-          waits_in_tree = λ name has. elim (Contains-append_cases waiting (reverse below) name has) [
-            | inl old ↦ walked.waits_in_tree name (Contains-append_left waiting (next ∷ []) name old)
-            | inr new ↦ ((children.all name).0 (from_reverse below name new)).0
+          in_part = in_part_more;
+          waits_in_part = λ name has. elim (Contains-append_cases waiting (reverse below) name has) [
+            | inl old ↦ walked.waits_in_part name (Contains-append_left waiting (next ∷ []) name old)
+            | inr new ↦ (
+                let (is, (label, one_below)) = (children.all name).0 (from_reverse below name new) in
+                record {
+                  named = is.0;
+                  is_name = is.1;
+                  within = subst (λ (n : Labels). is_prefix from n ≡ true) (sym one_below) (part_below from next (label ∷ []) next_in_part.within);
+                })
           ];
           order = order_more;
           across = across_more;
@@ -207,15 +235,15 @@ module _ (ground : Ground) (closed : IsClosed ground) where
               | inr new ↦ subst (λ (n : Labels). Before n b) (only next a new) (next_before b there)
             ]
 
-        at_next : (name : Labels) (more : Labels) → next ++ more ≡ name → IsInTree ground name
+        at_next : (name : Labels) (more : Labels) → next ++ more ≡ name → IsInPart ground from name
             → Contains (passed ++ next ∷ []) name ⊎ ((above : Labels) × Contains (waiting ++ reverse below) above × Begins above name)
-        at_next name [] is in_tree =
+        at_next name [] is in_part =
             inl (Contains-append_right passed (next ∷ []) name (subst (Contains (next ∷ [])) (sym (append-nil next) ∙ is) (has_first next [])))
-        at_next name (label ∷ rest) is in_tree =
+        at_next name (label ∷ rest) is in_part =
             let whole : (next ++ label ∷ []) ++ rest ≡ name = append_assoc next (label ∷ []) rest ∙ is in
             let child : IsInTree ground (next ++ label ∷ []) = (
-              prefix_is_named ground closed (next ++ label ∷ []) rest (subst (IsNamed ground) (sym whole) in_tree.0),
-              prefix_is_name (next ++ label ∷ []) name rest whole in_tree.1,
+              prefix_is_named ground closed (next ++ label ∷ []) rest (subst (IsNamed ground) (sym whole) in_part.named),
+              prefix_is_name (next ++ label ∷ []) name rest whole in_part.is_name,
             ) in
             inr (
               next ++ label ∷ [],
@@ -224,35 +252,35 @@ module _ (ground : Ground) (closed : IsClosed ground) where
               (rest, whole),
             )
 
-        all_more : (name : Labels) → IsInTree ground name
+        all_more : (name : Labels) → IsInPart ground from name
             → Contains (passed ++ next ∷ []) name ⊎ ((above : Labels) × Contains (waiting ++ reverse below) above × Begins above name)
-        all_more name in_tree =
-            elim (walked.all name in_tree) [
+        all_more name in_part =
+            elim (walked.all name in_part) [
               | inl old ↦ inl (Contains-append_left passed (next ∷ []) name old)
               | inr (above, has, begins) ↦ elim (Contains-append_cases waiting (next ∷ []) above has) [
                 | inl old ↦ inr (above, Contains-append_left waiting (reverse below) above old, begins)
-                | inr new ↦ at_next name begins.0 (ap (λ (n : Labels). n ++ begins.0) (only next above new) ∙ begins.1) in_tree
+                | inr new ↦ at_next name begins.0 (ap (λ (n : Labels). n ++ begins.0) (only next above new) ∙ begins.1) in_part
               ]
             ]
 
     -- where as many names are passed as may be, there is one more
-    pub one_more : (most : ℕ) → length passed ≡ most → HasMoreThan (IsInTree ground) most
+    pub one_more : (most : ℕ) → length passed ≡ most → HasMoreThan (IsInPart ground from) most
     one_more most full =
         record {
           items = passed ++ next ∷ [];
           more = omega (arith, full, length-append passed (next ∷ []));
           differ = λ i j d before within same. never_before_itself name_cmp names_total (get_or (passed ++ next ∷ []) j d)
               (subst (λ (n : Labels). Before n (get_or (passed ++ next ∷ []) j d)) same (pairs_from_rising (passed ++ next ∷ []) order_more i j d before within));
-          each = recursion_from_All (IsInTree ground) (passed ++ next ∷ []) (all_from_contains (IsInTree ground) (passed ++ next ∷ []) in_tree_more);
+          each = recursion_from_All (IsInPart ground from) (passed ++ next ∷ []) (all_from_contains (IsInPart ground from) (passed ++ next ∷ []) in_part_more);
         }
 
-  -- where none waits the tree is passed
-  pub walk_ends : (passed : List Labels) → AreWalked ground passed [] → IsClassTree ground passed
+  -- where none waits the part is passed
+  pub walk_ends : (passed : List Labels) → AreWalked ground from passed [] → IsTreePart ground from passed
   walk_ends passed walked =
       record {
         ordered = pairs_from_rising passed walked.order;
         all = λ name. (
-          walked.in_tree name,
+          walked.in_part name,
           λ is. elim (walked.all name is) [ inl has ↦ has | inr (above, has, begins) ↦ absurd (none_in_nil above has) ],
         );
       }

@@ -244,6 +244,7 @@ front_octets (suc n) (octet ∷ label) each =
     let parts = and_parts (is_label_octet octet) (list_all is_label_octet label) each in
     and_from (is_label_octet octet) (list_all is_label_octet (take n label)) parts.0 (front_octets n label parts.1)
 
+-- the label that is tried next is one
 pub next_is_label : (label next : List ℕ) (place : ℕ) → IsLabel label → (place ≡ 0 → length label ≡ 63 → ⊥) → place ≤ length label
     → AreNextOctets label place next → IsLabel next
 next_is_label label next zero is room within are =
@@ -281,5 +282,6 @@ none_before_a other is less =
           none_first 1 other one (sym (same_length other (97 ∷ []) one) ∙ less))
     ]
 
+-- and a is a label
 pub a_is_label : IsLabel (97 ∷ [])
 a_is_label = record { not_empty = omega arith; short = omega arith; octets = refl }

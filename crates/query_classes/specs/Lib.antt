@@ -4,8 +4,11 @@ pub use Rattle.net_model.specs.Class
 pub use Rattle.net_model.specs.Reading
 pub use Rattle.net_model.specs.Tree
 pub use Rattle.label_graph.specs.LiveSet
+pub use Rattle.label_graph.specs.Pairs
 pub mod Members
 pub mod Children
+pub mod ClassList
 pub mod Free
 pub mod Rows
+pub mod TreeNames
 pub mod Trials

@@ -35,6 +35,7 @@ impl LiveName {
     /// The name with its live set.
     pub fn of(alloc: Global, graph: &LabelGraph, name: &Name) -> Result<LiveName, NoMemory>
         ensures name { IfOk result (λ found. found.name ≡ name.now) }
+        ensures is_name { IfOk result (λ found. IsName found.name) }
         ensures live { IfOk result (λ found. IsLiveSet graph.now found.name found.live) }
     {
         let live = live_of(alloc, graph, name)?;
@@ -138,7 +139,8 @@ impl LiveName {
 
 /// The live set of a name.
 fn live_of(alloc: Global, graph: &LabelGraph, name: &Name) -> Result<LiveSet, NoMemory>
-    ensures { IfOk result (IsLiveSet graph.now name.now) }
+    ensures live { IfOk result (IsLiveSet graph.now name.now) }
+    ensures is_name { IfOk result (λ _. IsName name.now) }
 {
     let mut live = graph.start(alloc)?;
     let mut rest = name.labels();

@@ -1,8 +1,9 @@
-//! The class tree, from the root down.
+//! The class tree, from a name down.
 
 ghost use Rattle.std.specs.Prelude.{◌≡◌, ◌++◌, ◌≤◌, length, reverse, All, IfOk, OnOk, IsErrOf};
-ghost use Rattle.net_model.specs.Tree.{IsClassTree, AreBelowClasses, HasMoreThan};
-ghost use Rattle.query_classes.specs.Children.{IsInTree, IsBelow};
+ghost use Rattle.net_model.specs.Tree.{IsInPart, IsTreePart, AreBelowClasses, HasMoreThan};
+ghost use Rattle.query_classes.specs.Children.{IsBelow};
+ghost use Rattle.query_classes.specs.ClassList.{AreListed, classes_of_rows};
 ghost use Rattle.query_classes.specs.Rows.{tree_names, below_names};
 
 use crate::fault::TreeFault;
@@ -19,20 +20,31 @@ pub struct ClassRow {
     pub below: Option<Name>,
 }
 
-/// The class tree, where it has at most so many names: its names in order, each with the representative of the class
-/// below it.
-pub fn class_tree(alloc: Global, graph: &LabelGraph, most: u32) -> Result<List<ClassRow>, TreeFault>
-    ensures tree { IfOk result (λ rows. IsClassTree graph.now (tree_names rows)) }
+/// The part of the class tree at or below a name, where it has at most so many names: its names in order, each with the
+/// representative of the class below it. At or below the root it is the whole tree, and where the name isn't named there is
+/// none.
+pub fn class_tree(
+    alloc: Global,
+    graph: &LabelGraph,
+    from: &Name,
+    most: u32,
+) -> Result<List<ClassRow>, TreeFault>
+    ensures tree { IfOk result (λ rows. IsTreePart graph.now from.now (tree_names rows)) }
     ensures below { IfOk result (λ rows. All (λ row. IsBelow graph.now row.name row.below) rows) }
     ensures classes { IfOk result (λ rows. AreBelowClasses graph.now (tree_names rows) (below_names rows)) }
+    ensures listed { IfOk result (λ rows. AreListed graph.now from.now (classes_of_rows rows)) }
     ensures few { IfOk result (λ rows. length rows ≤ most) }
-    ensures none_more { OnOk result (HasMoreThan (IsInTree graph.now) most → ⊥) }
-    ensures too_many { IsErrOf result TreeFault.TooMany → HasMoreThan (IsInTree graph.now) most }
+    ensures none_more { OnOk result (HasMoreThan (IsInPart graph.now from.now) most → ⊥) }
+    ensures too_many { IsErrOf result TreeFault.TooMany → HasMoreThan (IsInPart graph.now from.now) most }
 {
     laws::graph_is_closed(graph);
+    let first = LiveName::of(alloc, graph, from)?;
+    if first.live.is_empty() {
+        return Ok(List::new(alloc));
+    }
     let mut rows = Vec::new(alloc);
     let mut waiting = Vec::new(alloc);
-    waiting.push(LiveName::root(alloc, graph)?)?;
+    waiting.push(first)?;
     while let Some(next) = waiting.pop() {
         if rows.len() == most as usize {
             return Err(TreeFault::TooMany);
