@@ -118,14 +118,14 @@ module _ (setting : Setting) (query : Labels) (deps : Deps) (graph : PlainGraph)
         let one = shown_one (zones_differ setting.config cut) (faults.Differs cut) fault here in
         let zones = differ_told setting.config cut one.0 in
         subst (Shown rtype) one.1
-        (record { may = tt; walks = on.walk ∷ []; are_walks = (on.is_walk, tt); show = record { refers = on.among; zones = zones } })
+        (record { walks = on.walk ∷ []; by = record { may = tt; are_walks = (on.is_walk, tt); show = record { refers = on.among; zones = zones } } })
 
     of_glue : Contains (if_shown (wants_glue setting.config cut) (faults.NoGlue cut)) fault → Shown rtype fault
     of_glue here =
         let one = shown_one (wants_glue setting.config cut) (faults.NoGlue cut) fault here in
         let wants = glue_told setting.config cut one.0 in
         subst (Shown rtype) one.1
-        (record { may = tt; walks = on.walk ∷ []; are_walks = (on.is_walk, tt); show = record { refers = on.among; wants = wants } })
+        (record { walks = on.walk ∷ []; by = record { may = tt; are_walks = (on.is_walk, tt); show = record { refers = on.among; wants = wants } } })
 
     of_cyclic : Contains (if_shown (depends_on_itself setting.config deps cut) (faults.Cyclic cut)) fault → Shown rtype fault
     of_cyclic here =
@@ -133,10 +133,8 @@ module _ (setting : Setting) (query : Labels) (deps : Deps) (graph : PlainGraph)
         let depends = cyclic_told setting deps cut one.0 in
         subst (Shown rtype) one.1
         (record {
-          may = tt;
           walks = on.walk ∷ [];
-          are_walks = (on.is_walk, tt);
-          show = record { refers = on.among; depends = depends };
+          by = record { may = tt; are_walks = (on.is_walk, tt); show = record { refers = on.among; depends = depends } };
         })
 
     of_other_glue : Contains (other_glue cut) fault → Shown rtype fault
@@ -145,10 +143,8 @@ module _ (setting : Setting) (query : Labels) (deps : Deps) (graph : PlainGraph)
         let zones = other_addresses setting.config cut one.0 in
         subst (Shown rtype) one.1
         (record {
-          may = tt;
           walks = on.walk ∷ [];
-          are_walks = (on.is_walk, tt);
-          show = record { refers = on.among; glue = zones };
+          by = record { may = tt; are_walks = (on.is_walk, tt); show = record { refers = on.among; glue = zones } };
         })
 
   -- of a hop
@@ -168,10 +164,8 @@ module _ (setting : Setting) (query : Labels) (deps : Deps) (graph : PlainGraph)
       let same : cut.ns ≡ ns = (name_eq_decides cut.ns ns).0 one.0 in
       subst (Shown rtype) one.1
       (record {
-        may = tt;
         walks = by.walk ∷ [];
-        are_walks = (by.is_walk, tt);
-        show = record { behind = (by.hops_before, by.hops_are); ends = by.leaf_is ∙ ap (λ n. leaves.Lame n) (sym same) };
+        by = record { may = tt; are_walks = (by.is_walk, tt); show = record { behind = (by.hops_before, by.hops_are); ends = by.leaf_is ∙ ap (λ n. leaves.Lame n) (sym same) } };
       })
   by_leaf rtype node cut (leaves.NoAddress ns) fault by has =
       let one = shown_one (name_eq cut.ns ns && not (is_among deps.greatest cut.ns)) (faults.NoAddress cut) fault has in
@@ -179,13 +173,15 @@ module _ (setting : Setting) (query : Labels) (deps : Deps) (graph : PlainGraph)
       let same : cut.ns ≡ ns = (name_eq_decides cut.ns ns).0 parts.0 in
       subst (Shown rtype) one.1
       (record {
-        may = tt;
         walks = by.walk ∷ [];
-        are_walks = (by.is_walk, tt);
-        show = record {
-          behind = (by.hops_before, by.hops_are);
-          ends = by.leaf_is ∙ ap (λ n. leaves.NoAddress n) (sym same);
-          not_at_most = λ among. true≢false (sym (has_among deps.greatest cut.ns among) ∙ not-true (is_among deps.greatest cut.ns) parts.1);
+        by = record {
+          may = tt;
+          are_walks = (by.is_walk, tt);
+          show = record {
+            behind = (by.hops_before, by.hops_are);
+            ends = by.leaf_is ∙ ap (λ n. leaves.NoAddress n) (sym same);
+            not_at_most = λ among. true≢false (sym (has_among deps.greatest cut.ns among) ∙ not-true (is_among deps.greatest cut.ns) parts.1);
+          };
         };
       })
   by_leaf rtype node cut leaf fault by has = absurd (none_in_nil fault has)

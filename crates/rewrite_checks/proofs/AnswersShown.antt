@@ -49,13 +49,15 @@ module _ (setting : Setting) (query : Labels) (class : Class) (represents : Bool
       let one = walk_in differ.one differ.ends_in_one in
       let other = walk_in differ.other differ.ends_in_other in
       record {
-        may = (refl, for.of_class);
         walks = one.walk ∷ other.walk ∷ [];
-        are_walks = (one.is_walk, (other.is_walk, tt));
-        show = record {
-          first = ap is_authoritative one.leaf_is ∙ differ.tells_one;
-          second = ap is_authoritative other.leaf_is ∙ differ.tells_other;
-          differ = λ same. differ.differ (sym one.leaf_is ∙ (same ∙ other.leaf_is));
+        by = record {
+          may = (refl, for.of_class);
+          are_walks = (one.is_walk, (other.is_walk, tt));
+          show = record {
+            first = ap is_authoritative one.leaf_is ∙ differ.tells_one;
+            second = ap is_authoritative other.leaf_is ∙ differ.tells_other;
+            differ = λ same. differ.differ (sym one.leaf_is ∙ (same ∙ other.leaf_is));
+          };
         };
       }
 

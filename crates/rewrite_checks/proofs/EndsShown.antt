@@ -58,7 +58,7 @@ module _ (setting : Setting) (query : Labels) (class : Class) (represents : Bool
 
   by_walk : (rtype : RrType) (walk : Walk) (fault : Fault) → IsWalk setting query rtype walk → MayShow setting.config query rtype fault
       → WalksShow (with_sets setting) (walk ∷ []) fault → Shown rtype fault
-  by_walk rtype walk fault is may show = record { may = may; walks = walk ∷ []; are_walks = (is, tt); show = show }
+  by_walk rtype walk fault is may show = record { walks = walk ∷ []; by = record { may = may; are_walks = (is, tt); show = show } }
 
   by_leaf : (rtype : RrType) (node : Node) (hop : Option Hop) (leaf : Leaf) (fault : Fault)
       → WalkBy graph rtype setting query for.is_graph for.exact node hop leaf → leaf_fault represents node.state.last leaf ≡ Some fault → Shown rtype fault

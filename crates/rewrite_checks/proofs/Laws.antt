@@ -37,7 +37,7 @@ module _ (setting : Setting) (query : Labels) (class : Class) (represents : Bool
   told_back rtype walk is back =
       let found = limit_between setting query rtype walk is back in
       let shows : Shows (with_sets setting) query rtype (faults.Limit found.0) =
-      record { may = tt; walks = found.2 ∷ []; are_walks = (found.3, tt); show = found.4 } in
+      record { walks = found.2 ∷ []; by = record { may = tt; are_walks = (found.3, tt); show = found.4 } } in
       (found.0, found.1, are.all_shown (faults.Limit found.0) rtype refl shows)
 
   -- ---- an overlong rewrite

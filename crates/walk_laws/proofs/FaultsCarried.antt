@@ -227,10 +227,12 @@ module _ (config : Config) (rewrites : ℕ) (ground : Ground) (told : (name : La
         followed = shows.followed;
         in_force = shows.in_force;
         shows = record {
-          may = may_too rtype fault never shows.shows.may;
           walks = found.0;
-          are_walks = subst (λ (q : Labels). AllByRecursion (IsWalk setting.walks q rtype) found.0) (sym ends.3) found.1;
-          show = found.2;
+          by = record {
+            may = may_too rtype fault never shows.shows.may;
+            are_walks = subst (λ (q : Labels). AllByRecursion (IsWalk setting.walks q rtype) found.0) (sym ends.3) found.1;
+            show = found.2;
+          };
         };
       }
 

@@ -66,7 +66,10 @@ module _ (setting : Setting) (least least' greatest greatest' : Labels → Type 
   -- so a query shows by the one sets what it shows by the others
   pub shows_with : (query : Labels) (rtype : RrType) (fault : Fault) → Shows one query rtype fault → Shows other query rtype fault
   shows_with query rtype fault shows =
-      record { may = shows.may; walks = shows.walks; are_walks = shows.are_walks; show = walks_show shows.walks fault shows.show }
+      record {
+        walks = shows.walks;
+        by = record { may = shows.may; are_walks = shows.are_walks; show = walks_show shows.walks fault shows.show };
+      }
 
 -- lists of the two sets can stand in their place
 pub lists_show : (config : Config) (rewrites : ℕ) (followed least greatest : List Labels)

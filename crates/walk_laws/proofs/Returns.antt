@@ -449,6 +449,6 @@ limit_shown config rewrites followed in_force query rtype walk is back =
       record {
         followed = followed;
         in_force = in_force;
-        shows = record { may = tt; walks = found.2 ∷ []; are_walks = (found.3, tt); show = found.4 };
+        shows = record { walks = found.2 ∷ []; by = record { may = tt; are_walks = (found.3, tt); show = found.4 } };
       },
     )
