@@ -2,10 +2,10 @@
 use Rattle.std.specs.Prelude.{◌≡◌, refl, [], ◌∷◌, ◌++◌, codes, replicate, Some, option_map}
 use Rattle.std.proofs.Common.{arith, subst}
 use Rattle.dns_data.specs.Name.{Labels, wire_octets}
-use Rattle.dns_data.specs.declared.rdata.Rdata.TheVariants.{A, Txt, Dname}
+use Rattle.dns_data.specs.declared.rdata.Rdata.TheVariants.{A, Cname, Txt, Dname}
 use Rattle.dns_data.specs.declared.rr_type.RrType.TheVariants as types
 use Rattle.net_model.specs.declared.config.Config.{Config}
-use Rattle.net_model.specs.declared.walk.Leaf.TheVariants.{Answer, NxDomain, Limit, Overlong}
+use Rattle.net_model.specs.declared.walk.Leaf.TheVariants.{Answer, NxDomain, Outside, Limit, Overlong}
 use Rattle.net_model.specs.Reading.{IsNamed, ground_of}
 use Rattle.net_model.specs.Retail.{retail}
 use Rattle.net_model.specs.Tails.{IsUnnamedTail, AreTails}
@@ -42,6 +42,17 @@ wildcard_walks = refl
 
 wildcard_answers : end_of (walk_along (following_all wildcard_below 12) (t ++ first_label) types.Txt (0 ∷ 0 ∷ [])) ≡ Some (Answer (Txt (codes "any" ∷ []) ∷ []))
 wildcard_answers = refl
+
+-- a wildcard alias below the class's name leads both to one name, which takes none of their labels along
+abbrev wildcard_alias : Config
+wildcard_alias = alone ns (zone_at t (rr (codes "t" ∷ codes "*" ∷ []) (Cname (codes "u" ∷ [])) ∷ []))
+
+alias_walks : option_map (retail 2 first_label) (walk_along (following_all wildcard_alias 12) (t ++ y_x) types.A (0 ∷ 0 ∷ 0 ∷ []))
+    ≡ walk_along (following_all wildcard_alias 12) (t ++ first_label) types.A (0 ∷ 0 ∷ 0 ∷ [])
+alias_walks = refl
+
+alias_ends : end_of (walk_along (following_all wildcard_alias 12) (t ++ first_label) types.A (0 ∷ 0 ∷ 0 ∷ [])) ≡ Some Outside
+alias_ends = refl
 
 -- a DNAME record above the labels takes them along
 abbrev dname_above : Config
