@@ -46,7 +46,7 @@ use Rattle.zone_lookup.specs.LearntSets.{is_among}
 use Rattle.zone_lookup.specs.Sides.{addresses_differ, zones_differ}
 use Rattle.zone_lookup.specs.Sound.{depends_on_itself, wants_glue}
 use Rattle.zone_lookup.proofs.ZonesTell.{among_has, cyclic_told, differ_told, glue_told, has_among, other_addresses, told_addresses, told_cyclic, told_differ, told_glue}
-use Rattle.delegation_checks.proofs.InsideZones.{BranchInside, HopInside, next_inside}
+use Rattle.zone_lookup.proofs.InsideZones.{BranchInside, HopInside, next_inside}
 
 -- a fault that is shown, or none
 shown_one : (b : Bool) (fault other : Fault) → Contains (if_shown b fault) other → (b ≡ true) × (fault ≡ other)

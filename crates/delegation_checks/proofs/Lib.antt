@@ -1,4 +1,3 @@
 pub mod Candidates
 pub mod DelegationsShown
-pub mod InsideZones
 pub mod LookedInto

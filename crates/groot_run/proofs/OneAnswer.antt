@@ -14,17 +14,7 @@ use Rattle.plain_resolver.specs.Passed.{HasTooMany, NoneInRounds, IsFirstWithToo
 use Rattle.dns_data.proofs.Membership.{has_first, has_later}
 use Rattle.dns_data.proofs.OrderedLists.{same_rising}
 use Rattle.net_model.proofs.LearntSets.{one_after_rounds}
-use Rattle.groot_run.proofs.OneEntry.{same_items}
-
--- ---- walks
-
--- the walks of a query are one list
-pub one_walks : (setting : Setting) (query : Labels) (rtype : RrType) (a b : List Walk) → AreWalks setting query rtype a → AreWalks setting query rtype b → a ≡ b
-one_walks setting query rtype a b (paths, are, walks) (others, also, same) =
-    let one : paths ≡ others =
-    same_rising path_cmp nat_list_cmp_total paths others are.ordered also.ordered
-    (λ path has. (also.all path).1 ((are.all path).0 has)) (λ path has. (are.all path).1 ((also.all path).0 has)) in
-    same_items a b (sym walks ∙ ap (map (walk_along setting query rtype)) one ∙ same)
+use Rattle.net_model.proofs.WalkLists.{one_walks}
 
 -- ---- the server with too many walks
 

@@ -19,22 +19,13 @@ use Rattle.net_model.proofs.FaultOrder.{classes_total, one_class, one_type}
 use Rattle.dns_data.proofs.OrderedLists.{exact_lists, neither_before}
 use Rattle.net_model.proofs.TrialOrder.{one_representative}
 use Rattle.net_model.proofs.InForce.{one_in_force}
+use Rattle.net_model.proofs.WalkLists.{same_items}
 
 paths_total : IsTotalOrder paths_cmp
 paths_total = lists_total nat_list_cmp_total
 
 exact_paths : CmpEqualImpliesEq paths_cmp
 exact_paths = exact_lists path_cmp exact_bytes
-
--- lists are one where their items under `Some` are
-pub same_items : {X : Type 0} (xs ys : List X) → map (λ x. Some x) xs ≡ map (λ y. Some y) ys → xs ≡ ys
-same_items [] [] e = refl
-same_items [] (y ∷ ys) e = cc
-same_items (x ∷ xs) [] e = cc
-same_items (x ∷ xs) (y ∷ ys) e =
-    let first : x ≡ y = cc in
-    let rest : xs ≡ ys = same_items xs ys cc in
-    cc
 
 -- walks that show a fault are some walks
 some_walk : (setting : FaultSetting) (walks : List Walk) (fault : Fault)

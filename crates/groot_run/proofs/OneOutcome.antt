@@ -18,7 +18,8 @@ use Rattle.groot_run.specs.Outcome.{reported, listed, WithinNames, WithinStates,
 use Rattle.groot_run.proofs.OneReport.{one_report}
 use Rattle.groot_run.proofs.Budgets.{one_passed}
 use Rattle.groot_run.proofs.OneClassList.{one_class_list}
-use Rattle.groot_run.proofs.OneAnswer.{one_walks, one_first, none_is_first}
+use Rattle.net_model.proofs.WalkLists.{one_walks}
+use Rattle.groot_run.proofs.OneAnswer.{one_first, none_is_first}
 use Rattle.net_model.proofs.InForce.{one_in_force}
 
 -- a run gives one thing by whether the class tree has more names than the limit

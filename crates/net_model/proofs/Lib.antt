@@ -26,3 +26,4 @@ pub mod StepBounds
 pub mod TreeParts
 pub mod TrialOrder
 pub mod WalkEnds
+pub mod WalkLists

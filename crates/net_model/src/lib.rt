@@ -19,4 +19,4 @@ pub use fault::Fault;
 pub use follow::may_follow;
 pub use found::Found;
 pub use place::{Cut, Place};
-pub use walk::{Hop, Leaf, State, Walk};
+pub use walk::{Hop, Leaf, State, Walk, copied_hops, copied_states};

@@ -140,3 +140,37 @@ impl Leaf {
         }
     }
 }
+
+impl Walk {
+    /// An equal walk.
+    pub fn copy(&self, alloc: Global) -> Result<Walk, NoMemory>
+        ensures { IfOk result (λ copy. copy ≡ self.now) }
+    {
+        let states = copied_states(alloc, self.states.items())?;
+        let hops = copied_hops(alloc, self.hops.items())?;
+        let leaf = self.leaf.copy(alloc)?;
+        Ok(Walk { states, hops, leaf })
+    }
+}
+
+/// Equal states.
+pub fn copied_states(alloc: Global, states: &[State]) -> Result<List<State>, NoMemory>
+    ensures { IfOk result (λ copies. copies ≡ states.now) }
+{
+    let mut copies = List::new(alloc);
+    for state in states {
+        copies.push(state.copy(alloc)?)?;
+    }
+    Ok(copies)
+}
+
+/// Equal hops.
+pub fn copied_hops(alloc: Global, hops: &[Hop]) -> Result<List<Hop>, NoMemory>
+    ensures { IfOk result (λ copies. copies ≡ hops.now) }
+{
+    let mut copies = List::new(alloc);
+    for hop in hops {
+        copies.push(hop.copy(alloc)?)?;
+    }
+    Ok(copies)
+}

@@ -5,7 +5,7 @@ ghost use Rattle.std.specs.Option.{option_to_list};
 ghost use Rattle.plain_resolver.specs.Begun.{ended};
 
 use dns_data::{List, NoMemory};
-use net_model::{Hop, Leaf, State, Walk};
+use net_model::{Hop, Leaf, State, Walk, copied_hops, copied_states};
 use std::alloc::Global;
 use std::marker::Model;
 
@@ -100,26 +100,4 @@ fn hops_to_end(alloc: Global, hops: &[Hop], last: Option<Hop>) -> Result<List<Ho
         }
         None => Ok(all),
     }
-}
-
-/// Copies of states.
-fn copied_states(alloc: Global, states: &[State]) -> Result<List<State>, NoMemory>
-    ensures { IfOk result (λ copies. copies ≡ states.now) }
-{
-    let mut copies = List::new(alloc);
-    for state in states {
-        copies.push(state.copy(alloc)?)?;
-    }
-    Ok(copies)
-}
-
-/// Copies of hops.
-fn copied_hops(alloc: Global, hops: &[Hop]) -> Result<List<Hop>, NoMemory>
-    ensures { IfOk result (λ copies. copies ≡ hops.now) }
-{
-    let mut copies = List::new(alloc);
-    for hop in hops {
-        copies.push(hop.copy(alloc)?)?;
-    }
-    Ok(copies)
 }

@@ -16,7 +16,7 @@ use Rattle.net_model.specs.declared.walk.State.{State}
 use Rattle.net_model.specs.declared.walk.Walk.{Walk}
 use Rattle.net_model.proofs.Leads.{GoesOn, EndsBy, branch_taken}
 use Rattle.net_model.proofs.WalkEnds.{item}
-use Rattle.report_check.proofs.InsideZones.{HopInside, BranchInside, next_inside}
+use Rattle.zone_lookup.proofs.InsideZones.{HopInside, BranchInside, next_inside}
 
 module _ (setting : Setting) (rtype : RrType) where
   -- of a walk from a state

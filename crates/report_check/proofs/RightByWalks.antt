@@ -5,7 +5,7 @@ use Rattle.dns_data.specs.declared.rr_type.RrType.{RrType}
 use Rattle.dns_data.proofs.Membership.{along, each_along}
 use Rattle.graph_form.specs.Report.{repeats}
 use Rattle.net_model.specs.Learnt.{IsInForce}
-use Rattle.net_model.specs.Shown.{with_sets}
+use Rattle.net_model.specs.Shown.{ShowsBy, with_sets}
 use Rattle.net_model.specs.Step.{Setting, following}
 use Rattle.net_model.specs.Walk.{AreWalks, IsWalk}
 use Rattle.net_model.specs.declared.fault.Fault.{Fault}
@@ -17,7 +17,6 @@ use Rattle.plain_resolver.specs.Passed.{HasMoreWalks}
 use Rattle.report_check.specs.Checked.{PassesWalks, most_walks}
 use Rattle.report_check.specs.Entries.{ByWalks, entry_with, first_repeats}
 use Rattle.report_check.specs.Right.{IsRight, NamesQuery}
-use Rattle.report_check.specs.ShowsBy.{ShowsBy}
 use Rattle.report_check.proofs.ListedWalks.{is_listed, listed_is}
 use Rattle.report_check.proofs.NamedQueries.{entry_names, one_query}
 

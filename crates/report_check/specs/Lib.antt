@@ -3,7 +3,6 @@ pub use Rattle.meta_read.specs.Members
 pub use Rattle.net_model.specs.Shown
 pub use Rattle.plain_resolver.specs.Passed
 pub use Rattle.report_json.specs.Report as ReportTexts
-pub mod ShowsBy
 pub mod ReportIn
 pub mod Right
 pub mod Checked

@@ -8,13 +8,12 @@ use Rattle.serde_json.specs.Find.{get}
 use Rattle.net_model.specs.declared.config.Config.{Config}
 use Rattle.net_model.specs.declared.walk.Walk.{Walk}
 use Rattle.net_model.specs.Learnt.{IsInForce}
-use Rattle.net_model.specs.Shown.{with_sets}
+use Rattle.net_model.specs.Shown.{ShowsBy, with_sets}
 use Rattle.net_model.specs.Step.{following}
 use Rattle.graph_form.specs.Report.{repeats}
 use Rattle.graph_form.specs.declared.report.ReportEntry.{ReportEntry}
 use Rattle.report_json.specs.Json.{name_value}
 use Rattle.report_json.specs.Report.{entry_value}
-use Rattle.report_check.specs.ShowsBy.{ShowsBy}
 
 -- The value is that of an entry: of a query and a type, of a fault, of one walk of the query that shows it (of two where answers
 -- differ), and of whether the first walk comes to a server twice with one name. The walks are those of the set in force. So the

@@ -10,7 +10,7 @@ use crate::asked::Asked;
 use crate::texts::is_entry_text;
 use dns_data::{List, Name, NoMemory, RrType};
 use graph_form::{ReportEntry, Seen, repeats};
-use net_model::{Fault, Hop, State, Walk};
+use net_model::{Fault, Walk};
 use std::alloc::Global;
 
 /// What an entry has beside its fault.
@@ -93,39 +93,7 @@ fn copied_walks(alloc: Global, walks: &[&Walk]) -> Result<List<Walk>, NoMemory>
 {
     let mut copies = List::new(alloc);
     for walk in walks {
-        copies.push(copied_walk(alloc, walk)?)?;
-    }
-    Ok(copies)
-}
-
-/// An equal walk.
-fn copied_walk(alloc: Global, walk: &Walk) -> Result<Walk, NoMemory>
-    ensures { IfOk result (λ copy. copy ≡ walk.now) }
-{
-    let states = copied_states(alloc, walk.states.items())?;
-    let hops = copied_hops(alloc, walk.hops.items())?;
-    let leaf = walk.leaf.copy(alloc)?;
-    Ok(Walk { states, hops, leaf })
-}
-
-/// Equal states.
-fn copied_states(alloc: Global, states: &[State]) -> Result<List<State>, NoMemory>
-    ensures { IfOk result (λ copies. copies ≡ states.now) }
-{
-    let mut copies = List::new(alloc);
-    for state in states {
-        copies.push(state.copy(alloc)?)?;
-    }
-    Ok(copies)
-}
-
-/// Equal hops.
-fn copied_hops(alloc: Global, hops: &[Hop]) -> Result<List<Hop>, NoMemory>
-    ensures { IfOk result (λ copies. copies ≡ hops.now) }
-{
-    let mut copies = List::new(alloc);
-    for hop in hops {
-        copies.push(hop.copy(alloc)?)?;
+        copies.push(walk.copy(alloc)?)?;
     }
     Ok(copies)
 }

@@ -17,30 +17,14 @@ use Rattle.net_model.specs.declared.walk.Walk.{Walk}
 use Rattle.net_model.proofs.FaultOrder.{classes_total}
 use Rattle.net_model.proofs.InForce.{one_in_force}
 use Rattle.net_model.proofs.TrialOrder.{one_representative}
+use Rattle.net_model.proofs.WalkLists.{one_walks}
 use Rattle.site_checks.specs.Ends.{AreEnds, end_eq, end_of}
 use Rattle.site_checks.specs.Views.{IsView, AreViews}
 use Rattle.site_checks.specs.declared.views.TypedEnd.{TypedEnd}
 use Rattle.site_checks.specs.declared.views.View.{View}
 use Rattle.site_checks.proofs.GoingOn.{flat_map_same}
 
-same_items : {X : Type 0} (xs ys : List X) → map (λ (x : X). Some x) xs ≡ map (λ (x : X). Some x) ys → xs ≡ ys
-same_items [] [] e = refl
-same_items [] (y ∷ ys) e = cc
-same_items (x ∷ xs) [] e = cc
-same_items {X = X} (x ∷ xs) (y ∷ ys) e =
-    let first : x ≡ y = cc in
-    let rest : map (λ (z : X). Some z) xs ≡ map (λ (z : X). Some z) ys = cc in
-    ap (λ (z : X). z ∷ xs) first ∙ ap (λ (zs : List X). y ∷ zs) (same_items xs ys rest)
-
--- the walks of a query are one list
-one_walks : (setting : Setting) (query : Labels) (rtype : RrType) (a b : List Walk) → AreWalks setting query rtype a → AreWalks setting query rtype b → a ≡ b
-one_walks setting query rtype a b (paths, are, walks) (others, also, same) =
-    let one : paths ≡ others =
-    same_rising path_cmp nat_list_cmp_total paths others are.ordered also.ordered
-    (λ path has. (also.all path).1 ((are.all path).0 has)) (λ path has. (are.all path).1 ((also.all path).0 has)) in
-    same_items a b (sym walks ∙ ap (map (walk_along setting query rtype)) one ∙ same)
-
--- and so are their ends
+-- the ends of a query are one list
 one_ends : (setting : Setting) (query : Labels) (a b : List TypedEnd) → AreEnds setting query a → AreEnds setting query b → a ≡ b
 one_ends setting query a b one other =
     one.are_ends

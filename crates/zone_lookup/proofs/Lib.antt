@@ -1,6 +1,7 @@
 pub mod CutsInside
 mod FirstsByName
 pub mod Glue
+pub mod InsideZones
 pub mod NearestZones
 mod OriginsBefore
 mod PlacesNear

@@ -8,7 +8,8 @@ use Rattle.net_model.specs.declared.walk.Walk.{Walk}
 use Rattle.net_model.specs.Step.{Setting, start}
 use Rattle.net_model.proofs.AllWalks.{Settled}
 use Rattle.plain_resolver.specs.Begun.{Begun, led_along, states_left, walks_on}
-use Rattle.plain_resolver.proofs.Resolved.{are_walks, has_more, has_no_more}
+use Rattle.net_model.proofs.WalkLists.{are_walks}
+use Rattle.plain_resolver.proofs.Resolved.{has_more, has_no_more}
 use Rattle.plain_resolver.proofs.ShownWalks.{nothing, starts_settled, along_nothing}
 use Rattle.plain_resolver.proofs.walks.visit_walks.Goals as goal
 

@@ -1,5 +1,5 @@
 use Rattle.std.proofs.Common.{◌≡◌, take}
-use Rattle.plain_resolver.proofs.begun.copied_states.Given as goal
+use Rattle.net_model.proofs.walk.copied_states.Given as goal
 
 -- copies of the states so far
 abbrev pub invariant-loop-state : goal.invariant-loop-state

@@ -1,5 +1,5 @@
 use Rattle.std.proofs.Common.{◌≡◌, take}
-use Rattle.plain_resolver.proofs.begun.copied_hops.Given as goal
+use Rattle.net_model.proofs.walk.copied_hops.Given as goal
 
 -- copies of the hops so far
 abbrev pub invariant-loop-hop : goal.invariant-loop-hop

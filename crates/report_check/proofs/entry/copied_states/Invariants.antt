@@ -1,6 +1,0 @@
-use Rattle.std.proofs.Common.{◌≡◌, take}
-use Rattle.report_check.proofs.entry.copied_states.Given as goal
-
--- copies of the states so far
-abbrev pub invariant-loop-state : goal.invariant-loop-state
-invariant-loop-state l = l.copies ≡ take l.state-index l.states
