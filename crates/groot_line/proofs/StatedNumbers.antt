@@ -11,7 +11,7 @@ use Rattle.groot_line.specs.Command.{command_of}
 use Rattle.groot_line.specs.Job.{asked, job_by, job_of, InRange, AreInRange}
 use Rattle.groot_line.specs.LineOption.{most_of}
 use Rattle.groot_line.specs.Number.{unless_zero, number_to, number_by}
-use Rattle.groot_line.specs.Operands.{asked_meta, only_meta, asked_name, asked_type, drill_number}
+use Rattle.groot_line.specs.Operands.{asked_meta, only_meta, asked_name, asked_type, most_zones, drill_number}
 use Rattle.groot_line.specs.declared.command.Command.{Command}
 use Rattle.groot_line.specs.declared.command.Command.TheVariants as commands
 use Rattle.groot_line.specs.declared.fault.LineFault.{LineFault}
@@ -72,25 +72,25 @@ asked_in (meta ∷ name ∷ []) = tt
 asked_in (meta ∷ name ∷ rtype ∷ []) = through AreInRange (asked_meta meta) _ (λ m. through AreInRange (asked_name name) _ (λ n. through AreInRange (asked_type rtype) _ (λ t. tt)))
 asked_in (meta ∷ name ∷ rtype ∷ other ∷ rest) = tt
 
-drill_in : (operands : List (List ℕ)) → IfOk (drill_number operands) (InRange 5000)
+drill_in : (operands : List (List ℕ)) → IfOk (drill_number operands) (InRange most_zones)
 drill_in [] = tt
-drill_in (word ∷ []) = if_ok_or (InRange 5000) (number_to 5000 word) Usage (number_in_range 5000 word)
+drill_in (word ∷ []) = if_ok_or (InRange most_zones) (number_to most_zones word) Usage (number_in_range most_zones word)
 drill_in (word ∷ other ∷ rest) = tt
 
 job_by_in : (command : Command) (arguments : Arguments) → IfOk (job_by command arguments) AreInRange
 job_by_in commands.Check arguments =
     through AreInRange (only_meta arguments.operands) _
-    (λ meta. if_ok_then (InRange 64) AreInRange (number_by options.Workers arguments.workers) _ (option_in options.Workers arguments.workers)
-    (λ workers first. if_ok_then (InRange 1000000) AreInRange (number_by options.Classes arguments.classes) _ (option_in options.Classes arguments.classes)
-    (λ classes second. if_ok_then (InRange 64) AreInRange (number_by options.Rewrites arguments.rewrites) _ (option_in options.Rewrites arguments.rewrites)
+    (λ meta. if_ok_then (InRange (most_of options.Workers)) AreInRange (number_by options.Workers arguments.workers) _ (option_in options.Workers arguments.workers)
+    (λ workers first. if_ok_then (InRange (most_of options.Classes)) AreInRange (number_by options.Classes arguments.classes) _ (option_in options.Classes arguments.classes)
+    (λ classes second. if_ok_then (InRange (most_of options.Rewrites)) AreInRange (number_by options.Rewrites arguments.rewrites) _ (option_in options.Rewrites arguments.rewrites)
     (λ rewrites third. (first, second, third)))))
 job_by_in commands.Ask arguments = asked_in arguments.operands
 job_by_in commands.Classes arguments =
     through AreInRange (only_meta arguments.operands) _
-    (λ meta. if_ok_then (InRange 1000000) AreInRange (number_by options.Classes arguments.classes) _ (option_in options.Classes arguments.classes) (λ classes within. within))
+    (λ meta. if_ok_then (InRange (most_of options.Classes)) AreInRange (number_by options.Classes arguments.classes) _ (option_in options.Classes arguments.classes) (λ classes within. within))
 job_by_in commands.Drill arguments =
-    if_ok_then (InRange 5000) AreInRange (drill_number arguments.operands) _ (drill_in arguments.operands)
-    (λ n within. if_ok_then (InRange 64) AreInRange (number_by options.Workers arguments.workers) _ (option_in options.Workers arguments.workers) (λ workers second. (within, second)))
+    if_ok_then (InRange most_zones) AreInRange (drill_number arguments.operands) _ (drill_in arguments.operands)
+    (λ n within. if_ok_then (InRange (most_of options.Workers)) AreInRange (number_by options.Workers arguments.workers) _ (option_in options.Workers arguments.workers) (λ workers second. (within, second)))
 
 -- the numbers of the job that words ask for are in their ranges
 in_range : (words : List (List ℕ)) → IfOk (job_of words) AreInRange

@@ -3,8 +3,9 @@ use Rattle.std.specs.Prelude.{ℕ, ◌<◌, ◌≤◌, List, [], ◌∷◌, ok_o
 use Rattle.dns_data.specs.Answers.{◌>>=◌}
 use Rattle.groot_line.specs.Arguments.{Arguments, arguments_of}
 use Rattle.groot_line.specs.Command.{command_of}
+use Rattle.groot_line.specs.LineOption.{most_of}
 use Rattle.groot_line.specs.Number.{number_by}
-use Rattle.groot_line.specs.Operands.{asked_meta, only_meta, asked_name, asked_type, drill_number}
+use Rattle.groot_line.specs.Operands.{asked_meta, only_meta, asked_name, asked_type, most_zones, drill_number}
 use Rattle.groot_line.specs.declared.command.Command.{Command}
 use Rattle.groot_line.specs.declared.command.Command.TheVariants as commands
 use Rattle.groot_line.specs.declared.fault.LineFault.{LineFault}
@@ -54,7 +55,8 @@ InRange most n = (0 < n) × (n ≤ most)
 
 -- the numbers of a job are such as words may say
 abbrev pub AreInRange : Job → Type 0
-AreInRange (Check meta workers classes rewrites) = InRange 64 workers × InRange 1000000 classes × InRange 64 rewrites
+AreInRange (Check meta workers classes rewrites) =
+    InRange (most_of options.Workers) workers × InRange (most_of options.Classes) classes × InRange (most_of options.Rewrites) rewrites
 AreInRange (Ask meta name rtype) = Unit {0}
-AreInRange (Classes meta classes) = InRange 1000000 classes
-AreInRange (Drill n workers) = InRange 5000 n × InRange 64 workers
+AreInRange (Classes meta classes) = InRange (most_of options.Classes) classes
+AreInRange (Drill n workers) = InRange most_zones n × InRange (most_of options.Workers) workers

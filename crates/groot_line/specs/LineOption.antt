@@ -9,10 +9,14 @@ option_name Workers = codes "workers"
 option_name Classes = codes "classes"
 option_name Rewrites = codes "rewrites"
 
+-- the most names that the class tree may be allowed to have
+abbrev pub most_names : ℕ
+most_names = 1000000
+
 -- the most that the number of an option may be
 abbrev pub most_of : LineOption → ℕ
 most_of Workers = 64
-most_of Classes = 1000000
+most_of Classes = most_names
 most_of Rewrites = 64
 
 -- how many names the class tree may have, where nothing else is said

@@ -26,7 +26,11 @@ asked_name word = with_fault (λ fault. Usage) (name_of_text word [])
 abbrev pub asked_type : List ℕ → Result RrType LineFault
 asked_type word = ok_or (type_of_word word) Usage
 
+-- the most zones of which a drill makes files
+abbrev pub most_zones : ℕ
+most_zones = 5000
+
 -- of how many zones a drill makes files, if the word for it is the only operand
 abbrev pub drill_number : List (List ℕ) → Result ℕ LineFault
-drill_number (word ∷ []) = ok_or (number_to 5000 word) Usage
+drill_number (word ∷ []) = ok_or (number_to most_zones word) Usage
 drill_number operands = Err Usage

@@ -2,6 +2,7 @@
 use Rattle.std.specs.Prelude.{◌≡◌, ◌⊎◌, ◌<◌, ◌≤◌, ℕ, Result, Ok, Err}
 use Rattle.graph_form.specs.Report.{IsReport}
 use Rattle.graph_form.specs.declared.report.Report.{Report}
+use Rattle.groot_line.specs.LineOption.{most_names}
 use Rattle.net_model.specs.declared.config.Config.{Config}
 use Rattle.class_judge.specs.Carried.{whole}
 use Rattle.class_judge.specs.Passed.{SomeClassPasses}
@@ -13,7 +14,7 @@ use Rattle.groot_run.specs.Outcome.{HasMoreNames, WithinNames, WithinStates, mos
 pub record AreLimits (limits : CheckLimits) : Type 0 where
   pub workers : 0 < limits.workers
   pub classes : 0 < limits.classes
-  pub classes_most : limits.classes ≤ 1000000
+  pub classes_most : limits.classes ≤ most_names
   pub rewrites : 0 < limits.rewrites
 
 -- The report of the configuration; or how a run ends that has none, since the class tree has more names than the limit, or
