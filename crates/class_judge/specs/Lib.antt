@@ -1,12 +1,8 @@
 pub use Rattle.graph_form.specs.Report
+pub use Rattle.query_verdicts.specs.Carried
+pub use Rattle.query_verdicts.specs.Passed
+pub use Rattle.query_verdicts.specs.Values
+pub use Rattle.query_verdicts.specs.Verdict
 pub use Rattle.verdict_book.specs.Items
 pub use Rattle.verdict_book.specs.Lists
-pub mod Carried
-pub mod Entries
-pub mod FiledVerdict
-pub mod Passed
-pub mod Rows
-pub mod Setup
-pub mod TreeNames
-pub mod Values
-pub mod Verdict
+pub mod Refused

@@ -1,40 +1,46 @@
 //! The judge of the class tree of a configuration: a work whose items are the names of the tree.
 
-ghost use Rattle.std.specs.Prelude.{◌≡◌, []};
-ghost use Rattle.class_judge.specs.Setup.{IsSetupFor};
-ghost use Rattle.class_judge.specs.Values.{AreValues};
+ghost use Rattle.std.specs.Prelude.{◌≡◌, ◌<◌, ◌^◌, [], length, IfOk, IfErr, OnOk};
+ghost use Rattle.class_judge.specs.Refused.{IsRefusalOf};
 ghost use Rattle.dns_data.proofs.Names.{same_names};
+ghost use Rattle.dns_data.specs.Name.{name_cmp};
+ghost use Rattle.graph_form.specs.Report.{IsReport};
+ghost use Rattle.query_verdicts.specs.Carried.{whole};
+ghost use Rattle.query_verdicts.specs.Passed.{SomeClassPasses};
+ghost use Rattle.query_verdicts.specs.Values.{AreValues};
+ghost use Rattle.verdict_book.specs.Lists.{IsWholeTree};
 
-use crate::classes::judge_name;
-use crate::naming::Naming;
-use crate::setup::Setup;
-use crate::tree_name::TreeName;
-use crate::verdict::FiledVerdict;
-use dns_data::{List, NoMemory};
-use std::marker::{Model, PhantomData};
-use verdict_book::{JudgeShare, Work};
+use crate::naming::{Naming, OfConfig};
+use dns_data::{List, Name, NoMemory};
+use graph_form::Report;
+use label_graph::LabelGraph;
+use net_model::Config;
+use query_classes::TreeName;
+use query_verdicts::{FiledVerdict, NameJudge, QueryGraphs, ReportFault, SubjectGround};
+use std::alloc::Global;
+use std::marker::Model;
+use verdict_book::{Filed, JudgeShare, Work};
 
 /// A judge of the class tree of a configuration. Contracts see the configuration.
 #[derive(Drop)]
 pub struct Judge<'a, N: Naming> {
-    setup: Setup<'a>,
-    of: PhantomData<N>,
+    names: NameJudge<'a, OfConfig<N>>,
 }
 
 impl<'a, N: Naming> Model for Judge<'a, N> {
     ghost use Rattle.net_model.specs.declared.config.Config.{Config};
-    ghost use Rattle.class_judge.specs.Setup.{IsSetupFor};
-    ghost use Rattle.class_judge.specs.Values.{AreValues};
+    ghost use Rattle.query_verdicts.specs.Carried.{whole};
+    ghost use Rattle.query_verdicts.specs.Values.{AreValues};
 
     ghost Value = { Config };
 
-    ghost view = { λ judge. judge.setup.trees };
+    ghost view = { λ judge. judge.names.config };
 
-    ghost invariant = { λ judge. IsSetupFor N.config N.rewrites N.states judge.setup × AreValues N.config N.rewrites N.states N.children_of N.verdict_of };
+    ghost invariant = { λ judge. AreValues (whole N.config N.rewrites) N.states N.children_of N.verdict_of };
 }
 
 impl<'a, N: Naming + Send> Work for Judge<'a, N> {
-    type Item = TreeName<N>;
+    type Item = TreeName<SubjectGround<OfConfig<N>>>;
 
     type Verdict = FiledVerdict;
 
@@ -44,22 +50,31 @@ impl<'a, N: Naming + Send> Work for Judge<'a, N> {
 
     ghost verdict_of = { N.verdict_of };
 
-    fn first(&self) -> Result<TreeName<N>, NoMemory> {
-        TreeName::root(self.setup.alloc, &self.setup.graph)
+    fn first(&self) -> Result<TreeName<SubjectGround<OfConfig<N>>>, NoMemory> {
+        self.names.first()
     }
 
-    fn children(&self, item: &TreeName<N>) -> Result<List<TreeName<N>>, NoMemory> {
-        item.children(self.setup.alloc, &self.setup.graph)
+    fn children(
+        &self,
+        item: &TreeName<SubjectGround<OfConfig<N>>>,
+    ) -> Result<List<TreeName<SubjectGround<OfConfig<N>>>>, NoMemory> {
+        self.names.children(item)
     }
 
-    fn judge(&self, item: &TreeName<N>, share: &mut JudgeShare) -> Result<FiledVerdict, NoMemory> {
+    fn judge(
+        &self,
+        item: &TreeName<SubjectGround<OfConfig<N>>>,
+        share: &mut JudgeShare,
+    ) -> Result<FiledVerdict, NoMemory> {
         share.raise();
-        let verdict = judge_name(&self.setup, item.live_name())?;
-        FiledVerdict::of(self.setup.alloc, verdict)
+        self.names.judge(item)
     }
 
-    fn copy_item(&self, item: &TreeName<N>) -> Result<TreeName<N>, NoMemory> {
-        item.copy(self.setup.alloc)
+    fn copy_item(
+        &self,
+        item: &TreeName<SubjectGround<OfConfig<N>>>,
+    ) -> Result<TreeName<SubjectGround<OfConfig<N>>>, NoMemory> {
+        self.names.copy_item(item)
     }
 
     ghost parents_apart = { N.apart };
@@ -68,23 +83,39 @@ impl<'a, N: Naming + Send> Work for Judge<'a, N> {
 }
 
 impl<'a, N: Naming> Judge<'a, N> {
-    /// What the classes are judged with.
-    pub(crate) fn setup(&self) -> &Setup<'a>
-        ensures setup { IsSetupFor N.config N.rewrites N.states result.now }
-        ensures values { AreValues N.config N.rewrites N.states N.children_of N.verdict_of }
+    /// The judge of the class tree of a configuration, whose queries may use so many rewrites, and of each of which no more
+    /// pairs of state and type are looked at than so many. The trees of all zones, the graph of each server's name and the
+    /// regions of names are made here, once.
+    pub fn prepare(
+        alloc: Global,
+        config: &'a Config,
+        rewrites: u32,
+        states: u32,
+    ) -> Result<Judge<'a, N>, NoMemory>
+        requires config { config.now ≡ N.config }
+        requires rewrites { rewrites ≡ N.rewrites }
+        requires states { states ≡ N.states }
+        requires values { AreValues (whole N.config N.rewrites) N.states N.children_of N.verdict_of }
+        ensures config { IfOk result (λ judge. judge ≡ config.now) }
     {
-        &self.setup
+        let graphs = QueryGraphs::prepare(alloc, config, rewrites, states)?;
+        let base = LabelGraph::of_config(alloc, config)?;
+        let names = NameJudge::new(alloc, graphs, base, None, Name::root());
+        Ok(Judge { names })
     }
+}
 
-    /// The judge with what was made for it.
-    pub(crate) fn of(setup: Setup<'a>) -> Judge<'a, N>
-        requires setup { IsSetupFor N.config N.rewrites N.states setup }
-        requires values { AreValues N.config N.rewrites N.states N.children_of N.verdict_of }
-        ensures { result ≡ setup.entry.trees }
+impl<'a, N: Naming + Send> Judge<'a, N> {
+    /// The report of the configuration, from the verdicts of all names of its class tree: the faults that some query shows,
+    /// each with its first query and type, and the first walk or pair of walks. Where the representative of some class reaches
+    /// more pairs of state and type than are looked at, it is `StatesPassed` with the first such one.
+    pub fn report(&self, filed: List<Filed<Judge<'a, N>>>) -> Result<Report, ReportFault>
+        requires whole { IsWholeTree name_cmp [] N.children_of N.verdict_of filed }
+        requires few { length filed < 2 ^ 31 }
+        ensures report { IfOk result (IsReport (whole N.config N.rewrites)) }
+        ensures none_passes { OnOk result (SomeClassPasses (whole N.config N.rewrites) N.states → ⊥) }
+        ensures fault { IfErr result (IsRefusalOf N.config N.rewrites N.states) }
     {
-        Judge {
-            setup,
-            of: PhantomData,
-        }
+        self.names.report(filed)
     }
 }

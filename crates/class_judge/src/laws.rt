@@ -1,11 +1,9 @@
 //! What the faults of representatives tell of all queries, and what the children and the verdicts of names are.
 
-ghost use Rattle.std.specs.Prelude.{◌≡◌, ◌↔◌, ◌++◌, ℕ, List, []};
-ghost use Rattle.class_judge.specs.Carried.{whole, SomeClassShows};
-ghost use Rattle.class_judge.specs.Values.{AreValues};
-ghost use Rattle.class_judge.specs.Verdict.{IsClassVerdict};
-ghost use Rattle.class_judge.specs.declared.verdict.ClassVerdict.{ClassVerdict};
-ghost use Rattle.class_judge.specs.declared.verdict.NameVerdict.{NameVerdict};
+ghost use Rattle.std.specs.Prelude.{◌↔◌, ◌++◌, ℕ, List, []};
+ghost use Rattle.query_verdicts.specs.Carried.{whole, SomeClassShows};
+ghost use Rattle.query_verdicts.specs.Values.{AreValues};
+ghost use Rattle.query_verdicts.specs.declared.verdict.NameVerdict.{NameVerdict};
 ghost use Rattle.dns_data.specs.Name.{Labels, IsName};
 ghost use Rattle.graph_form.specs.Report.{IsShown};
 ghost use Rattle.net_model.specs.Reading.{ground_of, IsNamed};
@@ -31,17 +29,11 @@ pub fn classes_are_told()
 /// Each name of a class tree has children and a verdict.
 pub fn values_exist()
     ensures { (config : Config) (rewrites states : ℕ) → (children_of : Labels → List Labels) × (verdict_of : Labels → NameVerdict)
-        × AreValues config rewrites states children_of verdict_of }
+        × AreValues (whole config rewrites) states children_of verdict_of }
 {}
 
 /// More than so many items are reached from the root exactly where the class tree has more names.
 pub fn tree_is_reached()
     ensures { (config : Config) (children_of : Labels → List Labels) → ((name : Labels) → AreChildren (ground_of config) name (children_of name))
         → (limit : ℕ) → ReachesMore [] children_of limit ↔ HasMoreThan (IsInTree (ground_of config)) limit }
-{}
-
-/// A class has one verdict.
-pub fn one_verdict()
-    ensures { (config : Config) (rewrites states : ℕ) (query : Labels) (a b : ClassVerdict)
-        → IsClassVerdict config rewrites states query a → IsClassVerdict config rewrites states query b → a ≡ b }
 {}

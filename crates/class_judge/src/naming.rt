@@ -1,15 +1,17 @@
 //! The names under which judges go.
 
 ghost use Rattle.std.specs.Prelude.{ℕ, [], List as Items, None};
-ghost use Rattle.class_judge.specs.declared.verdict.ClassVerdict.TheVariants.{Faults};
-ghost use Rattle.class_judge.specs.declared.verdict.NameVerdict.{NameVerdict};
+ghost use Rattle.query_verdicts.specs.declared.verdict.ClassVerdict.TheVariants.{Faults};
+ghost use Rattle.query_verdicts.specs.declared.verdict.NameVerdict.{NameVerdict};
+ghost use Rattle.query_verdicts.specs.Carried.{whole};
 ghost use Rattle.dns_data.specs.Name.{Labels};
 ghost use Rattle.dns_data.proofs.Membership.{none_in_nil};
 ghost use Rattle.net_model.specs.declared.config.Config.{Config};
 ghost use Rattle.std.proofs.lemmas.Option.{slice_get_within, get_or_from_slice_get};
 ghost use Rattle.verdict_book.specs.Items.{ParentsApart};
 
-use std::marker::Brand;
+use query_verdicts::OnSubject;
+use std::marker::{Brand, PhantomData};
 
 /// The name under which a judge goes: its configuration, how many rewrites a query may use and how many pairs of state and
 /// type it may reach, and the children and the verdict of each name, as the configuration gives them. The meanings of a work
@@ -45,4 +47,16 @@ impl Naming for Brand {
       none_of_first = λ parent place reached at.
           none_in_nil [] (place, slice_get_within [] place [] at, get_or_from_slice_get [] place [] [] at);
     } };
+}
+
+/// The configuration of a name, as a whole: the subject of a judge.
+#[derive(Drop)]
+pub struct OfConfig<N: Naming> {
+    of: PhantomData<N>,
+}
+
+impl<N: Naming> OnSubject for OfConfig<N> {
+    ghost subject = { whole N.config N.rewrites };
+
+    ghost states = { N.states };
 }

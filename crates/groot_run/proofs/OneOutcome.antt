@@ -6,8 +6,9 @@ use Rattle.io_edges.specs.Files.{FilesTold}
 use Rattle.dns_data.specs.Name.{Labels}
 use Rattle.dns_data.specs.declared.rr_type.RrType.{RrType}
 use Rattle.net_model.specs.declared.config.Config.{Config}
+use Rattle.net_model.specs.Reading.{ground_of}
 use Rattle.net_model.specs.Step.{following}
-use Rattle.class_judge.specs.Carried.{whole}
+use Rattle.query_verdicts.specs.Carried.{whole}
 use Rattle.config_load.specs.Conf.{conf}
 use Rattle.config_load.specs.Reading.{Reading, Reads, Refuses, Misses, Unknown}
 use Rattle.groot_line.specs.declared.fault.LineFault.{LineFault}
@@ -34,7 +35,7 @@ one_within config limit P Q a b same (inr p) (inr q) = same p.1 q.1
 one_within_states : (config : Config) (rewrites : ℕ) (P Q : Type 0) (a b : Ending) → (P → Q → a ≡ b)
     → WithinStates config rewrites P a → WithinStates config rewrites Q b → a ≡ b
 one_within_states config rewrites P Q a b same (inl (query, first, is)) (inl (other, also, was)) =
-    is ∙ ap too_many_states (one_passed config rewrites most_states query other first also) ∙ sym was
+    is ∙ ap too_many_states (one_passed (whole config rewrites) most_states query other first also) ∙ sym was
 one_within_states config rewrites P Q a b same (inl (query, first, is)) (inr q) = absurd (q.0 (first.class, query, first.passes))
 one_within_states config rewrites P Q a b same (inr p) (inl (other, also, was)) = absurd (p.0 (also.class, other, also.passes))
 one_within_states config rewrites P Q a b same (inr p) (inr q) = same p.1 q.1
@@ -54,7 +55,7 @@ one_drill zones config a b =
 one_list : (limit : ℕ) (config : Config) (a b : Ending) → ListsClasses limit config a → ListsClasses limit config b → a ≡ b
 one_list limit config a b =
     one_within config limit (IsClassList config a) (IsClassList config b) a b
-    (λ p q. p.as_text ∙ ap listed (one_class_list config p.classes q.classes p.are_listed q.are_listed) ∙ sym q.as_text)
+    (λ p q. p.as_text ∙ ap listed (one_class_list (ground_of config) [] p.classes q.classes p.are_listed q.are_listed) ∙ sym q.as_text)
 
 one_answer : (config : Config) (followed : List Labels) (name : Labels) (rtype : RrType) (a b : Ending)
     → IsAnswerWith config followed name rtype a → IsAnswerWith config followed name rtype b → a ≡ b

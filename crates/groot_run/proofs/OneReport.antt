@@ -1,13 +1,12 @@
 -- A subject has at most one report: its tree has one size, and its faults are listed once, in one order, each with
 -- its one entry.
 use Rattle.std.proofs.Common.{◌≡◌, ℕ, ◌+◌, List, length, Contains, sym, ap, ◌∙◌, subst}
-use Rattle.std.specs.List.{filter}
 use Rattle.std.specs.Ordering.{on}
 use Rattle.std.proofs.lemmas.Cmp.{on_total}
-use Rattle.dns_data.specs.Name.{Labels, name_cmp, is_prefix}
+use Rattle.dns_data.specs.Name.{Labels, name_cmp}
 use Rattle.net_model.specs.FaultOrder.{fault_cmp}
 use Rattle.net_model.specs.Reading.{Ground}
-use Rattle.net_model.specs.Tree.{IsClassTree, AreBelowClasses}
+use Rattle.net_model.specs.Tree.{IsTreePart, AreBelowClasses}
 use Rattle.graph_form.specs.declared.report.Report.{Report}
 use Rattle.graph_form.specs.declared.report.ReportEntry.{ReportEntry}
 use Rattle.graph_form.specs.Report.{Subject, IsEntry, IsShown, IsTreeSize, IsReport}
@@ -20,9 +19,9 @@ use Rattle.dns_data.proofs.OrderedLists.{same_rising}
 -- ---- the size
 
 module _ (ground : Ground) where
-  -- the class tree is one list
-  one_tree : (a b : List Labels) → IsClassTree ground a → IsClassTree ground b → a ≡ b
-  one_tree a b p q =
+  -- the part of the class tree at or below a name is one list
+  one_part : (above : Labels) (a b : List Labels) → IsTreePart ground above a → IsTreePart ground above b → a ≡ b
+  one_part above a b p q =
       same_rising name_cmp names_total a b p.ordered q.ordered
       (λ name has. (q.all name).1 ((p.all name).0 has)) (λ name has. (p.all name).1 ((q.all name).0 has))
 
@@ -36,14 +35,13 @@ module _ (ground : Ground) where
   pub one_size : (above : Labels) (names classes names' classes' : ℕ) → IsTreeSize ground above names classes → IsTreeSize ground above names' classes'
       → (names ≡ names') × (classes ≡ classes')
   one_size above names classes names' classes' p q =
-      let at_or_below = λ (names : List Labels). filter (is_prefix above) names in
-      let tree : p.tree ≡ q.tree = one_tree p.tree q.tree p.is_tree q.is_tree in
+      let part : p.part ≡ q.part = one_part above p.part q.part p.is_part q.is_part in
       let below : p.below ≡ q.below =
-      one_below q.tree p.below q.below (subst (λ (names : List Labels). AreBelowClasses ground names p.below) tree p.are_below) q.are_below in (
-        p.counts_names ∙ ap (λ names. length (at_or_below names)) tree ∙ sym q.counts_names,
+      one_below q.part p.below q.below (subst (λ (names : List Labels). AreBelowClasses ground names p.below) part p.are_below) q.are_below in (
+        p.counts_names ∙ ap (λ (names : List Labels). length names) part ∙ sym q.counts_names,
         p.counts_classes
-            ∙ ap (λ names. length (at_or_below names) + length (at_or_below p.below)) tree
-            ∙ ap (λ names. length (at_or_below q.tree) + length (at_or_below names)) below
+            ∙ ap (λ (names : List Labels). length names + length p.below) part
+            ∙ ap (λ (names : List Labels). length q.part + length names) below
             ∙ sym q.counts_classes,
       )
 

@@ -4,8 +4,8 @@ use Rattle.graph_form.specs.Report.{IsReport}
 use Rattle.graph_form.specs.declared.report.Report.{Report}
 use Rattle.groot_line.specs.LineOption.{most_names}
 use Rattle.net_model.specs.declared.config.Config.{Config}
-use Rattle.class_judge.specs.Carried.{whole}
-use Rattle.class_judge.specs.Passed.{SomeClassPasses}
+use Rattle.query_verdicts.specs.Carried.{whole}
+use Rattle.query_verdicts.specs.Passed.{SomeClassPasses}
 use Rattle.groot_run.specs.declared.ending.Ending.{Ending}
 use Rattle.groot_run.specs.declared.judging.CheckLimits.{CheckLimits}
 use Rattle.groot_run.specs.Outcome.{HasMoreNames, WithinNames, WithinStates, most_states, no_memory}
@@ -21,5 +21,5 @@ pub record AreLimits (limits : CheckLimits) : Type 0 where
 -- else a representative reaches too many pairs.
 abbrev pub IsJudged : ℕ → ℕ → Config → Result Report Ending → Type 0
 IsJudged limit rewrites config (Ok report) =
-    (HasMoreNames config limit → ⊥) × (SomeClassPasses config rewrites most_states → ⊥) × IsReport (whole config rewrites) report
+    (HasMoreNames config limit → ⊥) × (SomeClassPasses (whole config rewrites) most_states → ⊥) × IsReport (whole config rewrites) report
 IsJudged limit rewrites config (Err ending) = WithinNames config limit (WithinStates config rewrites ⊥ ending) ending ⊎ (ending ≡ no_memory)

@@ -13,12 +13,13 @@ pub use Rattle.net_model.specs.Tails
 pub use Rattle.net_model.specs.Tree
 pub use Rattle.net_model.specs.Walk
 pub use Rattle.graph_form.specs.Report
-pub use Rattle.class_judge.specs.Carried
-pub use Rattle.class_judge.specs.Passed
+pub use Rattle.query_verdicts.specs.Carried
+pub use Rattle.query_verdicts.specs.Passed
 pub use Rattle.report_json.specs.Ask
 pub use Rattle.report_json.specs.Report as ReportText
 pub use Rattle.plain_resolver.specs.Passed as WalksPassed
 pub use Rattle.query_classes.specs.Children
+pub use Rattle.query_classes.specs.ClassList as ListedClasses
 pub use Rattle.query_classes.specs.Members
 pub use Rattle.io_edges.specs.Counts
 pub use Rattle.io_edges.specs.Files

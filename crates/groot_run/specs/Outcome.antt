@@ -11,8 +11,8 @@ use Rattle.net_model.specs.Learnt.{IsInForce}
 use Rattle.net_model.specs.Step.{following}
 use Rattle.net_model.specs.Walk.{AreWalks}
 use Rattle.net_model.specs.Reading.{ground_of}
-use Rattle.class_judge.specs.Carried.{whole}
-use Rattle.class_judge.specs.Passed.{SomeClassPasses, IsFirstPassed}
+use Rattle.query_verdicts.specs.Carried.{whole}
+use Rattle.query_verdicts.specs.Passed.{SomeClassPasses, IsFirstPassed}
 use Rattle.config_load.specs.Conf.{conf}
 use Rattle.config_load.specs.Load.{ReadingComesTo}
 use Rattle.config_load.specs.Reading.{Reading, Reads, Refuses, Misses, Unknown}
@@ -36,7 +36,8 @@ use Rattle.net_model.specs.Tree.{HasMoreThan}
 use Rattle.query_classes.specs.Children.{IsInTree}
 use Rattle.zone_maker.specs.Source.{drill_told}
 use Rattle.groot_run.specs.DrillLine.{drill_line, records_of}
-use Rattle.groot_run.specs.ClassList.{ListedClass, AreListed, class_list_text}
+use Rattle.query_classes.specs.ClassList.{ListedClass, AreListed}
+use Rattle.groot_run.specs.ClassList.{class_list_text}
 
 -- the number of a status, as the program ends with it
 abbrev pub status_number : Status → ℕ
@@ -139,8 +140,8 @@ WithinNames config limit EndsSo ending =
 -- run ends so. Of those that do the first in class order is named.
 abbrev pub WithinStates : Config → ℕ → Type 0 → Ending → Type 0
 WithinStates config rewrites EndsSo ending =
-    ((query : Labels) × IsFirstPassed config rewrites most_states query × (ending ≡ too_many_states query))
-    ⊎ ((SomeClassPasses config rewrites most_states → ⊥) × EndsSo)
+    ((query : Labels) × IsFirstPassed (whole config rewrites) most_states query × (ending ≡ too_many_states query))
+    ⊎ ((SomeClassPasses (whole config rewrites) most_states → ⊥) × EndsSo)
 
 -- the run ends with the report of the configuration
 pub record IsReported (config : Config) (rewrites : ℕ) (ending : Ending) : Type 0 where
@@ -157,7 +158,7 @@ Checks limit rewrites config ending =
 -- the run ends with the list of the configuration's classes
 pub record IsClassList (config : Config) (ending : Ending) : Type 0 where
   pub classes : List ListedClass
-  pub are_listed : AreListed config classes
+  pub are_listed : AreListed (ground_of config) [] classes
   pub as_text : ending ≡ listed classes
 
 -- what `classes` gives of a configuration: the list of its classes

@@ -3,7 +3,8 @@
 ghost use Rattle.std.specs.Prelude.{◌≡◌, ◌⊎◌, ◌++◌, IfOk, OnOk};
 ghost use Rattle.net_model.specs.declared.class.Class.TheVariants.{Exact, Below};
 ghost use Rattle.groot_run.specs.ClassList.{class_line, class_list_text};
-ghost use Rattle.groot_run.specs.ClassRows.{classes_of_row, rows_text};
+ghost use Rattle.groot_run.specs.ClassRows.{rows_text};
+ghost use Rattle.query_classes.specs.ClassList.{classes_of_row};
 ghost use Rattle.groot_run.specs.Outcome.{ListsClasses, no_memory};
 
 use crate::ending::Ending;
@@ -19,7 +20,7 @@ pub(crate) fn list_classes(alloc: Global, config: &Config, limit: u32) -> Ending
     ensures { ListsClasses limit config.now result ⊎ (result ≡ no_memory) }
 {
     match LabelGraph::of_config(alloc, config) {
-        Ok(graph) => match class_tree(alloc, &graph, limit) {
+        Ok(graph) => match class_tree(alloc, &graph, &Name::root(), limit) {
             Ok(rows) => Ending::written(Status::Clean, text_of(alloc, rows.items())),
             Err(TreeFault::TooMany) => Ending::too_many_names(alloc, limit),
             Err(TreeFault::NoMemory) => Ending::no_memory(),

@@ -1,6 +1,7 @@
-use Rattle.class_judge.proofs.Carrying.{whole_by_classes}
-use Rattle.class_judge.proofs.NameVerdicts.{in_class}
+use Rattle.query_verdicts.specs.Carried.{whole}
+use Rattle.query_verdicts.proofs.Carrying.{shown_by_classes}
+use Rattle.class_judge.proofs.ConfigTrees.{is_covered}
 use Rattle.class_judge.proofs.laws.carrying.Goals as goal
 
 pub returns : goal.returns
-returns c = λ config rewrites fault. whole_by_classes config rewrites (in_class config) fault
+returns c = λ config rewrites fault. shown_by_classes (whole config rewrites) (is_covered config rewrites) fault

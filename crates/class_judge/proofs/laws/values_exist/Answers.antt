@@ -1,6 +1,4 @@
-use Rattle.class_judge.proofs.NameVerdicts.{verdict_of}
-use Rattle.class_judge.proofs.TreeItems.{children_of}
-use Rattle.class_judge.proofs.TreeValues.{values}
+use Rattle.class_judge.proofs.ConfigTrees.{children_of, verdict_of, values}
 use Rattle.class_judge.proofs.laws.values_exist.Goals as goal
 
 pub returns : goal.returns

@@ -1,4 +1,4 @@
-use Rattle.class_judge.proofs.TreeValues.{values}
+use Rattle.class_judge.proofs.ConfigTrees.{values}
 use Rattle.groot_run.specs.Outcome.{most_states}
 use Rattle.groot_run.proofs.judging.report_of.Goals as goal
 

@@ -1,6 +1,4 @@
-use Rattle.class_judge.proofs.NameVerdicts.{verdict_of}
-use Rattle.class_judge.proofs.TreeItems.{children_of}
-use Rattle.class_judge.proofs.TreeValues.{apart}
+use Rattle.class_judge.proofs.ConfigTrees.{apart, children_of, verdict_of}
 use Rattle.groot_run.specs.Outcome.{most_states}
 use Rattle.groot_run.proofs.judging.report_of.Given as goal
 

@@ -1,9 +1,0 @@
-use Rattle.std.proofs.Common.{List, sym, subst}
-use Rattle.std.specs.List.Sorted.{IsPermutation}
-use Rattle.class_judge.specs.declared.entries.ClassFault.{ClassFault}
-use Rattle.class_judge.proofs.entries.in_class_order.Goals as goal
-
-pub returns : goal.returns
-returns c =
-    subst (IsPermutation c.args.found) (sym c.from_vec.ensures)
-    (subst (λ (all : List ClassFault). IsPermutation all c.sort_by.new.self.items) c.into_vec-sorted.ensures c.sort_by.ensures.permutation)

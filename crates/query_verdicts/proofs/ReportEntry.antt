@@ -1,0 +1,99 @@
+-- The entry of a fault with the walks of a class that shows it.
+use Rattle.std.proofs.Common.{◌≡◌, ◌∙◌, ℕ, ◌≤◌, List, [], ◌∷◌, ◌++◌, All, Contains, Some, sym, ap, refl, subst, append_assoc, append-nil}
+use Rattle.std.specs.Prelude.{slice_get, Bool}
+use Rattle.std.proofs.lemmas.List.Elements.{All-contains, Contains-append_right}
+use Rattle.dns_data.specs.Name.{Labels}
+use Rattle.dns_data.specs.RrType.{number_of}
+use Rattle.dns_data.specs.declared.rr_type.RrType.{RrType}
+use Rattle.dns_data.proofs.Membership.{has_first}
+use Rattle.graph_form.specs.Report.{Subject, repeats}
+use Rattle.graph_form.specs.Trails.{AreFirst, GraphShows}
+use Rattle.graph_form.specs.declared.report.ReportEntry.{ReportEntry}
+use Rattle.interp_graph.proofs.ItemsByNumber.{beside_pushed}
+use Rattle.net_model.specs.declared.class.Class.{Class}
+use Rattle.net_model.specs.declared.walk.Walk.{Walk}
+use Rattle.net_model.specs.Class.{IsRepresentative}
+use Rattle.net_model.specs.Shown.{Shows, ShowsIn, with_sets}
+use Rattle.net_model.specs.Step.{Setting, following}
+use Rattle.net_model.proofs.TrialOrder.{one_representative}
+use Rattle.query_verdicts.specs.Entries.{AreEntriesOf, IsEntryOf, IsPut, IsRightFound, IsWalked}
+use Rattle.query_verdicts.specs.declared.entries.ClassFault.{ClassFault}
+use Rattle.query_verdicts.specs.declared.entries.Walked.{Walked}
+use Rattle.query_verdicts.proofs.FirstWalksShow.{AreFirstWalks, shows_with, graph_shows, first_walks}
+
+module _ (subject : Subject) (found : ClassFault) (right : IsRightFound subject found)
+    (walked : Walked) (is : IsWalked subject walked) (same : walked.class ≡ found.class) where
+  abbrev setting : Setting
+  setting = following subject.config subject.rewrites is.of_query.followed
+
+  represents : IsRepresentative subject.ground found.class walked.query
+  represents = subst (λ (class : Class). IsRepresentative subject.ground class walked.query) same is.represents
+
+  -- the class has one representative
+  query_is : right.query ≡ walked.query
+  query_is = one_representative subject.ground found.class right.query walked.query right.shows.represents represents
+
+  -- it shows the fault
+  query_shows : ShowsIn subject.config subject.rewrites walked.query found.seen.rtype found.seen.fault
+  query_shows = subst (λ (n : Labels). ShowsIn subject.config subject.rewrites n found.seen.rtype found.seen.fault) query_is right.shows.shows
+
+  shows : Shows (with_sets setting) walked.query found.seen.rtype found.seen.fault
+  shows = shows_with subject.config subject.rewrites is.of_query.followed is.of_query.in_force walked.query found.seen.rtype found.seen.fault query_shows
+
+  pub fault_shown : GraphShows walked.graph found.seen.rtype found.seen.fault
+  fault_shown = graph_shows setting walked.query found.seen.rtype walked.graph is.of_query.is_graph found.seen.fault shows
+
+  -- with its first walks it is the entry
+  pub is_entry : (repeated : Bool) (walks : List Walk) → AreFirst walked.graph found.seen.rtype found.seen.fault walks
+      → ((first : Walk) → slice_get walks 0 ≡ Some first → repeated ≡ repeats first.states)
+      → IsEntryOf subject found (record { seen = found.seen; query = walked.query; repeats = repeated; walks = walks })
+  is_entry repeated walks are told =
+      let first : AreFirstWalks setting walked.query found.seen.rtype found.seen.fault walks =
+      first_walks setting walked.query found.seen.rtype walked.graph is.of_query.is_graph found.seen.fault walks shows are in
+      record {
+        seen_is = refl;
+        is_entry = λ first_class. record {
+          class = found.class;
+          followed = is.of_query.followed;
+          paths = first.paths;
+          in_force = is.of_query.in_force;
+          shown = record { is_class = right.shows.is_class; represents = represents; shows = query_shows };
+          first_class = first_class;
+          first_type = subst (λ (n : Labels). (rtype : RrType) → ShowsIn subject.config subject.rewrites n rtype found.seen.fault → number_of found.seen.rtype ≤ number_of rtype) query_is right.first_type;
+          walks_show = first.show;
+          first_walks = first.first;
+          repeated = told;
+        };
+      }
+
+-- ---- the entries
+
+-- of what was passed over these are the entries
+pub record IsListing (subject : Subject) (all left : List ClassFault) (entries : List ReportEntry) : Type 0 where
+  pub done : List ClassFault
+  pub is : all ≡ done ++ left
+  pub are : AreEntriesOf subject done entries
+
+module _ (subject : Subject) (all left rest : List ClassFault) (found : ClassFault) (entries : List ReportEntry)
+    (next : left ≡ found ∷ rest) (listing : IsListing subject all left entries) where
+  pub listing_step : (more : List ReportEntry) → IsPut subject found entries more → IsListing subject all rest more
+  listing_step more (entry, is, put) =
+      record {
+        done = listing.done ++ found ∷ [];
+        is = listing.is ∙ ap (λ (l : List ClassFault). listing.done ++ l) next ∙ sym (append_assoc listing.done (found ∷ []) rest);
+        are =
+            subst (AreEntriesOf subject (listing.done ++ found ∷ [])) (sym put)
+            (beside_pushed (IsEntryOf subject) listing.done entries found entry listing.are is);
+      }
+
+  -- the next is one of them
+  pub next_right : All (IsRightFound subject) all → IsRightFound subject found
+  next_right right =
+      All-contains (IsRightFound subject) all found right
+      (subst (λ (l : List ClassFault). Contains l found) (sym (listing.is ∙ ap (λ (l : List ClassFault). listing.done ++ l) next))
+      (Contains-append_right listing.done (found ∷ rest) found (has_first found rest)))
+
+pub listing_ends : (subject : Subject) (all left : List ClassFault) (entries : List ReportEntry) → left ≡ [] → IsListing subject all left entries
+    → AreEntriesOf subject all entries
+listing_ends subject all left entries none listing =
+    subst (λ (l : List ClassFault). AreEntriesOf subject l entries) (sym (listing.is ∙ ap (λ (l : List ClassFault). listing.done ++ l) none ∙ append-nil listing.done)) listing.are

@@ -1,0 +1,170 @@
+-- The first class whose representative reaches more pairs of state and type than are looked at, from the rows of the tree.
+use Rattle.std.proofs.Common.{◌≡◌, ◌≢◌, ◌∙◌, ℕ, ◌<◌, ◌≤◌, true, false, List, [], length, get_or, Option, Some, None, refl, sym, ap, subst, inl, inr, arith, true≢false}
+use Rattle.std.specs.Ordering.{ordering_reverse, ordering_then}
+use Rattle.std.specs.declared.cmp.Ordering.{Ordering}
+use Rattle.std.specs.declared.cmp.Ordering.TheVariants.{Less, Equal, Greater}
+use Rattle.std.specs.Option.{option_map_or}
+use Rattle.std.proofs.lemmas.Bool.{cases_lt}
+use Rattle.std.proofs.lemmas.List.{get_or_default}
+use Rattle.std.proofs.lemmas.Cmp.{tied_itself}
+use Rattle.dns_data.specs.Name.{Labels, name_cmp}
+use Rattle.dns_data.proofs.Membership.{from_map}
+use Rattle.dns_data.proofs.NameOrder.{names_total}
+use Rattle.dns_data.proofs.OrderedLists.{never_before_itself}
+use Rattle.net_model.specs.declared.class.Class.{Class}
+use Rattle.net_model.specs.declared.class.Class.TheVariants.{Exact, Below}
+use Rattle.net_model.specs.Class.{class_cmp, class_name, IsRepresentative}
+use Rattle.net_model.proofs.TrialOrder.{one_representative}
+use Rattle.graph_form.specs.Report.{Subject}
+use Rattle.net_model.specs.Tree.{IsInPart}
+use Rattle.query_verdicts.specs.Subjects.{RepresentsBelow}
+use Rattle.query_verdicts.specs.Passed.{ClassPasses, SomeClassPasses, IsFirstPassed}
+use Rattle.query_verdicts.specs.Rows.{AreRows, Row, IsFirstPassedAt, IsPassedAt, NonePassesAt, passes}
+use Rattle.query_verdicts.specs.Verdict.{IsBelowVerdict, IsClassVerdict, PassesStates}
+use Rattle.query_verdicts.specs.declared.verdict.ClassVerdict.{ClassVerdict}
+use Rattle.query_verdicts.specs.declared.verdict.ClassVerdict.TheVariants.{Faults, StatesPassed}
+
+-- what stands behind by its name isn't before
+greater_first : (o p : Ordering) → o ≡ Greater → ordering_then o p ≢ Less
+greater_first Less p e less = cc
+greater_first Equal p e less = cc
+greater_first Greater p e less = cc
+
+behind_not_before : (other class : Class) → name_cmp (class_name class) (class_name other) ≡ Less → class_cmp other class ≢ Less
+behind_not_before other class rising = by other class (names_total.antisymm (class_name other) (class_name class) ∙ ap ordering_reverse rising) where
+  by : (a b : Class) → name_cmp (class_name a) (class_name b) ≡ Greater → class_cmp a b ≢ Less
+  by (Exact a) (Exact b) greater less = cc
+  by (Exact a) (Below b) greater less = greater_first (name_cmp a b) Less greater less
+  by (Below a) (Exact b) greater less = greater_first (name_cmp a b) Greater greater less
+  by (Below a) (Below b) greater less = cc
+
+-- of the classes of a name that of the name alone is the first
+exact_first : (name : Labels) (other : Class) → class_name other ≡ name → class_cmp other (Exact name) ≢ Less
+exact_first name (Exact alone) of_name less = never_before_itself name_cmp names_total name (subst (λ (n : Labels). name_cmp n name ≡ Less) of_name less)
+exact_first name (Below above) of_name less =
+    let tie : name_cmp above name ≡ Equal = ap (λ (n : Labels). name_cmp n name) of_name ∙ tied_itself names_total name in
+    never (name_cmp above name) tie less
+  where
+    never : (o : Ordering) → o ≡ Equal → ordering_then o Greater ≢ Less
+    never Less e less = cc
+    never Equal e less = cc
+    never Greater e less = cc
+
+-- numbers of which neither is less than the other are one
+neither_less : (k i : ℕ) → i ≤ k → k ≤ i → k ≡ i
+neither_less k i not_before not_behind = omega arith
+
+module _ (subject : Subject) (states : ℕ) where
+  -- a verdict tells whether the representative passes
+  not_passed : (query : Labels) (verdict : ClassVerdict) → IsClassVerdict subject.config subject.rewrites states query verdict → passes verdict ≡ false
+      → PassesStates subject.config subject.rewrites states query → ⊥
+  not_passed query (Faults shown) is e = is.0
+  not_passed query StatesPassed is e = absurd (true≢false e)
+
+  passed : (query : Labels) (verdict : ClassVerdict) → IsClassVerdict subject.config subject.rewrites states query verdict → passes verdict ≡ true
+      → PassesStates subject.config subject.rewrites states query
+  passed query (Faults shown) is e = absurd (true≢false (sym e))
+  passed query StatesPassed is e = is
+
+  not_passed_below : (above : Labels) (below : Option ClassVerdict) → IsBelowVerdict subject states above below
+      → option_map_or passes below false ≡ false
+      → (query : Labels) → IsRepresentative subject.ground (Below above) query → PassesStates subject.config subject.rewrites states query → ⊥
+  not_passed_below above None verdict e query represents = absurd (verdict query represents)
+  not_passed_below above (Some judged) (also, stands, is) e query represents =
+      let same : also ≡ query = one_representative subject.ground (Below above) also query stands represents in
+      not_passed query judged (subst (λ (n : Labels). IsClassVerdict subject.config subject.rewrites states n judged) same is) e
+
+  passed_below : (above : Labels) (below : Option ClassVerdict) → IsBelowVerdict subject states above below
+      → option_map_or passes below false ≡ true
+      → (query : Labels) × IsRepresentative subject.ground (Below above) query × PassesStates subject.config subject.rewrites states query
+  passed_below above None verdict e = absurd (true≢false (sym e))
+  passed_below above (Some judged) (also, stands, is) e = (also, stands, passed also judged is e)
+
+  -- ---- the classes of one name
+
+  module _ (name : Labels) (in_part : IsInPart subject.ground subject.below name) where
+    pub exact_passes : (verdict : ClassVerdict) → IsClassVerdict subject.config subject.rewrites states name verdict → passes verdict ≡ true
+        → IsFirstPassedAt subject states name name
+    exact_passes verdict is e =
+        record {
+          class = Exact name;
+          of_name = refl;
+          passes = record { is_class = in_part; represents = refl; passes = passed name verdict is e };
+          first = λ other also of_name other_passes. exact_first name other of_name;
+        }
+
+    pub below_passes : (exact : ClassVerdict) (below : Option ClassVerdict) → IsClassVerdict subject.config subject.rewrites states name exact
+        → IsBelowVerdict subject states name below → passes exact ≡ false → option_map_or passes below false ≡ true
+        → (query : Labels) → IsRepresentative subject.ground (Below name) query → IsFirstPassedAt subject states name query
+    below_passes exact below is verdict e some query represents =
+        let (also, stands, too) = passed_below name below verdict some in
+        let same : also ≡ query = one_representative subject.ground (Below name) also query stands represents in
+        record {
+          class = Below name;
+          of_name = refl;
+          passes = record { is_class = in_part; represents = represents; passes = subst (PassesStates subject.config subject.rewrites states) same too };
+          first = first;
+        }
+      where
+        first : (other : Class) (also : Labels) → class_name other ≡ name → ClassPasses subject states other also → class_cmp other (Below name) ≢ Less
+        first (Exact alone) also of_name other_passes less =
+            not_passed name exact is e (subst (PassesStates subject.config subject.rewrites states) (other_passes.represents ∙ of_name) other_passes.passes)
+        first (Below above) also of_name other_passes less =
+            never_before_itself name_cmp names_total name (subst (λ (n : Labels). name_cmp n name ≡ Less) of_name less)
+
+    pub below_found : (exact : ClassVerdict) (below : Option ClassVerdict) → IsClassVerdict subject.config subject.rewrites states name exact
+        → IsBelowVerdict subject states name below → passes exact ≡ false → option_map_or passes below false ≡ true
+        → (found : Option Labels) → RepresentsBelow subject.ground name found → IsPassedAt subject states name found
+    below_found exact below is verdict e some None empty =
+        let (query, stands, too) = passed_below name below verdict some in
+        absurd (empty query stands)
+    below_found exact below is verdict e some (Some query) stands = below_passes exact below is verdict e some query stands.represents
+
+    pub none_passes_at : (exact : ClassVerdict) (below : Option ClassVerdict) → IsClassVerdict subject.config subject.rewrites states name exact
+        → IsBelowVerdict subject states name below → passes exact ≡ false → option_map_or passes below false ≡ false
+        → NonePassesAt subject states name
+    none_passes_at exact below is verdict e none = by where
+      by : (class : Class) (query : Labels) → class_name class ≡ name → ClassPasses subject states class query → ⊥
+      by (Exact alone) query of_name it =
+          not_passed name exact is e (subst (PassesStates subject.config subject.rewrites states) (it.represents ∙ of_name) it.passes)
+      by (Below above) query of_name it =
+          not_passed_below name below verdict none query (subst (λ (n : Labels). IsRepresentative subject.ground (Below n) query) of_name it.represents) it.passes
+
+  -- ---- the classes of all names
+
+  module _ {W : Type 0} (rows : List (Row W)) (are : AreRows subject states rows) where
+    row_at : (class : Class) (query : Labels) → ClassPasses subject states class query
+        → (k : ℕ) × (k < length rows) × ((d : Row W) → (get_or rows k d).item ≡ class_name class)
+    row_at class query it =
+        let (row, (k, within, is), same) =
+        from_map (λ (r : Row W). r.item) rows (class_name class) ((are.tree.all (class_name class)).1 it.is_class) in
+        (k, within, λ d. ap (λ (r : Row W). r.item) (get_or_default rows k d row within ∙ is) ∙ same)
+
+    -- where none of any name passes, none does
+    pub none_of_rows : ((k : ℕ) (d : Row W) → k < length rows → NonePassesAt subject states (get_or rows k d).item) → SomeClassPasses subject states → ⊥
+    none_of_rows none (class, query, it) =
+        let (k, within, is) = row_at class query it in
+        let d : Row W = get_or rows k (record { item = []; verdict = record { exact = StatesPassed; below = None } }) in
+        none k d within class query (sym (is d)) it
+
+    -- the first of the first name is the first
+    pub first_of_rows : (i : ℕ) (e : Row W) → i < length rows → ((k : ℕ) (d : Row W) → k < i → NonePassesAt subject states (get_or rows k d).item)
+        → (query : Labels) → IsFirstPassedAt subject states (get_or rows i e).item query → IsFirstPassed subject states query
+    first_of_rows i e inside none query found =
+        record { class = found.class; passes = found.passes; first = first }
+      where
+        first : (other : Class) (name : Labels) → ClassPasses subject states other name → class_cmp other found.class ≢ Less
+        first other name it less =
+            let (k, within, is) = row_at other name it in
+            elim (cases_lt k i) [
+              | inl before ↦ none k e before other name (sym (is e)) it
+              | inr not_before ↦ elim (cases_lt i k) [
+                | inl behind ↦ (
+                    let rising : name_cmp (get_or rows i e).item (class_name other) ≡ Less =
+                    subst (λ (n : Labels). name_cmp (get_or rows i e).item n ≡ Less) (is e) (are.ordered i k e behind within) in
+                    behind_not_before other found.class (subst (λ (n : Labels). name_cmp n (class_name other) ≡ Less) (sym found.of_name) rising) less)
+                | inr not_behind ↦ (
+                    let same : k ≡ i = neither_less k i not_before not_behind in
+                    found.first other name (sym (is e) ∙ ap (λ (n : ℕ). (get_or rows n e).item) same) it less)
+              ]
+            ]

@@ -1,0 +1,7 @@
+use Rattle.std.proofs.Common.{sym, subst}
+use Rattle.query_verdicts.specs.Entries.{IsEntryOf}
+use Rattle.query_verdicts.proofs.entries.entry_of.Goals as goal
+
+pub returns : goal.returns
+returns g c =
+    subst (IsEntryOf g.S.OnSubject.subject c.args.found) (sym c.entry_with.ensures) c.in_ok-parts.ensures

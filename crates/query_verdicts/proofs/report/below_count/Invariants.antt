@@ -1,0 +1,10 @@
+use Rattle.std.proofs.Common.{◌≡◌, ◌≤◌, take}
+use Rattle.query_verdicts.specs.Rows.{below_count}
+use Rattle.query_verdicts.proofs.report.below_count.Given as goal
+
+-- those of the names so far
+abbrev pub invariant-loop-one : goal.invariant-loop-one
+invariant-loop-one g l = record {
+  value : l.count ≡ below_count (take l.one-index l.filed);
+  within : l.count ≤ l.one-index;
+}

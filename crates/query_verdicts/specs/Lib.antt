@@ -1,0 +1,13 @@
+pub use Rattle.graph_form.specs.Report
+pub use Rattle.query_classes.specs.Children
+pub use Rattle.query_classes.specs.TreeNames
+pub mod Carried
+pub mod Entries
+pub mod FiledVerdict
+pub mod Learnt
+pub mod Passed
+pub mod Queries
+pub mod Rows
+pub mod Subjects
+pub mod Values
+pub mod Verdict

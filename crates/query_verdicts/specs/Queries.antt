@@ -1,0 +1,55 @@
+-- The queries of a configuration within their limits, and what is known of the class of one: for the contracts of the calls
+-- on query graphs.
+use Rattle.std.specs.Prelude.{ℕ, List}
+use Rattle.dns_data.specs.Name.{Labels}
+use Rattle.graph_form.specs.Graph.{PlainGraph}
+use Rattle.graph_form.specs.GraphOf.{IsExactIn, IsGraphOf}
+use Rattle.graph_form.specs.Report.{Subject}
+use Rattle.net_model.specs.declared.config.Config.{Config}
+use Rattle.net_model.specs.declared.class.Class.{Class}
+use Rattle.net_model.specs.Class.{IsClassOf, IsRepresentative}
+use Rattle.net_model.specs.Learnt.{IsLeast, IsGreatest, IsInForce}
+use Rattle.net_model.specs.Reading.{Ground, ground_of}
+use Rattle.net_model.specs.Step.{following}
+use Rattle.net_model.specs.declared.deps.Deps.{Deps}
+use Rattle.query_classes.specs.TreeNames.{AreBaseNamesOf}
+use Rattle.query_verdicts.specs.Verdict.{SomeServerPasses}
+use Rattle.query_verdicts.specs.declared.own_class.OwnClass.{OwnClass}
+use Rattle.query_verdicts.specs.declared.own_class.OwnClass.TheVariants.{Represents, Asked}
+
+-- the queries of a configuration: how many rewrites each may use, and how many pairs of state and type it may reach
+pub record LimitedQueries : Type 0 where
+  pub config : Config
+  pub rewrites : ℕ
+  pub states : ℕ
+
+-- those of a configuration within these limits
+abbrev pub limited_to : Config → ℕ → ℕ → LimitedQueries
+limited_to config rewrites states = record { config = config; rewrites = rewrites; states = states }
+
+-- those of a report's subject, of each of which so many pairs are looked at
+abbrev pub queries_of : Subject → ℕ → LimitedQueries
+queries_of subject states = limited_to subject.config subject.rewrites states
+
+-- the lists are the two sets of learnt addresses, and no server's name reaches too many pairs
+pub record AreSets (config : Config) (rewrites states : ℕ) (deps : Deps) : Type 0 where
+  pub none_passes : SomeServerPasses config rewrites states → ⊥
+  pub least : IsLeast config rewrites deps.least
+  pub greatest : IsGreatest config rewrites deps.greatest
+
+-- the graph is that of the query's walks while the servers of the set in force are followed, and has no more than these
+pub record IsLeastGraph (config : Config) (rewrites : ℕ) (query : Labels) (graph : PlainGraph) : Type 0 where
+  pub followed : List Labels
+  pub in_force : IsInForce config rewrites followed
+  pub is_graph : IsGraphOf (following config rewrites followed) query graph
+  pub exact : IsExactIn (following config rewrites followed) query graph
+
+-- the query is of the class under the ground, and its representative
+pub record StandsFor (ground : Ground) (class : Class) (query : Labels) : Type 0 where
+  pub of_class : IsClassOf ground query class
+  pub represents : IsRepresentative ground class query
+
+-- what is known of the query's class under the configuration's own base names is so
+abbrev pub IsOwnClass : Config → OwnClass → Labels → Type 0
+IsOwnClass config (Represents class) query = StandsFor (ground_of config) class.now query
+IsOwnClass config (Asked names) query = AreBaseNamesOf (ground_of config) names.now

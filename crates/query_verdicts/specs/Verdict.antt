@@ -1,0 +1,50 @@
+-- The verdict of a class and of a name of a class tree.
+use Rattle.std.specs.Prelude.{◌≡◌, ℕ, true, List, [], Contains, Option, Some, None}
+use Rattle.dns_data.specs.Name.{Labels}
+use Rattle.query_verdicts.specs.declared.verdict.ClassVerdict.{ClassVerdict}
+use Rattle.query_verdicts.specs.declared.verdict.ClassVerdict.TheVariants.{Faults, StatesPassed}
+use Rattle.query_verdicts.specs.declared.verdict.NameVerdict.{NameVerdict}
+use Rattle.graph_form.specs.Report.{Subject}
+use Rattle.graph_form.specs.Verdict.{AreShownOf}
+use Rattle.graph_form.specs.declared.report.Seen.{Seen}
+use Rattle.net_model.specs.declared.class.Class.TheVariants.{Below}
+use Rattle.net_model.specs.declared.config.Config.{Config}
+use Rattle.net_model.specs.Class.{IsRepresentative}
+use Rattle.net_model.specs.Learnt.{IsInForce}
+use Rattle.net_model.specs.Nearest.{server_names}
+use Rattle.net_model.specs.Shown.{with_sets}
+use Rattle.net_model.specs.Step.{following}
+use Rattle.net_model.specs.Tree.{IsReached, HasMoreThan}
+
+-- the query reaches more pairs of state and type than so many
+abbrev pub PassesStates : Config → ℕ → ℕ → Labels → Type 0
+PassesStates config rewrites states query = HasMoreThan (IsReached config rewrites query) states
+
+-- the name of some configured server does
+abbrev pub SomeServerPasses : Config → ℕ → ℕ → Type 0
+SomeServerPasses config rewrites states =
+    (name : Labels) × Contains (server_names config) name × PassesStates config rewrites states name
+
+-- These are the faults that the query shows, with the set in force. Where the name of some server passes the limit nothing
+-- is looked for: the report is then refused.
+pub record AreFaultsOf (config : Config) (rewrites states : ℕ) (query : Labels) (shown : List Seen) : Type 0 where
+  pub none_sought : SomeServerPasses config rewrites states → shown ≡ []
+  pub sought : (SomeServerPasses config rewrites states → ⊥) → (followed : List Labels) → IsInForce config rewrites followed
+      → AreShownOf (with_sets (following config rewrites followed)) query (λ fault. true) shown
+
+-- the verdict of the class that the query represents
+abbrev pub IsClassVerdict : Config → ℕ → ℕ → Labels → ClassVerdict → Type 0
+IsClassVerdict config rewrites states query (Faults shown) =
+    (PassesStates config rewrites states query → ⊥) × AreFaultsOf config rewrites states query shown
+IsClassVerdict config rewrites states query StatesPassed = PassesStates config rewrites states query
+
+-- the verdict of the class below a name of the subject's class tree, if it has a representative
+abbrev pub IsBelowVerdict : Subject → ℕ → Labels → Option ClassVerdict → Type 0
+IsBelowVerdict subject states above None = (query : Labels) → IsRepresentative subject.ground (Below above) query → ⊥
+IsBelowVerdict subject states above (Some verdict) =
+    (query : Labels) × IsRepresentative subject.ground (Below above) query × IsClassVerdict subject.config subject.rewrites states query verdict
+
+-- the verdict of a name of the subject's class tree
+pub record IsNameVerdict (subject : Subject) (states : ℕ) (name : Labels) (verdict : NameVerdict) : Type 0 where
+  pub exact : IsClassVerdict subject.config subject.rewrites states name verdict.exact
+  pub below : IsBelowVerdict subject states name verdict.below

@@ -1,0 +1,116 @@
+//! The graphs and the verdicts of the queries of a configuration.
+
+ghost use Rattle.std.specs.Prelude.{◌≡◌, IfOk, IfErr, OnOk, IsErrOf, MatchOption};
+ghost use Rattle.query_verdicts.specs.Passed.{IsFirstServerPassed};
+ghost use Rattle.query_verdicts.specs.Queries.{AreSets, IsLeastGraph, IsOwnClass, limited_to};
+ghost use Rattle.query_verdicts.specs.Verdict.{IsClassVerdict, PassesStates, SomeServerPasses};
+
+use crate::learnt::{Learnt, learnt_of};
+use crate::own_class::OwnClass;
+use crate::queries::{Queries, graph_of};
+use crate::verdict::ClassVerdict;
+use crate::verdicts::{graph_in_least, verdict_alone, verdict_with};
+use dns_data::{Name, NoMemory};
+use graph_form::Graph;
+use interp_graph::GraphFault;
+use net_model::Config;
+use std::alloc::Global;
+use std::marker::Model;
+use zone_lookup::{Hosts, LearntSets};
+
+/// The queries of a configuration, with what is learnt of it once: the trees of all zones, the two sets of learnt addresses and
+/// the regions of names. Contracts see the configuration and the limits of its queries.
+#[derive(Drop)]
+pub struct QueryGraphs<'a> {
+    queries: Queries<'a>,
+    learnt: Result<Learnt<'a>, Name>,
+}
+
+impl<'a> Model for QueryGraphs<'a> {
+    ghost use Rattle.query_verdicts.specs.Learnt.{IsLearntOf, limited};
+    ghost use Rattle.query_verdicts.specs.Queries.{LimitedQueries};
+
+    ghost Value = { LimitedQueries };
+
+    ghost view = { λ graphs. limited graphs.queries };
+
+    ghost invariant = { λ graphs. IsLearntOf graphs.queries.trees graphs.queries.rewrites graphs.queries.states graphs.learnt };
+}
+
+impl<'a> QueryGraphs<'a> {
+    /// The queries of a configuration, each of which may use so many rewrites, and of each of which no more pairs of state and
+    /// type are looked at than so many. The trees of all zones, the graph of each server's name and the regions of names are
+    /// made here, once.
+    pub fn prepare(
+        alloc: Global,
+        config: &'a Config,
+        rewrites: u32,
+        states: u32,
+    ) -> Result<QueryGraphs<'a>, NoMemory>
+        ensures { IfOk result (λ graphs. graphs ≡ limited_to config.now rewrites states) }
+    {
+        let queries = Queries {
+            alloc,
+            trees: Hosts::build(alloc, config)?,
+            rewrites,
+            states,
+        };
+        let learnt = learnt_of(&queries)?;
+        Ok(QueryGraphs { queries, learnt })
+    }
+
+    /// The two sets of learnt addresses, or the name of the first configured server that reaches more pairs of state and type
+    /// than are looked at.
+    pub fn sets(&self) -> Result<&LearntSets, &Name>
+        ensures sets { IfOk result (λ sets. AreSets self.now.config self.now.rewrites self.now.states sets.now) }
+        ensures passed { IfErr result (λ server. IsFirstServerPassed self.now.config self.now.rewrites self.now.states server.now) }
+    {
+        match &self.learnt {
+            Ok(learnt) => Ok(&learnt.sets),
+            Err(server) => Err(server),
+        }
+    }
+
+    /// The graph of the walks of a query while the servers of the least set of learnt addresses are followed, or `None` where
+    /// the name of some server reaches more pairs of state and type than are looked at, so that there is no such set. It is
+    /// `StatesPassed` where the query reaches more.
+    pub fn graph(&self, query: &Name) -> Result<Option<Graph>, GraphFault>
+        ensures graph { IfOk result (λ found. MatchOption found (SomeServerPasses self.now.config self.now.rewrites self.now.states)
+            (IsLeastGraph self.now.config self.now.rewrites query.now)) }
+        ensures few { OnOk result (PassesStates self.now.config self.now.rewrites self.now.states query.now → ⊥) }
+        ensures passed { IsErrOf result GraphFault.StatesPassed → PassesStates self.now.config self.now.rewrites self.now.states query.now }
+    {
+        let graph = graph_of(&self.queries, query)?;
+        match &self.learnt {
+            Ok(learnt) => {
+                let limited = graph_in_least(&self.queries, learnt, graph)?;
+                Ok(Some(limited))
+            }
+            Err(_) => Ok(None),
+        }
+    }
+
+    /// The verdict of a query: the faults that it shows, or that it reaches more pairs of state and type than are looked at.
+    /// Where the name of some server does, no fault is looked for. The query's region is looked for near a place first,
+    /// whatever that is, and the place is left near which that of the next query may be looked for.
+    pub fn verdict(
+        &self,
+        near: &mut usize,
+        own: &OwnClass<'_>,
+        query: &Name,
+    ) -> Result<ClassVerdict, NoMemory>
+        requires { IsOwnClass self.now.config own.now query.now }
+        ensures { IfOk result (IsClassVerdict self.now.config self.now.rewrites self.now.states query.now) }
+    {
+        match &self.learnt {
+            Ok(learnt) => verdict_with(&self.queries, learnt, near, own, query),
+            Err(_) => verdict_alone(&self.queries, query),
+        }
+    }
+    /// How many rewrites a query may use.
+    pub(crate) fn rewrites(&self) -> u32
+        ensures { result ≡ self.now.rewrites }
+    {
+        self.queries.rewrites
+    }
+}

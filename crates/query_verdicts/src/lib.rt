@@ -1,0 +1,38 @@
+//! The verdicts of queries: the graphs of their walks and the faults that these show, of a query by itself and of the names of a
+//! class tree, and the report of a subject from these verdicts.
+//!
+//! The layer above may rest on this: `QueryGraphs` tells of each query the graph of its walks while the servers of the least
+//! set are followed, and the faults that it shows; and some query at or below a subject's name shows a fault exactly where the
+//! representative of some class of the subject's tree does (`laws::carrying`), so the report that `NameJudge` makes of
+//! representatives is one of all queries. A subject is a configuration with its limits, the names that are told apart in it,
+//! and the name at or below which queries are looked at.
+//!
+//! Costs: `prepare` makes the trees of all zones and a graph of each server's name, once. A name of the tree keeps its own
+//! live set, found once, one label on from that of the name above it: none is walked to from the root to be judged, and judging
+//! copies neither the name nor its live set. Judging a name makes a graph for each of its classes, which is dropped when its
+//! faults are found: a verdict keeps no walk, and takes no memory of its own where no class of the name shows a fault. No graph
+//! is made where the representative's walks are seen to go straight to their ends, and it is restricted to the least set of
+//! learnt addresses only where some configured server is neither in that set nor a top server. The class of a query under
+//! the configuration's own names is asked only where a graph was made and the subject tells other names apart. The report makes
+//! one graph more for each class that is the first to show some fault, and finds the first walks of all these faults in it.
+#![tactic(auto)]
+
+mod entries;
+mod graphs;
+pub mod laws;
+mod learnt;
+mod name_judge;
+mod own_class;
+mod passed;
+mod queries;
+mod report;
+mod subject;
+mod verdict;
+mod verdicts;
+
+pub use graphs::QueryGraphs;
+pub use name_judge::NameJudge;
+pub use own_class::OwnClass;
+pub use report::ReportFault;
+pub use subject::{OnSubject, SubjectGround};
+pub use verdict::{ClassVerdict, FiledVerdict, NameVerdict};

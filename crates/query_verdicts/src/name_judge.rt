@@ -1,0 +1,207 @@
+//! The judge of the names of a class tree.
+
+ghost use Rattle.std.specs.Prelude.{◌≡◌, IfOk, IsErrOf, MatchOption};
+ghost use Rattle.query_verdicts.specs.Passed.{IsFirstServerPassed};
+ghost use Rattle.query_verdicts.specs.Queries.{IsLeastGraph, StandsFor};
+ghost use Rattle.query_verdicts.specs.Subjects.{AreOfSubject, IsCovering, RepresentsBelow};
+ghost use Rattle.query_verdicts.specs.Verdict.{IsBelowVerdict, IsClassVerdict, IsNameVerdict, PassesStates, SomeServerPasses};
+ghost use Rattle.query_classes.specs.Children.{AreChildren, IsInTree};
+ghost use Rattle.query_classes.specs.TreeNames.{IsLiveIn};
+
+use crate::graphs::QueryGraphs;
+use crate::own_class::OwnClass;
+use crate::subject::{OnSubject, SubjectGround};
+use crate::verdict::{ClassVerdict, FiledVerdict, NameVerdict};
+use dns_data::{List, Name, NoMemory};
+use graph_form::Graph;
+use interp_graph::GraphFault;
+use label_graph::LabelGraph;
+use net_model::Class;
+use query_classes::{LiveName, TreeName};
+use std::alloc::Global;
+use std::marker::{Model, PhantomData};
+
+/// What judges the names of a subject's class tree at or below the subject's name, and makes the subject's report of their
+/// verdicts. Contracts see the queries of the configuration with their limits.
+#[derive(Drop)]
+pub struct NameJudge<'a, S: OnSubject> {
+    alloc: Global,
+    graphs: QueryGraphs<'a>,
+    names: LabelGraph,
+    own: Option<LabelGraph>,
+    first: Name,
+    of: PhantomData<S>,
+}
+
+impl<'a, S: OnSubject> Model for NameJudge<'a, S> {
+    ghost use Rattle.query_verdicts.specs.Queries.{LimitedQueries};
+    ghost use Rattle.query_verdicts.specs.Subjects.{AreOfSubject};
+
+    ghost Value = { LimitedQueries };
+
+    ghost view = { λ judge. judge.graphs };
+
+    ghost invariant = { λ judge. AreOfSubject S.subject S.states judge.graphs judge.names judge.own judge.first };
+}
+
+impl<'a, S: OnSubject> NameJudge<'a, S> {
+    /// The judge with the graphs of the configuration's queries, the graph of the base names of the subject's ground, that of
+    /// the configuration's own base names where the ground is another, and the subject's name.
+    pub fn new(
+        alloc: Global,
+        graphs: QueryGraphs<'a>,
+        names: LabelGraph,
+        own: Option<LabelGraph>,
+        first: Name,
+    ) -> NameJudge<'a, S>
+        requires { AreOfSubject S.subject S.states graphs names own first }
+        ensures { result ≡ graphs.entry }
+    {
+        NameJudge {
+            alloc,
+            graphs,
+            names,
+            own,
+            first,
+            of: PhantomData,
+        }
+    }
+
+    /// The name at or below which names are judged.
+    pub fn first(&self) -> Result<TreeName<SubjectGround<S>>, NoMemory>
+        ensures { IfOk result (λ item. item ≡ S.subject.below) }
+    {
+        TreeName::of_name(self.alloc, &self.names, &self.first)
+    }
+
+    /// The names of the class tree one label below, in order.
+    pub fn children(
+        &self,
+        item: &TreeName<SubjectGround<S>>,
+    ) -> Result<List<TreeName<SubjectGround<S>>>, NoMemory>
+        ensures { IfOk result (AreChildren S.subject.ground item.now) }
+    {
+        item.children(self.alloc, &self.names)
+    }
+
+    /// The verdict of a name of the class tree, to be filed.
+    pub fn judge(&self, item: &TreeName<SubjectGround<S>>) -> Result<FiledVerdict, NoMemory>
+        requires { IsInTree S.subject.ground item.now }
+        ensures { IfOk result (IsNameVerdict S.subject S.states item.now) }
+    {
+        let verdict = self.judge_name(item.live_name())?;
+        FiledVerdict::of(self.alloc, verdict)
+    }
+
+    /// An equal item.
+    pub fn copy_item(
+        &self,
+        item: &TreeName<SubjectGround<S>>,
+    ) -> Result<TreeName<SubjectGround<S>>, NoMemory>
+        ensures { IfOk result (λ copy. copy ≡ item.now) }
+    {
+        item.copy(self.alloc)
+    }
+
+    /// The verdict of a name of the class tree: of the class of the name alone, and of the class below it. The second query's
+    /// region is looked for near the first one's; for that one no place is known, as if it were past the last.
+    fn judge_name(&self, name: &LiveName) -> Result<NameVerdict, NoMemory>
+        requires live { IsLiveIn S.subject.ground name.now.name name.now.live }
+        requires in_tree { IsInTree S.subject.ground name.now.name }
+        ensures { IfOk result (IsNameVerdict S.subject S.states name.now.name) }
+    {
+        let class = Class::Exact(name.name.copy(self.alloc)?);
+        let mut near = usize::MAX;
+        Ok(NameVerdict {
+            exact: self.judge_class(&mut near, &class, &name.name)?,
+            below: self.judge_below(&mut near, name)?,
+        })
+    }
+
+    /// The verdict of the class below a name of the class tree, or `None` where it is empty.
+    fn judge_below(
+        &self,
+        near: &mut usize,
+        above: &LiveName,
+    ) -> Result<Option<ClassVerdict>, NoMemory>
+        requires live { IsLiveIn S.subject.ground above.now.name above.now.live }
+        requires in_tree { IsInTree S.subject.ground above.now.name }
+        ensures { IfOk result (IsBelowVerdict S.subject S.states above.now.name) }
+    {
+        match self.below_live(above)? {
+            Some(query) => {
+                let class = Class::Below(above.name.copy(self.alloc)?);
+                Ok(Some(self.judge_class(near, &class, &query)?))
+            }
+            None => Ok(None),
+        }
+    }
+
+    /// The verdict of the class that the query represents.
+    fn judge_class(
+        &self,
+        near: &mut usize,
+        class: &Class,
+        query: &Name,
+    ) -> Result<ClassVerdict, NoMemory>
+        requires { StandsFor S.subject.ground class.now query.now }
+        ensures { IfOk result (IsClassVerdict S.subject.config S.subject.rewrites S.states query.now) }
+    {
+        match &self.own {
+            Some(names) => self.graphs.verdict(near, &OwnClass::Asked(names), query),
+            None => self.graphs.verdict(near, &OwnClass::Represents(class), query),
+        }
+    }
+
+    /// The representative of the class below a name of the class tree that has its live set, or `None` where it is empty.
+    fn below_live(&self, above: &LiveName) -> Result<Option<Name>, NoMemory>
+        requires live { IsLiveIn S.subject.ground above.now.name above.now.live }
+        requires in_tree { IsInTree S.subject.ground above.now.name }
+        ensures { IfOk result (RepresentsBelow S.subject.ground above.now.name) }
+    {
+        above.below(self.alloc, &self.names)
+    }
+
+    /// The representative of the class below a name of the class tree, or `None` where it is empty.
+    pub(crate) fn representative_below(&self, above: &Name) -> Result<Option<Name>, NoMemory>
+        requires { IsInTree S.subject.ground above.now }
+        ensures { IfOk result (RepresentsBelow S.subject.ground above.now) }
+    {
+        let live = LiveName::of(self.alloc, &self.names, above)?;
+        live.below(self.alloc, &self.names)
+    }
+
+    /// The graph of the walks of a query while the servers of the least set are followed, or `None` where the name of some
+    /// server reaches too many pairs of state and type.
+    pub(crate) fn graph(&self, query: &Name) -> Result<Option<Graph>, GraphFault>
+        ensures graph { IfOk result (λ found. MatchOption found (SomeServerPasses S.subject.config S.subject.rewrites S.states)
+            (IsLeastGraph S.subject.config S.subject.rewrites query.now)) }
+        ensures passed { IsErrOf result GraphFault.StatesPassed → PassesStates S.subject.config S.subject.rewrites S.states query.now }
+    {
+        self.graphs.graph(query)
+    }
+
+    /// The first server whose name reaches too many pairs of state and type, or `None` where none does.
+    pub(crate) fn server_passed(&self) -> Result<Option<Name>, NoMemory>
+        ensures { IfOk result (λ found. MatchOption found (SomeServerPasses S.subject.config S.subject.rewrites S.states → ⊥)
+            (IsFirstServerPassed S.subject.config S.subject.rewrites S.states)) }
+    {
+        match self.graphs.sets() {
+            Ok(_) => Ok(None),
+            Err(server) => Ok(Some(server.copy(self.alloc)?)),
+        }
+    }
+
+    /// The memory from which the judge takes.
+    pub(crate) fn alloc(&self) -> Global {
+        self.alloc
+    }
+
+    /// How many rewrites a query may use; the subject's ground covers its configuration.
+    pub(crate) fn rewrites(&self) -> u32
+        ensures rewrites { result ≡ S.subject.rewrites }
+        ensures covering { IsCovering S.subject }
+    {
+        self.graphs.rewrites()
+    }
+}
