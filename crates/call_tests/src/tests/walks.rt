@@ -123,8 +123,16 @@ fn is_unhosted(leaf: &Leaf, server: &Name) -> bool {
     }
 }
 
-/// Whether this is the walk's text.
+/// Whether this is the text of the walk, and of its copy.
 fn is_text(alloc: Global, walk: &Walk, wanted: &str) -> bool {
+    match walk.copy(alloc) {
+        Ok(copy) => is_written(alloc, walk, wanted) && is_written(alloc, &copy, wanted),
+        Err(NoMemory) => false,
+    }
+}
+
+/// Whether this is the walk's text.
+fn is_written(alloc: Global, walk: &Walk, wanted: &str) -> bool {
     match walk_text(alloc, walk) {
         Ok(text) => text.items() == wanted.as_bytes(),
         Err(NoMemory) => false,
