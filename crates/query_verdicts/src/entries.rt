@@ -39,6 +39,7 @@ pub(crate) fn entries_of<S: OnSubject, W: Work<Item = TreeName<SubjectGround<S>>
     let firsts = first_of_each(judge.alloc(), found)?;
     let by_class = in_class_order(firsts)?;
     let made = entries_by_class(judge, by_class)?;
+    // Named, since the proof speaks of the list that comes where memory suffices.
     let entries = in_fault_order(made)?;
     Ok(entries)
 }
