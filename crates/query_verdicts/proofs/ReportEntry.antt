@@ -16,7 +16,7 @@ use Rattle.net_model.specs.Class.{IsRepresentative}
 use Rattle.net_model.specs.Shown.{Shows, ShowsIn, with_sets}
 use Rattle.net_model.specs.Step.{Setting, following}
 use Rattle.net_model.proofs.TrialOrder.{one_representative}
-use Rattle.query_verdicts.specs.Entries.{AreEntriesOf, IsEntryOf, IsPut, IsRightFound, IsWalked}
+use Rattle.query_verdicts.specs.Entries.{AreEntriesOf, IsEntryOf, IsRightFound, IsWalked, PutsEntry}
 use Rattle.query_verdicts.specs.declared.entries.ClassFault.{ClassFault}
 use Rattle.query_verdicts.specs.declared.entries.Walked.{Walked}
 use Rattle.query_verdicts.proofs.FirstWalksShow.{AreFirstWalks, shows_with, graph_shows, first_walks}
@@ -78,7 +78,7 @@ pub record IsListing (subject : Subject) (all left : List ClassFault) (entries :
 module _ (subject : Subject) (all left rest : List ClassFault) (found : ClassFault) (entries : List ReportEntry)
     (next : left ≡ found ∷ rest) (listing : IsListing subject all left entries) where
   -- when the entry of the next fault is put at the end, the entries are those of the faults passed over
-  pub listing_step : (more : List ReportEntry) → IsPut subject found entries more → IsListing subject all rest more
+  pub listing_step : (more : List ReportEntry) → PutsEntry subject found entries more → IsListing subject all rest more
   listing_step more (entry, is, put) =
       record {
         done = listing.done ++ found ∷ [];

@@ -46,8 +46,8 @@ abbrev pub entry_with : ClassFault → EntryParts → ReportEntry
 entry_with found parts = record { seen = found.seen; query = parts.query; repeats = parts.repeats; walks = parts.walks }
 
 -- the entry of the fault is put behind the others
-abbrev pub IsPut : Subject → ClassFault → List ReportEntry → List ReportEntry → Type 0
-IsPut subject found old new = (entry : ReportEntry) × IsEntryOf subject found entry × (new ≡ old ++ entry ∷ [])
+abbrev pub PutsEntry : Subject → ClassFault → List ReportEntry → List ReportEntry → Type 0
+PutsEntry subject found old new = (entry : ReportEntry) × IsEntryOf subject found entry × (new ≡ old ++ entry ∷ [])
 
 -- there is one entry for each fault, in turn
 abbrev pub AreEntriesOf : Subject → List ClassFault → List ReportEntry → Type 0

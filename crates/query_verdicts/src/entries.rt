@@ -3,7 +3,7 @@
 ghost use Rattle.std.specs.Prelude.{◌≡◌, ◌++◌, All, IfOk, IfSome, IsPermutation, OnOk, Some, slice_get};
 ghost use Rattle.std.specs.List.Sorted.{IsSortedBy};
 ghost use Rattle.std.proofs.lemmas.Cmp.{on_total};
-ghost use Rattle.query_verdicts.specs.Entries.{AreEntries, AreEntriesOf, IsEntryOf, IsPut, IsRightFound, IsWalked, entry_with, is_before};
+ghost use Rattle.query_verdicts.specs.Entries.{AreEntries, AreEntriesOf, IsEntryOf, IsRightFound, IsWalked, PutsEntry, entry_with, is_before};
 ghost use Rattle.query_verdicts.specs.Passed.{NonePasses};
 ghost use Rattle.query_verdicts.specs.Rows.{AreRows, class_rank, found_at, found_fault, found_in, found_of};
 ghost use Rattle.query_verdicts.specs.Queries.{IsLeastGraph};
@@ -181,7 +181,7 @@ fn put_entry<S: OnSubject>(
     requires last { IfSome last (IsWalked S.subject) }
     requires right { IsRightFound S.subject found }
     ensures walked { IfOk result (IsWalked S.subject) }
-    ensures put { OnOk result (IsPut S.subject found entries.old entries.new) }
+    ensures put { OnOk result (PutsEntry S.subject found entries.old entries.new) }
 {
     let walked = walked_for(judge, last, &found)?;
     let entry = entry_of(judge, &walked, found)?;
