@@ -27,10 +27,10 @@ use std::cmp::Ordering;
 use verdict_book::{Filed, Work};
 
 /// The entries of the faults that the classes of the names show, in fault order, where no class passes the limit.
-pub(crate) fn entries_of<S: OnSubject, W: Work<Item = TreeName<SubjectGround<S>>, Verdict = FiledVerdict>>(
-    judge: &NameJudge<'_, S>,
-    filed: List<Filed<W>>,
-) -> Result<List<ReportEntry>, NoMemory>
+pub(crate) fn entries_of<
+    S: OnSubject,
+    W: Work<Item = TreeName<SubjectGround<S>>, Verdict = FiledVerdict>,
+>(judge: &NameJudge<'_, S>, filed: List<Filed<W>>) -> Result<List<ReportEntry>, NoMemory>
     requires rows { AreRows S.subject S.states filed }
     requires none_passes { NonePasses S.subject S.states }
     ensures { IfOk result (AreEntries S.subject) }
@@ -264,7 +264,11 @@ fn least_graph<S: OnSubject>(judge: &NameJudge<'_, S>, query: &Name) -> Result<G
 }
 
 /// The entry of a fault, from the walks of the class that shows it.
-fn entry_of<S: OnSubject>(judge: &NameJudge<'_, S>, walked: &Walked, found: ClassFault) -> Result<ReportEntry, NoMemory>
+fn entry_of<S: OnSubject>(
+    judge: &NameJudge<'_, S>,
+    walked: &Walked,
+    found: ClassFault,
+) -> Result<ReportEntry, NoMemory>
     requires walked { IsWalked S.subject walked.now }
     requires class { walked.now.class ≡ found.class }
     requires right { IsRightFound S.subject found }
@@ -283,7 +287,11 @@ struct EntryParts {
 }
 
 /// What the entry of a fault has beside it, from the walks of the class that shows it.
-fn parts_of<S: OnSubject>(judge: &NameJudge<'_, S>, walked: &Walked, found: &ClassFault) -> Result<EntryParts, NoMemory>
+fn parts_of<S: OnSubject>(
+    judge: &NameJudge<'_, S>,
+    walked: &Walked,
+    found: &ClassFault,
+) -> Result<EntryParts, NoMemory>
     requires walked { IsWalked S.subject walked.now }
     requires class { walked.now.class ≡ found.now.class }
     requires right { IsRightFound S.subject found.now }
