@@ -86,9 +86,11 @@ module _ (config : Config) (graphs : List PlainGraph) where
 
   module _ (learnt more : List Labels) (name : Labels) (among : Contains (server_names config) name) (missing : is_among learnt name ≡ false)
       (put : (other : Labels) → is_among more other ≡ (name_eq name other || is_among learnt other)) where
+    -- with one server more among the learnt ones fewer configured servers are absent
     pub grown_less : absent config.servers more < absent config.servers learnt
     grown_less = count_less (is_among learnt) (is_among more) (put_more name learnt more put) config.servers name among missing (put_there name learnt more put)
 
+    -- the search for the least set stays fair when a server is added whose address is learnt
     pub grown : IsGrowing config graphs learnt → ((rewrites : ℕ) → AreServerGraphs config rewrites graphs → Learns (following config rewrites learnt) name)
         → IsGrowing config graphs more
     grown growing learns =
@@ -143,10 +145,12 @@ module _ (config : Config) (graphs : List PlainGraph) where
       by false e = refl
       by true e = let no : not true ≡ true = sym (ap not (gone_fewer name known fewer taken other e)) ∙ h in cc
 
+    -- with one server fewer among the known ones fewer configured servers are present
     pub shrunk_less : present config.servers fewer < present config.servers known
     shrunk_less =
         count_less (λ (n : Labels). not (is_among known n)) (λ (n : Labels). not (is_among fewer n)) turned config.servers name among (ap not there) (ap not (gone_there name known fewer taken))
 
+    -- the search for the greatest set stays fair when a server is taken away whose address isn't learnt
     pub shrunk : IsShrinking config graphs known → ((rewrites : ℕ) → AreServerGraphs config rewrites graphs → Learns (following config rewrites known) name → ⊥)
         → IsShrinking config graphs fewer
     shrunk shrinking fails =

@@ -46,10 +46,12 @@ module _ (state : State) where
   gives_led hop (Some later) = refl
 
   module _ (on : State → Option Walk) where
+    -- a walk whose branch ends gives an address exactly where that is its last branch and the end gives one
     pub ended_gives : (is_last : Bool) (hop : Option Hop) (leaf : Leaf) → walk_gives (branched state is_last on (Some (End hop leaf))) ≡ (is_last && gives_address leaf)
     ended_gives true hop leaf = refl
     ended_gives false hop leaf = refl
 
+    -- a walk whose branch ends without an address gives none
     pub none_given : (is_last : Bool) (hop : Option Hop) (leaf : Leaf) → gives_address leaf ≡ false
         → walk_gives (branched state is_last on (Some (End hop leaf))) ≡ true → ⊥
     none_given true hop leaf none h = let no : false ≡ true = sym none ∙ h in cc

@@ -87,27 +87,33 @@ server_at config place within =
 
 module _ (name : Labels) (one other : List Labels) where
   module _ (put : (server : Labels) → is_among other server ≡ (name_eq name server || is_among one server)) where
+    -- when a name is put among others, each other name is among them exactly if it was
     pub put_apart : (server : Labels) → name_eq name server ≡ false → is_among one server ≡ is_among other server
     put_apart server differs = sym (put server ∙ ap (λ (b : Bool). b || is_among one server) differs)
 
+    -- when a name is put among others, those that were among them still are
     pub put_more : (server : Labels) → is_among one server ≡ true → is_among other server ≡ true
     put_more server has = put server ∙ by (name_eq name server) where
       by : (b : Bool) → (b || is_among one server) ≡ true
       by true = refl
       by false = has
 
+    -- when a name is put among others, it is among them
     pub put_there : is_among other name ≡ true
     put_there = put name ∙ ap (λ (b : Bool). b || is_among one name) ((name_eq_decides name name).1 refl)
 
   module _ (gone : (server : Labels) → is_among other server ≡ (not (name_eq name server) && is_among one server)) where
+    -- when a name is taken away from others, each other name is among them exactly if it was
     pub gone_apart : (server : Labels) → name_eq name server ≡ false → is_among one server ≡ is_among other server
     gone_apart server differs = sym (gone server ∙ ap (λ (b : Bool). not b && is_among one server) differs)
 
+    -- when a name is taken away from others, those that are among them were so before
     pub gone_fewer : (server : Labels) → is_among other server ≡ true → is_among one server ≡ true
     gone_fewer server has = by (name_eq name server) (sym (gone server) ∙ has) where
       by : (b : Bool) → (not b && is_among one server) ≡ true → is_among one server ≡ true
       by true e = cc
       by false e = e
 
+    -- when a name is taken away from others, it isn't among them
     pub gone_there : is_among other name ≡ false
     gone_there = gone name ∙ ap (λ (b : Bool). not b && is_among one name) ((name_eq_decides name name).1 refl)

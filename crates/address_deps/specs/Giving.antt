@@ -44,10 +44,12 @@ module _ (config : Config) (followed : List Labels) (graph : PlainGraph) (rtype 
   gives_by on is_last (Some (Go hop to)) = may_take config followed hop && on to
   gives_by on is_last (Some (End hop leaf)) = is_last && gives_address leaf
 
+  -- whether the path that goes from this node by the branch with a number takes open hops alone and gives an address
   abbrev pub node_gives : (ℕ → Bool) → ℕ → Bool → Option Node → Bool
   node_gives on number is_last None = false
   node_gives on number is_last (Some node) = gives_by on is_last (slice_get (branches_of node rtype) number)
 
+  -- whether the path with these numbers from the node at a place takes open hops alone and gives an address
   abbrev pub gives_from : List ℕ → ℕ → Bool
   gives_from [] at = false
   gives_from (number ∷ numbers) at = node_gives (gives_from numbers) number (length numbers == 0) (slice_get graph.nodes at)

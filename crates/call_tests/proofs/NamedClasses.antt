@@ -12,5 +12,6 @@ named_by : (ground : Ground) (name : Labels) (class : Class) → IsClassOf groun
 named_by ground name (Exact alone) is = subst (λ (n : Labels). IsNamed ground n) (sym is.0) is.1
 named_by ground name (Below above) is = is.1.named
 
+-- where a name represents a class, the name by which the class goes is named
 pub class_is_named : (ground : Ground) (class : Class) → ((name : Labels) × RepresentsClass ground class name) → IsNamed ground (class_name class)
 class_is_named ground class (name, stands) = named_by ground name class stands.is_member

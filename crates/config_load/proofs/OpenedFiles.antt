@@ -172,6 +172,7 @@ module _ (meta : List ℕ) (row : MetaRow) (left : Left) where
         (Answers-ended meta (unwrap_or row.origin []) left fed.times names fed.texts told given
         (finished (unwrap_or row.origin []) left.records left.includes fed.texts fed.goes_on.1))
 
+    -- when nothing more is asked for, reading the zone's files has answered with what the reader gives of its text
     pub HasAnswered-finished : {before : FilesTold} {counts counts' : List ℕ → ℕ} (given : Result ZoneText TextFault) (result : Result ZoneFiles LoadFault) → ReadsFor before told counts counts' (zone_files meta row left) → HasFedFiles meta row left told names Done reader → ((origin : Labels) (room includes : ℕ) (texts : List (List ℕ)) → HasEnded reader origin room includes texts → AnswersOr (Faulty text_faults.NoMemory) (with_fault Faulty given) (zone_text origin room includes texts)) → result ≡ read_files names given → HasAnswered before told counts counts' (zone_files meta row left) result
     HasAnswered-finished {counts = counts} {counts' = counts'} given result source fed finished is = record {
       answers = subst (λ (r : Result ZoneFiles LoadFault). Answers told (zone_files meta row left) r) (sym is) (Answers-finished given fed finished);

@@ -20,6 +20,7 @@ pub record IsNumber (octets : List ℕ) : Type 0 where
   pub digits : list_all is_digit octets ≡ true
   pub short : length octets ≤ 4
 
+-- a number below 10,000 is written in digits, and in no more than four
 pub number_of : (n : ℕ) → n < 10000 → IsNumber (decimal n)
 number_of n small = record {
   digits = digits_decimal (numerals_by_fold (λ ds. list_all is_digit ds ≡ true) (search rules) digits_after (search rules)) n (omega arith);

@@ -21,7 +21,7 @@ use Rattle.graph_form.proofs.Places.{pairs_joined}
 alone_pairs : {X : Type 0} (R : X → X → Type 0) (y : X) → AllPairs R (y ∷ [])
 alone_pairs R y i j d less within = absurd (omega arith)
 
--- a list of no length is empty
+-- a list of length 0 is empty
 pub none_left : {X : Type 0} (xs : List X) → length xs ≡ 0 → xs ≡ []
 none_left [] e = refl
 none_left (x ∷ xs) e = absurd (omega arith)
@@ -175,7 +175,7 @@ module _ {T : Type 0} (fault_of : T → Fault) (rank : T → T → Ordering) (to
 
   -- ---- sorted lists
 
-  -- no item of a sorted list stands before an earlier one
+  -- a list that is sorted by faults, and by the order of items with one fault, is in this order
   pub sorted_in_order : (xs : List T) → IsSortedBy (λ a b. is_lt (item_cmp fault_of rank a b)) xs → Ordered xs
   sorted_in_order xs sorted i j d less within e =
       let far = sorted_far (λ a b. is_lt (item_cmp fault_of rank a b)) (ranks_by items_total (λ (item : T). item)) xs sorted i j d (omega arith) within in
@@ -195,7 +195,7 @@ module _ {T : Type 0} (fault_of : T → Fault) (rank : T → T → Ordering) (to
 
   -- ---- the pass over the sorted list
 
-  -- at first nothing is passed over
+  -- before the pass over the sorted list none of it is taken
   pub merging_begins : (all sorted : List T) → IsPermutation all sorted → Ordered sorted → Merging all sorted []
   merging_begins all sorted permuted order = record { done = []; permuted = permuted; order = order; firsts = none_yet }
 
@@ -209,23 +209,23 @@ module _ {T : Type 0} (fault_of : T → Fault) (rank : T → T → Ordering) (to
         firsts = firsts;
       }
 
-  -- where the next one has the fault of the last, it is passed over
+  -- an item with the fault of the last one that was taken is passed over
   pub merging_keeps : (all left first : List T) (next : T) → Merging all (next ∷ left) first → is_next fault_of (slice_get first (length first - 1)) next ≡ false
       → Merging all left first
   merging_keeps all left first next merging old = further all left first first next merging (next_kept merging.done left first next merging.order merging.firsts old)
 
-  -- where it has another, it is kept
+  -- an item with another fault than the last one that was taken is taken
   pub merging_adds : (all left first : List T) (next : T) → Merging all (next ∷ left) first → is_next fault_of (slice_get first (length first - 1)) next ≡ true
       → Merging all left (first ++ next ∷ [])
   merging_adds all left first next merging new =
       further all left first (first ++ next ∷ []) next merging (next_added merging.done left first next merging.order merging.firsts new)
 
-  -- where none is left, what is kept are the first ones
+  -- when the sorted list is passed, what was taken is of each fault the first item
   pub merging_ends : (all first : List T) → Merging all [] first → AreFirsts fault_of rank all first
   merging_ends all first merging =
       same_members all (merging.done ++ []) first merging.permuted (subst (λ xs. AreFirsts fault_of rank xs first) (sym (append-nil merging.done)) merging.firsts)
 
-  -- so the next one is kept unless the last has its fault
+  -- an item more is passed, and taken where its fault is another than that of the last one
   pub merging_step : (all left first : List T) (next : T) → Merging all (next ∷ left) first
       → Merging all left (if is_next fault_of (slice_get first (length first - 1)) next then first ++ next ∷ [] else first)
   merging_step all left first next merging = by (is_next fault_of (slice_get first (length first - 1)) next) refl where

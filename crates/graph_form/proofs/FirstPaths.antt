@@ -168,7 +168,7 @@ module _ (shows : State → Branch → Bool) (graph : PlainGraph) (rtype : RrTyp
       (goes_first turn.taken turn.node turn.number at led.hop led.node rest led.has led.before
       (subst (λ t. IsFirstFrom shows graph rtype t at rest) led.taken_is first))
 
-  -- so it is with the numbers of these turns before it
+  -- what is first from the node to which turns lead is, behind their numbers, first from the start
   pub first_behind : (start : ℕ) (below : List Turn) (taken : Bool) (at : ℕ) (rest : List ℕ) → LedTo start below taken at
       → IsFirstFrom shows graph rtype taken at rest
       → IsFirstFrom shows graph rtype false start (map (λ turn. turn.number) (reverse below) ++ rest)

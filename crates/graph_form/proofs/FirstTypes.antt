@@ -53,7 +53,7 @@ one_cut a b e =
 same_number : (a b : ℕ) → nat_cmp a b ≡ Equal → a ≡ b
 same_number a b e = exact_unsigned a b e
 
--- faults that compare alike are one
+-- faults that tie in fault order are one fault
 pub one_fault : CmpEqualImpliesEq fault_cmp
 one_fault (Lame a) (Lame b) e = ap Lame (one_cut a b e)
 one_fault (Differs a) (Differs b) e = ap Differs (one_cut a b e)
@@ -96,7 +96,7 @@ last_or_none (x ∷ xs) = elim (last_or_none xs) [
   | inr some ↦ inr (x ∷ some.0, some.1, ap (λ rest. x ∷ rest) some.2)
 ]
 
--- the last item stands at the last place
+-- the last item of a list stands at the place before its length
 pub at_end : {X : Type 0} (front : List X) (last : X) → slice_get (front ++ last ∷ []) (length (front ++ last ∷ []) - 1) ≡ Some last
 at_end {X = X} front last = ap (slice_get (front ++ last ∷ [])) (one_less front) ∙ by front where
   one_less : (front : List X) → length (front ++ last ∷ []) - 1 ≡ length front
@@ -118,7 +118,7 @@ not_before m n not_less = elim (cases_lt n m) [
   | inr more ↦ more
 ]
 
--- the first ones in the order of types are of each fault the first type
+-- of items seen with types the first of each fault are those with the first types
 pub are_first_types : (all first : List Seen) → AreFirsts (λ seen. seen.fault) type_rank all first → AreFirstTypes all first
 are_first_types all first firsts =
     record {
@@ -134,6 +134,6 @@ are_first_types all first firsts =
           };
     }
 
--- of no faults there are none
+-- of nothing seen there is no first type
 pub none_yet : AreFirstTypes [] []
 none_yet = record { ordered = λ i j d less within. absurd (omega arith); from = λ seen has. has; covers = λ seen has. absurd (none_in_nil seen has) }

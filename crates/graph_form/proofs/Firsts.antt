@@ -133,7 +133,7 @@ module _ (setting : Setting) (query : Labels) (graph : PlainGraph) (rtype : RrTy
       let path = one_path (path_along graph rtype) paths one.walk (shows.are_paths ∙ ap (map Some) one.walks_are) in
       (path.path, takes fault [] path.path one.walk path.is one.taken)
 
-  -- the walk of the first such path is the first that shows the fault
+  -- the first walk by a branch that shows a fault, other than differing answers, is the first that shows it
   pub first_single : (fault : Fault) (walk : Walk) → IsSingle fault → IsFirstWalk (branch_shows fault []) graph rtype walk
       → AreFirst graph rtype fault (walk ∷ [])
   first_single fault walk single (numbers, first, is_walk) =

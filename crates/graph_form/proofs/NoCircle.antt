@@ -53,7 +53,7 @@ module _ (setting : Setting) (query : Labels) (graph : PlainGraph) (rtype : RrTy
     pub typed : has_bit arm.types rtype ≡ true
     pub there : slice_get arm.branches number ≡ Some branch
 
-  -- each branch for the type is
+  -- a branch of a node for a type is one of an arm of the node that has the type
   pub of_arm : (at number : ℕ) (node : Node) (branch : Branch) → HasBranch graph rtype at number node branch → OfArm at node number branch
   of_arm at number node branch has = by (arm_of node rtype) refl has.there where
     by : (arm : Option Arm) → arm_of node rtype ≡ arm → slice_get (branches_of node rtype) number ≡ Some branch → OfArm at node number branch

@@ -59,7 +59,7 @@ module _ (setting : Setting) (query : Labels) (graph : PlainGraph) (rtype : RrTy
       (λ hop to same. goes hop to (subst (Contains branches) same pair.has)) rest
       ∙ sym (ap (branched state (length numbers == 0) (walk_from setting rtype numbers)) pair.at_other))
 
-  -- so the rest of a path from a node is the rest of a walk from its state
+  -- what numbers lead along from a node with the type is what they lead along from its state
   pub rest_is_walk : (numbers : List ℕ) → SameRest numbers
   rest_is_walk [] at node here has = refl
   rest_is_walk (number ∷ numbers) at node here has =

@@ -16,7 +16,7 @@ pub record PairAt {A B : Type 0} (R : A → B → Type 0) (xs : List A) (ys : Li
   pub paired : R one other
   pub has : Contains xs one
 
--- lists that are paired item by item are so at each place
+-- at each place two lists of pairs both have an item, and the two are a pair, or neither has
 pub pair_at : {A B : Type 0} (R : A → B → Type 0) (xs : List A) (ys : List B) → AllZip R xs ys → (k : ℕ)
     → ((slice_get xs k ≡ None) × (slice_get ys k ≡ None)) ⊎ PairAt R xs ys k
 pair_at R [] [] all k = inl (refl, refl)

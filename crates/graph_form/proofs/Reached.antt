@@ -148,7 +148,7 @@ types_differ i j d lt within same =
     let places : i ≡ j = sym one ∙ (ap place_of same ∙ other) in
     omega (arith, places, lt)
 
--- nor does a pair of an arm
+-- no pair of an arm stands twice
 pub arm_differs : (state : State) (arm : Arm) → AllPairs Differ (arm_pairs state arm)
 arm_differs state arm =
     let pair : RrType → State × RrType = λ t. (state, t) in

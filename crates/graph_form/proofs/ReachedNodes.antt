@@ -87,7 +87,7 @@ module _ (graph : PlainGraph) (rtype : RrType) where
     by (inl on) rest = subst EndOf on.made (goes_on on (rest on.to on.later on.goes))
     by (inr end) rest = subst EndOf end.made (ends_here end)
 
-  -- the branch by which a path ends
+  -- the walk of a path ends by a branch of a node
   pub end_of_path : (numbers : List ℕ) (walk : Walk) → path_along graph rtype numbers ≡ Some walk → EndOf walk
   end_of_path [] walk e = cc
   end_of_path (number ∷ numbers) walk e = by (slice_get graph.starts number) e where

@@ -52,7 +52,7 @@ same_place a b e =
     let third : record { server = b.server; zone = b.zone; owner = a.owner } ≡ b = ap (λ x. record { server = b.server; zone = b.zone; owner = x }) owner in
     first ∙ (second ∙ third)
 
--- and a place is equal to itself
+-- a place is equal to itself by the test
 pub place_itself : (a : Place) → place_eq a a ≡ true
 place_itself a =
     and_from (name_eq a.server a.server && name_eq a.zone a.zone) (name_eq a.owner a.owner)
@@ -93,12 +93,12 @@ behind_is cut (Some hop) e = ap (λ h. Some h) (referral_is cut hop e)
 
 -- ---- the last of a list
 
--- an empty list has no last one
+-- the empty list doesn't end in an item
 pub none_is_more : {A : Type 0} (xs : List A) (x : A) → [] ≡ xs ++ x ∷ [] → ⊥
 none_is_more [] x e = cc
 none_is_more (y ∷ xs) x e = cc
 
--- the last of one is it
+-- the item of a list of one is its last
 pub one_is_last : {A : Type 0} (xs : List A) (x y : A) → y ∷ [] ≡ xs ++ x ∷ [] → y ≡ x
 one_is_last [] x y e = cc
 one_is_last (z ∷ xs) x y e =

@@ -28,7 +28,7 @@ not_last number numbers = grind (arith, nat_tests)
 module _ (graph : PlainGraph) (rtype : RrType) where
   -- ---- the walk of a path, by its first branch
 
-  -- it is told by the branch with the first number
+  -- the path with a number in front goes by the branch that the node has under it
   pub path_by : (numbers : List ℕ) (at number : ℕ) (node : Node) (branch : Branch) → HasBranch graph rtype at number node branch
       → path_from graph rtype (number ∷ numbers) at ≡ by_branch (path_from graph rtype numbers) node.state (length numbers == 0) (Some branch)
   path_by numbers at number node branch has =
@@ -68,7 +68,7 @@ module _ (graph : PlainGraph) (rtype : RrType) where
       ap (λ (b : Bool). if b then Some (ended node.state hop leaf) else None) (not_last other numbers) in
       cc
 
-  -- a path goes on by its first branch, or ends by it
+  -- a walk of a path with a number in front goes on by the branch with this number, or ends by it
   pub path_parts : (numbers : List ℕ) (at number : ℕ) (walk : Walk) → path_from graph rtype (number ∷ numbers) at ≡ Some walk
       → GoesOn numbers at number walk ⊎ EndsSo numbers at number walk
   path_parts numbers at number walk e = by (slice_get graph.nodes at) refl e where
@@ -236,7 +236,7 @@ module _ (graph : PlainGraph) (rtype : RrType) where
       by (Some at) is e takes =
           elim (shown_taken P shows tells numbers at false walk e takes) [ inl never ↦ absurd (true≢false (sym never)) | inr shown ↦ shown ]
 
-  -- a path that takes one is the path of a walk
+  -- where numbers take a branch that shows the fault, they are those of a walk
   pub whole_along : (shows : State → Branch → Bool) (numbers : List ℕ) → takes_along shows graph rtype numbers ≡ true
       → (walk : Walk) × (path_along graph rtype numbers ≡ Some walk)
   whole_along shows [] takes = cc

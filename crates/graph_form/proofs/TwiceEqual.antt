@@ -45,7 +45,7 @@ module _ {A : Type 0} (eq : A → A → Bool) (turned : (x y : A) → eq x y ≡
         (list_any-append (eq x) xs ys ∙ or_left (list_any (eq x) xs) (list_any (eq x) ys) has)
     by false has e rest = or_right (list_any (eq x) (xs ++ ys)) (equal_twice eq (xs ++ ys)) (rest e)
 
-  -- two of the first so many are two of all
+  -- where two items of a front are equal, two of the list are
   pub twice_in_front : (xs : List A) (i : ℕ) → equal_twice eq (take i xs) ≡ true → equal_twice eq xs ≡ true
   twice_in_front xs i e = ap (equal_twice eq) (sym (take-append-drop i xs)) ∙ twice_within (take i xs) (drop i xs) e
 
@@ -63,7 +63,7 @@ asks_there question state is (q ∷ questions) (s ∷ states) e =
     let rest : map names_asked questions ≡ map place_at states = cc in
     (λ j. (name_eq (is j).0 (first j).0 && name_eq (is j).1 (first j).1) || asks_there question state is questions states rest j)
 
--- so a question comes twice where a walk repeats
+-- two questions of a walk's states are equal exactly where the walk comes to a server twice with one name
 pub twice_asked : (questions : List Question) (states : List State) → map names_asked questions ≡ map place_at states
     → equal_twice (question_impl.ghosts).eq questions ≡ repeats states
 twice_asked [] [] e = refl
@@ -76,7 +76,7 @@ twice_asked (q ∷ questions) (s ∷ states) e =
 
 -- ---- tests
 
--- neither of two tests holds
+-- where neither of two tests passes, the test for either doesn't
 pub both_fail : (a b : Bool) → a ≡ false → b ≡ false → (a || b) ≡ false
 both_fail true b e f = cc
 both_fail false b e f = f

@@ -88,7 +88,7 @@ module _ (setting : Setting) (query : Labels) (graph : PlainGraph) (is : IsGraph
     pub has : HasBranch graph one.rtype at number node one.branch
     pub state_is : node.state ≡ one.state
 
-  -- each branch that is listed is one for its type
+  -- each branch of the list is one that a node has for its type
   pub branch_there : (one : PlainBranch) → Contains (typed_branches graph) one → BranchFor one
   branch_there one has =
       let of = origin graph one has in
@@ -103,7 +103,7 @@ module _ (setting : Setting) (query : Labels) (graph : PlainGraph) (is : IsGraph
     pub has : Contains (typed_branches graph) (plain node.state first branch)
     pub not_later : number_of first ≤ number_of rtype
 
-  -- each branch for a type is listed so
+  -- each branch that a node has for a type is in the list, with this type or one with a lower number
   pub typed_for : (rtype : RrType) (at number : ℕ) (node : Node) (branch : Branch) → HasBranch graph rtype at number node branch → TypedFor rtype node branch
   typed_for rtype at number node branch has =
       let of = of_arm setting query graph rtype is at number node branch has in

@@ -146,7 +146,7 @@ module _ (setting : FaultSetting) (query : Labels) (of_kind : Fault → Bool) (s
       let same : one.by ≡ entry = one_entry shown firsts.ordered one.by entry one.has has one.fault_is in
       subst (λ (s : Seen). number_of s.rtype ≤ number_of rtype) same one.not_later
 
-  -- and these are all
+  -- the entries are the faults that the query shows, each once, with its first type and in fault order
   pub all_shown_of : AreShownOf setting query of_kind shown
   all_shown_of =
       record {

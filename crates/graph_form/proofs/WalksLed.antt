@@ -18,7 +18,7 @@ use Rattle.graph_form.proofs.TakenPaths.{ended, path_by, not_last}
 abbrev pub behind : List State → List Hop → Walk → Walk
 behind states hops walk = record { states = states ++ walk.states; hops = hops ++ walk.hops; leaf = walk.leaf }
 
--- behind nothing it is the walk
+-- a walk behind no states and no hops is the walk alone
 pub behind_nothing : (walk : Option Walk) → walk ≡ option_map (behind [] []) walk
 behind_nothing None = refl
 behind_nothing (Some walk) = refl

@@ -21,6 +21,7 @@ pub record PlainBranch : Type 0 where
   pub rtype : RrType
   pub branch : Branch
 
+-- the branch of a state with this type
 abbrev pub plain : State → RrType → Branch → PlainBranch
 plain state rtype branch = record { state = state; rtype = rtype; branch = branch }
 

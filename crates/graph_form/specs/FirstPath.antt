@@ -100,6 +100,7 @@ takes_by rest shows state is_last taken None = false
 takes_by rest shows state is_last taken (Some (Go hop to)) = rest (taken || shows state (Go hop to)) to
 takes_by rest shows state is_last taken (Some (End hop leaf)) = is_last && (taken || shows state (End hop leaf))
 
+-- the rest of a path by the branch of a node with a number: whether it is whole, and takes a branch that shows
 abbrev pub node_takes : (Bool → ℕ → Bool) → (State → Branch → Bool) → RrType → ℕ → Bool → Bool → Option Node → Bool
 node_takes rest shows rtype number is_last taken None = false
 node_takes rest shows rtype number is_last taken (Some node) =

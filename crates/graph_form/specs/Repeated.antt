@@ -14,5 +14,6 @@ equal_twice eq (item ∷ items) = list_any (eq item) items || equal_twice eq ite
 abbrev pub names_asked : Question → Labels × Labels
 names_asked question = (question.server.now, question.name.now)
 
+-- the server and the name of a state
 abbrev pub place_at : State → Labels × Labels
 place_at state = (state.server, state.name)

@@ -117,6 +117,7 @@ module _ (told : FilesTold) (said : Result Job LineFault) (before after : List �
       by (inr (inl (file, is, comes, rose))) = subst Tells (sym is) ((comes, rose), refl)
       by (inr (inr is)) = subst Tells (sym is) refl
 
+    -- where no read of a job's files failed, its run has the job's outcome, or ends for want of memory
     pub complete : NoJobReadFailed told said before after → Outcome told said ending ⊎ (ending ≡ no_memory)
     complete none = by ends where
       by : JobEnds told said before after ending → Outcome told said ending ⊎ (ending ≡ no_memory)
@@ -124,6 +125,7 @@ module _ (told : FilesTold) (said : Result Job LineFault) (before after : List �
       by (inr (inl (file, is, comes, rose))) = absurd (none file comes rose)
       by (inr (inr is)) = inr is
 
+    -- where no read failed, the check of a configuration that was read ends as such checks do, or for want of memory
     pub headline : (meta : List ℕ) (workers classes rewrites : ℕ) (config : Config)
         → said ≡ Ok (jobs.Check meta workers classes rewrites) → conf meta told ≡ Reads config → NoReadFailed meta told before after
         → Checks classes rewrites config ending ⊎ (ending ≡ no_memory)
@@ -135,6 +137,7 @@ module _ (told : FilesTold) (said : Result Job LineFault) (before after : List �
               (subst (λ (other : Result Job LineFault). Outcome told other ending) is outcome))
           by (inr ran_out) = inr ran_out
 
+    -- a job's run has the job's outcome, or ends for an unread file or want of memory
     pub cause : IsEnding told said ending
     cause = by ends where
       by : JobEnds told said before after ending → IsEnding told said ending
@@ -142,12 +145,15 @@ module _ (told : FilesTold) (said : Result Job LineFault) (before after : List �
       by (inr (inl (file, is, comes, rose))) = inr (inl (file, is))
       by (inr (inr is)) = inr (inr is)
 
+    -- where a job's run ends for a file that couldn't be read, the job comes to it, and a read of it failed meanwhile
     pub read_fault : (file : List ℕ) → ending.status ≡ ReadFault file → JobComesTo told said file × Rose (before file) (after file)
     read_fault file is = (subst (λ (status : Status). Says status ending.out) is tells).0
 
+    -- no job's run ends since something couldn't be written
     pub no_write_fault : ending.status ≢ WriteFault
     no_write_fault is = subst (λ (status : Status). Says status ending.out) is tells
 
+    -- where a job's run ends with a status that writes nothing, it prints nothing
     pub silent : IsTrue (writes_nothing ending.status) → ending.out ≡ []
     silent = by ending.status tells where
       by : (status : Status) → Says status ending.out → IsTrue (writes_nothing status) → ending.out ≡ []

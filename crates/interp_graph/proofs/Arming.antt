@@ -27,6 +27,7 @@ use Rattle.interp_graph.proofs.Changes.{one_there, numbered_grows, numbered_ther
 
 -- ---- one change after another
 
+-- a graph in the making that stays as it is advances
 pub advances_not : (growing : GrowingGraph) → Advances growing growing
 advances_not growing =
     record {
@@ -37,6 +38,7 @@ advances_not growing =
       paid = omega arith;
     }
 
+-- two advances, one after the other, are one
 pub advances_twice : (before between after : GrowingGraph) → Advances before between → Advances between after → Advances before after
 advances_twice before between after one other =
     record {
@@ -59,6 +61,7 @@ module _ (before middle : GrowingGraph) (at : ℕ) (state : State) (sound : IsSo
     (num : Numbered (drafts_in before) (drafts_in middle) state at) (paired : IsPaired middle)
     (once : AllPairs (λ a b. a ≢ b) (states_of (drafts_in middle))) (stack : middle.stack.items ≡ before.stack.items)
     (pairs : middle.pairs ≡ before.pairs) (limit : middle.limit ≡ before.limit) where
+  -- when a state was numbered, the pairs are still counted, and no more than are allowed
   pub middle_within : IsWithin middle
   middle_within =
       record {
@@ -70,6 +73,7 @@ module _ (before middle : GrowingGraph) (at : ℕ) (state : State) (sound : IsSo
   there : (draft : Draft) × (slice_get (drafts_in middle) at ≡ Some draft) × (draft.state ≡ state)
   there = numbered_there (drafts_in before) (drafts_in middle) state at num
 
+  -- the number of a state is that of a draft
   pub middle_below : at < length (drafts_in middle)
   middle_below = slice_get_within (drafts_in middle) at there.0 there.1
 
@@ -83,6 +87,7 @@ module _ (before middle : GrowingGraph) (at : ℕ) (state : State) (sound : IsSo
   middle_among k has =
       let old = sound.among k (subst (λ (ks : List ℕ). Contains ks k) stack has) in omega (arith, old, longer)
 
+  -- where a reached state's types would be too many, more pairs come from where the query begins than are allowed
   pub reached_passed : (set_of : List Bool) → TooMany middle at set_of → (setting : Setting) (begin : List State)
       → AreDrafts setting begin (drafts_in before) → ComesTo setting begin set_of state → HasMoreComing setting begin before.limit
   reached_passed set_of many setting begin are come =
@@ -113,6 +118,7 @@ module _ (before middle : GrowingGraph) (at : ℕ) (state : State) (sound : IsSo
             ap (λ (ds : List Draft). slice_get ds at) new.1
             ∙ (ap (slice_get ((drafts_in before) ++ new.0 ∷ [])) new.2 ∙ pushed_there (drafts_in before) new.0)
 
+    -- when a state was reached with some type, the graph in the making is as sound as before
     pub reached_sound : IsSoundSoFar after
     reached_sound =
         record {
@@ -123,6 +129,7 @@ module _ (before middle : GrowingGraph) (at : ℕ) (state : State) (sound : IsSo
           among = took_among middle after at set_of took middle_among middle_below;
         }
 
+    -- a graph in the making advances when a state is reached
     pub reached_advances : Advances before after
     reached_advances =
         record {
@@ -137,13 +144,16 @@ module _ (before middle : GrowingGraph) (at : ℕ) (state : State) (sound : IsSo
           paid = omega (arith, took_paid middle after at set_of took, ap (λ (ks : List ℕ). length ks) stack, pairs);
         }
 
+    -- what waited before a state is reached still does behind it
     pub reached_still : StillWaits before after
     reached_still k rtype waits =
         took_still middle after at set_of took k rtype (numbered_still (drafts_in before) (drafts_in middle) state at num k rtype waits)
 
+    -- the draft with the number of a reached state has the state, and each of the types comes to it
     pub reached_awaits : Awaits (drafts_in after) set_of at state
     reached_awaits = subst (Awaits (drafts_in after) set_of at) there.2 (took_awaits middle after at set_of took there.0 there.1)
 
+    -- drafts of a query's walks stay so when a state is reached that comes from where the query begins
     pub reached_drafts : (setting : Setting) (begin : List State) → AreDrafts setting begin (drafts_in before) → ComesTo setting begin set_of state
         → AreDrafts setting begin (drafts_in after)
     reached_drafts setting begin are come =
@@ -156,6 +166,7 @@ module _ (before after : GrowingGraph) (at : ℕ) (arm : Arm) (put : PutArm befo
   later : IsLater put.old put.new
   later = record { same_state = put.gets.same_state; keeps = λ rtype has. ap (λ (w : List Bool). has_bit w rtype) put.gets.same_wanted ∙ has }
 
+  -- no draft loses its number or a type that came to it when a draft gets an arm
   pub put_grows : Grows (drafts_in before) (drafts_in after)
   put_grows = subst (Grows (drafts_in before)) (sym put.drafts) (grows_in_place (drafts_in before) at put.old put.new put.is_old later)
 
@@ -177,6 +188,7 @@ module _ (before after : GrowingGraph) (at : ℕ) (arm : Arm) (put : PutArm befo
   put_length : length (drafts_in after) ≡ length (drafts_in before)
   put_length = ap (λ (ds : List Draft). length ds) put.drafts ∙ length-set (drafts_in before) at put.new
 
+  -- a graph in the making stays sound when a draft gets an arm
   pub put_sound : IsSoundSoFar before → IsSoundSoFar after
   put_sound sound =
       record {
@@ -187,6 +199,7 @@ module _ (before after : GrowingGraph) (at : ℕ) (arm : Arm) (put : PutArm befo
         among = λ k has. let old = sound.among k (subst (λ (ks : List ℕ). Contains ks k) put.stack has) in omega (arith, old, put_length);
       }
 
+  -- what waits when a draft got an arm waited before
   pub put_listed : (k : ℕ) (rtype : RrType) → Waits (drafts_in after) k rtype → Waits (drafts_in before) k rtype
   put_listed k rtype waits =
       elim (from_set (drafts_in before) at k put.new waits.draft (ap (λ (ds : List Draft). slice_get ds k) (sym put.drafts) ∙ waits.is_draft)) [
@@ -202,6 +215,7 @@ module _ (before after : GrowingGraph) (at : ℕ) (arm : Arm) (put : PutArm befo
   new_there : slice_get (drafts_in after) at ≡ Some put.new
   new_there = ap (λ (ds : List Draft). slice_get ds at) put.drafts ∙ set_there (drafts_in before) at put.new put.old put.is_old
 
+  -- at the draft that got an arm no type of the arm waits any more
   pub put_done : (rtype : RrType) → has_bit arm.types rtype ≡ true → Waits (drafts_in after) at rtype → ⊥
   put_done rtype typed waits =
       let same = one_there (drafts_in after) at waits.draft put.new waits.is_draft new_there in
@@ -209,6 +223,7 @@ module _ (before after : GrowingGraph) (at : ℕ) (arm : Arm) (put : PutArm befo
       (sym (put.gets.waiting rtype) ∙ (ap (λ (d : Draft). has_bit d.waiting rtype) (sym same) ∙ waits.waits)) in
       true≢false (sym both.1 ∙ ap not typed)
 
+  -- at the draft that got an arm each other type that waited still does
   pub put_others : (rtype : RrType) → has_bit arm.types rtype ≡ false → Waits (drafts_in before) at rtype → Waits (drafts_in after) at rtype
   put_others rtype typed waits =
       record {
@@ -220,6 +235,7 @@ module _ (before after : GrowingGraph) (at : ℕ) (arm : Arm) (put : PutArm befo
             (ap not typed);
       }
 
+  -- a graph in the making advances when a draft gets an arm
   pub put_advances : Advances before after
   put_advances =
       record {
@@ -230,6 +246,7 @@ module _ (before after : GrowingGraph) (at : ℕ) (arm : Arm) (put : PutArm befo
         paid = omega (arith, ap (λ (ks : List ℕ). length ks) put.stack, put.pairs);
       }
 
+  -- drafts of a query's walks stay so when one gets an arm for types that waited, with the branches of its state
   pub put_drafts : (setting : Setting) (begin : List State) → AreDrafts setting begin (drafts_in before)
       → ((rtype : RrType) → has_bit arm.types rtype ≡ true → Waits (drafts_in before) at rtype)
       → ((draft : Draft) → slice_get (drafts_in before) at ≡ Some draft → IsMade setting (drafts_in before) draft.state arm)

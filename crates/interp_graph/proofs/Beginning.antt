@@ -37,12 +37,14 @@ module _ (before now : GrowingGraph) (set_of : List Bool) (all left : List State
       begins setting all state rtype
       (subst (λ (states : List State). Contains states state) so.parts (Contains-append_right so.done (state ∷ left) state (has_first state left)))
 
+  -- where the next state in which the query begins makes too many pairs, more come from the beginning than are allowed
   pub begun_passed : ((setting : Setting) (begin : List State) → AreDrafts setting begin (drafts_in now) → ComesTo setting begin set_of state
       → HasMoreComing setting begin now.limit)
       → (setting : Setting) → AreDrafts setting all (drafts_in before) → HasMoreComing setting all before.limit
   begun_passed passed setting are =
       subst (HasMoreComing setting all) so.advances.limit (passed setting all (so.drafts setting are) (comes setting))
 
+  -- when one more state in which the query begins awaits the types, one fewer is left
   pub begun_more : (after : GrowingGraph) (at : ℕ) → IsSoundSoFar after → Advances now after → Awaits (drafts_in after) set_of at state
       → ((setting : Setting) (begin : List State) → AreDrafts setting begin (drafts_in now) → ComesTo setting begin set_of state
       → AreDrafts setting begin (drafts_in after))

@@ -98,15 +98,18 @@ still_await before after starts states grows await =
 
 module _ (config : Config) (rewrites : ℕ) (name : Labels) (in_force : Setting) (query : Labels) (states : List State)
     (read_in : in_force ≡ following config rewrites (server_names config)) (asked : query ≡ name) (begin : states ≡ start config query) where
+  -- the states in which the query begins are those of the name
   pub begins_there : states ≡ start config name
   begins_there = begin ∙ ap (start config) asked
 
+  -- drafts of the walks by the setting in force are those of the name's walks while every configured server is followed
   pub drafts_there : (drafts : List Draft) → AreDrafts in_force states drafts
       → AreDrafts (following config rewrites (server_names config)) (start config name) drafts
   drafts_there drafts are =
       subst (λ (setting : Setting). AreDrafts setting (start config name) drafts) read_in
       (subst (λ (begin : List State). AreDrafts in_force begin drafts) begins_there are)
 
+  -- where more pairs come than the limit, the name reaches more pairs than the limit
   pub more_there : (given limit : ℕ) → given ≡ limit → HasMoreComing in_force states given → HasMoreThan (IsReached config rewrites name) limit
   more_there given limit same more =
       more_stand config rewrites name limit
@@ -114,6 +117,7 @@ module _ (config : Config) (rewrites : ℕ) (name : Labels) (in_force : Setting)
       (subst (λ (setting : Setting). HasMoreComing setting (start config name) given) read_in
       (subst (λ (begin : List State). HasMoreComing in_force begin given) begins_there more)))
 
+  -- drafts at which nothing waits, whose first ones await all types, make the graph of the name's walks
   pub graph_there : (drafts : List Draft) (starts : List ℕ) → AreDrafts in_force states drafts
       → ((at : ℕ) (rtype : RrType) → Waits drafts at rtype → ⊥) → AwaitAll drafts starts states
       → IsGraphOf (following config rewrites (server_names config)) name (record { nodes = map node_of drafts; starts = starts })

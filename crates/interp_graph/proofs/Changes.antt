@@ -28,18 +28,21 @@ one_there xs k x y one other = by (sym one ∙ other) where
 -- ---- a draft is numbered
 
 module _ (before after : List Draft) (state : State) (at : ℕ) (num : Numbered before after state at) where
+  -- no draft loses its number or a type when a state is numbered
   pub numbered_grows : Grows before after
   numbered_grows = elim num [
     | inl old ↦ subst (Grows before) (sym old.1) (grows_not before)
     | inr new ↦ subst (Grows before) (sym new.1) (grows_behind before new.0)
   ]
 
+  -- the draft with the number of a state has the state
   pub numbered_there : (draft : Draft) × (slice_get after at ≡ Some draft) × (draft.state ≡ state)
   numbered_there = elim num [
     | inl old ↦ (old.0, ap (λ (ds : List Draft). slice_get ds at) old.1 ∙ old.2, old.3)
     | inr new ↦ (new.0, ap (λ (ds : List Draft). slice_get ds at) new.1 ∙ (ap (slice_get (before ++ new.0 ∷ [])) new.2 ∙ pushed_there before new.0), new.4)
   ]
 
+  -- drafts of a query's walks stay so when a state is numbered
   pub numbered_drafts : (setting : Setting) (begin : List State) → AreDrafts setting begin before → AreDrafts setting begin after
   numbered_drafts setting begin are = elim num [
     | inl old ↦ subst (AreDrafts setting begin) (sym old.1) are
@@ -50,6 +53,7 @@ module _ (before after : List Draft) (state : State) (at : ℕ) (num : Numbered 
   none_pass f [] none = refl
   none_pass f (x ∷ xs) none = rw (none x) (none_pass f xs none)
 
+  -- as many pairs as before come to the drafts when a state is numbered
   pub numbered_count : pair_count after ≡ pair_count before
   numbered_count = elim num [
     | inl old ↦ ap pair_count old.1
@@ -60,6 +64,7 @@ module _ (before after : List Draft) (state : State) (at : ℕ) (num : Numbered 
       by : (n : ℕ) → n ≡ 0 → pair_count before + n ≡ pair_count before
       by n e = omega (arith, e)
 
+  -- what waits when a state was numbered waited before
   pub numbered_waits : (k : ℕ) (rtype : RrType) → Waits after k rtype → Waits before k rtype
   numbered_waits k rtype waits = elim num [
     | inl old ↦ subst (λ (ds : List Draft). Waits ds k rtype) old.1 waits
@@ -69,6 +74,7 @@ module _ (before after : List Draft) (state : State) (at : ℕ) (num : Numbered 
     ]
   ]
 
+  -- what waited before a state is numbered still does behind it
   pub numbered_still : (k : ℕ) (rtype : RrType) → Waits before k rtype → Waits after k rtype
   numbered_still k rtype waits =
       elim num [
@@ -80,6 +86,7 @@ module _ (before after : List Draft) (state : State) (at : ℕ) (num : Numbered 
 -- ---- a draft is changed in its place
 
 module _ (drafts : List Draft) (at : ℕ) (old new : Draft) (is : slice_get drafts at ≡ Some old) where
+  -- where a draft is changed but for its state, the states of the drafts stay
   pub states_in_place : new.state ≡ old.state → states_of (set drafts at new) ≡ states_of drafts
   states_in_place same = by drafts at is where
     by : (ds : List Draft) (k : ℕ) → slice_get ds k ≡ Some old → states_of (set ds k new) ≡ states_of ds
@@ -87,6 +94,7 @@ module _ (drafts : List Draft) (at : ℕ) (old new : Draft) (is : slice_get draf
     by (d ∷ ds) zero e = let one : d ≡ old = cc in ap (λ (s : State). s ∷ states_of ds) (same ∙ ap (λ (x : Draft). x.state) (sym one))
     by (d ∷ ds) (suc k) e = ap (λ (ss : List State). d.state ∷ ss) (by ds k e)
 
+  -- where new types come to a draft, as many pairs more come to the drafts
   pub count_in_place : (newly : List Bool) → TakesTypes old new newly → pair_count (set drafts at new) ≡ pair_count drafts + size_of newly
   count_in_place newly takes =
       by (size_of old.wanted) (size_of new.wanted) (size_of newly) (pair_count (set drafts at new)) (pair_count drafts)
@@ -100,6 +108,7 @@ module _ (drafts : List Draft) (at : ℕ) (old new : Draft) (is : slice_get draf
 -- ---- types come to a draft
 
 module _ (before after : GrowingGraph) (at : ℕ) (set_of : List Bool) (took : TookTypes before after at set_of) where
+  -- no draft loses its number or a type when types come to a draft
   pub took_grows : Grows (drafts_in before) (drafts_in after)
   took_grows = elim took.change [
     | inl same ↦ subst (Grows (drafts_in before)) (sym same.drafts) (grows_not (drafts_in before))
@@ -107,6 +116,7 @@ module _ (before after : GrowingGraph) (at : ℕ) (set_of : List Bool) (took : T
         (grows_in_place (drafts_in before) at changes.old changes.new changes.is_old (takes_later changes.old changes.new changes.newly changes.takes))
   ]
 
+  -- the states of the drafts stay when types come to a draft
   pub took_states : states_of (drafts_in after) ≡ states_of (drafts_in before)
   took_states = elim took.change [
     | inl same ↦ ap states_of same.drafts
@@ -114,12 +124,14 @@ module _ (before after : GrowingGraph) (at : ℕ) (set_of : List Bool) (took : T
         ∙ states_in_place (drafts_in before) at changes.old changes.new changes.is_old changes.takes.same_state
   ]
 
+  -- there are as many drafts as before when types come to one
   pub took_length : length (drafts_in after) ≡ length (drafts_in before)
   took_length = elim took.change [
     | inl same ↦ ap (λ (ds : List Draft). length ds) same.drafts
     | inr changes ↦ ap (λ (ds : List Draft). length ds) changes.drafts ∙ length-set (drafts_in before) at changes.new
   ]
 
+  -- the pairs stay counted, and no more than are allowed, when types come to a draft
   pub took_within : IsWithin before → IsWithin after
   took_within within = elim took.change [
     | inl same ↦ record {
@@ -136,6 +148,7 @@ module _ (before after : GrowingGraph) (at : ℕ) (set_of : List Bool) (took : T
     }
   ]
 
+  -- there are no fewer pairs than before when types come to a draft
   pub took_more : before.pairs ≤ after.pairs
   took_more = elim took.change [
     | inl same ↦ omega (arith, same.pairs)
@@ -151,6 +164,7 @@ module _ (before after : GrowingGraph) (at : ℕ) (set_of : List Bool) (took : T
     | inr changes ↦ omega (arith, changes.pairs, changes.some)
   ]
 
+  -- the numbers that are to be followed stay those of drafts when types come to a draft
   pub took_among : ((k : ℕ) → Contains before.stack.items k → k < length (drafts_in before)) → at < length (drafts_in before)
       → (k : ℕ) → Contains after.stack.items k → k < length (drafts_in after)
   took_among among there k has = elim took.change [
@@ -164,12 +178,14 @@ module _ (before after : GrowingGraph) (at : ℕ) (set_of : List Bool) (took : T
     ]
   ]
 
+  -- what is to be followed stays so when types come to a draft
   pub took_stays : (k : ℕ) → Contains before.stack.items k → Contains after.stack.items k
   took_stays k has = elim took.change [
     | inl same ↦ subst (λ (ks : List ℕ). Contains ks k) (sym same.stack) has
     | inr changes ↦ subst (λ (ks : List ℕ). Contains ks k) (sym changes.stack) (Contains-append_left before.stack.items (at ∷ []) k has)
   ]
 
+  -- what waits when types came to a draft waited before, or is to be followed
   pub took_listed : (k : ℕ) (rtype : RrType) → Waits (drafts_in after) k rtype → Waits (drafts_in before) k rtype ⊎ Contains after.stack.items k
   took_listed k rtype waits = elim took.change [
     | inl same ↦ inl (subst (λ (ds : List Draft). Waits ds k rtype) same.drafts waits)
@@ -184,6 +200,7 @@ module _ (before after : GrowingGraph) (at : ℕ) (set_of : List Bool) (took : T
     ]
   ]
 
+  -- what waited before types come to a draft still does behind it
   pub took_still : (k : ℕ) (rtype : RrType) → Waits (drafts_in before) k rtype → Waits (drafts_in after) k rtype
   took_still k rtype waits = elim took.change [
     | inl same ↦ subst (λ (ds : List Draft). Waits ds k rtype) (sym same.drafts) waits
@@ -213,12 +230,14 @@ module _ (before after : GrowingGraph) (at : ℕ) (set_of : List Bool) (took : T
       in_place old new newly is takes (inr other) =
           record { draft = waits.draft; is_draft = set_elsewhere (drafts_in before) at k new waits.draft other waits.is_draft; waits = waits.waits }
 
+  -- for each draft that is newly to be followed there is at least one pair more
   pub took_paid : length after.stack.items + before.pairs ≤ length before.stack.items + after.pairs
   took_paid = elim took.change [
     | inl same ↦ omega (arith, ap (λ (ks : List ℕ). length ks) same.stack, same.pairs)
     | inr changes ↦ omega (arith, ap (λ (ks : List ℕ). length ks) changes.stack, length-append before.stack.items (at ∷ []), changes.pairs, changes.some)
   ]
 
+  -- the draft to which types come keeps its state, and each of them comes to it
   pub took_awaits : (draft : Draft) → slice_get (drafts_in before) at ≡ Some draft → Awaits (drafts_in after) set_of at draft.state
   took_awaits draft is = elim took.change [
     | inl same ↦ record {
@@ -235,6 +254,7 @@ module _ (before after : GrowingGraph) (at : ℕ) (set_of : List Bool) (took : T
     }
   ]
 
+  -- drafts of a query's walks stay so when types come to one whose state comes from where the query begins with them
   pub took_drafts : (setting : Setting) (begin : List State) → AreDrafts setting begin (drafts_in before)
       → (draft : Draft) → slice_get (drafts_in before) at ≡ Some draft → ComesTo setting begin set_of draft.state
       → AreDrafts setting begin (drafts_in after)

@@ -23,6 +23,7 @@ use Rattle.interp_graph.proofs.ItemsByNumber.{from_pushed, in_front, from_set, s
 -- ---- what is told stays told
 
 module _ (before after : List Draft) (grows : Grows before after) where
+  -- a state that awaits types at a number still does when the drafts have grown
   pub awaits_grow : (types : List Bool) (at : ℕ) (state : State) → Awaits before types at state → Awaits after types at state
   awaits_grow types at state awaits =
       let later = grows at awaits.draft awaits.is_draft in
@@ -33,21 +34,26 @@ module _ (before after : List Draft) (grows : Grows before after) where
         wants = λ rtype has. later.wants rtype (awaits.wants rtype has);
       }
 
+  -- a branch tells the same branch of a state when drafts have grown
   pub tells_grow : (types : List Bool) (branch : Branch) (other : step.Branch) → TellsBranch before types branch other → TellsBranch after types branch other
   tells_grow types (Go hop to) other (state, tells, awaits) = (state, tells, awaits_grow types to state awaits)
   tells_grow types (End hop leaf) other tells = tells
 
+  -- branches that tell others one by one still do when drafts have grown
   pub zip_grows : (types : List Bool) (branches : List Branch) (others : List step.Branch)
       → AllZip (TellsBranch before types) branches others → AllZip (TellsBranch after types) branches others
   zip_grows types branches others all =
       side_by_side (TellsBranch before types) (TellsBranch after types) branches others (tells_grow types) all
 
+  -- an arm whose branches tell a state's steps still is so when drafts have grown
   pub made_grows : (setting : Setting) (state : State) (arm : Arm) → IsMade setting before state arm → IsMade setting after state arm
   made_grows setting state arm made rtype has = zip_grows arm.types arm.branches (next setting rtype state) (made rtype has)
 
+-- drafts that stay as they are grow
 pub grows_not : (drafts : List Draft) → Grows drafts drafts
 grows_not drafts at draft is = record { draft = draft; is_draft = is; has_state = refl; wants = λ rtype has. has }
 
+-- where drafts grow, and grow once more, they grow
 pub grows_twice : (before between after : List Draft) → Grows before between → Grows between after → Grows before after
 grows_twice before between after one other at draft is =
     awaits_grow between after other draft.wanted at draft.state (one at draft is)
@@ -63,10 +69,12 @@ fresh_draft draft fresh =
       either = λ rtype wanted. absurd (true≢false (sym wanted ∙ fresh.none_wanted rtype));
     }
 
+-- drafts grow when one is put behind them
 pub grows_behind : (drafts : List Draft) (draft : Draft) → Grows drafts (drafts ++ draft ∷ [])
 grows_behind drafts draft at other is =
     record { draft = other; is_draft = in_front drafts (draft ∷ []) at other is; has_state = refl; wants = λ rtype has. has }
 
+-- drafts of a query's walks stay so when one to which no type comes is put behind them
 pub drafts_with_new : (setting : Setting) (begin : List State) (drafts : List Draft) (draft : Draft) → AreDrafts setting begin drafts
     → HasNoType draft → AreDrafts setting begin (drafts ++ draft ∷ [])
 drafts_with_new setting begin drafts draft are fresh =
@@ -109,6 +117,7 @@ module _ (drafts : List Draft) (at : ℕ) (before after : Draft) (is : slice_get
   in_place k draft there (inr other) =
       record { draft = draft; is_draft = set_elsewhere drafts at k after draft other there; has_state = refl; wants = λ rtype has. has }
 
+  -- drafts grow when one is replaced by a later one of the same state
   pub grows_in_place : Grows drafts (set drafts at after)
   grows_in_place k draft there = in_place k draft there (same_or_other k at) where
     same_or_other : (k i : ℕ) → (k ≡ i) ⊎ (k ≢ i)
@@ -123,6 +132,7 @@ module _ (drafts : List Draft) (at : ℕ) (before after : Draft) (is : slice_get
 -- ---- types come to a draft
 
 module _ (before after : Draft) (newly : List Bool) (takes : TakesTypes before after newly) where
+  -- a draft to which types come is a later one of the same state
   pub takes_later : IsLater before after
   takes_later =
       record {
@@ -163,6 +173,7 @@ module _ (before after : Draft) (newly : List Bool) (takes : TakesTypes before a
 
   module _ (setting : Setting) (begin : List State) (drafts : List Draft) (at : ℕ) (is : slice_get drafts at ≡ Some before)
       (are : AreDrafts setting begin drafts) (come : (rtype : RrType) → has_bit newly rtype ≡ true → Comes setting begin rtype before.state) where
+    -- drafts of a query's walks stay so when types come to one whose state comes from the beginning with them
     pub drafts_with_types : AreDrafts setting begin (set drafts at after)
     drafts_with_types =
         record {
@@ -195,6 +206,7 @@ module _ (before after : Draft) (newly : List Bool) (takes : TakesTypes before a
 
 module _ (before after : Draft) (arm : Arm) (gets : HasArm before after arm)
     (waited : (rtype : RrType) → has_bit arm.types rtype ≡ true → has_bit before.waiting rtype ≡ true) where
+  -- a draft that gets an arm is a later one of the same state
   pub gets_later : IsLater before after
   gets_later =
       record { same_state = gets.same_state; keeps = λ rtype has. ap (λ (w : List Bool). has_bit w rtype) gets.same_wanted ∙ has }
@@ -264,6 +276,7 @@ module _ (before after : Draft) (arm : Arm) (gets : HasArm before after arm)
 
   module _ (setting : Setting) (begin : List State) (drafts : List Draft) (at : ℕ) (is : slice_get drafts at ≡ Some before)
       (are : AreDrafts setting begin drafts) (made_arm : IsMade setting drafts before.state arm) where
+    -- drafts of a query's walks stay so when one gets an arm that is made, for types that waited
     pub drafts_with_arm : AreDrafts setting begin (set drafts at after)
     drafts_with_arm =
         record {

@@ -42,6 +42,7 @@ module _ (setting : Setting) (begin : List State) (drafts : List Draft) (are : A
         ap (has_bit of.0.wanted) (sym (ap (λ (p : State × RrType). p.1) typed.2)) ∙ ((are.each at.0 of.0 at.1).armed arm.0 in_draft typed.0 has_type).0,
       )
 
+  -- a pair of state and type of the nodes comes from where the query begins
   pub reached_by : (starts : List ℕ) (pair : State × RrType) → Contains (pairs_of (record { nodes = map node_of drafts; starts = starts })) pair
       → Comes setting begin pair.1 pair.0
   reached_by starts pair has =
@@ -84,6 +85,7 @@ module _ (setting : Setting) (begin : List State) (drafts : List Draft) (are : A
         let from = from_mapped node_of drafts at node is.is_node in
         record { draft = from.0; is_draft = from.1; same = from.2; has = subst (λ (n : Node). Contains n.arms arm) (sym from.2) is.has_arm }
 
+    -- where nothing waits and all types come to the drafts of the query's first states, the graph is that of its walks
     pub finished : (query : Labels) → begin ≡ start setting.config query → (all : List Bool) → ((rtype : RrType) → has_bit all rtype ≡ true)
         → AllZip (Awaits drafts all) starts begin → IsGraphOf setting query graph
     finished query from_query all each begun =

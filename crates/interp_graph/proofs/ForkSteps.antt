@@ -52,6 +52,7 @@ module _ (before now : GrowingGraph) (set_of : List Bool) (all left : List Step)
       by (inl same) = same
       by (inr none) = absurd (none_in_nil (step.Go hop to) none)
 
+  -- where the next step of a fork makes too many pairs, more come from where the query begins than are allowed
   pub branches_passed : (one : Step) → BranchesSoFar before now set_of all (one ∷ left) branches
       → ((setting : Setting) (begin : List State) → AreDrafts setting begin (drafts_in now) → ComeOn setting begin set_of (branch_of one ∷ [])
       → HasMoreComing setting begin now.limit)
@@ -61,6 +62,7 @@ module _ (before now : GrowingGraph) (set_of : List Bool) (all left : List Step)
       subst (HasMoreComing setting begin) so.advances.limit
       (passed setting begin (so.drafts setting begin are come) (one_comes one so setting begin come))
 
+  -- when a branch tells the next step of a fork, one step fewer is left
   pub branches_more : (one : Step) → BranchesSoFar before now set_of all (one ∷ left) branches → (after : GrowingGraph) (branch : Branch)
       → IsSoundSoFar after → Advances now after → StillWaits now after → TellsBranch (drafts_in after) set_of branch (branch_of one)
       → ((setting : Setting) (begin : List State) → AreDrafts setting begin (drafts_in now) → ComeOn setting begin set_of (branch_of one ∷ [])
@@ -110,6 +112,7 @@ pub record ForksSoFar (before now : GrowingGraph) (at : ℕ) (all left : List Fo
   pub drafts : (setting : Setting) (begin : List State) → AreDrafts setting begin (drafts_in before) → AreForksAt setting (drafts_in before) at all
       → AreDrafts setting begin (drafts_in now)
 
+-- forks that split what waits at a draft are all left at the beginning
 pub forks_begin : (before : GrowingGraph) (at : ℕ) (all : List Fork) → IsSoundSoFar before → at < length (drafts_in before) → SplitWaiting (drafts_in before) at all
     → ForksSoFar before before at all all
 forks_begin before at all sound below split =
@@ -128,6 +131,7 @@ forks_begin before at all sound below split =
     }
 
 module _ (before now : GrowingGraph) (at : ℕ) (all left : List Fork) (fork : Fork) (so : ForksSoFar before now at all (fork ∷ left)) where
+  -- the number of the draft whose forks are followed is still that of a draft
   pub now_below : at < length (drafts_in now)
   now_below = still_below (drafts_in before) (drafts_in now) at so.advances.grows so.was_below
 
@@ -135,6 +139,7 @@ module _ (before now : GrowingGraph) (at : ℕ) (all left : List Fork) (fork : F
   is_fork setting forks =
       fork_stays setting (drafts_in before) (drafts_in now) at fork so.advances.grows so.was_below (forks fork (so.among fork (has_first fork left)))
 
+  -- where the next fork makes too many pairs, more come from where the query begins than are allowed
   pub forks_passed : ((setting : Setting) (begin : List State) → AreDrafts setting begin (drafts_in now) → IsForkAt setting (drafts_in now) at fork
       → HasMoreComing setting begin now.limit)
       → (setting : Setting) (begin : List State) → AreDrafts setting begin (drafts_in before) → AreForksAt setting (drafts_in before) at all
@@ -142,6 +147,7 @@ module _ (before now : GrowingGraph) (at : ℕ) (all left : List Fork) (fork : F
   forks_passed passed setting begin are forks =
       subst (HasMoreComing setting begin) so.advances.limit (passed setting begin (so.drafts setting begin are forks) (is_fork setting forks))
 
+  -- when the types of the next fork no longer wait and the others still do, one fork fewer is left
   pub forks_more : (after : GrowingGraph) → IsSoundSoFar after → Advances now after
       → ((rtype : RrType) → has_bit fork.types rtype ≡ true → Waits (drafts_in after) at rtype → ⊥)
       → ((rtype : RrType) → has_bit fork.types rtype ≡ false → Waits (drafts_in now) at rtype → Waits (drafts_in after) at rtype)
@@ -180,6 +186,7 @@ module _ (before now : GrowingGraph) (at : ℕ) (all left : List Fork) (fork : F
         | inr behind ↦ inl (one, behind, typed)
       ]
 
+-- where no fork is left, a draft at which a type still waits is to be followed
 pub forks_end : (before now : GrowingGraph) (at : ℕ) (all left : List Fork) → ForksSoFar before now at all left → left ≡ []
     → (rtype : RrType) → Waits (drafts_in now) at rtype → Contains now.stack.items at
 forks_end before now at all left so none rtype waits = elim (so.rid rtype waits) [

@@ -49,6 +49,7 @@ pub record ArmFor (node : Node) (rtype : RrType) : Type 0 where
   pub has : Contains node.arms arm
   pub typed : has_bit arm.types rtype ≡ true
 
+-- a node that has an arm for the type by the look-up has one that has the type
 pub arm_for : (node : Node) (rtype : RrType) → is_some (arm_of node rtype) ≡ true → ArmFor node rtype
 arm_for node rtype some = by (arm_of node rtype) refl some where
   by : (found : Option Arm) → arm_of node rtype ≡ found → is_some found ≡ true → ArmFor node rtype
@@ -66,6 +67,7 @@ module _ (config : Config) (graph : PlainGraph) (followed : List Labels) (settin
   same_setting : setting ≡ following config setting.rewrites followed
   same_setting = λ i. record { config = is.same_config i; rewrites = setting.rewrites; followed = is.same_followed i }
 
+  -- what a state leads to while some servers are followed is what it leads to while all are, each branch restricted
   pub next_here : (rtype : RrType) (state : State) → next setting rtype state
       ≡ map (restricted config followed) (next (following config setting.rewrites (server_names config)) rtype state)
   next_here rtype state = ap (λ (s : Setting). next s rtype state) same_setting ∙ next_restricted config setting.rewrites followed state rtype
@@ -140,6 +142,7 @@ module _ (config : Config) (graph : PlainGraph) (followed : List Labels) (settin
         has_arm = subst (λ (n : Node). is_some (arm_of n rtype) ≡ true) one typed.2;
       }
 
+  -- what comes from where the query begins while some servers are followed is in the graph of the walks that follow all
   pub comes_in_graph : (rtype : RrType) (state : State) → Comes setting begin rtype state → InGraph graph rtype state
   comes_in_graph rtype state comes =
       led rtype comes.numbers comes.hops comes.first state comes.leads (first_there rtype comes.number comes.first comes.is_first)
@@ -157,6 +160,7 @@ module _ (config : Config) (graph : PlainGraph) (followed : List Labels) (settin
       ap (λ (x : step.Branch). x ∷ map branch_of steps) (one.0 o other.0)
       ∙ ap (λ (xs : List step.Branch). restricted config followed o ∷ xs) (told steps branches others one.1 other.1)
 
+  -- the forks that a node's arms are cut to tell what its state leads to while some servers are followed
   pub forks_tell : (at : ℕ) (node : Node) (types : List Bool) (forks : List Fork) → slice_get graph.nodes at ≡ Some node
       → AllZip (IsCutOf config graph followed types) forks node.arms → (fork : Fork) → Contains forks fork → IsFork setting node.state fork
   forks_tell at node types forks here cut fork has rtype typed =
@@ -177,6 +181,7 @@ module _ (config : Config) (graph : PlainGraph) (followed : List Labels) (settin
 -- ---- the forks of a node are apart, and have together the types that are asked for
 
 module _ (config : Config) (graph : PlainGraph) (followed : List Labels) (types : List Bool) where
+  -- forks cut from arms that are apart in their types are apart in theirs
   pub forks_apart : (forks : List Fork) (arms : List Arm) → AllZip (IsCutOf config graph followed types) forks arms
       → AllPairs (λ a b. IsApart a.types b.types) arms → AllPairs (λ a b. IsApart a.types b.types) forks
   forks_apart [] arms cut apart = λ i j d before within. absurd (omega arith)
@@ -194,6 +199,7 @@ module _ (config : Config) (graph : PlainGraph) (followed : List Labels) (types 
       and_none true = refl
       and_none false = refl
 
+  -- forks cut from a node's arms split a set of types, for each of which the node has an arm
   pub forks_split : (node : Node) (forks : List Fork) → AllZip (IsCutOf config graph followed types) forks node.arms
       → AllPairs (λ a b. IsApart a.types b.types) node.arms
       → ((rtype : RrType) → has_bit types rtype ≡ true → (arm : Arm) × Contains node.arms arm × (has_bit arm.types rtype ≡ true))

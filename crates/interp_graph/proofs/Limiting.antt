@@ -51,6 +51,7 @@ module _ (graph : PlainGraph) (keys : List State) (numbered : IsNumbered keys gr
       (ap (λ (ks : List State). slice_get ks i) (sym numbered) ∙ number_is keys state i is) in
       ap (λ (n : Node). n.state) (one_there graph.nodes i node from.0 there from.1) ∙ from.2
 
+  -- the number that is found for a state is that of a node
   pub number_below : (state : State) (i : ℕ) → position (state_eq state) keys ≡ Some i → i < length graph.nodes
   number_below state i is =
       let from = from_mapped (λ (n : Node). n.state) graph.nodes i state

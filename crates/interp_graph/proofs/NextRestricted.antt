@@ -96,6 +96,7 @@ module _ (config : Config) (rewrites : ℕ) (followed : List Labels) (state : St
       (End None (Overlong (record { server = state.server; zone = origin; owner = owner })) ∷ [])
       (End None (Limit (record { server = state.server; zone = origin; owner = owner })) ∷ []) refl refl
 
+  -- what a state leads to while some servers are followed is what it leads to while all are, each branch restricted
   pub next_restricted : (rtype : RrType) → next some rtype state ≡ map change (next all rtype state)
   next_restricted rtype = by (nearest_of config state.server state.name) where
     by : (zone : Option Zone) → in_zone some rtype state zone ≡ map change (in_zone all rtype state zone)

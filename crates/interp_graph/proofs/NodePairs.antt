@@ -53,6 +53,7 @@ all_node_pairs (draft ∷ drafts) each =
     by : (size rest all some others pairs : ℕ) → some ≤ size → others ≤ rest → pairs ≡ some + others → all ≡ size + rest → pairs ≤ all
     by size rest all some others pairs one more parts sum = omega (arith, one, more, parts, sum)
 
+-- the nodes that drafts become have no more pairs of state and type than came to the drafts
 pub few_pairs : (setting : Setting) (begin : List State) (drafts : List Draft) (starts : List ℕ) → AreDrafts setting begin drafts
     → length (pairs_of (record { nodes = map node_of drafts; starts = starts })) ≤ pair_count drafts
 few_pairs setting begin drafts starts are =

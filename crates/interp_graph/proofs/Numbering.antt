@@ -51,14 +51,17 @@ distinct_states (key ∷ keys) distinct =
 
 module _ (keys after : List State) (drafts : List Draft) (value : State) (at : ℕ) (keyed : keys ≡ states_of drafts)
     (made : after ≡ insert_key state_eq keys value) (stored : (k : State) × (slice_get after at ≡ Some k) × (state_eq value k ≡ true)) where
+  -- the key that is stored under the number is the state
   pub stored_there : slice_get after at ≡ Some value
   stored_there = stored.1 ∙ ap Some (sym ((state_decides value stored.0).0 stored.2))
 
   -- a new key goes behind the others
   module _ (none : list_any (state_eq value) keys ≡ false) where
+    -- a state that is no key yet is put behind the keys
     pub key_behind : after ≡ keys ++ value ∷ []
     key_behind = made ∙ ap (λ b. if b then keys else keys ++ value ∷ []) none
 
+    -- the number of a state that is no key yet is that of a new draft behind the others
     pub number_behind : at ≡ length drafts
     number_behind =
         elim (from_pushed keys value value at (ap (λ (ks : List State). slice_get ks at) (sym key_behind) ∙ stored_there)) [
@@ -71,9 +74,11 @@ module _ (keys after : List State) (drafts : List Draft) (value : State) (at : �
 
   -- and one that is there stays
   module _ (there : list_any (state_eq value) keys ≡ true) where
+    -- the keys stay where the state is one of them
     pub keys_stay : after ≡ keys
     keys_stay = made ∙ ap (λ b. if b then keys else keys ++ value ∷ []) there
 
+    -- the number of a state that is a key is that of a draft with the state
     pub draft_there : (draft : Draft) × (slice_get drafts at ≡ Some draft) × (draft.state ≡ value)
     draft_there =
         from_mapped (λ (draft : Draft). draft.state) drafts at value
@@ -98,9 +103,11 @@ bits test rr.Caa = refl
 
 module _ (growing : GrowingGraph) (at : ℕ) (set_of newly : List Bool) (old : Draft) (is : slice_get (drafts_in growing) at ≡ Some old)
     (minus : (rtype : RrType) → has_bit newly rtype ≡ (has_bit set_of rtype && not (has_bit old.wanted rtype))) where
+  -- the types that are new to a draft are among those that are to come
   pub only_asked : (rtype : RrType) → has_bit newly rtype ≡ true → has_bit set_of rtype ≡ true
   only_asked rtype new = (and_parts (has_bit set_of rtype) (not (has_bit old.wanted rtype)) (sym (minus rtype) ∙ new)).0
 
+  -- the types that are new to a draft didn't come to it before
   pub not_wanted : (rtype : RrType) → has_bit newly rtype ≡ true → has_bit old.wanted rtype ≡ false
   not_wanted rtype new =
       not-true (has_bit old.wanted rtype) (and_parts (has_bit set_of rtype) (not (has_bit old.wanted rtype)) (sym (minus rtype) ∙ new)).1
@@ -128,9 +135,11 @@ module _ (growing : GrowingGraph) (at : ℕ) (set_of newly : List Bool) (old : D
   module _ (new : Draft) (same_state : new.state ≡ old.state) (same_arms : new.arms ≡ old.arms)
       (wanted : (rtype : RrType) → has_bit new.wanted rtype ≡ (has_bit old.wanted rtype || has_bit newly rtype))
       (waiting : (rtype : RrType) → has_bit new.waiting rtype ≡ (has_bit old.waiting rtype || has_bit newly rtype)) where
+    -- a draft that takes its new types, and nothing else, has them come to it
     pub takes_new : TakesTypes old new newly
     takes_new = record { same_state = same_state; same_arms = same_arms; wanted = wanted; waiting = waiting; new = not_wanted }
 
+    -- when a draft has taken its new types, all that were to come have come to it
     pub all_wanted : (rtype : RrType) → has_bit set_of rtype ≡ true → has_bit new.wanted rtype ≡ true
     all_wanted rtype typed = wanted rtype ∙ by (has_bit old.wanted rtype) refl where
       by : (b : Bool) → has_bit old.wanted rtype ≡ b → (has_bit old.wanted rtype || has_bit newly rtype) ≡ true

@@ -26,6 +26,7 @@ both_tails config name label is asked own of_own longer =
       no_longer = subst (λ (n : Labels). wire_octets n ≤ wire_octets (name.known ++ own)) is longer;
     }
 
+-- the tail of a name that may be asked stands for the other unnamed tails with which the name isn't shorter
 pub stands_for : (config : Config) (name : SymName) → IsAsked config name → StandsForOthers config name name.tail
 stands_for config name asked = by name.tail refl asked where
   by : (tail : Option (List ℕ)) → name.tail ≡ tail → AskedWith config name tail → StandsForOthers config name tail
@@ -35,6 +36,7 @@ stands_for config name asked = by name.tail refl asked where
       walks_as setting name.known own (label ∷ [])
       (subst (λ (c : Config). AreTails c name.known own (label ∷ [])) (sym same) tails) rtype
 
+-- a name with an open tail reaches no fewer pairs than it does with another unnamed tail that isn't shorter
 pub reaches_most : (config : Config) (rewrites : ℕ) (name : SymName) (most : ℕ) → IsAsked config name → ReachesMost config rewrites name most name.tail
 reaches_most config rewrites name most asked = by name.tail refl asked where
   by : (tail : Option (List ℕ)) → name.tail ≡ tail → AskedWith config name tail → ReachesMost config rewrites name most tail

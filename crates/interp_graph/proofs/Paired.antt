@@ -43,6 +43,7 @@ draft_changed (s ∷ states) (t ∷ all) (suc k) state its is = ap (λ (ds : Lis
 
 -- each state has types beside it
 module _ where
+  -- a state and its types behind as many states and types make one draft behind the others
   pub draft_behind : (states : List State) (all : List NodeTypes) → length states ≡ length all → (state : State) (its : NodeTypes)
       → drafts_of (states ++ state ∷ []) (all ++ its ∷ []) ≡ drafts_of states all ++ draft_of state its ∷ []
   draft_behind [] [] paired state its = refl
@@ -51,6 +52,7 @@ module _ where
   draft_behind (s ∷ states) (t ∷ all) paired state its =
       ap (λ (ds : List Draft). draft_of s t ∷ ds) (draft_behind states all (omega (arith, paired)) state its)
 
+  -- the states of the drafts that are made of states and as many types are these states
   pub states_stand : (states : List State) (all : List NodeTypes) → length states ≡ length all → states ≡ states_of (drafts_of states all)
   states_stand [] [] paired = refl
   states_stand [] (t ∷ all) paired = absurd (omega (arith, paired))

@@ -33,6 +33,7 @@ has_tops setting query number first is none =
     by : None ≡ Some first → ⊥
     by e = cc
 
+-- a state that comes from where a query begins stands on a walk of the query, for the same type
 pub comes_stand : (setting : Setting) (query : Labels) (rtype : RrType) (state : State) → Comes setting (start setting.config query) rtype state
     → StandsOn setting query (state, rtype)
 comes_stand setting query rtype state comes =

@@ -20,6 +20,7 @@ pub record TurnsSoFar (IsSo : Setting → List State → Type 0) (before now : G
   pub drafts : (setting : Setting) (begin : List State) → IsSo setting begin → AreDrafts setting begin (drafts_in before) → AreDrafts setting begin (drafts_in now)
 
 module _ (IsSo : Setting → List State → Type 0) where
+  -- before the first node is taken no turn is done, if each draft at which a type waits is to be followed
   pub turns_begin : (before : GrowingGraph) → IsSoundSoFar before → AreToFollow before → TurnsSoFar IsSo before before
   turns_begin before sound listed =
       record { sound = sound; limit = refl; listed = listed; grows = grows_not (drafts_in before); drafts = λ setting begin so are. are }
@@ -27,6 +28,7 @@ module _ (IsSo : Setting → List State → Type 0) where
   -- a node is taken
   module _ (before now taken : GrowingGraph) (at : ℕ) (so : TurnsSoFar IsSo before now) (stack : now.stack.items ≡ taken.stack.items ++ at ∷ [])
       (drafts_same : (drafts_in taken) ≡ (drafts_in now)) (limit_same : taken.limit ≡ now.limit) (pairs_same : taken.pairs ≡ now.pairs) where
+    -- where the node that is taken makes too many pairs, more come from where the query begins than are allowed
     pub turns_passed : ((setting : Setting) (begin : List State) → IsSo setting begin → AreDrafts setting begin (drafts_in taken) → HasMoreComing setting begin taken.limit)
         → (setting : Setting) (begin : List State) → IsSo setting begin → AreDrafts setting begin (drafts_in before) → HasMoreComing setting begin before.limit
     turns_passed passed setting begin is are =
@@ -34,6 +36,7 @@ module _ (IsSo : Setting → List State → Type 0) where
         (passed setting begin is (subst (AreDrafts setting begin) (sym drafts_same) (so.drafts setting begin is are)))
 
     module _ (after : GrowingGraph) (sound : IsSoundSoFar after) (advances : Advances taken after) (rid : IsRid after at) where
+      -- when what waits at the node that is taken no longer does, or is to be followed, one turn more is done
       pub turns_more : ((setting : Setting) (begin : List State) → IsSo setting begin → AreDrafts setting begin (drafts_in taken) → AreDrafts setting begin (drafts_in after))
           → TurnsSoFar IsSo before after
       turns_more drafts =

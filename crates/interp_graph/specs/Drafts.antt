@@ -23,10 +23,11 @@ pub record Draft : Type 0 where
   pub waiting : List Bool
   pub arms : List Arm
 
--- by its state and its types
+-- the draft of a state and its types
 abbrev pub draft_of : State → NodeTypes → Draft
 draft_of state its = record { state = state; wanted = its.wanted; waiting = its.waiting; arms = its.arms }
 
+-- the drafts of states and of the types beside them
 abbrev pub drafts_of : List State → List NodeTypes → List Draft
 drafts_of [] all = []
 drafts_of (state ∷ states) [] = []
@@ -47,8 +48,8 @@ pub record Awaits (drafts : List Draft) (types : List Bool) (at : ℕ) (state : 
   pub has_state : draft.state ≡ state
   pub wants : (rtype : RrType) → has_bit types rtype ≡ true → has_bit draft.wanted rtype ≡ true
 
--- a branch for some types tells a branch of a state: it leads to a draft of the same state to which they come, or is
--- the same end
+-- A branch of a draft's arm tells a branch of a state: where that goes on to a state, it leads to a draft of this state
+-- to which the arm's types come; and else it is the same end.
 abbrev pub TellsBranch : List Draft → List Bool → Branch → step.Branch → Type 0
 TellsBranch drafts set (Go hop to) branch = (state : State) × (branch ≡ step.Go hop state) × Awaits drafts set to state
 TellsBranch drafts set (End hop leaf) branch = branch ≡ step.End hop leaf
@@ -89,7 +90,7 @@ abbrev pub Grows : List Draft → List Draft → Type 0
 Grows before after =
     (at : ℕ) (draft : Draft) → slice_get before at ≡ Some draft → Awaits after draft.wanted at draft.state
 
--- the types of a set
+-- how many types a set has
 abbrev pub size_of : List Bool → ℕ
 size_of set = length (filter (has_bit set) types)
 

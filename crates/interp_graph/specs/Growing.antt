@@ -99,6 +99,7 @@ HasMoreComing setting begin limit = HasMoreThan (λ (pair : State × RrType). Co
 abbrev pub IsForkAt : Setting → List Draft → ℕ → Fork → Type 0
 IsForkAt setting drafts at fork = (draft : Draft) → slice_get drafts at ≡ Some draft → IsFork setting draft.state fork
 
+-- each fork is one of the state of the draft with this number
 abbrev pub AreForksAt : Setting → List Draft → ℕ → List Fork → Type 0
 AreForksAt setting drafts at forks = (fork : Fork) → Contains forks fork → IsForkAt setting drafts at fork
 
@@ -139,7 +140,7 @@ pub record Changes (before after : GrowingGraph) (at : ℕ) (types : List Bool) 
   pub some : 0 < size_of newly
   pub few : after.pairs ≤ after.limit
 
--- or all of them came before
+-- all types came before to the draft with this number
 pub record Stays (before after : GrowingGraph) (at : ℕ) (types : List Bool) : Type 0 where
   pub draft : Draft
   pub is_draft : slice_get (drafts_in before) at ≡ Some draft
@@ -148,6 +149,7 @@ pub record Stays (before after : GrowingGraph) (at : ℕ) (types : List Bool) : 
   pub stack : after.stack.items ≡ before.stack.items
   pub pairs : after.pairs ≡ before.pairs
 
+-- types came to the draft with this number: the new ones of them wait, or all of them had come before
 pub record TookTypes (before after : GrowingGraph) (at : ℕ) (types : List Bool) : Type 0 where
   pub paired : IsPaired before → IsPaired after
   pub limit : after.limit ≡ before.limit

@@ -49,7 +49,7 @@ maybe_decides eq decides (Some a) (Some b) =
 maybe_decides eq decides None (Some b) = ((λ e. absurd (true≢false (sym e))), (λ e. cc))
 maybe_decides eq decides (Some a) None = ((λ e. absurd (true≢false (sym e))), (λ e. cc))
 
--- what is left to compare behind the first fields
+-- what is left to compare of two states behind their first five fields; and below it behind four, three, two and one
 abbrev rest5 : State → State → Bool
 rest5 a b = maybe_eq place_eq a.last b.last && maybe_eq name_eq a.zone b.zone
 
@@ -65,6 +65,7 @@ rest2 a b = beq a.carried b.carried && rest3 a b
 abbrev rest1 : State → State → Bool
 rest1 a b = name_eq a.server b.server && rest2 a b
 
+-- two states are equal by the test exactly where they are one
 pub state_decides : (a b : State) → Decides (state_eq a b) (a ≡ b)
 state_decides a b = (
   λ e. let one = and_parts (name_eq a.name b.name) (rest1 a b) e in
@@ -89,11 +90,13 @@ state_decides a b = (
     same : a.name ≡ b.name → a.server ≡ b.server → a.carried ≡ b.carried → a.cut ≡ b.cut → a.used ≡ b.used → a.last ≡ b.last → a.zone ≡ b.zone → a ≡ b
     same n s c k u l z = λ i. record { server = s i; name = n i; carried = c i; cut = k i; used = u i; last = l i; zone = z i }
 
+-- the test of two states is an equivalence
 pub state_equivalence : IsEquivalence state_eq
 state_equivalence = decided state_eq state_decides
 
 -- ---- what is hashed of a state: the labels of its server and its name, and the rewrites used
 
+-- what is hashed of a state, in order
 abbrev pub state_writes : State → List (List ℕ)
 state_writes state = state.server ++ (state.name ++ fed.u32 state.used)
 

@@ -132,6 +132,7 @@ pub(crate) fn graph_of(
     requires drafts { (setting : Setting) × (begin : List State) × AreDrafts setting begin (drafts_in growing) }
     ensures { IfOk result (λ graph. graph ≡ record { nodes = map node_of (drafts_in growing); starts = starts }) }
 {
+    // What was left to follow, and the count of pairs with its limit, were for the making alone.
     let GrowingGraph {
         states,
         nodes,
@@ -159,6 +160,7 @@ fn nodes_of(
                 state: key.into_state(),
                 arms: of_node.arms,
             })?,
+            // This doesn't come: there are types beside each state.
             None => return Ok(nodes),
         }
     }

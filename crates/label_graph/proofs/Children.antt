@@ -38,7 +38,7 @@ module _ (names : List Labels) (place : ℕ) where
   abbrev pub last_of : ℕ → List ℕ
   last_of other = octets_from names (length (encoded (name_at names place)) + 1) other
 
-  -- the name is the one above with this label
+  -- a name one label below another is that name with its last label
   pub last_is : (other : ℕ) → IsNextBelow names place other → name_at names other ≡ name_at names place ++ last_of other ∷ []
   last_is other next =
       next.is ∙ ap (λ (label : List ℕ). name_at names place ++ label ∷ [])

@@ -195,7 +195,7 @@ module _ (ground : Ground) (closed : IsClosed ground) where
       (step.0, (step.1.0, live_is_sound name step.1.0 step.1.1, step.1.2)))
       base (live_of_all (name ++ label ∷ []) base is)
 
-  -- and back
+  -- what one label, and a redirection behind it, reach from a name's live names is live for the name with the label
   pub steps_live : (name base : Labels) (label : List ℕ)
       → Closed ground (IsLive ground) (Stepped ground (IsLive ground) (IsLive ground name) label) base
       → IsLive ground (name ++ label ∷ []) base
@@ -207,7 +207,7 @@ module _ (ground : Ground) (closed : IsClosed ground) where
   pub live_at_root : (base : Labels) → IsLive ground [] base → Closed ground (IsLive ground) (IsRoot ground (IsLive ground)) base
   live_at_root base is = live_of_all [] base is
 
-  -- and back
+  -- the root, and what is known of the target of a redirection that it owns, is live for the root
   pub root_live : (base : Labels) → Closed ground (IsLive ground) (IsRoot ground (IsLive ground)) base → IsLive ground [] base
   root_live base is = live_is_sound [] base is
 
@@ -217,7 +217,7 @@ module _ (ground : Ground) (closed : IsClosed ground) where
   next_is_named name above label live has =
       record { base = above ++ label ∷ []; among = has; reads = reads_below ground.redirections name above (label ∷ []) live.1 }
 
-  -- and where it is named so, it reads on to one with the label below
+  -- where a name with a label more is named, it reads on to a base name with one below it by this label
   pub named_next : (name : Labels) (label : List ℕ) → IsNamed ground (name ++ label ∷ [])
       → (above : Labels) × IsLive ground name above × Contains ground.names (above ++ label ∷ [])
   named_next name label named = by (live_steps name named.base label (named.among, named.reads)) where

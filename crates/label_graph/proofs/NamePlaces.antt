@@ -43,7 +43,7 @@ module _ {K X : Type 0} (R : K → K → Ordering) (o : IsTotalOrder R) (exact :
   rises : (xs : List X) → AllPairs (λ a b. R (key a) (key b) ≡ Less) xs → IsSortedBy (λ a b. is_lt (R (key a) (key b))) xs
   rises xs order k d low high = not_behind (key (get_or xs k d)) (key (get_or xs (k + 1) d)) (order k (k + 1) d (omega arith) high)
 
-  -- a search in items whose keys are in order finds the one with the key, or there is none
+  -- where keys stand in order, a binary search finds an item with the key, or there is none
   pub searched_by : (xs : List X) (r : Result ℕ ℕ) → AllPairs (λ a b. R (key a) (key b) ≡ Less) xs → IsSearchInRange r (length xs)
       → IsBinarySearchResult (λ x. R (key x) target) xs r
       → MatchResult r (λ place. (place < length xs) × ((d : X) → key (get_or xs place d) ≡ target)) (λ _. (x : X) → Contains xs x → key x ≡ target → ⊥)

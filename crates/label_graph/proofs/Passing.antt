@@ -25,7 +25,7 @@ module _ {X : Type 0} (P : X → Type 0) (xs : List X) (k : ℕ) (x : X) (below 
     p,
   )
 
-  -- and back
+  -- what holds of some item of a front with one item more holds of one of the front, or of this item
   pub from_more : SomeItem P (take (k + 1) xs) → SomeItem P (take k xs) ⊎ P x
   from_more (y, has, p) =
       elim (Contains-append_cases (take k xs) (get_or xs k x ∷ []) y (subst (λ (l : List X). Contains l y) (take_more xs k x below) has)) [
@@ -40,7 +40,7 @@ module _ {X : Type 0} (P : X → Type 0) (xs : List X) (k : ℕ) (x : X) (below 
 pub some_all : {X : Type 0} (P : X → Type 0) (xs : List X) (k : ℕ) → length xs ≤ k → SomeItem P (take k xs) → SomeItem P xs
 some_all {X} P xs k over some = subst (SomeItem P) (take_all k xs over) some
 
--- and back
+-- what holds of some item of a list holds of one of a front that has as many items as the list
 pub all_some : {X : Type 0} (P : X → Type 0) (xs : List X) (k : ℕ) → length xs ≤ k → SomeItem P xs → SomeItem P (take k xs)
 all_some {X} P xs k over some = subst (SomeItem P) (sym (take_all k xs over)) some
 

@@ -36,7 +36,7 @@ read_from_has front bases targets target base among has =
     flat_map_has (λ (t : ℕ). with_front front (get_or bases t [])) targets target (link front base) among
     (map_has (λ (b : ℕ). link front b) (get_or bases target []) base has)
 
--- and no others
+-- a link of a front with what is known of targets leads from the front to a base name that one of them has
 pub from_read_from : (front : ℕ) (bases : List (List ℕ)) (targets : List ℕ) (one : Link) → Contains (read_from front bases targets) one
     → (target : ℕ) × (base : ℕ) × (Contains targets target × RowHas bases target base × (link front base ≡ one))
 from_read_from front bases targets one has =
@@ -51,7 +51,7 @@ read_by_has base fronts owners owner front among has =
     flat_map_has (λ (o : ℕ). with_base base (get_or fronts o [])) owners owner (link front base) among
     (map_has (λ (f : ℕ). link f base) (get_or fronts owner []) front has)
 
--- and no others
+-- a link of the fronts that read on to owners leads from a front of one of these owners to the base name
 pub from_read_by : (base : ℕ) (fronts : List (List ℕ)) (owners : List ℕ) (one : Link) → Contains (read_by base fronts owners) one
     → (owner : ℕ) × (front : ℕ) × (Contains owners owner × RowHas fronts owner front × (link front base ≡ one))
 from_read_by base fronts owners one has =

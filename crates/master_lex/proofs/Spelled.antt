@@ -103,6 +103,7 @@ pieces_spell octet text more comments quotes escape =
       by false false false false false false false f o c q b sound = before_spells false (octet ∷ []) text (pieces text) (more (before_sound false (octet ∷ []) (pieces text) sound))
 
 mutual
+  -- where no piece of a text is a fault, its pieces spell the text
   pub pieces_spelled : (text : List ℕ) → Spelling false (pieces text) text
   pieces_spelled [] = λ sound. refl
   pieces_spelled (octet ∷ text) = pieces_spell octet text (pieces_spelled text) (comment_spelled text) (quotes_spelled text) (escaped_spelled false text)

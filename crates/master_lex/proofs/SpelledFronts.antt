@@ -135,6 +135,7 @@ pieces_front_by octet text more comments quotes escape =
       by false false false false false false false f o c q b = before_fronts false (octet ∷ []) text (pieces text) more
 
 mutual
+  -- the pieces of a text up to a fault spell a front of the text
   pub pieces_front : (text : List ℕ) → Fronts false (pieces text) text
   pieces_front [] = ([], refl)
   pieces_front (octet ∷ text) = pieces_front_by octet text (pieces_front text) (comment_front text) (quotes_front text) (escaped_front false text)

@@ -49,6 +49,7 @@ module _ (asked : Asked) where
         let some = some_left (states_left asked begun) asked.setting asked.rtype state settled in
         omega (arith, some, length-append begun.states (state ∷ []))
 
+    -- fewer states are left when one is entered
     pub fewer_left : states_left asked (entered begun state) < states_left asked begun
     fewer_left = omega (arith, one_less_left)
 

@@ -73,5 +73,6 @@ module _ (lists sets : FaultSetting) (query : Labels)
             record { by = one.by; has = Contains-append_right of_rewrites of_delegations one.by one.has; fault_is = one.fault_is; not_later = one.not_later })
       ]
 
+  -- what is shown of rewrites and of delegations, first types taken, is all that the query shows
   pub all_kinds : AreShownOf sets query (λ fault. true) shown
   all_kinds = all_shown_of sets query (λ fault. true) (of_rewrites ++ of_delegations) shown firsts (λ seen has. refl) right (λ rtype fault kind shows. collected rtype fault shows)

@@ -82,6 +82,7 @@ module _ (subject : Subject) (states : ℕ) (closed : IsClosed subject.ground)
     by (inl (query, stands)) =
         let (verdict, right) = class_verdict_exists subject.config subject.rewrites states query (classes query stands.is_name) in (Some verdict, (query, stands, right))
 
+  -- each name has a verdict
   pub name_verdict_exists : (name : Labels) → IsName name → (verdict : NameVerdict) × IsNameVerdict subject states name verdict
   name_verdict_exists name is =
       let (exact, right) = class_verdict_exists subject.config subject.rewrites states name (classes name is) in

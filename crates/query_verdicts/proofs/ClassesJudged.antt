@@ -47,9 +47,11 @@ module _ (config : Config) (rewrites states : ℕ) where
       subst (λ (names : List Labels). Contains names name) (sym is.among)
       (Contains-append_right is.before (name ∷ is.after) name (has_first name is.after))
 
+  -- the first server's name that reaches too many pairs is that of some server
   pub some_server : (name : Labels) → IsFirstServerPassed config rewrites states name → SomeServerPasses config rewrites states
   some_server name is = (name, among name is, is.passes)
 
+  -- the first server's name that reaches too many pairs is a name, and that of some server
   pub some_name : (name : Labels) → IsFirstServerPassed config rewrites states name → SomeNamePasses config rewrites states
   some_name name is = (name, among name is, (is.is_name, is.passes))
 

@@ -24,6 +24,7 @@ module _ {X : Type 0} (P : X → Type 0) (decide : (x : X) → Decided (P x)) wh
   abbrev pub EndsSo : List X → Type 0
   EndsSo xs = (before : List X) × (last : X) × (xs ≡ before ++ last ∷ []) × P last
 
+  -- whether a list ends with an item that is so is decided
   pub ends_so : (xs : List X) → Decided (EndsSo xs)
   ends_so [] = inr (λ (before, last, e, p). by before last e) where
     by : (before : List X) (last : X) → [] ≡ before ++ last ∷ [] → ⊥
@@ -52,6 +53,7 @@ module _ {X : Type 0} (P : X → Type 0) (decide : (x : X) → Decided (P x)) wh
 
 -- ---- two values are one
 
+-- whether two lists are equal is decided, where it is of their items
 pub same_list : {X : Type 0} → ((a b : X) → Decided (a ≡ b)) → (xs ys : List X) → Decided (xs ≡ ys)
 same_list same [] [] = inl refl
 same_list same [] (y ∷ ys) = inr (λ e. cc)
@@ -63,12 +65,14 @@ same_list {X = X} same (x ∷ xs) (y ∷ ys) = turned there back (both (same x y
   back : x ∷ xs ≡ y ∷ ys → (x ≡ y) × (xs ≡ ys)
   back e = (cc, cc)
 
+-- whether two optional values are equal is decided, where it is of the values
 pub same_option : {X : Type 0} → ((a b : X) → Decided (a ≡ b)) → (a b : Option X) → Decided (a ≡ b)
 same_option same None None = inl refl
 same_option same None (Some b) = inr (λ e. cc)
 same_option same (Some a) None = inr (λ e. cc)
 same_option {X = X} same (Some a) (Some b) = turned (ap (λ (x : X). Some x)) (λ e. cc) (same a b)
 
+-- whether two numbers are equal is decided
 pub same_number : (a b : ℕ) → Decided (a ≡ b)
 same_number a b =
     elim (cases_lt a b) [
@@ -76,21 +80,26 @@ same_number a b =
       | inr not_less ↦ elim (cases_lt b a) [ inl more ↦ inr (λ e. omega arith) | inr not_more ↦ inl (omega arith) ]
     ]
 
+-- whether two truth values are equal is decided
 pub same_bool : (a b : Bool) → Decided (a ≡ b)
 same_bool true true = inl refl
 same_bool true false = inr (λ e. cc)
 same_bool false true = inr (λ e. cc)
 same_bool false false = inl refl
 
+-- whether two record types are equal is decided
 pub same_type : (a b : RrType) → Decided (a ≡ b)
 same_type a b = turned (one_type a b) (ap number_of) (same_number (number_of a) (number_of b))
 
+-- whether the data of two records are equal is decided
 pub same_data : (a b : Rdata) → Decided (a ≡ b)
 same_data a b = by_test (data_eq a b) (equal_is_same a b).0 (equal_is_same a b).1
 
+-- whether two places are equal is decided
 pub same_places : (a b : Place) → Decided (a ≡ b)
 same_places a b = by_test (place_eq a b) (same_place a b) (λ e. subst (λ (x : Place). place_eq a x ≡ true) e (place_itself a))
 
+-- whether two zone cuts, with where they stand, are equal is decided
 pub same_cut : (a b : Cut) → Decided (a ≡ b)
 same_cut a b =
     turned there back (both (both (same_name a.server b.server) (same_name a.zone b.zone)) (both (same_name a.cut b.cut) (same_name a.ns b.ns)))
@@ -108,6 +117,7 @@ same_cut a b =
       (ap (λ (x : Cut). x.cut) e, ap (λ (x : Cut). x.ns) e),
     )
 
+-- whether two states of walks are equal is decided
 pub same_state : (a b : State) → Decided (a ≡ b)
 same_state a b =
     turned there back
@@ -135,6 +145,7 @@ same_state a b =
       (ap (λ (x : State). x.used) e, (ap (λ (x : State). x.last) e, ap (λ (x : State). x.zone) e)),
     )
 
+-- whether two ends of walks are equal is decided
 pub same_leaf : (a b : Leaf) → Decided (a ≡ b)
 same_leaf (Answer a) (Answer b) = turned (ap Answer) (λ e. cc) (same_list same_data a b)
 same_leaf NoData NoData = inl refl
@@ -147,6 +158,7 @@ same_leaf (Overlong a) (Overlong b) = turned (ap Overlong) (λ e. cc) (same_plac
 same_leaf (NoAddress a) (NoAddress b) = turned (ap NoAddress) (λ e. cc) (same_name a b)
 same_leaf _ _ = inr (λ e. cc)
 
+-- whether two classes are equal is decided
 pub same_class : (a b : Class) → Decided (a ≡ b)
 same_class (Exact a) (Exact b) = turned (ap Exact) (λ e. cc) (same_name a b)
 same_class (Below a) (Below b) = turned (ap Below) (λ e. cc) (same_name a b)

@@ -33,6 +33,7 @@ pub record HasWalks (setting : Setting) (query : Labels) (rtype : RrType) (walks
   pub each : (walk : Walk) → Contains walks walk → IsWalk setting query rtype walk
   pub all : (walk : Walk) → IsWalk setting query rtype walk → Contains walks walk
 
+-- the walks of a query for a type are a list
 pub walks_exist : (setting : Setting) (rtype : RrType) (query : Labels) → (walks : List Walk) × HasWalks setting query rtype walks
 walks_exist setting rtype query =
     let settled = query_settles setting rtype query in

@@ -50,11 +50,13 @@ module _ (setting : Setting) (query : Labels) (rtype : RrType) (graph : PlainGra
         ap (λ first. first ∷ map (path_along graph rtype) paths) (path_is_walk setting query graph rtype is path ∙ along) ∙ ap (λ more. Some walk ∷ more) rest,
       )
 
+  -- a fault that the query shows with the type is shown by the graph of its walks
   pub graph_shows : (fault : Fault) → Shows (with_sets setting) query rtype fault → GraphShows graph rtype fault
   graph_shows fault shows =
       let (paths, are) = paths_of shows.walks shows.are_walks in
       (paths, shows.walks, record { are_paths = are; take = taken (with_sets setting) shows.walks fault shows.show })
 
+  -- the first walks that the graph gives for a fault that the query shows are the query's first that show it
   pub first_walks : (fault : Fault) (walks : List Walk) → Shows (with_sets setting) query rtype fault → AreFirst graph rtype fault walks
       → AreFirstWalks setting query rtype fault walks
   first_walks fault walks shows first =

@@ -104,6 +104,7 @@ module _ (config : Config) (rewrites : ℕ) (followed : List Labels) (all : Foll
   -- ---- so the graph is the same
 
   module _ (query : Labels) (graph : PlainGraph) (built : IsBuilt config rewrites query graph) where
+    -- the graph of a query's walks while every configured server is followed is that while these servers are
     pub same_graph : IsGraphOf some query graph
     same_graph =
         record {
@@ -116,6 +117,7 @@ module _ (config : Config) (rewrites : ℕ) (followed : List Labels) (all : Foll
           apart = built.is_graph.apart;
         }
 
+    -- the graph has no more than the query's walks, also while these servers are followed
     pub same_exact : IsExactIn some query graph
     same_exact =
         record {
@@ -131,6 +133,7 @@ abbrev pub is_in : tree.BTreeSet Labels → List Labels → Server → Bool
 is_in tops learnt server = tree.contains name_cmp tops server.name || is_among learnt server.name
 
 module _ (config : Config) (followed : List Labels) (tops : tree.BTreeSet Labels) (are_tops : IsSetOf config.tops tops) where
+  -- where each configured server is a top server or followed, every configured one may be followed
   pub all_in : list_all (is_in tops followed) config.servers ≡ true → FollowsAll config followed
   all_in each cut configured =
       by_name (or_cases (is_top config cut.ns || has_glue config cut) (list_any (name_eq cut.ns) (server_names config)) (names_follow_all config 0 cut configured))

@@ -79,6 +79,7 @@ module _ {W : Type 0} (subject : Subject) (states : ℕ) (rows : List (Row W)) (
   below_class row has =
       (are.tree.all row.item).0 (map_has (λ (r : Row W). r.item) rows row has)
 
+  -- each fault that is found in the rows of a subject's tree is one that its class's representative shows
   pub found_is_right : (one : ClassFault) → Contains (found_of rows) one → IsRightFound subject one
   found_is_right one has = by (from_flat_map told_at rows one has) where
     of_below : (row : Row W) → Contains rows row → (below : Option ClassVerdict) → IsBelowVerdict subject states row.item below
@@ -111,6 +112,7 @@ module _ {W : Type 0} (subject : Subject) (states : ℕ) (rows : List (Row W)) (
   in_rows : (row : Row W) → Contains rows row → (one : ClassFault) → Contains (told_at row) one → Contains (found_of rows) one
   in_rows row has one inside = flat_map_has told_at rows row one has inside
 
+  -- each fault that the representative of a class shows is found in the rows, with this class
   pub shown_is_found : (class : Class) (query : Labels) (rtype : RrType) (fault : Fault)
       → ClassShows subject class query rtype fault → IsIn class fault
   shown_is_found (Exact name) query rtype fault shows =

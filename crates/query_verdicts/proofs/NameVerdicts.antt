@@ -35,6 +35,7 @@ module _ (subject : Subject) (covers : Covers subject.ground subject.config) (st
   tested name true e is = (exists name (is_name_tells name e)).1
   tested name false e is = let told : is_name name ≡ true = is_name_told name is in absurd (true≢false (sym told ∙ e))
 
+  -- the verdict that is computed for a name is the name's verdict
   pub verdict_is : (name : Labels) → IsName name → IsNameVerdict subject states name (verdict_of name)
   unfolding verdict_of
   verdict_is name is = tested name (is_name name) refl is
@@ -51,6 +52,7 @@ module _ (subject : Subject) (states : ℕ) where
       ap (λ (v : ClassVerdict). Some v)
       (one_verdict subject.config subject.rewrites states query a b is (subst (λ (n : Labels). IsClassVerdict subject.config subject.rewrites states n b) same other))
 
+  -- a name has one verdict
   pub one_name_verdict : (name : Labels) (a b : NameVerdict) → IsNameVerdict subject states name a → IsNameVerdict subject states name b → a ≡ b
   one_name_verdict name a b one other =
       ap (λ (v : ClassVerdict). record a { exact = v }) (one_verdict subject.config subject.rewrites states name a.exact b.exact one.exact other.exact)

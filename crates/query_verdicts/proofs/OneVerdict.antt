@@ -55,6 +55,7 @@ module _ (config : Config) (rewrites states : ℕ) (query : Labels) where
         let (followed, is) = some_in_force config rewrites in
         one_list (with_sets (following config rewrites followed)) query a b (one.sought none followed is) (two.sought none followed is)
 
+  -- a class has one verdict
   pub one_verdict : (a b : ClassVerdict) → IsClassVerdict config rewrites states query a → IsClassVerdict config rewrites states query b → a ≡ b
   one_verdict StatesPassed StatesPassed one two = refl
   one_verdict StatesPassed (Faults b) one two = absurd (two.0 one)

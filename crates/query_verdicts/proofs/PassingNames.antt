@@ -26,6 +26,7 @@ module _ (config : Config) (rewrites states : ℕ) (ground : Ground) (covers : C
   class_is : (class : Class) (name : Labels) → IsName name → IsClassOf ground name class → IsClass (at_all_names config rewrites ground) class
   class_is class name is of = class_of_name (at_all_names config rewrites ground) at_root class name is (is_prefix_told [] name (name, refl)) of
 
+  -- where a name reaches more pairs of state and type than so many, the representative of some class does
   pub name_passes : (name : Labels) → IsName name → PassesStates config rewrites states name → SomeClassPasses (at_all_names config rewrites ground) states
   name_passes name is passes = let of : IsInOneClass ground name = in_class config ground covers name is in by of.class of.is of.stands where
     by : (class : Class) → IsClassOf ground name class → ((query : Labels) × RepresentsClass ground class query)

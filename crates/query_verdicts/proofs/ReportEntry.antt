@@ -16,7 +16,7 @@ use Rattle.net_model.specs.Class.{IsRepresentative}
 use Rattle.net_model.specs.Shown.{Shows, ShowsIn, with_sets}
 use Rattle.net_model.specs.Step.{Setting, following}
 use Rattle.net_model.proofs.TrialOrder.{one_representative}
-use Rattle.query_verdicts.specs.Entries.{AreEntriesOf, IsEntryOf, IsPut, IsRightFound, IsWalked}
+use Rattle.query_verdicts.specs.Entries.{AreEntriesOf, IsEntryOf, IsRightFound, IsWalked, PutsEntry}
 use Rattle.query_verdicts.specs.declared.entries.ClassFault.{ClassFault}
 use Rattle.query_verdicts.specs.declared.entries.Walked.{Walked}
 use Rattle.query_verdicts.proofs.FirstWalksShow.{AreFirstWalks, shows_with, graph_shows, first_walks}
@@ -40,6 +40,7 @@ module _ (subject : Subject) (found : ClassFault) (right : IsRightFound subject 
   shows : Shows (with_sets setting) walked.query found.seen.rtype found.seen.fault
   shows = shows_with subject.config subject.rewrites is.of_query.followed is.of_query.in_force walked.query found.seen.rtype found.seen.fault query_shows
 
+  -- a fault that is found for a class is shown by the graph of the class's representative
   pub fault_shown : GraphShows walked.graph found.seen.rtype found.seen.fault
   fault_shown = graph_shows setting walked.query found.seen.rtype walked.graph is.of_query.is_graph found.seen.fault shows
 
@@ -76,7 +77,8 @@ pub record IsListing (subject : Subject) (all left : List ClassFault) (entries :
 
 module _ (subject : Subject) (all left rest : List ClassFault) (found : ClassFault) (entries : List ReportEntry)
     (next : left ≡ found ∷ rest) (listing : IsListing subject all left entries) where
-  pub listing_step : (more : List ReportEntry) → IsPut subject found entries more → IsListing subject all rest more
+  -- when the entry of the next fault is put at the end, the entries are those of the faults passed over
+  pub listing_step : (more : List ReportEntry) → PutsEntry subject found entries more → IsListing subject all rest more
   listing_step more (entry, is, put) =
       record {
         done = listing.done ++ found ∷ [];
@@ -93,6 +95,7 @@ module _ (subject : Subject) (all left rest : List ClassFault) (found : ClassFau
       (subst (λ (l : List ClassFault). Contains l found) (sym (listing.is ∙ ap (λ (l : List ClassFault). listing.done ++ l) next))
       (Contains-append_right listing.done (found ∷ rest) found (has_first found rest)))
 
+-- where no fault is left, the entries are those of all faults
 pub listing_ends : (subject : Subject) (all left : List ClassFault) (entries : List ReportEntry) → left ≡ [] → IsListing subject all left entries
     → AreEntriesOf subject all entries
 listing_ends subject all left entries none listing =

@@ -83,6 +83,7 @@ module _ (subject : Subject) (states : ℕ) where
   -- ---- the classes of one name
 
   module _ (name : Labels) (in_part : IsInPart subject.ground subject.below name) where
+    -- where a name reaches too many pairs, it is the first representative of its two classes that does
     pub exact_passes : (verdict : ClassVerdict) → IsClassVerdict subject.config subject.rewrites states name verdict → passes verdict ≡ true
         → IsFirstPassedAt subject states name name
     exact_passes verdict is e =
@@ -93,6 +94,7 @@ module _ (subject : Subject) (states : ℕ) where
           first = λ other also of_name other_passes. exact_first name other of_name;
         }
 
+    -- where only the class below a name reaches too many pairs, its representative is the first of the name's to do so
     pub below_passes : (exact : ClassVerdict) (below : Option ClassVerdict) → IsClassVerdict subject.config subject.rewrites states name exact
         → IsBelowVerdict subject states name below → passes exact ≡ false → option_map_or passes below false ≡ true
         → (query : Labels) → IsRepresentative subject.ground (Below name) query → IsFirstPassedAt subject states name query
@@ -112,6 +114,7 @@ module _ (subject : Subject) (states : ℕ) where
         first (Below above) also of_name other_passes less =
             never_before_itself name_cmp names_total name (subst (λ (n : Labels). name_cmp n name ≡ Less) of_name less)
 
+    -- where only the class below a name reaches too many pairs, what is found for it is the first of the name's
     pub below_found : (exact : ClassVerdict) (below : Option ClassVerdict) → IsClassVerdict subject.config subject.rewrites states name exact
         → IsBelowVerdict subject states name below → passes exact ≡ false → option_map_or passes below false ≡ true
         → (found : Option Labels) → RepresentsBelow subject.ground name found → IsPassedAt subject states name found
@@ -120,6 +123,7 @@ module _ (subject : Subject) (states : ℕ) where
         absurd (empty query stands)
     below_found exact below is verdict e some (Some query) stands = below_passes exact below is verdict e some query stands.represents
 
+    -- where neither verdict of a name tells of too many pairs, no representative of its two classes reaches so many
     pub none_passes_at : (exact : ClassVerdict) (below : Option ClassVerdict) → IsClassVerdict subject.config subject.rewrites states name exact
         → IsBelowVerdict subject states name below → passes exact ≡ false → option_map_or passes below false ≡ false
         → NonePassesAt subject states name

@@ -57,6 +57,7 @@ module _ {W : Type 0} (subject : Subject) (states : ℕ) (rows : List (Row W)) (
         all = λ above. (there above, back above);
       }
 
+  -- a subject's tree has as many names as rows, and as many classes as names and names with a class below
   pub size_of_rows : IsTreeSize subject.ground subject.below (length rows) (length rows + below_count rows)
   size_of_rows =
       record {

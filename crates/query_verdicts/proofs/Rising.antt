@@ -23,6 +23,7 @@ module _ {X K : Type 0} (key : X → K) (cmp : K → K → Ordering) (total : Is
   key_at k d within =
       slice_get-get_or (map key xs) k (key d) (omega (arith, length-map xs key)) ∙ ap (λ (one : K). Some one) (get_or-map key xs k d (key d) within)
 
+  -- items that are sorted by their keys, none of which comes twice, rise
   pub rises : IsSortedBy (λ a b. is_lt (cmp (key a) (key b))) xs → NoneTwice (map key xs) → Rises
   rises sorted once i j d less within = by (cmp (key (get_or xs i d)) (key (get_or xs j d))) refl where
     not_less : is_lt (cmp (key (get_or xs j d)) (key (get_or xs i d))) ≡ false
@@ -37,6 +38,7 @@ module _ {X K : Type 0} (key : X → K) (cmp : K → K → Ordering) (total : Is
     by Greater e =
         absurd (true≢false (sym (ap is_lt (total.antisymm (key (get_or xs j d)) (key (get_or xs i d)) ∙ ap ordering_reverse e)) ∙ not_less))
 
+  -- of items that rise no key comes twice
   pub none_twice : Rises → NoneTwice (map key xs)
   none_twice rising place other one here there =
       elim (cases_lt place other) [

@@ -27,9 +27,11 @@ module _ (config : Config) (rewrites states : ℕ) where
     pub beside : AllZip IsServerGraph servers graphs
     pub few : (server : Server) → Contains servers server → PassesStates config rewrites states server.name → ⊥
 
+  -- before the first server there is no graph
   pub none_so_far : AreSoFar [] []
   none_so_far = record { beside = tt; few = λ server has. absurd (none_in_nil server has) }
 
+  -- when the next server's name has its graph and doesn't pass the limit, the servers up to it have theirs
   pub one_more_graph : (servers : List Server) (i : ℕ) (graphs : List PlainGraph) (server : Server) (graph : PlainGraph) → i < length servers
       → get_or servers i server ≡ server → AreSoFar (take i servers) graphs → IsBuilt config rewrites server.name graph
       → (PassesStates config rewrites states server.name → ⊥) → AreSoFar (take (i + 1) servers) (graphs ++ graph ∷ [])
@@ -46,9 +48,11 @@ module _ (config : Config) (rewrites states : ℕ) where
         ];
       })
 
+  -- when all servers have had their turn, the graphs are those of the configured servers' names
   pub all_graphs : (n : ℕ) (graphs : List PlainGraph) → length config.servers ≤ n → AreSoFar (take n config.servers) graphs → AreServerGraphs config rewrites graphs
   all_graphs n graphs long so_far = subst (λ (servers : List Server). AllZip IsServerGraph servers graphs) (take_all n config.servers long) so_far.beside
 
+  -- when all servers have had their turn, none of their names reaches too many pairs
   pub none_passes : (n : ℕ) (graphs : List PlainGraph) → length config.servers ≤ n → AreSoFar (take n config.servers) graphs
       → SomeServerPasses config rewrites states → ⊥
   none_passes n graphs long so_far (name, has, passes) =

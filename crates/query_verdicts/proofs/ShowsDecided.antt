@@ -156,6 +156,7 @@ module _ (setting : FaultSetting) (query : Labels) (rtype : RrType) (walks : Lis
         by = record { may = may; are_walks = (each one has, (each other also, tt)); show = shown setting (one ∷ other ∷ []) fault take hold };
       }
 
+  -- where a query shows a fault, one or two of its walks show it by themselves
   pub shows_take : (fault : Fault) → Shows setting query rtype fault → SomeTake fault
   shows_take fault shows = by shows.walks shows.are_walks (taken setting shows.walks fault shows.show) where
     by : (some : List Walk) → AllByRecursion (IsWalk setting.walks query rtype) some → WalksTake some fault → SomeTake fault
@@ -164,6 +165,7 @@ module _ (setting : FaultSetting) (query : Labels) (rtype : RrType) (walks : Lis
     by (one ∷ other ∷ []) are take = inr (one, all one are.0, (other, all other are.1.0, take))
     by (one ∷ other ∷ more ∷ rest) are take = absurd take
 
+  -- whether a query shows a fault is decided, where the two sets are, and the query is in one class
   pub shows_decided : ((name : Labels) → Decided (setting.in_least name)) → ((name : Labels) → Decided (setting.in_greatest name))
       → IsInOneClass (ground_of setting.walks.config) query → (fault : Fault) → Decided (Shows setting query rtype fault)
   shows_decided least greatest of fault =

@@ -124,6 +124,7 @@ module _ (config : Config) (rewrites : ℕ) (query : Labels) where
 -- ---- so a verdict exists
 
 module _ (config : Config) (rewrites states : ℕ) where
+  -- whether the name of some server reaches too many pairs is decided
   pub server_decided : Decided (SomeServerPasses config rewrites states)
   server_decided = any_of (λ name. PassesStates config rewrites states name) (λ name. passes_decided config rewrites name states) (server_names config)
 

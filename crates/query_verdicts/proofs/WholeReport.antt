@@ -77,6 +77,7 @@ module _ (subject : Subject) (all first : List ClassFault) (firsts : AreFirsts f
         Contains-permutation (map fault_of made) (map fault_of entries) fault (IsPermutation-map fault_of made entries moved)
         (subst (λ (faults : List Fault). Contains faults fault) (sym (faults_are some made are)) has)
 
+    -- the entries of the first classes, sorted, are those of the faults that some class shows, in fault order
     pub are_entries : AreEntries subject entries
     are_entries =
         record {

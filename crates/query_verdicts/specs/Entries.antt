@@ -45,15 +45,15 @@ pub record IsEntryOf (subject : Subject) (found : ClassFault) (entry : ReportEnt
 abbrev pub entry_with : ClassFault → EntryParts → ReportEntry
 entry_with found parts = record { seen = found.seen; query = parts.query; repeats = parts.repeats; walks = parts.walks }
 
--- the entry of the fault is put at the end
-abbrev pub IsPut : Subject → ClassFault → List ReportEntry → List ReportEntry → Type 0
-IsPut subject found old new = (entry : ReportEntry) × IsEntryOf subject found entry × (new ≡ old ++ entry ∷ [])
+-- the entry of the fault is put behind the others
+abbrev pub PutsEntry : Subject → ClassFault → List ReportEntry → List ReportEntry → Type 0
+PutsEntry subject found old new = (entry : ReportEntry) × IsEntryOf subject found entry × (new ≡ old ++ entry ∷ [])
 
--- one for each, in turn
+-- there is one entry for each fault, in turn
 abbrev pub AreEntriesOf : Subject → List ClassFault → List ReportEntry → Type 0
 AreEntriesOf subject found entries = AllZip (IsEntryOf subject) found entries
 
--- the one's fault is before that of the other
+-- the fault of one entry is before that of the other
 abbrev pub is_before : ReportEntry → ReportEntry → Bool
 is_before a b = is_lt (fault_cmp a.seen.fault b.seen.fault)
 

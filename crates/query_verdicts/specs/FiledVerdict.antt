@@ -12,6 +12,7 @@ verdict_told Nothing = record { exact = Faults []; below = Some (Faults []) }
 verdict_told NothingAlone = record { exact = Faults []; below = None }
 verdict_told (Whole verdict) = verdict.value
 
+-- the verdict of a name, as contracts see what is filed for it
 abbrev pub verdict_filed : Inside → NameVerdict
 verdict_filed filed = verdict_told filed.told
 

@@ -35,7 +35,7 @@ AreGraphsOrPassed config rewrites states (Ok graphs) =
     AreServerGraphs config rewrites graphs × (SomeServerPasses config rewrites states → ⊥)
 AreGraphsOrPassed config rewrites states (Err server) = IsFirstServerPassed config rewrites states server
 
--- what is learnt, or else the first server whose name reaches too many
+-- what is learnt, or else the first server whose name reaches too many pairs
 abbrev pub IsLearntOf : Config → ℕ → ℕ → Result Learnt Labels → Type 0
 IsLearntOf config rewrites states (Ok learnt) = AreLearnt config rewrites states learnt
 IsLearntOf config rewrites states (Err server) = IsFirstServerPassed config rewrites states server

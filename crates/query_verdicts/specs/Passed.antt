@@ -18,11 +18,11 @@ pub record ClassPasses (subject : Subject) (states : ℕ) (class : Class) (query
   pub represents : IsRepresentative subject.ground class query
   pub passes : PassesStates subject.config subject.rewrites states query
 
--- that of some class does
+-- the representative of some class of the subject's tree reaches more pairs than so many
 abbrev pub SomeClassPasses : Subject → ℕ → Type 0
 SomeClassPasses subject states = (class : Class) × (query : Labels) × ClassPasses subject states class query
 
--- it is the first representative in class order that does
+-- the query is the first representative in class order that reaches more pairs than so many
 pub record IsFirstPassed (subject : Subject) (states : ℕ) (query : Labels) : Type 0 where
   pub class : Class
   pub passes : ClassPasses subject states class query
@@ -33,7 +33,7 @@ abbrev pub SomeNamePasses : Config → ℕ → ℕ → Type 0
 SomeNamePasses config rewrites states =
     (name : Labels) × Contains (server_names config) name × (IsName name × PassesStates config rewrites states name)
 
--- it is the name of the first configured server whose name does
+-- it is the name of the first configured server whose name reaches more pairs than so many
 pub record IsFirstServerPassed (config : Config) (rewrites states : ℕ) (name : Labels) : Type 0 where
   pub before : List Labels
   pub after : List Labels
@@ -42,18 +42,19 @@ pub record IsFirstServerPassed (config : Config) (rewrites states : ℕ) (name :
   pub passes : PassesStates config rewrites states name
   pub first : (other : Labels) → Contains before other → PassesStates config rewrites states other → ⊥
 
--- neither the representative of a class nor the name of a configured server does
+-- neither the representative of a class nor the name of a configured server reaches more pairs than so many
 pub record NonePasses (subject : Subject) (states : ℕ) : Type 0 where
   pub no_class : SomeClassPasses subject states → ⊥
   pub no_server : SomeServerPasses subject.config subject.rewrites states → ⊥
 
--- a report is refused for this name: that of the first representative that passes, or else that of the first server
+-- a report is refused for this name: the first representative that reaches too many pairs, or else the first server's
+-- name that does
 abbrev pub IsRefusedFor : Subject → ℕ → Labels → Type 0
 IsRefusedFor subject states name =
     IsFirstPassed subject states name
     ⊎ ((SomeClassPasses subject states → ⊥) × IsFirstServerPassed subject.config subject.rewrites states name)
 
--- what a refusal says
+-- what a refusal of a report says
 abbrev pub IsReportFault : Subject → ℕ → ReportFault → Type 0
 IsReportFault subject states (StatesPassed name) = IsRefusedFor subject states name
 IsReportFault subject states NoMemory = Unit {0}

@@ -23,11 +23,11 @@ pub record LimitedQueries : Type 0 where
   pub rewrites : ℕ
   pub states : ℕ
 
--- those of a configuration within these limits
+-- the queries of a configuration within these limits
 abbrev pub limited_to : Config → ℕ → ℕ → LimitedQueries
 limited_to config rewrites states = record { config = config; rewrites = rewrites; states = states }
 
--- those of a report's subject, of each of which so many pairs are looked at
+-- the queries of a report's subject, of each of which so many pairs are looked at
 abbrev pub queries_of : Subject → ℕ → LimitedQueries
 queries_of subject states = limited_to subject.config subject.rewrites states
 

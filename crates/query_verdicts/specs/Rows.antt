@@ -52,18 +52,19 @@ abbrev pub passes : ClassVerdict → Bool
 passes (Faults shown) = false
 passes StatesPassed = true
 
--- the representative of no class of the name does
+-- no representative of a class of the name reaches too many pairs
 abbrev pub NonePassesAt : Subject → ℕ → Labels → Type 0
 NonePassesAt subject states name =
     (class : Class) (query : Labels) → class_name class ≡ name → ClassPasses subject states class query → ⊥
 
--- it is the first representative of the classes of the name that does
+-- the query is the first representative of the classes of the name that reaches too many pairs
 pub record IsFirstPassedAt (subject : Subject) (states : ℕ) (name query : Labels) : Type 0 where
   pub class : Class
   pub of_name : class_name class ≡ name
   pub passes : ClassPasses subject states class query
   pub first : (other : Class) (also : Labels) → class_name other ≡ name → ClassPasses subject states other also → class_cmp other class ≢ Less
 
+-- what is found at a name is the first representative of its classes that reaches too many pairs, or none does
 abbrev pub IsPassedAt : Subject → ℕ → Labels → Option Labels → Type 0
 IsPassedAt subject states name found =
     MatchOption found (NonePassesAt subject states name) (IsFirstPassedAt subject states name)
@@ -77,19 +78,20 @@ abbrev pub found_in : Class → ClassVerdict → List ClassFault
 found_in class (Faults shown) = with_class class shown
 found_in class StatesPassed = []
 
+-- the faults of the class below a name, where that isn't empty
 abbrev pub found_below : Labels → Option ClassVerdict → List ClassFault
 found_below name None = []
 found_below name (Some verdict) = found_in (Below name) verdict
 
--- those of the classes of a name
+-- the faults of the classes of a name
 abbrev pub found_at : Labels → NameVerdict → List ClassFault
 found_at name verdict = found_in (Exact name) verdict.exact ++ found_below name verdict.below
 
--- those of all classes
+-- the faults of all classes of the rows
 abbrev pub found_of : {W : Type 0} → List (Row W) → List ClassFault
 found_of rows = flat_map (λ row. found_at row.item row.verdict) rows
 
--- the fault
+-- the fault that a class shows
 abbrev pub found_fault : ClassFault → Fault
 found_fault found = found.seen.fault
 

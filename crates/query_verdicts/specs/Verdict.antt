@@ -20,7 +20,7 @@ use Rattle.net_model.specs.Tree.{IsReached, HasMoreThan}
 abbrev pub PassesStates : Config → ℕ → ℕ → Labels → Type 0
 PassesStates config rewrites states query = HasMoreThan (IsReached config rewrites query) states
 
--- the name of some configured server does
+-- the name of some configured server reaches more pairs of state and type than so many
 abbrev pub SomeServerPasses : Config → ℕ → ℕ → Type 0
 SomeServerPasses config rewrites states =
     (name : Labels) × Contains (server_names config) name × PassesStates config rewrites states name

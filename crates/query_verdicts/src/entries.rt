@@ -3,7 +3,7 @@
 ghost use Rattle.std.specs.Prelude.{◌≡◌, ◌++◌, All, IfOk, IfSome, IsPermutation, OnOk, Some, slice_get};
 ghost use Rattle.std.specs.List.Sorted.{IsSortedBy};
 ghost use Rattle.std.proofs.lemmas.Cmp.{on_total};
-ghost use Rattle.query_verdicts.specs.Entries.{AreEntries, AreEntriesOf, IsEntryOf, IsPut, IsRightFound, IsWalked, entry_with, is_before};
+ghost use Rattle.query_verdicts.specs.Entries.{AreEntries, AreEntriesOf, IsEntryOf, IsRightFound, IsWalked, PutsEntry, entry_with, is_before};
 ghost use Rattle.query_verdicts.specs.Passed.{NonePasses};
 ghost use Rattle.query_verdicts.specs.Rows.{AreRows, class_rank, found_at, found_fault, found_in, found_of};
 ghost use Rattle.query_verdicts.specs.Queries.{IsLeastGraph};
@@ -27,10 +27,10 @@ use std::cmp::Ordering;
 use verdict_book::{Filed, Work};
 
 /// The entries of the faults that the classes of the names show, in fault order, where no class passes the limit.
-pub(crate) fn entries_of<S: OnSubject, W: Work<Item = TreeName<SubjectGround<S>>, Verdict = FiledVerdict>>(
-    judge: &NameJudge<'_, S>,
-    filed: List<Filed<W>>,
-) -> Result<List<ReportEntry>, NoMemory>
+pub(crate) fn entries_of<
+    S: OnSubject,
+    W: Work<Item = TreeName<SubjectGround<S>>, Verdict = FiledVerdict>,
+>(judge: &NameJudge<'_, S>, filed: List<Filed<W>>) -> Result<List<ReportEntry>, NoMemory>
     requires rows { AreRows S.subject S.states filed }
     requires none_passes { NonePasses S.subject S.states }
     ensures { IfOk result (AreEntries S.subject) }
@@ -39,6 +39,7 @@ pub(crate) fn entries_of<S: OnSubject, W: Work<Item = TreeName<SubjectGround<S>>
     let firsts = first_of_each(judge.alloc(), found)?;
     let by_class = in_class_order(firsts)?;
     let made = entries_by_class(judge, by_class)?;
+    // Named, since the proof speaks of the list that comes where memory suffices.
     let entries = in_fault_order(made)?;
     Ok(entries)
 }
@@ -180,7 +181,7 @@ fn put_entry<S: OnSubject>(
     requires last { IfSome last (IsWalked S.subject) }
     requires right { IsRightFound S.subject found }
     ensures walked { IfOk result (IsWalked S.subject) }
-    ensures put { OnOk result (IsPut S.subject found entries.old entries.new) }
+    ensures put { OnOk result (PutsEntry S.subject found entries.old entries.new) }
 {
     let walked = walked_for(judge, last, &found)?;
     let entry = entry_of(judge, &walked, found)?;
@@ -263,7 +264,11 @@ fn least_graph<S: OnSubject>(judge: &NameJudge<'_, S>, query: &Name) -> Result<G
 }
 
 /// The entry of a fault, from the walks of the class that shows it.
-fn entry_of<S: OnSubject>(judge: &NameJudge<'_, S>, walked: &Walked, found: ClassFault) -> Result<ReportEntry, NoMemory>
+fn entry_of<S: OnSubject>(
+    judge: &NameJudge<'_, S>,
+    walked: &Walked,
+    found: ClassFault,
+) -> Result<ReportEntry, NoMemory>
     requires walked { IsWalked S.subject walked.now }
     requires class { walked.now.class ≡ found.class }
     requires right { IsRightFound S.subject found }
@@ -282,7 +287,11 @@ struct EntryParts {
 }
 
 /// What the entry of a fault has beside it, from the walks of the class that shows it.
-fn parts_of<S: OnSubject>(judge: &NameJudge<'_, S>, walked: &Walked, found: &ClassFault) -> Result<EntryParts, NoMemory>
+fn parts_of<S: OnSubject>(
+    judge: &NameJudge<'_, S>,
+    walked: &Walked,
+    found: &ClassFault,
+) -> Result<EntryParts, NoMemory>
     requires walked { IsWalked S.subject walked.now }
     requires class { walked.now.class ≡ found.now.class }
     requires right { IsRightFound S.subject found.now }

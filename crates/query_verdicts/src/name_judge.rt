@@ -149,7 +149,9 @@ impl<'a, S: OnSubject> NameJudge<'a, S> {
     {
         match &self.own {
             Some(names) => self.graphs.verdict(near, &OwnClass::Asked(names), query),
-            None => self.graphs.verdict(near, &OwnClass::Represents(class), query),
+            None => self
+                .graphs
+                .verdict(near, &OwnClass::Represents(class), query),
         }
     }
 

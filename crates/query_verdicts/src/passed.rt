@@ -14,10 +14,10 @@ use query_classes::TreeName;
 use verdict_book::{Filed, Work};
 
 /// The first representative that reaches more pairs, or `None` where none does.
-pub(crate) fn first_passed<S: OnSubject, W: Work<Item = TreeName<SubjectGround<S>>, Verdict = FiledVerdict>>(
-    judge: &NameJudge<'_, S>,
-    filed: &[Filed<W>],
-) -> Result<Option<Name>, NoMemory>
+pub(crate) fn first_passed<
+    S: OnSubject,
+    W: Work<Item = TreeName<SubjectGround<S>>, Verdict = FiledVerdict>,
+>(judge: &NameJudge<'_, S>, filed: &[Filed<W>]) -> Result<Option<Name>, NoMemory>
     requires rows { AreRows S.subject S.states filed.now }
     ensures { IfOk result (λ found. MatchOption found (SomeClassPasses S.subject S.states → ⊥)
         (IsFirstPassed S.subject S.states)) }

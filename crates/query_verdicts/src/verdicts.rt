@@ -129,6 +129,7 @@ fn shown_in(
     let of_rewrites = rewrite_faults(alloc, class, represents, graph)?;
     let of_delegations = delegation_faults_with(alloc, &queries.trees, sets, graph)?;
     let all = joined(of_rewrites, of_delegations)?;
+    // Named, since the proof speaks of the list that comes where memory suffices.
     let shown = first_types(alloc, all)?;
     Ok(shown)
 }

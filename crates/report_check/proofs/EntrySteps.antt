@@ -35,6 +35,7 @@ module _ (setting : Setting) (query : Labels) (rtype : RrType) (all : List Walk)
 
   -- ---- one
 
+  -- an entry that is shown by one of all walks is shown by walks
   pub one_by_walks : (steps : Data) → ByOne setting query rtype all steps value → ByWalks setting query rtype all value
   one_by_walks steps by =
       record {
@@ -47,6 +48,7 @@ module _ (setting : Setting) (query : Labels) (rtype : RrType) (all : List Walk)
         shown = by.shown;
       }
 
+  -- an entry that is shown by walks, and lists one, is shown by one of all walks
   pub walks_by_one : (steps : Data) → list_at (codes "walks") value ≡ Some (steps ∷ []) → ByWalks setting query rtype all value → ByOne setting query rtype all steps value
   walks_by_one steps at by = on by.walks by.among by.shown (steps_are (steps ∷ []) by.walks at by.shown) where
     on : (walks : List Walk) → ((walk : Walk) → Contains walks walk → Contains all walk) → IsShownBy setting query rtype walks value
@@ -57,6 +59,7 @@ module _ (setting : Setting) (query : Labels) (rtype : RrType) (all : List Walk)
 
   -- ---- two
 
+  -- an entry that is shown by two of all walks is shown by walks
   pub two_by_walks : (steps others : Data) → ByTwo setting query rtype all steps others value → ByWalks setting query rtype all value
   two_by_walks steps others by =
       record {
@@ -72,6 +75,7 @@ module _ (setting : Setting) (query : Labels) (rtype : RrType) (all : List Walk)
         shown = by.other.shown;
       }
 
+  -- an entry that is shown by walks, and lists two, is shown by two of all walks
   pub walks_by_two : (steps others : Data) → list_at (codes "walks") value ≡ Some (steps ∷ others ∷ []) → ByWalks setting query rtype all value
       → ByTwo setting query rtype all steps others value
   walks_by_two steps others at by = on by.walks by.among by.shown (steps_are (steps ∷ others ∷ []) by.walks at by.shown) where

@@ -17,6 +17,7 @@ rounds_few config rewrites begin none (name, passes) =
     (Contains-append_right passes.first.earlier (name ∷ passes.first.later) name (has_first name passes.first.later)))
     passes.first.has
 
+-- where in no round of either set a server's name has too many walks, none has while addresses are learnt
 pub learning_few : (config : Config) (rewrites : ℕ) → NoneInRounds config rewrites most_walks [] (length config.servers)
     → NoneInRounds config rewrites most_walks (server_names config) (length config.servers) → LearningPasses config rewrites → ⊥
 learning_few config rewrites least greatest passes =

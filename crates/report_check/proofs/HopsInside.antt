@@ -52,6 +52,7 @@ module _ (setting : Setting) (rtype : RrType) where
     by None e = cc
     by (Some state) e = hops_from numbers state walk e
 
+  -- a referral on a walk stands in a zone whose origin is at or above its zone cut
   pub refers_inside : (query : Labels) (walk : Walk) (cut : Cut) → IsWalk setting query rtype walk → Contains walk.hops (Refer cut)
       → is_prefix cut.zone cut.cut ≡ true
   refers_inside query walk cut is has = each_along HopInside walk.hops (hops_inside query walk is) (Refer cut) has

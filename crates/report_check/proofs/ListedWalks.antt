@@ -9,12 +9,14 @@ use Rattle.net_model.specs.Walk.{AreWalks, IsWalk, walk_along}
 use Rattle.net_model.specs.declared.walk.Walk.{Walk}
 
 module _ (setting : Setting) (query : Labels) (rtype : RrType) (walks : List Walk) (are : AreWalks setting query rtype walks) where
+  -- each of the listed walks is a walk of the query
   pub listed_is : (walk : Walk) → Contains walks walk → IsWalk setting query rtype walk
   listed_is walk has =
       let among = subst (λ (found : List (Option Walk)). Contains found (Some walk)) (sym are.2) (map_has (λ (w : Walk). Some w) walks walk has) in
       let found = from_map (walk_along setting query rtype) are.0 (Some walk) among in
       (found.0, found.2)
 
+  -- each walk of the query is one of the listed ones
   pub is_listed : (walk : Walk) → IsWalk setting query rtype walk → Contains walks walk
   is_listed walk is =
       let there = (are.1.all is.0).1 (ap is_some is.1) in

@@ -64,6 +64,7 @@ entries_right : (subject : Subject) (entries : List ReportEntry) → AllByRecurs
 entries_right subject [] each = tt
 entries_right subject (entry ∷ entries) each = (entry_right subject entry each.0, entries_right subject entries each.1)
 
+-- each entry of a report is right
 pub report_right : (subject : Subject) (report : Report) → IsReport subject report → AllByRecursion (IsRight subject.config subject.rewrites) (map entry_value report.entries)
 report_right subject report is = entries_right subject report.entries is.each_right
 
@@ -88,6 +89,7 @@ value_stated report writable =
     (rewrites_of report writable.some writable.few)
     ∙ ap (option_map (λ (entries : List Data). record { rewrites = report.rewrites; entries = entries })) (entries_of report)
 
+-- the text of a report that may be written is read as its limit of rewrites and the values of its entries
 pub report_is_read : (report : Report) → IsWritable report
     → report_in (report_text report) ≡ Some (record { rewrites = report.rewrites; entries = map entry_value report.entries })
 report_is_read report writable =
@@ -108,6 +110,7 @@ module _ (subject : Subject) (report : Report) (is : IsReport subject report) (w
       by : Some (stated report) ≡ Some found → stated report ≡ found
       by e = cc
 
+  -- the text of a report is answered by right entries, or for too many walks or want of memory
   pub unrefused : (answer : Result Checked CheckFault) → IsChecked subject.config (report_text report) answer → IsUnrefused answer
   unrefused (Ok (Right entries)) checked = tt
   unrefused (Ok (Wrong entry)) (found, e, (few, first)) =

@@ -34,5 +34,6 @@ pub stands_alike : (one other : Ground) → AreSame one other → (query : Label
 stands_alike one other same query (class, is, represents) =
     (class, class_same one other same query class is, represents_same one other same class query represents)
 
+-- under grounds that are the same the same names stand for their classes
 pub stands_both : (one other : Ground) → AreSame one other → (query : Labels) → StandsForIts one query ↔ StandsForIts other query
 stands_both one other same query = (stands_alike one other same query, stands_alike other one (same_back one other same) query)

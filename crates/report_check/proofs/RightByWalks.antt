@@ -77,14 +77,17 @@ module _ (setting : Setting) (in_force : IsInForce setting.config setting.rewrit
         (subst (λ (q : Labels). ShowsBy (with_sets (following setting.config setting.rewrites right.followed)) q entry.seen.rtype entry.seen.fault entry.walks) same.0 right.shows)))
         right.repeated
 
+    -- an entry is right exactly where some of all walks of its query show its fault
     pub right_told : ByWalks setting query rtype all value ↔ IsRight setting.config setting.rewrites value
     right_told = (by_right, right_by)
 
   -- ---- how many walks there are
 
+  -- where the query that an entry names has too many walks, the entry passes the limit of walks
   pub walks_pass : HasMoreWalks setting query rtype most_walks → PassesWalks setting.config setting.rewrites value
   walks_pass more = record { query = query; rtype = rtype; names = names; followed = setting.followed; in_force = in_force; more = more }
 
+  -- where the query that an entry names hasn't too many walks, the entry doesn't pass the limit of walks
   pub walks_few : (HasMoreWalks setting query rtype most_walks → ⊥) → PassesWalks setting.config setting.rewrites value → ⊥
   walks_few few passes =
       let same = one_query value passes.query query passes.rtype rtype passes.names names in
@@ -100,5 +103,6 @@ unnamed_wrong setting value none right =
     none right.entry.query right.entry.seen.rtype
     (subst (λ (v : Data). NamesQuery v right.entry.query right.entry.seen.rtype) (sym right.is) (entry_names right.entry right.is_name))
 
+-- an entry that names no query doesn't pass the limit of walks
 pub unnamed_few : (setting : Setting) (value : Data) → ((query : Labels) (rtype : RrType) → NamesQuery value query rtype → ⊥) → PassesWalks setting.config setting.rewrites value → ⊥
 unnamed_few setting value none passes = none passes.query passes.rtype passes.names

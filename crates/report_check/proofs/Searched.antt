@@ -15,6 +15,7 @@ only_one [] x some few is = absurd (omega arith)
 only_one (y ∷ []) x some few is = ap (λ z. z ∷ []) (sym is)
 only_one (y ∷ z ∷ xs) x some few is = absurd (omega arith)
 
+-- a list of two items is its first item and its second
 pub only_two : {X : Type 0} (xs : List X) (x y : X) → 2 ≤ length xs → length xs < 3 → x ≡ get_or xs 0 x → y ≡ get_or xs 1 y → xs ≡ x ∷ y ∷ []
 only_two [] x y some few is also = absurd (omega arith)
 only_two (a ∷ []) x y some few is also = absurd (omega arith)

@@ -28,10 +28,11 @@ referral_faults config deps cut =
     if_shown (zones_differ config cut) (faults.Differs cut) ++ if_shown (wants_glue config cut) (faults.NoGlue cut)
     ++ if_shown (addresses_differ config cut) (faults.GlueDiffers cut) ++ if_shown (depends_on_itself config deps cut) (faults.Cyclic cut)
 
--- where its zone cut is at or below its zone's origin, as that of every referral on a walk is
+-- the faults of a referral whose zone cut is at or below its zone's origin, as that of every referral on a walk is
 abbrev pub cut_faults : Config → Deps → Cut → List Fault
 cut_faults config deps cut = if is_prefix cut.zone cut.cut then referral_faults config deps cut else []
 
+-- the faults of a hop: those of a referral's zone cut, and none of a rewrite
 abbrev pub hop_faults : Config → Deps → Hop → List Fault
 hop_faults config deps (Refer cut) = cut_faults config deps cut
 hop_faults config deps (Rewrite place by_dname to) = []
@@ -45,7 +46,7 @@ abbrev pub lame_behind : Labels → Option Hop → List Fault
 lame_behind ns (Some (Refer cut)) = if_shown (name_eq cut.ns ns) (faults.Lame cut)
 lame_behind ns hop = []
 
--- and of one of which no address is learnt
+-- the fault behind a hop of a name server of which no address is learnt
 abbrev pub unlearnt_behind : Deps → Labels → Option Hop → List Fault
 unlearnt_behind deps ns (Some (Refer cut)) =
     if_shown (name_eq cut.ns ns && not (is_among deps.greatest cut.ns)) (faults.NoAddress cut)
@@ -56,6 +57,7 @@ abbrev pub blackhole_of : Option Place → List Fault
 blackhole_of (Some place) = faults.Blackhole place ∷ []
 blackhole_of None = []
 
+-- the fault of a name that doesn't exist, in the last state of a walk
 abbrev pub blackhole_in : Option State → List Fault
 blackhole_in (Some state) = blackhole_of state.last
 blackhole_in None = []

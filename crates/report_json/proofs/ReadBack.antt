@@ -134,6 +134,7 @@ line_reads_back value plain shallow =
 
 -- a plain value has no float
 mutual
+  -- a plain value has no float
   pub no_float : (d : Data) → IsPlain d → has_float d ≡ false
   no_float null h = refl
   no_float (boolean b) h = refl
@@ -144,6 +145,7 @@ mutual
   no_float (array ds) h = items_no_float ds h
   no_float (object ms) h = members_no_float ms h
 
+  -- a list of plain values has no float
   pub items_no_float : (ds : Items) → ArePlain ds → items_have_float ds ≡ false
   items_no_float no_items h = refl
   items_no_float (item d ds) h = rw (no_float d h.0, items_no_float ds h.1) refl

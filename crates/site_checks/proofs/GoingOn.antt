@@ -89,6 +89,7 @@ pub record Onward (graph : PlainGraph) (at to : ℕ) : Type 0 where
   pub fewer : left_after graph to < left_after graph at
   pub within : to < length graph.nodes
 
+-- a branch from a node that walks come to goes on to a node that they come to, with fewer nodes left
 pub goes_on : (graph : PlainGraph) (rtype : RrType) (at number to : ℕ) (hop : Hop) (met : IsMet graph at) → HasBranch graph rtype at number met.node (Go hop to) → Onward graph at to
 goes_on graph rtype at number to hop met has =
     let later = later_node met.setting met.query graph rtype met.of_query at number to hop met.node has met.near in
@@ -105,6 +106,7 @@ few_left graph at met =
 
 -- ---- the ends of a node are those of its branches
 
+-- two functions that give the same of each item of a list give the same of the list
 pub flat_map_same : {X Y : Type 0} (f g : X → List Y) (xs : List X) → ((x : X) → Contains xs x → f x ≡ g x) → flat_map f xs ≡ flat_map g xs
 flat_map_same f g [] same = refl
 flat_map_same f g (x ∷ xs) same =
@@ -138,9 +140,11 @@ module _ (graph : PlainGraph) (rtype : RrType) where
       (λ to also fewer. stable depth deeper to (omega arith) (omega arith) also)
       ∙ sym (node_at deeper at met)
 
+  -- the ends from a node that walks come to are the same however many nodes more are allowed
   pub as_deep : (more at : ℕ) → IsMet graph at → ends_from graph rtype at ≡ ends_within (more + length graph.nodes) graph rtype at
   as_deep more at met = stable (length graph.nodes) (more + length graph.nodes) at (few_left graph at met) (omega (arith, few_left graph at met)) met
 
+  -- the ends of the branches of a node that walks come to are the ends from the node
   pub ends_are : (at : ℕ) (met : IsMet graph at)
       → flat_map (ends_by (ends_from graph rtype) rtype met.node.state) (branches_of met.node rtype) ≡ ends_from graph rtype at
   ends_are at met = by (length graph.nodes) refl where

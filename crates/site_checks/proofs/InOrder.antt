@@ -20,6 +20,7 @@ module _ {X : Type 0} (eq : X → X → Bool) (decides : (a b : X) → (eq a b �
   has_there : (items : List X) (item : X) → Contains items item → list_any (eq item) items ≡ true
   has_there items item has = any_has (eq item) items item has ((decides item item).1 refl)
 
+  -- what is in a list still is when an item is put behind it, unless that is there
   pub kept_behind : (items : List X) (item x : X) → Contains items x → Contains (with_new eq items item) x
   kept_behind items item x has = by (list_any (eq item) items) where
     by : (there : Bool) → Contains (cond there items (items ++ item ∷ [])) x
@@ -34,10 +35,12 @@ module _ {X : Type 0} (eq : X → X → Bool) (decides : (a b : X) → (eq a b �
 
   -- ---- several in turn
 
+  -- what is in a list still is when items are put behind it, each unless it is there
   pub kept : (items more : List X) (x : X) → Contains items x → Contains (fold (with_new eq) items more) x
   kept items [] x has = has
   kept items (item ∷ more) x has = kept (with_new eq items item) more x (kept_behind items item x has)
 
+  -- each of the items that are put behind a list, unless they are there, is then in it
   pub added : (items more : List X) (x : X) → Contains more x → Contains (fold (with_new eq) items more) x
   added items [] x has = absurd (none_in_nil x has)
   added items (item ∷ more) x has =

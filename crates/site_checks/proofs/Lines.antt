@@ -26,11 +26,13 @@ line_ascii [] e i = omega arith
 line_ascii (octet ∷ octets) e zero = line_octet_small octet (and_parts (is_line_octet octet) (is_line octets) e).0
 line_ascii (octet ∷ octets) e (suc i) = line_ascii octets (and_parts (is_line_octet octet) (is_line octets) e).1 i
 
+-- the octets of a line are UTF-8
 pub line_utf8 : (octets : List ℕ) → is_line octets ≡ true → IsUtf8 octets
 line_utf8 octets e = IsUtf8-from_ascii octets (line_ascii octets e)
 
 -- ---- names are printed in lines
 
+-- the octets of two lines, one behind the other, may stand in a line
 pub lines_together : (a b : List ℕ) → is_line a ≡ true → is_line b ≡ true → is_line (a ++ b) ≡ true
 lines_together a b one other = list_all-append is_line_octet a b ∙ and_from (is_line a) (is_line b) one other
 
@@ -73,6 +75,7 @@ octets_lines (octet ∷ octets) e =
 label_line : (label : List ℕ) → IsLabel label → is_line (label_text label) ≡ true
 label_line label is = lines_together (flat_map octet_text label) (46 ∷ []) (octets_lines label is.octets) refl
 
+-- the text of a name may stand in a line
 pub name_line : (name : Labels) → IsName name → is_line (name_text name) ≡ true
 name_line name is = by (length name == 0) where
   by : (root : Bool) → is_line (cond root (codes ".") (flat_map label_text (reverse name))) ≡ true

@@ -19,6 +19,7 @@ earlier a b e =
           inr (eqb-true a.used b.used both.0, ltb-true a.cut b.cut both.1))
     ]
 
+-- a state that is earlier than another comes before it by the test
 pub is_before : (a b : State) → Earlier a b → comes_before a b ≡ true
 is_before a b (inl fewer) = or_left (nat_lt a.used b.used) ((a.used == b.used) && nat_lt a.cut b.cut) (lt-ltb a.used b.used fewer)
 is_before a b (inr longer) =
@@ -91,6 +92,7 @@ at_most_all (node ∷ nodes) state = by (comes_before state node.state) (at_most
   by true few = omega arith
   by false few = omega arith
 
+-- fewer nodes than all have states that come after that of one of them
 pub fewer_than_all : (nodes : List Node) (node : Node) → Contains nodes node → nodes_after nodes node.state < length nodes
 fewer_than_all [] node has = absurd (none_in_nil node has)
 fewer_than_all (first ∷ nodes) node has = by (first_or_later first nodes node has) (fewer_than_all nodes node) where

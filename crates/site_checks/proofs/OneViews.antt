@@ -33,6 +33,7 @@ one_ends setting query a b one other =
     (λ rtype has. ap (map (end_of rtype)) (one_walks setting query rtype (one.walks rtype) (other.walks rtype) (one.are_walks rtype) (other.are_walks rtype))))
     ∙ sym other.are_ends
 
+-- a class has one view
 pub one_view : (subject : Subject) (a b : View) → IsView subject a → IsView subject b → a.class ≡ b.class → a ≡ b
 one_view subject a b one other same =
     let query : a.query ≡ b.query =
@@ -50,6 +51,7 @@ one_view subject a b one other same =
     by : a.class ≡ b.class → a.query ≡ b.query → a.ends ≡ b.ends → a ≡ b
     by class query ends = λ i. record { class = class i; query = query i; ends = ends i }
 
+-- a subject has one list of views
 pub one_list_of_views : (subject : Subject) (a b : List View) → AreViews subject a → AreViews subject b → a ≡ b
 one_list_of_views subject a b p q =
     same_rising (on (λ (view : View). view.class) class_cmp) (on_total (λ (view : View). view.class) classes_total)

@@ -37,10 +37,11 @@ ends_within (suc depth) graph rtype at = node_ends (ends_within depth graph rtyp
 abbrev pub ends_from : PlainGraph → RrType → ℕ → List TypedEnd
 ends_from graph rtype at = ends_within (length graph.nodes) graph rtype at
 
--- the ends of all paths with a type, and with any, type by type
+-- the ends of all paths of a graph with a type
 abbrev pub ends_with : PlainGraph → RrType → List TypedEnd
 ends_with graph rtype = flat_map (ends_from graph rtype) graph.starts
 
+-- the ends of all paths of a graph, type by type
 abbrev pub path_ends : PlainGraph → List TypedEnd
 path_ends graph = flat_map (ends_with graph) types
 

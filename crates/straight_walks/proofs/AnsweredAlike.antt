@@ -6,6 +6,7 @@ use Rattle.net_model.specs.Lookup.{ByRecords, deciding}
 use Rattle.net_model.specs.declared.config.Zone.{Zone}
 use Rattle.straight_walks.specs.Searching.{leaf_by, leaf_of}
 
+-- where an owner's records decide in one zone, and another zone answers as they do, the two zones answer alike
 pub owner_decides : (query : Labels) (first second : Zone) (owner : Labels) → deciding first query ≡ ByRecords owner
     → ((rtype : RrType) → leaf_by first rtype (ByRecords owner) ≡ leaf_of query second rtype)
     → (rtype : RrType) → leaf_of query first rtype ≡ leaf_of query second rtype

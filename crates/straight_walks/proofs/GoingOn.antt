@@ -86,10 +86,12 @@ pub extends_further : (first second third : List Queued) → Extends first secon
 extends_further first second third one two =
     (one.0 ++ two.0, two.1 ∙ ap (λ (all : List Queued). all ++ two.0) one.1 ∙ append_assoc first one.0 two.0)
 
+-- a state that is queued still is when more are queued behind it
 pub still_queued : (f : Queued → State) (before after : List Queued) → Extends before after → (state : State) → Contains (map f before) state → Contains (map f after) state
 still_queued f before after more state has =
     subst (λ (all : List State). Contains all state) (sym (ap (map f) more.1 ∙ map-append f before more.0)) (Contains-append_left (map f before) (map f more.0) state has)
 
+-- a branch that goes to one of some states goes to one of all states among which those are
 pub goes_still : (config : Config) (deps : Deps) (states all : List State) → ((state : State) → Contains states state → Contains all state)
     → (branch : Branch) → GoesTo config deps states branch → GoesTo config deps all branch
 goes_still config deps states all more branch goes = (goes.0, goes.1, goes.2, goes.3, more goes.1 goes.4)
@@ -125,9 +127,11 @@ module _ (config : Config) (deps : Deps) (query server : Labels) (zone : Zone) (
         (to_servers zone cut names setting (state_at config query server above)) (referred setting (state_at config query server above) to)
         (so setting above of) (here setting above of))
 
+    -- each referral ends unanswered or goes to a queued state, with one name server more whose referral ends
     pub one_that_ends : IsReferral config deps query to referral.Ends → AreReferrals config deps query server zone cut (names ++ ns ∷ []) queue
     one_that_ends ends = one_more (λ setting above of. inl (ends setting (state_at config query server above) of))
 
+    -- each referral ends unanswered or goes to a queued state, with one name server more whose state is queued
     pub one_to_go_to : Contains (map (queued_state config query) queue) (state_at config query ns (length cut)) → IsReferral config deps query to referral.GoesOn
         → AreReferrals config deps query server zone cut (names ++ ns ∷ []) queue
     one_to_go_to there goes =

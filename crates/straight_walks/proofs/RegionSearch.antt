@@ -92,6 +92,7 @@ module _ (config : Config) (deps : Deps) (origin : Labels) where
   more_answering passed answering item one (inr is) =
       Contains-append_right passed (answering ++ item ∷ []) one (Contains-append_right answering (item ∷ []) one (subst (Contains (item ∷ [])) is (has_first item [])))
 
+  -- the queued states that are looked at are one more when the next one was looked at
   pub one_looked_at : (queue after : List Queued) (at : ℕ) (passed passed_after answering answering_after : List Queued) (item : Queued) → at < length queue → item ≡ get_or queue at item
       → AreLookedAt queue at passed answering → IsLookedAt config deps origin item queue passed answering after passed_after answering_after → AreLookedAt after (at + 1) passed_after answering_after
   one_looked_at queue after at passed passed_after answering answering_after item within is so one =

@@ -30,6 +30,7 @@ no_alias : (b : Bool) (alias : Option Labels) → alias ≡ None → (if b then 
 no_alias true alias none = refl
 no_alias false alias none = none
 
+-- where there is no alias there is no target
 pub without : (alias : Option (Bor Labels)) → is_some alias ≡ false → option_map (λ target. target.now) alias ≡ None
 without None none = refl
 without (Some target) none = cc
@@ -57,6 +58,7 @@ module _ (config : Config) (query server : Labels) where
         in_nearest (Some tree.now.zone) is setting rtype above same
         ∙ ap (λ (d : Deciding). after_lookup setting (state_at config query server above) tree.now.zone.origin (answered tree.now.zone query rtype d)) decides
 
+    -- a server whose zone has a zone cut that decides at the name refers the query there
     pub cut_decides : (cut : ℕ) → IsNode tree.now cut → deciding tree.now.zone query ≡ ByCut (name_of tree.now cut) → IsReply config query server (reply.Refers tree cut)
     cut_decides cut node decides = (
       node,
@@ -66,6 +68,7 @@ module _ (config : Config) (query server : Labels) where
       decides,
     )
 
+    -- a server whose zone has records that decide at the name, and no alias among them, answers the query
     pub records_decide : (owner : Labels) → deciding tree.now.zone query ≡ ByRecords owner → first_name (targets_at tree.now.zone owner types.Cname) ≡ None
         → IsReply config query server (reply.Answers tree)
     records_decide owner decides none = (
@@ -78,6 +81,7 @@ module _ (config : Config) (query server : Labels) where
           ∙ sym (ap (λ (d : Deciding). End None (leaf_by tree.now.zone rtype d) ∷ []) decides),
     )
 
+    -- a server whose zone has nothing that decides at the name answers the query
     pub nothing_decides : deciding tree.now.zone query ≡ ByNothing → IsReply config query server (reply.Answers tree)
     nothing_decides decides = (
       inside,

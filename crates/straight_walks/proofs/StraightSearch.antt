@@ -76,6 +76,7 @@ module _ (config : Config) (deps : Deps) (query : Labels) where
   goes_straight_still setting leaf before after more branch (inr (inr goes)) =
       inr (inr (goes_still setting.config deps (map (queued_state config query) before) (map (queued_state config query) after) more branch goes))
 
+  -- walks still go straight from a state when the queued states are among others
   pub steps_still : (setting : Setting) (leaf : RrType → Leaf) (before after : List Queued) → AreAmong before after → (state : State)
       → StepsStraight setting deps leaf (map (queued_state config query) before) state → StepsStraight setting deps leaf (map (queued_state config query) after) state
   steps_still setting leaf before after more state so rtype =
@@ -138,6 +139,7 @@ module _ (config : Config) (deps : Deps) (query : Labels) where
 
   -- ---- those that are passed
 
+  -- walks go straight from one more of the queued states when they do from the next one
   pub one_passed : (queue after : List Queued) (at : ℕ) (first first_after : Option (Bor ZoneTree)) (item : Queued) → at < length queue → item ≡ get_or queue at item
       → HasPassed config deps query queue at first → Passes config deps query item.server.now queue first after first_after → HasPassed config deps query after (at + 1) first_after
   one_passed queue after at first first_after item within is so one =

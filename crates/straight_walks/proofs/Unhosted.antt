@@ -29,6 +29,7 @@ held_from holder zone None e = cc
 held_from holder zone (Some origin) e =
     ap (zone_with_origin holder) ((name_eq_decides zone.origin origin).0 (found_there (λ (z : Zone). name_eq z.origin origin) holder.zones zone e).1) ∙ e
 
+-- the zone in which a server looks a name up is the one that it holds for the zone's origin
 pub nearest_is_held : (config : Config) (server name : Labels) (zone : Zone) → nearest_of config server name ≡ Some zone → held_zone config server zone.origin ≡ Some zone
 nearest_is_held config server name zone e = by (server_named config server) e where
   by : (holder : Option Server) → option_and_then (λ holder. nearest holder name) holder ≡ Some zone → option_and_then (λ holder. zone_with_origin holder zone.origin) holder ≡ Some zone
@@ -53,6 +54,7 @@ module _ (config : Config) (deps : Deps) (query : Labels) (cut : Cut) (zone : Zo
       ap (λ (referring : Option Zone). below && not (below && option_map_or (λ zone. has_address zone cut.ns) referring false)) held
       ∙ none_wanted below (has_address zone cut.ns) so
 
+  -- a referral to a server that isn't configured ends without an answer, where its glue is there or isn't wanted
   pub unhosted_ends : HasIfBelow (is_prefix cut.cut cut.ns) (has_address zone cut.ns) → IsReferral config deps query cut referral.Ends
   unhosted_ends so = λ setting state of.
       inr (cut, subst (λ (c : Config). IsSound c deps cut) (sym of.config_is) (unhosted_sound config deps cut unhosted (glued_by so)), ends setting state of)
@@ -68,6 +70,7 @@ module _ (config : Config) (deps : Deps) (query : Labels) (cut : Cut) (zone : Zo
 pub far : (below address : Bool) → below ≡ false → (below && not address) ≡ false
 far below address apart = ap (λ (b : Bool). b && not address) apart
 
+-- no glue is wanted by a referral whose name server has an address
 pub glued : (below address : Bool) → address ≡ true → (below && not address) ≡ false
 glued false address has = refl
 glued true address has = ap not has

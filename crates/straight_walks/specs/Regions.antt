@@ -54,6 +54,7 @@ pub record IsLookedAt (config : Config) (deps : Deps) (origin : Labels) (one : Q
 abbrev pub IsRegion : Config → Deps → Region → Type 0
 IsRegion config deps region = IsSearchBelow config deps region.origin.now region.searched
 
+-- the origins of regions
 abbrev pub region_origins : List Region → List Labels
 region_origins regions = map (λ region. region.origin.now) regions
 

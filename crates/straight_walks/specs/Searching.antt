@@ -50,6 +50,7 @@ state_at config query server cut =
       zone = option_map (λ zone. zone.origin) (nearest_of config server query);
     }
 
+-- the state that is queued, for a query: at its server, with the length of the zone cut that led there
 abbrev pub queued_state : Config → Labels → Queued → State
 queued_state config query queue = state_at config query queue.server.now queue.cut
 
@@ -73,6 +74,7 @@ abbrev pub leaf_by : Zone → RrType → Deciding → Leaf
 leaf_by zone rtype (ByRecords owner) = leaf_with (sorted_data zone owner rtype)
 leaf_by zone rtype decides = NxDomain
 
+-- what a zone answers a query with a type, where an owner's records decide at its name, or nothing does
 abbrev pub leaf_of : Labels → Zone → RrType → Leaf
 leaf_of query zone rtype = leaf_by zone rtype (deciding zone query)
 

@@ -114,6 +114,7 @@ module _ {I : Type 0} (first : I) (children : I → List I) where
               (filed_cases h e u f);
         }
 
+    -- what is known of a history's items is known when one more legal entry comes whose number of children is right
     pub step : (h : List HistoryEntry) (e : HistoryEntry) (items : List I) → Known h items → may_come_next h e ≡ true → CountsRight first children items e → Known (h ++ e ∷ []) (item_step first children items e)
     step h (Claim t) items k may count =
         let parts = and_parts (nat_lt t (issued_in h) && not (is_claimed_in h t)) (is_none (first_stop h)) may in
@@ -126,6 +127,7 @@ module _ {I : Type 0} (first : I) (children : I → List I) where
         filing h items t n (slice_index_or items t first) k (slice_get-get_or items t first (omega (arith, low, k.len))) parts.0 (not-true _ parts.1) count
     step h (Stop cause) items k may count = quiet h (Stop cause) items k refl (λ u. refl) (λ u c. absurd cc)
 
+    -- what is known of a history's items is known when more legal entries come whose numbers of children are right
     pub walk : (before h : List HistoryEntry) (items : List I) → Known before items → all_may_follow before h ≡ true → AllCountRight first children items h → Known (before ++ h) (items_from first children items h)
     walk before [] items k legal counts = rw append-nil k
     walk before (e ∷ h) items k legal counts =
@@ -134,6 +136,7 @@ module _ {I : Type 0} (first : I) (children : I → List I) where
         let rest = walk (before ++ e ∷ []) h (item_step first children items e) next parts.1 counts.1 in
         subst (λ l. Known l (items_from first children items (e ∷ h))) (append_assoc before (e ∷ []) h) rest
 
+    -- of an empty history the first item is known
     pub begins : Known [] (first ∷ [])
     begins =
         record {
@@ -158,6 +161,7 @@ module _ {I : Type 0} (first : I) (children : I → List I) where
         let there = known.closed k from chain.0.0 next (all k (omega (arith, low, known.len))) at chain.0.1 in
         all_there h items known all next there.0 there.1 path item chain.1
 
+    -- the items of a legal history, all of whose tickets are filed, are those that are reached from the first
     pub are_reached : (limit : ℕ) (h : List HistoryEntry) → is_legal limit h ≡ true → AllCountRight first children (first ∷ []) h → ((t : ℕ) → t < issued_in h → is_filed_in h t ≡ true) → AreReachedItems first children (items_of first children h)
     are_reached limit h legal counts all =
         let known = walk [] h (first ∷ []) begins (and_parts _ _ legal).0 counts in

@@ -136,18 +136,23 @@ module _ {I V : Type 0} (first : I) (children : I → List I) (verdict_of : I �
     parts : (all_may_follow [] h ≡ true) × (nat_le (issued_in h) limit ≡ true)
     parts = and_parts (all_may_follow [] h) (nat_le (issued_in h) limit) kept.right.legal
 
+    -- a book's items are known by its history
     pub known : Known first children h (items_of first children h)
     known = walk first children apart [] h (first ∷ []) (begins first children apart) parts.0 kept.right.counts
 
+    -- a book has as many rows as tickets were issued
     pub rows_are : length rows ≡ issued_in h
     rows_are = sym (length-map rows (λ (r : Row I V). r.item)) ∙ ap length kept.items ∙ known.len
 
+    -- a book has no more rows than its limit
     pub within : length rows ≤ limit
     within = let le : issued_in h ≤ limit = leb-true (issued_in h) limit parts.1 in omega (arith, le, rows_are)
 
+    -- the item in a ticket's row is the ticket's item by the history
     pub item_at : (t : ℕ) (r : Row I V) → slice_get rows t ≡ Some r → slice_get (items_of first children h) t ≡ Some r.item
     item_at t r at = ap (λ l. slice_get l t) (sym kept.items) ∙ get_map (λ (r : Row I V). r.item) rows t r at
 
+    -- the item in a ticket's row is reached from the first
     pub reached_at : (t : ℕ) (r : Row I V) → slice_get rows t ≡ Some r → Reached first children r.item
     reached_at t r at = known.reached t r.item (item_at t r at)
 
@@ -168,6 +173,7 @@ module _ {I V : Type 0} (first : I) (children : I → List I) (verdict_of : I �
     pub filed_few : filed ≤ length rows
     filed_few = let le = count_by-le-length (λ (r : Row I V). is_filed r.state) rows in omega (arith, le, kept.filed_rows, kept.filed_is)
 
+    -- no more tickets are claimed than the book's limit
     pub claims_few : claims_in h ≤ limit
     claims_few = let le = count_by-le-length (λ (r : Row I V). is_taken r.state) rows in omega (arith, le, kept.claimed_rows, within)
 

@@ -18,6 +18,7 @@ pub record Walked (limit : ℕ) (h : List HistoryEntry) (t : ℕ) : Type 0 where
   pub issued : t ≤ issued_in h
   pub few : issued_in h ≤ limit
 
+-- where tickets are claimed and filed in number order, and one isn't filed, the next one is issued
 pub walked_low : (limit : ℕ) (h : List HistoryEntry) (t : ℕ) → Walked limit h t → (unfiled_in h ≡ 0 → ⊥) → t < issued_in h
 walked_low limit h t w some = omega (arith, some, w.filed, w.issued)
 

@@ -74,7 +74,7 @@ abbrev pub CountsRight : {I : Type 0} → I → (I → List I) → List I → Hi
 CountsRight first children items (File ticket count) = count ≡ length (children (slice_index_or items ticket first))
 CountsRight first children items entry = Unit {0}
 
--- the same of each entry, where the history before had these items
+-- the number in each entry is that of the children of the filed item, where the history before had these items
 abbrev pub AllCountRight : {I : Type 0} → I → (I → List I) → List I → List HistoryEntry → Type 0
 AllCountRight first children items [] = Unit {0}
 AllCountRight first children items (entry ∷ entries) =

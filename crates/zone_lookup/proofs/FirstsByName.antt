@@ -136,6 +136,7 @@ module _ {X : Type 0} (key : X → Labels) (name : Labels) where
       ap (λ (b : Bool). cond b (Some x) (find has_name xs)) (before_differs (key x) name less)
       ∙ found_in_order xs place d (sorted_tail name_cmp (key x) (map key xs) sorted) within is
 
+  -- items whose names rise are sorted by their names
   pub rises : (xs : List X) → IsStrictlySortedBy name_cmp (map key xs) → IsSortedBy (λ a b. is_lt (name_cmp (key a) (key b))) xs
   rises xs sorted = λ k d low high.
       let less : name_cmp (key (get_or xs k d)) (key (get_or xs (k + 1) d)) ≡ Less =

@@ -63,6 +63,7 @@ module _ (zone : Zone) (name : Labels) (inside : is_prefix zone.origin name ≡ 
 
 -- ---- what the zones show
 
+-- where the test says that the zones at both sides of a cut differ, they do
 pub differ_told : (config : Config) (cut : Cut) → zones_differ config cut ≡ true → ZonesDiffer config cut
 differ_told config cut e = by (held_zone config cut.server cut.zone) refl (held_zone config cut.ns cut.cut) refl e where
   by : (one : Option Zone) → held_zone config cut.server cut.zone ≡ one → (other : Option Zone) → held_zone config cut.ns cut.cut ≡ other
@@ -76,6 +77,7 @@ differ_told config cut e = by (held_zone config cut.server cut.zone) refl (held_
             ∙ not-true (names_eq (ns_names above cut.cut) (ns_names below cut.cut)) e);
       }
 
+-- where the zones at both sides of a cut differ, the test says so
 pub told_differ : (config : Config) (cut : Cut) → ZonesDiffer config cut → zones_differ config cut ≡ true
 told_differ config cut zones =
     ap (λ one. sides_differ cut one (held_zone config cut.ns cut.cut)) zones.sides.refers
@@ -104,6 +106,7 @@ told_both above below some others differ =
     (and_from (not (length above == 0)) (not (length below == 0)) (some_there above some) (some_there below others))
     (not_from_false (pointwise data_eq above below) (false_from_ne_true (pointwise data_eq above below) (λ e. differ ((data_decide above below).0 e))))
 
+-- where the test says that the addresses at both sides of a cut differ, they do
 pub other_addresses : (config : Config) (cut : Cut) → addresses_differ config cut ≡ true → AddressesDiffer config cut
 other_addresses config cut e =
     let parts = and_parts (is_prefix cut.cut cut.ns) (glue_of_sides cut (held_zone config cut.server cut.zone) (held_zone config cut.ns cut.cut)) e in
@@ -123,6 +126,7 @@ other_addresses config cut e =
           differ = three.2;
         }
 
+-- where the addresses at both sides of a cut differ, the test says so
 pub told_addresses : (config : Config) (cut : Cut) → AddressesDiffer config cut → addresses_differ config cut ≡ true
 told_addresses config cut zones =
     and_from (is_prefix cut.cut cut.ns) (glue_of_sides cut (held_zone config cut.server cut.zone) (held_zone config cut.ns cut.cut)) zones.inside
@@ -130,11 +134,13 @@ told_addresses config cut zones =
     ∙ (ap (glue_of_sides cut (Some zones.sides.above)) zones.sides.serves
     ∙ told_both (addresses zones.sides.above cut.ns) (addresses zones.sides.below cut.ns) zones.above zones.below zones.differ))
 
+-- where the test says that a delegation wants glue, it does
 pub glue_told : (config : Config) (cut : Cut) → wants_glue config cut ≡ true → WantsGlue config cut
 glue_told config cut e =
     let parts = and_parts (is_prefix cut.cut cut.ns) (not (has_glue config cut)) e in
     record { inside = parts.0; no_glue = not-true (has_glue config cut) parts.1 }
 
+-- where a delegation wants glue, the test says so
 pub told_glue : (config : Config) (cut : Cut) → WantsGlue config cut → wants_glue config cut ≡ true
 told_glue config cut wants =
     and_from (is_prefix cut.cut cut.ns) (not (has_glue config cut)) wants.inside (not_from_false (has_glue config cut) wants.no_glue)
@@ -145,10 +151,12 @@ among_has names name e =
     let found = from_any (name_eq name) names e in
     subst (Contains names) (sym ((name_eq_decides name found.0).0 found.2)) found.1
 
+-- a name that others have is among them
 pub has_among : (names : List Labels) (name : Labels) → Contains names name → is_among names name ≡ true
 has_among names name has = any_has (name_eq name) names name has ((name_eq_decides name name).1 refl)
 
 module _ (setting : Setting) (deps : Deps) (cut : Cut) where
+  -- where the test says that a delegation depends on itself, it does
   pub cyclic_told : depends_on_itself setting.config deps cut ≡ true → DependsOnItself (with_lists setting deps.least deps.greatest) cut
   cyclic_told e =
       let four = and_parts (is_configured setting.config cut.ns && not (is_top setting.config cut.ns) && not (has_glue setting.config cut) && is_among deps.greatest cut.ns) (not (is_among deps.least cut.ns)) e in
@@ -163,6 +171,7 @@ module _ (setting : Setting) (deps : Deps) (cut : Cut) where
         not_at_least = λ has. true≢false (sym (has_among deps.least cut.ns has) ∙ not-true (is_among deps.least cut.ns) four.1);
       }
 
+  -- where a delegation depends on itself, the test says so
   pub told_cyclic : DependsOnItself (with_lists setting deps.least deps.greatest) cut → depends_on_itself setting.config deps cut ≡ true
   told_cyclic depends =
       and_from (is_configured setting.config cut.ns && not (is_top setting.config cut.ns) && not (has_glue setting.config cut) && is_among deps.greatest cut.ns) (not (is_among deps.least cut.ns))

@@ -19,8 +19,8 @@ depends_on_itself config deps cut =
     is_configured config cut.ns && not (is_top config cut.ns) && not (has_glue config cut)
     && is_among deps.greatest cut.ns && not (is_among deps.least cut.ns)
 
--- the referral's zones list the same name servers and hold the same addresses of this one, it has glue where it needs some, and
--- its address doesn't depend on itself
+-- The zones at both sides of a referral list the same name servers, and hold the same addresses of the one to which it
+-- leads. That one has glue where it needs some, and its address doesn't depend on itself.
 pub record IsSound (config : Config) (deps : Deps) (cut : Cut) : Type 0 where
   pub same_servers : zones_differ config cut ≡ false
   pub glued : wants_glue config cut ≡ false

@@ -42,6 +42,7 @@ module _ (tree : ZoneTree) (name : Labels) (found : Preceding) (inside : is_pref
       (too_long tree.zone whole inside_whole found.shared precedes.long short exists (name_of tree found.node) both first is longer)
 
   module _ (few : length first ≤ found.shared) (within : is_prefix tree.zone.origin first ≡ true) where
+    -- where the first name that decides, of no more labels than are shared, is a zone cut, this cut decides
     pub cut_decides : is_cut tree.zone first ≡ true → deciding tree.zone whole ≡ ByCut first
     cut_decides cuts =
         cut tree.zone whole inside_whole found.shared precedes.long short exists (name_of tree found.node) both first is few within cuts
@@ -53,12 +54,14 @@ module _ (tree : ZoneTree) (name : Labels) (found : Preceding) (inside : is_pref
       at_most : count ≤ length name
       at_most = omega (arith, many, few, precedes.short)
 
+      -- where the first name that decides is uncut, owns a DNAME record and is above the name, it redirects
       pub redirection_decides : (test && owns tree.zone first types.Dname) ≡ true → deciding tree.zone whole ≡ by_dname tree.zone first
       redirection_decides told =
           let parts = and_parts test (owns tree.zone first types.Dname) told in
           redirection tree.zone whole inside_whole found.shared precedes.long short exists (name_of tree found.node) both first is few within uncut
           (omega (arith, many, proper tree.zone name open_below below stands count labels at_most all test refl parts.0)) parts.1
 
+      -- where the first name that decides is no zone cut and redirects nothing, nothing decides at the shared front
       pub nothing_decides : (test && owns tree.zone first types.Dname) ≡ false → Undecided tree.zone whole (take found.shared name)
       nothing_decides told =
           subst (λ (x : Labels). Undecided tree.zone whole x) (sym front)

@@ -41,6 +41,7 @@ module _ (zone : Zone) (front tail : Labels) where
         let is : first ≡ found = decider_found zone (front ++ tail) found e in
         omega (arith, short, ap (λ (x : Labels). length x) is, found_beyond (decides_below zone) front none tail found e)
 
+    -- the first decider of a name that has no more labels than a front of it, and decides, is that of the front
     pub decides_at_front : shortest (decides_below zone) front ≡ Some first
     decides_at_front = by (shortest (decides_below zone) front) refl where
       by : (o : Option Labels) → shortest (decides_below zone) front ≡ o → o ≡ Some first
@@ -135,15 +136,18 @@ module _ (zone : Zone) (name : Labels) (inside : is_prefix zone.origin name ≡ 
           many_above : length (take j name) ≡ j
           many_above = length-take-le j name (omega (arith, few, short))
 
+          -- nothing decides at the parent of the first name that decides
           pub above_undecided : Undecided zone name (take j name)
           above_undecided =
               undecided_at j (omega (arith, below))
               (prefix_exists zone (take j name) (drop j front) (origin_begins zone.origin name j inside (omega (arith, below))) (ap (exists_in zone) in_two ∙ exists))
               (none_shorter (decides_below zone) (take j name) (drop j front) first (ap (shortest (decides_below zone)) in_two ∙ found) (omega (arith, many_above, below)))
 
+          -- the first name that decides is its parent with one label more of the name
           pub next_is : first ≡ take (j + 1) name
           next_is = sym is_front ∙ ap (λ (n : ℕ). take n name) (let e : length first ≡ j + 1 = omega (arith, below) in e)
 
+          -- the parent of the first name that decides has fewer labels than the name
           pub above_short : j < length name
           above_short = omega (arith, below, few, short)
 
@@ -202,6 +206,7 @@ module _ (zone : Zone) (name : Labels) (inside : is_prefix zone.origin name ≡ 
               is_whole : front ≡ first
               is_whole = ap (λ (n : ℕ). take n name) (let e : k ≡ length first = omega (arith, few, short, not_shorter) in e) ∙ is_front decides
 
+          -- where the first name that decides neither cuts nor redirects, nothing decides at the front
           pub neither : Undecided zone name front
           neither = by (decides_below zone first) refl where
             by : (b : Bool) → decides_below zone first ≡ b → Undecided zone name front

@@ -63,12 +63,14 @@ module _ (names : List Labels) (name : Labels) (ordered : Ordered names) where
     parts : IsPartitionPoint (λ (x : Labels). name_cmp x name ≡ Less) (λ (x : Labels). name_cmp x name ≡ Greater) names place
     parts = holds (searchable_from_sorted names_total (λ (x : Labels). x) names name (rises names ordered))
 
+    -- where the first name doesn't stand behind the searched one, a search ends behind the first
     pub not_first : 1 ≤ place
     not_first = elim (cases_lt 0 place) [
       | inl lower ↦ omega (arith, lower)
       | inr none ↦ absurd (true≢false (sym (ap is_gt (parts.1 0 [] none some)) ∙ first))
     ]
 
+    -- the name before the place where a search ends is the last that doesn't stand behind the searched one
     pub last_before : IsLastUpTo names name (place - 1)
     last_before = record {
       within = omega (arith, not_first, in_range);
