@@ -6,7 +6,7 @@ ghost use Rattle.query_verdicts.specs.Queries.{IsLeastGraph, StandsFor};
 ghost use Rattle.query_verdicts.specs.Subjects.{AreOfSubject, IsCovering, RepresentsBelow};
 ghost use Rattle.query_verdicts.specs.Verdict.{IsBelowVerdict, IsClassVerdict, IsNameVerdict, PassesStates, SomeServerPasses};
 ghost use Rattle.query_classes.specs.Children.{AreChildren, IsInTree};
-ghost use Rattle.query_classes.specs.TreeNames.{IsLiveIn};
+ghost use Rattle.query_classes.specs.TreeNames.{AreBaseNamesOf, IsLiveIn};
 
 use crate::graphs::QueryGraphs;
 use crate::own_class::OwnClass;
@@ -192,6 +192,20 @@ impl<'a, S: OnSubject> NameJudge<'a, S> {
             Ok(_) => Ok(None),
             Err(server) => Ok(Some(server.copy(self.alloc)?)),
         }
+    }
+
+    /// The graphs of the configuration's queries.
+    pub fn queries(&self) -> &QueryGraphs<'a>
+        ensures { result.now ≡ self.now }
+    {
+        &self.graphs
+    }
+
+    /// The graph of the base names of the subject's ground.
+    pub fn base_names(&self) -> &LabelGraph
+        ensures { AreBaseNamesOf S.subject.ground result.now }
+    {
+        &self.names
     }
 
     /// The memory from which the judge takes.
