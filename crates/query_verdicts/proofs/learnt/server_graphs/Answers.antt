@@ -35,6 +35,7 @@ returns c =
     let index = c.loop-server.server-index in
     let are : c.items-server-items.result.now ≡ queries.trees.servers = c.items-server-items.ensures ∙ ap (λ (x : Config). x.servers) c.config.ensures in
     let long = subst (λ (servers : List Server). length servers ≤ index) are c.loop-server-test.false in
-    let so_far = subst (λ (servers : List Server). AreSoFar queries.trees queries.rewrites queries.states (take index servers) c.loop-server.graphs) are c.loop-server.invariant in
-    (all_graphs queries.trees queries.rewrites queries.states index c.loop-server.graphs long so_far,
-    none_passes queries.trees queries.rewrites queries.states index c.loop-server.graphs long so_far)
+    let so_far = subst (λ (servers : List Server). AreSoFar queries.trees queries.rewrites queries.states (take index servers) c.loop-server.graphs) are c.loop-server.invariant in (
+      all_graphs queries.trees queries.rewrites queries.states index c.loop-server.graphs long so_far,
+      none_passes queries.trees queries.rewrites queries.states index c.loop-server.graphs long so_far,
+    )
