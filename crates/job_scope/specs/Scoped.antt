@@ -11,9 +11,13 @@ use Rattle.query_verdicts.specs.declared.verdict.NameVerdict.{NameVerdict}
 abbrev pub widened : Config → Labels → Ground
 widened config name = joined_ground (config ∷ []) (name ∷ [])
 
--- the scope of a name: the configuration, looked at by the ground widened by the name, at or below the name
+-- a configuration, looked at by this ground, at or below a name
+abbrev pub at_or_below : (config : Config) (rewrites : ℕ) (ground : Ground) (name : Labels) → Subject
+at_or_below config rewrites ground name = record { config = config; rewrites = rewrites; ground = ground; below = name }
+
+-- the scope of a name: the configuration, looked at by its ground widened by the name, at or below the name
 abbrev pub scoped : Config → ℕ → Labels → Subject
-scoped config rewrites name = record { config = config; rewrites = rewrites; ground = widened config name; below = name }
+scoped config rewrites name = at_or_below config rewrites (widened config name) name
 
 -- the values are those of the scope of a name of at most 255 octets
 pub record AreScopeValues (config : Config) (rewrites states : ℕ) (name : Labels) (children_of : Labels → List Labels) (verdict_of : Labels → NameVerdict) : Type 0 where

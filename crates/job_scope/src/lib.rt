@@ -15,5 +15,7 @@ mod naming;
 mod scope_judge;
 
 pub use naming::{OfScope, ScopeNaming};
-pub use query_verdicts::{ClassVerdict as ScopeEnd, FiledVerdict, NameVerdict as ScopeVerdict, ReportFault as ScopeFault};
+pub use query_verdicts::{
+    ClassVerdict as ScopeEnd, FiledVerdict, NameVerdict as ScopeVerdict, ReportFault as ScopeFault,
+};
 pub use scope_judge::ScopeJudge;

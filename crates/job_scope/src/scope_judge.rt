@@ -15,7 +15,9 @@ use graph_form::Report;
 use label_graph::LabelGraph;
 use net_model::Config;
 use query_classes::TreeName;
-use query_verdicts::{FiledVerdict, NameJudge, QueryGraphs, ReportFault as ScopeFault, SubjectGround};
+use query_verdicts::{
+    FiledVerdict, NameJudge, QueryGraphs, ReportFault as ScopeFault, SubjectGround,
+};
 use std::alloc::Global;
 use std::marker::Model;
 use verdict_book::{Filed, JudgeShare, Work};
