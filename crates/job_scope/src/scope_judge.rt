@@ -103,10 +103,10 @@ impl<'a, N: ScopeNaming> ScopeJudge<'a, N> {
     {
         // The labels are read, so that the length of the name is known here.
         let _ = scope.labels();
-        let graphs = QueryGraphs::prepare(alloc, config, rewrites, states)?;
-        let names = LabelGraph::of_names(alloc, &[config], &[scope])?;
-        let own = LabelGraph::of_config(alloc, config)?;
         let first = scope.copy(alloc)?;
+        let own = LabelGraph::of_config(alloc, config)?;
+        let names = LabelGraph::of_names(alloc, &[config], &[scope])?;
+        let graphs = QueryGraphs::prepare(alloc, config, rewrites, states)?;
         let names = NameJudge::new(alloc, graphs, names, Some(own), first);
         Ok(ScopeJudge { names })
     }
