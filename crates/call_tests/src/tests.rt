@@ -9,6 +9,7 @@ mod outputs;
 mod pool_machine;
 mod reports;
 mod runs;
+mod scopes;
 mod sites;
 mod texts;
 mod values;

@@ -1,0 +1,3 @@
+pub mod OneRefusal
+pub mod ScopeLaw
+pub mod Scopes
