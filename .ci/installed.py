@@ -1,8 +1,9 @@
 #!/usr/bin/env python3
 """Tries ./install in scratch folders: installed.py PROGRAM.
 
-What it installs runs and reads, and a removal leaves no file. With dpkg and dpkg-deb the Debian package is installed and removed
-in a scratch root; with mandoc the manual page is looked through; what isn't there is said. The status is 0 if all holds.
+What it installs runs and reads, and a removal leaves no file. With dpkg and dpkg-deb the Debian package is installed and
+removed in a scratch root; with mandoc the manual page is looked through; what isn't there is said. The status is 0 if all
+holds.
 """
 import pathlib
 import shutil
@@ -19,7 +20,8 @@ def main():
     with tempfile.TemporaryDirectory() as scratch:
         faults = plain(program, pathlib.Path(scratch, "plain"))
         if shutil.which("mandoc"):
-            faults += wanted("mandoc finds nothing in docs/groot.1", ["mandoc", "-T", "lint", "-W", "warning", TOP / "docs/groot.1"])
+            lint = ["mandoc", "-T", "lint", "-W", "warning", TOP / "docs/groot.1"]
+            faults += wanted("mandoc finds nothing in docs/groot.1", lint)
         else:
             print("docs/groot.1: not looked through, mandoc isn't installed")
         if shutil.which("dpkg-deb") and shutil.which("dpkg"):
