@@ -93,7 +93,7 @@ def say_unlisted(server, settings, directory, findings):
             findings.unplace(server, statement[1], "a dlz, whose zones stand in a database")
     if word_of("allow-new-zones", *settings) in ("yes", "true", "1"):
         folder = rooted(server, directory, word_of("new-zones-directory", *settings) or ".")
-        for name in sorted(os.listdir(folder)) if folder and os.path.isdir(folder) else []:
+        for name in sorted(os.listdir(folder or UNKNOWN_FOLDER)):
             if name.endswith((".nzf", ".nzd")) and not findings.leaves_out(server, name):
                 findings.unplace(server, name, "zones that rndc added; named-nzd2nzf prints them for named.conf")
 

@@ -15,13 +15,14 @@ class NoMetadata(Exception):
 
 
 class Server(NamedTuple):
-    """A server as the command line names it: which kind it is, the path that its tool gets, and the folder below which the
-    files of its configuration stand here ("" on the server's own machine)."""
+    """A server as the command line names it: which kind it is, the path that its tool gets, the folder below which the files
+    of its configuration stand here ("" on the server's own machine), and whether the path has what the tool printed before."""
 
     name: str
     kind: str
     path: str
     root: str = ""
+    elsewhere: bool = False
 
 
 class Zone(NamedTuple):

@@ -1,4 +1,5 @@
 """The zones that NSD holds, from what `nsd-checkconf -v` prints, with its patterns put in, and from its list of added zones."""
+import os
 import re
 import shlex
 
@@ -55,9 +56,9 @@ def added(server, options, patterns, findings):
         with open(path or "", encoding="utf-8", errors="surrogateescape") as file:
             lines = [line.split() for line in file if line.strip() and not line.startswith("#")]
     except FileNotFoundError:
+        if (server.elsewhere or server.root) and not os.path.isdir(os.path.dirname(path or "")):
+            raise NoMetadata(f"{server.name}: {path} may list zones that nsd-control added; copy its folder too") from None
         return []
-    except OSError as fault:
-        raise NoMetadata(f"{server.name}: {path}, in which NSD lists the zones that were added: {fault.strerror}") from None
     found = []
     for words in lines:
         if words[0] == "add" and len(words) == 3 and words[2] in patterns:

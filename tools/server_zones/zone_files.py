@@ -75,6 +75,7 @@ def compile_folder(zone):
     return zone.folder or os.path.dirname(zone.file)
 
 
+@functools.lru_cache(maxsize=None)
 def flattened(zone, into):
     """The plain text file that named-compilezone writes of a zone, below the folder `into`."""
     if form_of(zone) == "text":
