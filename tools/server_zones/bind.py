@@ -23,14 +23,12 @@ def zones(server, text, views, findings):
     view, block = chosen_view(server, config, views, findings)
     directory = word_of("directory", options) or ""
     say_unlisted(server, [block, options], directory, findings)
-    for name, rclass, zone in named("zone", block):
+    for name, _, zone in named("zone", block):
         settings = [zone, block, options]
         if value_of("in-view", zone):
             settings = in_view(config, word_of("in-view", zone), name) + [options]
         kind = word_of("type", settings[0])
-        if rclass != "IN":
-            findings.remark(server, f"{name}: passed over, of class {rclass}")
-        elif kind in NOT_HELD:
+        if kind in NOT_HELD:
             findings.remark(server, f"{name}: passed over, of type {kind}, which holds no zone")
         else:
             yield zone_of(server, name, view, directory, settings)
