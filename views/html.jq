@@ -7,17 +7,18 @@ def style: "
 body { font: 1rem/1.5 system-ui, sans-serif; max-width: 64rem; margin: 0 auto; padding: 1rem; overflow-wrap: anywhere; }
 h1 { font-size: 1.4rem; } h2 { font-size: 1.2rem; margin-top: 2.5rem; } h3 { font-size: 1rem; margin: 0; }
 p, ul { margin: .3rem 0; }
-table { border-collapse: collapse; }
-th, td { text-align: left; vertical-align: top; padding: .2rem 1rem .2rem 0; border-bottom: 1px solid var(--line); }
-td.number, th.number { text-align: right; padding-right: 0; }
+table { border-collapse: collapse; margin-top: 1rem; }
+th, td { text-align: left; vertical-align: top; padding: .2rem 1.2rem .2rem 0; border-bottom: 1px solid var(--line); }
+.number { text-align: right; }
 article { border-left: .3rem solid var(--error); padding-left: 1rem; margin: 1.5rem 0; break-inside: avoid; }
 article.warning { border-color: var(--warning); } article.note { border-color: var(--note); }
-ol { list-style: none; display: flex; flex-wrap: wrap; gap: .6rem 2rem; padding: 0; margin: .6rem 0; }
+ol { list-style: none; display: flex; flex-wrap: wrap; gap: .6rem 2rem; padding: 0 2rem 0 0; margin: .6rem 0; }
 ol li { position: relative; border: 1px solid var(--line); border-radius: .4rem; padding: .3rem .6rem; }
 ol li b { display: block; }
-ol li + li::before { content: \"\\2192\"; position: absolute; left: -1.55rem; top: 50%; transform: translateY(-50%); }
+ol li:not(:last-child)::after { content: \"\\2192\"; position: absolute; left: calc(100% + .55rem); top: 50%; transform: translateY(-50%); }
 ol li.fault { border: 2px solid var(--error); }
-@media (max-width: 40rem) { ol { flex-direction: column; gap: 1.5rem; } ol li + li::before { content: \"\\2193\"; left: 1rem; top: -.75rem; } }
+@media (max-width: 40rem) { ol { flex-direction: column; gap: 1.5rem; padding: 0; }
+  ol li:not(:last-child)::after { content: \"\\2193\"; left: 1rem; top: calc(100% + .75rem); } }
 ";
 def place($kinds): "<li>\(if $kinds[1] then "\(.kind): " else "" end | marked)<code>\(.subject | marked)</code>\(details | marked)</li>";
 def box: "<li\(if .at_fault then " class=\"fault\"" else "" end)><b>\(.who | marked)</b> \(.says | marked)</li>";

@@ -55,8 +55,8 @@ def subject: .place as $place | if $place.ns then "\($place.cut) to \($place.ns)
   elif $place.owner then $place.owner
   elif $place.class == "below" then "names below \($place.name)" else $place.name end;
 
-# A step in words: who is asked, and what comes of it.
-def words: {who: (.server // .ns), says: ({
+# A step in words: who is asked for which name, and what comes of it.
+def words: {who: (.server // .ns), name, says: ({
     refer: "refers \(.cut) to \(.ns)",
     cname: "CNAME\(if .owner == .name then "" else " of \(.owner)" end) to \(.to)",
     dname: "DNAME of \(.owner) to \(.to)",

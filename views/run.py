@@ -180,8 +180,9 @@ def faults_of_dot(text, report):
             return
         shown = [element.text for element in xml.etree.ElementTree.fromstring(drawn.stdout).iter() if element.tag.endswith("text")]
         servers = {step.get("server") or step["ns"] for fault in report["faults"] for walk in fault["walks"] for step in walk}
-        queries = {f"{fault['query']} {fault['type']}" for fault in report["faults"]}
-        yield from (f"{name} isn't drawn" for name in servers | queries if name not in shown)
+        queries = {fault["query"] for fault in report["faults"]}
+        yield from (f"{name} isn't drawn" for name in servers if name not in shown)
+        yield from (f"{name} isn't asked" for name in queries if not any(text.startswith(name + " ") for text in shown))
 
 
 def faults_of_loaded_page(text):

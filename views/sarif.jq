@@ -5,7 +5,7 @@ include "report" {search: "./"};
 def uri: gsub("\\\\(?<octet>[0-9]{3}|.)"; .octet | {t: "\t", n: "\n"}[.] // if length == 3 then [tonumber] | implode else . end)
   | (if startswith("/") then "file://" else "" end) + (split("/") | map(@uri) | join("/"));
 def location: {logicalLocations: [{name: .server, fullyQualifiedName: "\(.server) \(.zone)"}]}
-  + if .file then {physicalLocation: {artifactLocation: {uri: (.file | uri)}, region: {startLine: ([.line, 1] | max)}}} else {} end;
+  + if .file then {physicalLocation: {artifactLocation: {uri: (.file | uri)}, region: {startLine: .line}}} else {} end;
 def rule: . as $kind | kinds[$kind] | {id: $kind, shortDescription: {text: .what}, help: {text: "\(.what); to mend it, \(.mend)"},
   defaultConfiguration: {level: .level}};
 def result($cause): .kind as $kind | {
