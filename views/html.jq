@@ -5,7 +5,7 @@ def style: "
 :root { color-scheme: light dark; --line: #8887; --error: #b3261e; --warning: #8a5a00; --note: #3a6ea5; }
 @media (prefers-color-scheme: dark) { :root { --error: #ff8a80; --warning: #ffb74d; --note: #90caf9; } }
 body { font: 1rem/1.5 system-ui, sans-serif; max-width: 64rem; margin: 0 auto; padding: 1rem; overflow-wrap: anywhere; }
-h1 { font-size: 1.4rem; } h2 { font-size: 1.2rem; margin-top: 2.5rem; } h3 { font-size: 1rem; margin: 0; }
+h1 { font-size: 1.4rem; } h2 { font-size: 1.2rem; margin-top: 2.5rem; } h3 { font-size: 1rem; margin: 0; } h3 a { color: inherit; }
 p, ul { margin: .3rem 0; }
 table { border-collapse: collapse; margin-top: 1rem; }
 th, td { text-align: left; vertical-align: top; padding: .2rem 1.2rem .2rem 0; border-bottom: 1px solid var(--line); }
@@ -23,7 +23,7 @@ ol li.fault { border: 2px solid var(--error); }
 def place($kinds): "<li>\(if $kinds[1] then "\(.kind): " else "" end | marked)<code>\(.subject | marked)</code>\(details | marked)</li>";
 def box: "<li\(if .at_fault then " class=\"fault\"" else "" end)><b>\(.who | marked)</b> \(.says | marked)</li>";
 def article: .kinds as $kinds | "<article id=\"cause-\(.number)\" class=\"\(.level)\">",
-  "<h3>\($kinds | join(", ") | marked)</h3>",
+  "<h3><a href=\"#cause-\(.number)\">\($kinds | join(", ") | marked)</a></h3>",
   "<p>\(.headline | marked)</p>",
   "<p>Mend: \(.mend | marked)</p>",
   "<ul>", (.places[] | place($kinds)), "</ul>",
@@ -33,7 +33,7 @@ def article: .kinds as $kinds | "<article id=\"cause-\(.number)\" class=\"\(.lev
 def row: "<tr><td><a href=\"#zone-\(.[0].section)\">\(.[0].zone | marked)</a></td><td>\(.[0].kinds | join(", ") | marked)</td>"
   + "<td class=\"number\">\(length)</td><td class=\"number\">\(map(.faults) | add)</td></tr>";
 
-causes($ARGS.named.records // "" | by_place) as $causes | (summary($causes) | marked) as $summary
+causes($ARGS.named.records) as $causes | (summary($causes) | marked) as $summary
 | ($causes | to_entries | map(.value + {number: (.key + 1)}) | group_by(.zone | name_order)
   | to_entries | map(.key as $key | .value | map(. + {section: ($key + 1)}))) as $zones
 | "<!DOCTYPE html>", "<html lang=\"en\">", "<head>", "<meta charset=\"utf-8\">",

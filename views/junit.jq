@@ -8,7 +8,7 @@ def case($cause): "\(.kind) \(.subject) on \(.locations | map(.server) | distinc
     (.first | told | to_entries[] | (select(.key > 0) | "or"), (.value | shortened[] | "-> \(.who): \(.says)") | marked),
     "</failure>", "</testcase>";
 
-[causes($ARGS.named.records // "" | by_place)[] | . as $cause | .places[] | [case($cause)]] as $cases | ($cases | length) as $faults
+[causes($ARGS.named.records)[] | . as $cause | .places[] | [case($cause)]] as $cases | ($cases | length) as $faults
 | "<?xml version=\"1.0\" encoding=\"UTF-8\"?>",
   "<testsuites>", "<testsuite name=\"groot\" tests=\"\([$faults, 1] | max)\" failures=\"\($faults)\">",
   $cases[][], (select($faults == 0) | "<testcase classname=\"groot\" name=\"no fault\"/>"),

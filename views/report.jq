@@ -1,5 +1,5 @@
 # What the views share: the kinds in words, the causes behind entries, their places and walks, and how text is escaped.
-# `$records` is what `by_place` makes of the lines of `groot-map records`; without them no file and line is known.
+# `$records` is what `by_place` makes of a list of records; without one no file and line is known.
 
 # Of each kind: what goes wrong, what mends it, and how grave it is.
 def kinds: {
@@ -76,8 +76,12 @@ def told: . as $entry | .walks | map(length as $length | to_entries | map(.key a
 # A walk of more than eight steps without its middle.
 def shortened: if length > 8 then .[:4] + [{who: "..", says: "\(length - 6) more steps"}] + .[-2:] else . end;
 
-# What is found under "server\tzone\towner\ttype": the records there, each with its file, line and data.
-def by_place: split("\n") | map(select(. != "") | split("\t")) | group_by(.[:4])
+# The wildcards that may answer for a name, the nearest first.
+def wildcards: upwards[1:] | map("*." + ltrimstr("."));
+# Of the lines of `groot-map records`, those whose owners the report may ask for, as {file, line, data} under
+# "server\tzone\towner\ttype".
+def by_place($lines): (reduce (entries[] | (.. | strings), (.walks[][] | select(.rdata) | .name | wildcards[])) as $name ({}; .[$name] = true)) as $owners
+  | [$lines // "" | split("\n")[] | split("\t") | select(.[2] and $owners[.[2]])] | group_by(.[:4])
   | map({key: (.[0][:4] | join("\t")), value: map({file: .[4], line: (.[5] | tonumber), data: .[6]})}) | from_entries;
 # The records of a server's zone with one of the types, of the first owner that has any; else its SOA record.
 def located($records; $owners; $types; $ns): {server, zone} as $at
@@ -91,7 +95,7 @@ def locations($records): . as $entry | .place
     elif .ns then located($records; [.cut]; ["NS"]; .ns)
     elif .owner then located($records; [.owner]; ["CNAME", "DNAME"]; null)
     else [$entry | parting[] | if .to then located($records; [.owner]; ["CNAME", "DNAME"]; null)
-      elif .rdata then located($records; [.name] + (.name | upwards[1:] | map("*." + ltrimstr("."))); [$entry.type]; null)
+      elif .rdata then located($records; [.name] + (.name | wildcards); [$entry.type]; null)
       else located($records; []; []; null) end | .[]] end;
 
 def is_of_address: .kind | IN("missing-glue", "cyclic-dependency", "no-address");
@@ -132,8 +136,9 @@ def places($records; $zone): group_by([.kind, subject]) | sort_by(.[0].entry)
 # What stands behind a place's subject: its types and its servers.
 def details: if .types == [] then "" else ": \(.types | join(" "))" end + if .sites == [] then "" else ", on " +
   (.sites | map(.at + if .lines == [] then "" else " (\(.lines | join(", ")))" end) | join(", ")) end;
-# The causes of a report by zone and server, each with the query and the walks of its first entry.
-def causes($records): entries as $entries
+# The causes of a report by zone and server, each with the query and the walks of its first entry. `$lines` are those of
+# `groot-map records`, or null.
+def causes($lines): entries as $entries | by_place($lines) as $records
   | ($entries | map(select(is_of_address) | .place | {key: .cut, value: .ns}) | reverse | from_entries) as $servers
   | $entries | group_by(cause($servers)) | sort_by((.[0] | zone | name_order), (.[0] | .place.server // parting[0].server), .[0].entry)
   | map((.[0] | {zone: zone, level: level, query: "\(.query) \(.type)", entry, walks: told})

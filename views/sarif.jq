@@ -16,6 +16,6 @@ def result($cause): .kind as $kind | {
   relatedLocations: (.locations[1:] | map(location + {message: {text: .server}})),
   partialFingerprints: {"fault/v1": (.first | key)}};
 
-[causes($ARGS.named.records // "" | by_place)[] | . as $cause | .places[] | result($cause)] as $results | {
+[causes($ARGS.named.records)[] | . as $cause | .places[] | result($cause)] as $results | {
   "$schema": "https://docs.oasis-open.org/sarif/sarif/v2.1.0/errata01/os/schemas/sarif-schema-2.1.0.json", version: "2.1.0",
   runs: [{tool: {driver: {name: "groot", rules: (kinds | keys | map(rule))}}, results: $results}]}

@@ -9,6 +9,6 @@ def paragraph: "",
   "  query: \(.query), entry \(.entry)",
   (.walks | to_entries[] | (select(.key > 0) | "  or"), (.value | shortened[] | "    -> \(.who): \(.says)"));
 
-causes($ARGS.named.records // "" | by_place) as $causes
+causes($ARGS.named.records) as $causes
 | summary($causes), ($causes | group_by(.zone | name_order)[] | "", "zone \(.[0].zone)", (.[] | paragraph))
 | shown
