@@ -5,7 +5,8 @@ def style: "
 :root { color-scheme: light dark; --line: #8887; --error: #b3261e; --warning: #8a5a00; --note: #3a6ea5; }
 @media (prefers-color-scheme: dark) { :root { --error: #ff8a80; --warning: #ffb74d; --note: #90caf9; } }
 body { font: 1rem/1.5 system-ui, sans-serif; max-width: 64rem; margin: 0 auto; padding: 1rem; overflow-wrap: anywhere; }
-h1 { font-size: 1.4rem; } h2 { font-size: 1.2rem; margin-top: 2.5rem; } h3 { font-size: 1rem; margin: 0; } h3 a { color: inherit; }
+h1 { font-size: 1.4rem; } h2 { font-size: 1.2rem; margin-top: 2.5rem; break-after: avoid; }
+h3 { font-size: 1rem; margin: 0; } h3 a { color: inherit; text-decoration: none; }
 p, ul { margin: .3rem 0; }
 table { border-collapse: collapse; margin-top: 1rem; }
 th, td { text-align: left; vertical-align: top; padding: .2rem 1.2rem .2rem 0; border-bottom: 1px solid var(--line); }
@@ -17,6 +18,7 @@ ol li { position: relative; border: 1px solid var(--line); border-radius: .4rem;
 ol li b { display: block; }
 ol li:not(:last-child)::after { content: \"\\2192\"; position: absolute; left: calc(100% + .55rem); top: 50%; transform: translateY(-50%); }
 ol li.fault { border: 2px solid var(--error); }
+@media print { body { font-size: .8rem; padding: 0; } }
 @media (max-width: 40rem) { ol { flex-direction: column; gap: 1.5rem; padding: 0; }
   ol li:not(:last-child)::after { content: \"\\2193\"; left: 1rem; top: calc(100% + .75rem); } }
 ";
