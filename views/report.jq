@@ -78,7 +78,7 @@ def shortened: if length > 8 then .[:4] + [{who: "..", says: "\(length - 6) more
 
 # The wildcards that may answer for a name, the nearest first.
 def wildcards: upwards[1:] | map("*." + ltrimstr("."));
-# Of the lines of `groot-map records`, those whose owners the report may ask for, as {file, line, data} under
+# Of the lines of a list of records, those whose owners the report may ask for, as {file, line, data} under
 # "server\tzone\towner\ttype".
 def by_place($lines): (reduce (entries[] | (.. | strings), (.walks[][] | select(.rdata) | .name | wildcards[])) as $name ({}; .[$name] = true)) as $owners
   | [$lines // "" | split("\n")[] | split("\t") | select(.[2] and $owners[.[2]])] | group_by(.[:4])
@@ -136,8 +136,8 @@ def places($records; $zone): group_by([.kind, subject]) | sort_by(.[0].entry)
 # What stands behind a place's subject: its types and its servers.
 def details: if .types == [] then "" else ": \(.types | join(" "))" end + if .sites == [] then "" else ", on " +
   (.sites | map(.at + if .lines == [] then "" else " (\(.lines | join(", ")))" end) | join(", ")) end;
-# The causes of a report by zone and server, each with the query and the walks of its first entry. `$lines` are those of
-# `groot-map records`, or null.
+# The causes of a report by zone and server, each with the query and the walks of its first entry. `$lines` are those of a
+# list of records, or null.
 def causes($lines): entries as $entries | by_place($lines) as $records
   | ($entries | map(select(is_of_address) | .place | {key: .cut, value: .ns}) | reverse | from_entries) as $servers
   | $entries | group_by(cause($servers)) | sort_by((.[0] | zone | name_order), (.[0] | .place.server // parting[0].server), .[0].entry)
