@@ -43,10 +43,15 @@ def labels: [scan("(?:[^\\\\.]|\\\\[0-9]{3}|\\\\[^0-9])+")];
 def upwards: labels as $labels | [range(0; $labels | length) | $labels[.:] | map(. + ".") | add] + ["."];
 def name_order: labels | reverse;
 
-# An entry's last rewrite; the steps at which its two walks part, the first that say different things; and its zone.
+# An entry's last rewrite; the steps at which its two walks part; and its zone. They part at the first steps, referrals
+# aside, that say different things. If these are in different zones, one server refers where the other one answers: they
+# part at the steps in the zone above, if both walks have one for the name.
 def rewrite: [.walks[0][] | select(.to)] | last;
-def parting: .walks | map(map(select(.did != "refer"))) as [$one, $other]
-  | first((range(0; $one | length) | [$one[.], $other[.]] | select(map([.did, .to, .rdata]) | .[0] != .[1])), [$one[-1], $other[-1]]);
+def parting: .walks as $walks | $walks | map(map(select(.did != "refer"))) as [$one, $other]
+  | first((range(0; $one | length) | [$one[.], $other[.]] | select(map([.did, .to, .rdata]) | .[0] != .[1])), [$one[-1], $other[-1]])
+  | . as [$left, $right] | if $left.zone == $right.zone then . else first(
+      ($walks[1][] | select([.zone, .name] == [$left.zone, $left.name]) | [$left, .]),
+      ($walks[0][] | select([.zone, .name] == [$right.zone, $right.name]) | [., $right]), .) end;
 def zone: .place.zone // parting[0].zone;
 def level: if .kind == "blackhole" and rewrite.did == "dname" then "note" else kinds[.kind].level end;
 # What is at fault in one line, without its server.
@@ -83,20 +88,23 @@ def wildcards: upwards[1:] | map("*." + ltrimstr("."));
 def by_place($lines): (reduce (entries[] | (.. | strings), (.walks[][] | select(.rdata) | .name | wildcards[])) as $name ({}; .[$name] = true)) as $owners
   | [$lines // "" | split("\n")[] | split("\t") | select(.[2] and $owners[.[2]])] | group_by(.[:4])
   | map({key: (.[0][:4] | join("\t")), value: map({file: .[4], line: (.[5] | tonumber), data: .[6]})}) | from_entries;
-# The records of a server's zone with one of the types, of the first owner that has any; else its SOA record.
+# The records of a server's zone with one of the types, of the first owner that has any; else, aside, its SOA record.
 def located($records; $owners; $types; $ns): {server, zone} as $at
-  | [($owners[] | [., $types[]]), [.zone, "SOA"]]
-  | map(.[0] as $owner | [.[1:][] as $type | $records[[$at.server, $at.zone, $owner, $type] | join("\t")] // [] | .[]
-      | select($type != "NS" or $ns == null or .data == $ns)])
-  | first((.[] | select(. != [])), [{}]) | map($at + .);
+  | def of($owner; $types): [$types[] as $type | $records[[$at.server, $at.zone, $owner, $type] | join("\t")] // [] | .[]
+      | select($type != "NS" or $ns == null or .data == $ns)] | select(. != []);
+    first(of($owners[]; $types), (of($at.zone; ["SOA"]) | map(.aside = true)), [{}]) | map($at + .);
 # Where an entry is mended: servers with their zones, and with file and line as far as records are known.
 def locations($records): . as $entry | .place
   | if $entry.kind == "glue-differs" then located($records; [.ns]; ["A", "AAAA"]; null)
     elif .ns then located($records; [.cut]; ["NS"]; .ns)
     elif .owner then located($records; [.owner]; ["CNAME", "DNAME"]; null)
-    else [$entry | parting[] | if .to then located($records; [.owner]; ["CNAME", "DNAME"]; null)
+    else [$entry | parting[] | if .cut then located($records; [.cut]; ["NS"]; null)
+      elif .to then located($records; [.owner]; ["CNAME", "DNAME"]; null)
       elif .rdata then located($records; [.name] + (.name | wildcards); [$entry.type]; null)
       else located($records; []; []; null) end | .[]] end;
+
+# Locations without those aside, if their server has another one.
+def nearest: . as $all | map(. as $one | select(.aside != true or all($all[]; .aside or [.server, .zone] != ($one | [.server, .zone]))));
 
 def is_of_address: .kind | IN("missing-glue", "cyclic-dependency", "no-address");
 # The least cut of the circle to which a name server leads: the nearest cut at or above its name, a server of that, and
@@ -127,7 +135,7 @@ def headline: if .[0].place.name == null then kinds[.[0].kind].what else
 # The places of a cause, each with its first entry, the types that differ there, and the servers with files and lines.
 # A server's zone is said if it isn't `$zone`. Servers that differ stand in the headline: here with files and lines alone.
 def places($records; $zone): group_by([.kind, subject]) | sort_by(.[0].entry)
-  | map([.[] | locations($records)[]] as $locations | (.[0] | {kind, subject: subject, first: ., locations: ($locations | distinct)}) + {
+  | map(([.[] | locations($records)[]] | nearest) as $locations | (.[0] | {kind, subject: subject, first: ., locations: ($locations | distinct)}) + {
       types: (if .[0].place.name then map(.type) | if length == 12 then ["all types"] else . end else [] end),
       sites: ($locations | group_by([.server, .zone]) | map({
         at: (.[0] | .server + if .zone == $zone then "" else " zone \(.zone)" end),
