@@ -83,10 +83,10 @@ def shortened: if length > 8 then .[:4] + [{who: "..", says: "\(length - 6) more
 
 # The wildcards that may answer for a name, the nearest first.
 def wildcards: upwards[1:] | map("*." + ltrimstr("."));
-# Of the lines of a list of records, those whose owners the report may ask for, as {file, line, data} under
+# Of the lines of a list of records, those of names in the report and of wildcards, as {file, line, data} under
 # "server\tzone\towner\ttype".
-def by_place($lines): (reduce (entries[] | (.. | strings), (.walks[][] | select(.rdata) | .name | wildcards[])) as $name ({}; .[$name] = true)) as $owners
-  | [$lines // "" | split("\n")[] | split("\t") | select(.[2] and $owners[.[2]])] | group_by(.[:4])
+def by_place($lines): (reduce (entries[] | .. | strings) as $text ({}; .[$text] = true)) as $texts
+  | [$lines // "" | split("\n")[] | split("\t") | select(.[2] | . and ($texts[.] or startswith("*.")))] | group_by(.[:4])
   | map({key: (.[0][:4] | join("\t")), value: map({file: .[4], line: (.[5] | tonumber), data: .[6]})}) | from_entries;
 # The records of a server's zone with one of the types, of the first owner that has any; else, aside, its SOA record.
 def located($records; $owners; $types; $ns): {server, zone} as $at
