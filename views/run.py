@@ -222,7 +222,7 @@ def ways_it_is_wrong(case):
             yield from (f"{name}: {line}" for line in globals()[f"faults_of_{name}"](text, report))
             if name == "html" and "html" in outs and shutil.which("chromium"):
                 yield from (f"html: {line}" for line in faults_of_loaded_page(text))
-        except (ValueError, xml.etree.ElementTree.ParseError) as fault:
+        except (ValueError, xml.etree.ElementTree.ParseError, subprocess.TimeoutExpired) as fault:
             yield f"{name}: {fault}"
 
 
