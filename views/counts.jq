@@ -1,0 +1,4 @@
+# A line for each kind and zone with its number of faults, separated by tabs: jq -rf views/counts.jq report.json
+include "report" {search: "./"};
+
+counts[] | "\(.kind)\t\(.zone)\t\(.number)"

@@ -1,0 +1,264 @@
+#!/usr/bin/env python3
+"""Runs the views on their cases: run.py [CASE ..]
+
+A case is a folder of cases/: report.json, what each view must make of it (VIEW.out, or VIEW-NAME.out with the words of
+VIEW-NAME.args), records.tsv if the views get records, and old.json for new.jq. Of html.jq the body is compared, and of
+sarif.jq the results. Besides, what each view makes of each case is read back: HTML, XML and SARIF must hold what the
+report says, and DOT is drawn if `dot` is there, and pages are loaded if `chromium` is there. It ends with status 1 if
+a case is wrong, and with 2 if there is no jq.
+"""
+import difflib
+import html.parser
+import json
+import os
+import re
+import shutil
+import subprocess
+import sys
+import tempfile
+import xml.etree.ElementTree
+
+HERE = os.path.dirname(os.path.abspath(__file__))
+CASES = os.path.join(HERE, "cases")
+KINDS = ["answers-differ", "blackhole", "cyclic-dependency", "delegation-differs", "glue-differs", "lame-delegation", "missing-glue",
+         "no-address", "overlong", "rewrite-limit"]
+READ_BACK = ["html", "junit", "sarif", "dot"]
+DOT_TEXT = r'"(?:[^"\\]|\\.)*"'
+DOT_LINE = re.compile(rf"digraph groot {{|  rankdir=LR;|  {DOT_TEXT}( -> {DOT_TEXT})? \[label={DOT_TEXT}(, [a-z]+=[a-z]+)*\];|}}")
+
+
+def contents(*path):
+    with open(os.path.join(*path), encoding="utf-8", newline="") as file:
+        return file.read()
+
+
+def view(name, folder, words=()):
+    """Status, output and error of a view over the report of a case."""
+    words = [*words]
+    if os.path.exists(os.path.join(folder, "records.tsv")):
+        words += ["--rawfile", "records", "records.tsv"]
+    if name == "new" and os.path.exists(os.path.join(folder, "old.json")):
+        words += ["--slurpfile", "old", "old.json"]
+    ended = subprocess.run(["jq", "-cf" if name == "new" else "-rf", os.path.join(HERE, f"{name}.jq"), *words, "report.json"],
+                           cwd=folder, stdin=subprocess.DEVNULL, capture_output=True)
+    return ended.returncode, ended.stdout.decode(), ended.stderr.decode()
+
+
+def differences(right, own):
+    """A line for each way in which two texts differ."""
+    right, own = (text.splitlines(keepends=True) for text in (right, own))
+    return [line.rstrip("\n")[:2000] for line in difflib.unified_diff(right, own, "expected", "view", n=1)]
+
+
+def compared(name, text):
+    """What is compared of the text that a view makes: the body of a page, the results of SARIF, else all."""
+    if name == "html":
+        return text[text.index("<body>"):]
+    if name == "sarif":
+        return json.dumps(json.loads(text)["runs"][0]["results"], indent=2, sort_keys=True) + "\n"
+    return text
+
+
+def expected(name, text):
+    return json.dumps(json.loads(text), indent=2, sort_keys=True) + "\n" if name == "sarif" else text
+
+
+class Page(html.parser.HTMLParser):
+    """The tags of a page, its ids, the places to which it leads, and its text in one line."""
+
+    def __init__(self, text):
+        super().__init__()
+        self.tags, self.ids, self.links, self.words = [], [], [], []
+        self.open = []
+        self.feed(text)
+        self.close()
+        self.text = " ".join(" ".join(self.words).split())
+
+    def handle_starttag(self, tag, attributes):
+        self.tags.append(tag)
+        if tag not in ("meta",):
+            self.open.append(tag)
+        for name, value in attributes:
+            if name == "id":
+                self.ids.append(value)
+            elif name in ("href", "src"):
+                self.links.append(value)
+            elif name not in ("class", "lang", "charset", "name", "content"):
+                raise ValueError(f"attribute {name}")
+
+    def handle_endtag(self, tag):
+        if not self.open or self.open.pop() != tag:
+            raise ValueError(f"{tag} is closed where it isn't open")
+
+    def handle_data(self, text):
+        if self.open and self.open[-1] != "style":
+            self.words.append(text)
+
+
+def names_of(report):
+    """The names that each view must show: of each place those that say where it is, but for its server."""
+    for fault in report["faults"]:
+        place = fault["place"]
+        yield from (place[member] for member in ("owner", "cut", "ns", "name") if member in place)
+
+
+def faults_of_html(text, report):
+    page = Page(text)
+    if page.open:
+        yield f"{page.open} aren't closed"
+    if set(page.tags) - {"html", "head", "meta", "title", "style", "body", "h1", "h2", "h3", "p", "table", "tr", "th", "td", "a", "section",
+                         "article", "ul", "ol", "li", "b", "code"}:
+        yield f"tags {sorted(set(page.tags))}"
+    if len(set(page.ids)) != len(page.ids):
+        yield "an id stands twice"
+    yield from (f"{link} leads nowhere" for link in page.links if link[:1] != "#" or link[1:] not in page.ids)
+    style = text[text.index("<style>"):text.index("</style>")]
+    yield from (f"{word} in the style" for word in ("url", "import", "//") if word in style)
+    yield from (f"{name} isn't shown" for name in names_of(report) if name not in page.text)
+
+
+def faults_of_junit(text, report):
+    suites = xml.etree.ElementTree.fromstring(text.encode())
+    failures = suites.findall("./testsuite/testcase/failure")
+    if suites.find("./testsuite").get("failures") != str(len(failures)) or bool(failures) != bool(report["faults"]):
+        yield "the number of failures"
+    if len({(test.get("classname"), test.get("name")) for test in suites.iter("testcase")}) != max(len(failures), 1):
+        yield "two tests have one name"
+    shown = "\n".join(failure.text for failure in failures)
+    yield from (f"{name} isn't shown" for name in names_of(report) if name not in shown)
+
+
+def faults_of_value(value, schema, whole, path="$"):
+    """The ways in which a value isn't what a schema says, as far as the schema of SARIF goes here."""
+    if "$ref" in schema:
+        schema = whole["definitions"][schema["$ref"].rpartition("/")[2]]
+    is_type = {"object": dict, "array": list, "string": str, "integer": int}.get(schema.get("type"), object)
+    if not isinstance(value, is_type) or value not in schema.get("enum", [value]):
+        yield f"{path} is {value!r}"
+        return
+    if isinstance(value, int) and value < schema.get("minimum", value) or isinstance(value, str) and not re.search(schema.get("pattern", ""), value):
+        yield f"{path} is {value!r}"
+    if isinstance(value, dict):
+        yield from (f"{path} has no {name}" for name in schema.get("required", []) if name not in value)
+        for name, member in value.items():
+            inner = schema.get("properties", {}).get(name, schema["additionalProperties"])
+            if inner is False:
+                yield f"{path}.{name} isn't allowed"
+            else:
+                yield from faults_of_value(member, inner, whole, f"{path}.{name}")
+    if isinstance(value, list):
+        if schema.get("uniqueItems") and any(one in value[:at] for at, one in enumerate(value)):
+            yield f"{path} has an item twice"
+        for at, item in enumerate(value):
+            yield from faults_of_value(item, schema["items"], whole, f"{path}[{at}]")
+
+
+def faults_of_sarif(text, report):
+    log = json.loads(text)
+    schema = json.loads(contents(HERE, "sarif-2.1.0.part.json"))
+    yield from faults_of_value(log, schema, schema)
+    rules, results = log["runs"][0]["tool"]["driver"]["rules"], log["runs"][0]["results"]
+    if [rule["id"] for rule in rules] != KINDS or not all(rule["help"]["text"] for rule in rules):
+        yield "the rules aren't those of the kinds"
+    if any(rules[result["ruleIndex"]]["id"] != result["ruleId"] for result in results):
+        yield "the number of a rule"
+    if {result["ruleId"] for result in results} != {fault["kind"] for fault in report["faults"]}:
+        yield "a kind isn't shown"
+    marks = [result["partialFingerprints"]["fault/v1"] for result in results]
+    if len(set(marks)) != len(marks):
+        yield "two results have one fingerprint"
+    shown = "\n".join(result["message"]["text"] for result in results)
+    yield from (f"{name} isn't shown" for name in names_of(report) if name not in shown)
+
+
+def faults_of_dot(text, report):
+    yield from (f"no statement: {line}" for line in text.splitlines() if not DOT_LINE.fullmatch(line))
+    if shutil.which("dot"):
+        drawn = subprocess.run(["dot", "-Tsvg"], input=text.encode(), capture_output=True)
+        if drawn.returncode or drawn.stderr:
+            yield drawn.stderr.decode()
+            return
+        shown = [element.text for element in xml.etree.ElementTree.fromstring(drawn.stdout).iter() if element.tag.endswith("text")]
+        servers = {step.get("server") or step["ns"] for fault in report["faults"] for walk in fault["walks"] for step in walk}
+        queries = {fault["query"] for fault in report["faults"]}
+        yield from (f"{name} isn't drawn" for name in servers if name not in shown)
+        yield from (f"{name} isn't asked" for name in queries if not any(text.startswith(name + " ") for text in shown))
+
+
+def faults_of_loaded_page(text):
+    """A page as a browser reads it has the text that the parser reads, and no script."""
+    with tempfile.TemporaryDirectory() as folder:
+        path = os.path.join(folder, "page.html")
+        with open(path, "w", encoding="utf-8") as file:
+            file.write(text)
+        words = ["chromium", "--headless", "--no-sandbox", "--disable-gpu", f"--user-data-dir={folder}/profile", "--dump-dom", f"file://{path}"]
+        loaded = subprocess.run(words, stdin=subprocess.DEVNULL, capture_output=True, timeout=120).stdout.decode()
+    ours, theirs = Page(text), Page(loaded)
+    if ours.text != theirs.text or [tag for tag in theirs.tags if tag != "tbody"] != ours.tags:
+        yield "the browser reads another page"
+
+
+def ways_it_is_wrong(case):
+    """A line for each way in which a view goes another way on a case than the case says."""
+    folder = os.path.join(CASES, case)
+    report = json.loads(contents(folder, "report.json"))
+    outs = [file[:-4] for file in sorted(os.listdir(folder)) if file.endswith(".out")]
+    if not outs:
+        yield "it says nothing of what it expects"
+    for out in outs:
+        name = out.partition("-")[0]
+        words = contents(folder, out + ".args").splitlines() if os.path.exists(os.path.join(folder, out + ".args")) else []
+        status, text, error = view(name, folder, words)
+        if status:
+            yield f"{out}: status {status}: {error}"
+        else:
+            yield from (f"{out}: {line}" for line in differences(expected(name, contents(folder, out + ".out")), compared(name, text)))
+    for name in READ_BACK:
+        status, text, error = view(name, folder)
+        if status:
+            yield f"{name}: status {status}: {error}"
+            continue
+        try:
+            yield from (f"{name}: {line}" for line in globals()[f"faults_of_{name}"](text, report))
+            if name == "html" and "html" in outs and shutil.which("chromium"):
+                yield from (f"html: {line}" for line in faults_of_loaded_page(text))
+        except (ValueError, xml.etree.ElementTree.ParseError, subprocess.TimeoutExpired) as fault:
+            yield f"{name}: {fault}"
+
+
+def refusals():
+    """Each view refuses what is no report, and new.jq does without an older one."""
+    with tempfile.TemporaryDirectory() as folder:
+        for text in ('{"faults":1}', "[]"):
+            with open(os.path.join(folder, "report.json"), "w", encoding="utf-8") as file:
+                file.write(text)
+            for name in ("text", "html", "dot", "sarif", "junit", "counts"):
+                status, out, error = view(name, folder)
+                if status == 0 or out or "this is no report of groot check" not in error:
+                    yield f"{name}: status {status} for {text}"
+        status, _, error = view("new", folder)
+        if status == 0 or "--slurpfile old" not in error:
+            yield f"new: status {status} without an older report"
+
+
+def main(words):
+    if not shutil.which("jq"):
+        print('views/run.py: needs jq on the path (README.md, "What you need")', file=sys.stderr)
+        return 2
+    cases = [case for case in sorted(os.listdir(CASES)) if not words or case in words]
+    wrong = 0
+    for case, lines in [*((case, ways_it_is_wrong(case)) for case in cases), ("refusals", refusals())]:
+        lines = list(lines)
+        if lines:
+            wrong += 1
+            print(f"WRONG {case}")
+            print("".join(f"    {line}\n" for line in lines), end="")
+    for tool, what in (("dot", "no graph was drawn"), ("chromium", "no page was loaded")):
+        if not shutil.which(tool):
+            print(f"{what}: {tool} isn't there")
+    print(f"views: {len(cases) + 1 - wrong} right, {wrong} wrong")
+    return 0 if cases and not wrong else 1
+
+
+if __name__ == "__main__":
+    sys.exit(main(sys.argv[1:]))
