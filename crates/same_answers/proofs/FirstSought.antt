@@ -1,0 +1,238 @@
+-- The first class of which something is told, from the rows of the joint class tree.
+use Rattle.std.proofs.Common.{◌≡◌, ◌≢◌, ◌∙◌, ℕ, ◌<◌, true, false, List, [], length, get_or, Option, Some, None, refl, sym, ap, subst, inl, inr, arith, true≢false}
+use Rattle.std.specs.Ordering.{ordering_then}
+use Rattle.std.specs.declared.cmp.Ordering.TheVariants.{Less, Greater}
+use Rattle.std.specs.Option.{option_map_or}
+use Rattle.std.proofs.lemmas.Bool.{cases_lt}
+use Rattle.std.proofs.lemmas.Cmp.{tied_itself}
+use Rattle.std.proofs.lemmas.List.{get_or_default}
+use Rattle.dns_data.specs.Name.{Labels, name_cmp}
+use Rattle.dns_data.specs.declared.rr_type.RrType.{RrType}
+use Rattle.dns_data.proofs.Membership.{from_map}
+use Rattle.dns_data.proofs.NameOrder.{names_total}
+use Rattle.dns_data.proofs.OrderedLists.{never_before_itself}
+use Rattle.net_model.specs.declared.class.Class.{Class}
+use Rattle.net_model.specs.declared.class.Class.TheVariants.{Exact, Below}
+use Rattle.net_model.specs.Class.{class_cmp, class_name, IsRepresentative}
+use Rattle.net_model.proofs.FaultOrder.{classes_total}
+use Rattle.net_model.proofs.TrialOrder.{one_representative}
+use Rattle.query_classes.specs.Children.{IsInTree}
+use Rattle.same_answers.specs.Alike.{AnswersAlike, ClassesAlike}
+use Rattle.same_answers.specs.Compared.{Compared, joint}
+use Rattle.same_answers.specs.Passed.{IsFirstPassedInOne, SomeClassPassesInOne}
+use Rattle.same_answers.specs.Rows.{AreRows, ClassEnds, IsApartBy, IsFirstSought, IsFirstSoughtAt, IsFoundBelow, IsSoughtAt, NoneSought, NoneSoughtAt, Row, is_sought}
+use Rattle.same_answers.specs.Sameness.{ClassIsApart, IsFirstDifference, IsSameness}
+use Rattle.same_answers.specs.Verdict.{IsBelowEnd, IsPairEnd, SomeServerPassesInOne}
+use Rattle.same_answers.specs.declared.sameness.Sameness.{Sameness}
+use Rattle.same_answers.specs.declared.search.Found.{Found}
+use Rattle.same_answers.specs.declared.search.Sought.{Sought}
+use Rattle.same_answers.specs.declared.search.Sought.TheVariants as sought_as
+use Rattle.same_answers.specs.declared.verdict.PairEnd.{PairEnd}
+use Rattle.same_answers.specs.declared.verdict.PairEnd.TheVariants.{Equal, Apart, Unbounded, StatesPassed}
+use Rattle.same_answers.proofs.Comparing.{representative_is_name}
+use Rattle.same_answers.proofs.OneSameness.{one_end}
+use Rattle.same_answers.proofs.PairEnds.{end_exists}
+
+-- ---- class order
+
+-- no two classes stand before each other
+never_both : (a b : Class) → class_cmp a b ≡ Less → class_cmp b a ≡ Less → ⊥
+never_both a b one other = never_before_itself class_cmp classes_total a (classes_total.trans a b a one other)
+
+-- classes stand as the names by which they go
+by_names : (a b : Class) → name_cmp (class_name a) (class_name b) ≡ Less → class_cmp a b ≡ Less
+by_names (Exact a) (Exact b) before = before
+by_names (Exact a) (Below b) before = ap (λ o. ordering_then o Less) before
+by_names (Below a) (Exact b) before = ap (λ o. ordering_then o Greater) before
+by_names (Below a) (Below b) before = before
+
+-- of the classes of a name that of the name alone is the first
+exact_first : (name : Labels) (other : Class) → class_name other ≡ name → class_cmp other (Exact name) ≢ Less
+exact_first name (Exact alone) of_name less = never_before_itself name_cmp names_total name (subst (λ (n : Labels). name_cmp n name ≡ Less) of_name less)
+exact_first name (Below above) of_name less =
+    never_both (Exact name) (Below name) (ap (λ o. ordering_then o Less) (tied_itself names_total name))
+    (subst (λ (n : Labels). class_cmp (Below n) (Exact name) ≡ Less) of_name less)
+
+module _ (two : Compared) (sought : Sought) where
+  -- what is told of a representative is told of it alone
+  same_end : (class : Class) (query also : Labels) (end other : PairEnd) → IsRepresentative (joint two) class query → IsRepresentative (joint two) class also
+      → IsPairEnd two query end → IsPairEnd two also other → other ≡ end
+  same_end class query also end other stands represents is told =
+      let same : also ≡ query = one_representative (joint two) class also query represents stands in
+      one_end two query other end (subst (λ (n : Labels). IsPairEnd two n other) same told) is
+
+  -- ---- the classes of one name
+
+  module _ (name : Labels) (in_tree : IsInTree (joint two) name) where
+    exact_ends : (end : PairEnd) → IsPairEnd two name end → ClassEnds two (Exact name) name end
+    exact_ends end is = record { is_class = in_tree; represents = refl; is_end = is }
+
+    -- what is told of the name alone, where it isn't what is sought, is that of no class that is it
+    not_exact : (exact : PairEnd) → IsPairEnd two name exact → is_sought sought exact ≡ false
+        → (alone query : Labels) (end : PairEnd) → alone ≡ name → ClassEnds two (Exact alone) query end → is_sought sought end ≡ true → ⊥
+    not_exact exact is e alone query end of_name ends holds =
+        let same : end ≡ exact = one_end two name end exact (subst (λ (n : Labels). IsPairEnd two n end) (ends.represents ∙ of_name) ends.is_end) is in
+        true≢false (sym holds ∙ (ap (is_sought sought) same ∙ e))
+
+    not_below : (below : Option PairEnd) → IsBelowEnd two name below → option_map_or (is_sought sought) below false ≡ false
+        → (above query : Labels) (end : PairEnd) → above ≡ name → ClassEnds two (Below above) query end → is_sought sought end ≡ true → ⊥
+    not_below None none e above query end of_name ends holds =
+        none query (subst (λ (n : Labels). IsRepresentative (joint two) (Below n) query) of_name ends.represents)
+    not_below (Some told) (also, stands, is) e above query end of_name ends holds =
+        let same : end ≡ told =
+        same_end (Below name) also query told end stands (subst (λ (n : Labels). IsRepresentative (joint two) (Below n) query) of_name ends.represents) is ends.is_end in
+        true≢false (sym holds ∙ (ap (is_sought sought) same ∙ e))
+
+    pub found_exact : (end : PairEnd) → IsPairEnd two name end → is_sought sought end ≡ true → (query : Labels) → query ≡ name
+        → IsFirstSoughtAt two sought name (record { query = query; end = end })
+    found_exact end is holds query same =
+        record {
+          class = Exact name;
+          of_name = refl;
+          ends = record { is_class = in_tree; represents = same; is_end = subst (λ (n : Labels). IsPairEnd two n end) (sym same) is };
+          is = holds;
+          first = λ other also told of_name ends sought_too. exact_first name other of_name;
+        }
+
+    pub found_below : (exact end : PairEnd) → IsPairEnd two name exact → is_sought sought exact ≡ false → IsBelowEnd two name (Some end)
+        → is_sought sought end ≡ true → (query : Labels) → IsRepresentative (joint two) (Below name) query
+        → IsFirstSoughtAt two sought name (record { query = query; end = end })
+    found_below exact end is e (also, stands, told) holds query represents =
+        let same : also ≡ query = one_representative (joint two) (Below name) also query stands represents in
+        record {
+          class = Below name;
+          of_name = refl;
+          ends = record { is_class = in_tree; represents = represents; is_end = subst (λ (n : Labels). IsPairEnd two n end) same told };
+          is = holds;
+          first = first;
+        }
+      where
+        first : (other : Class) (query : Labels) (end : PairEnd) → class_name other ≡ name → ClassEnds two other query end → is_sought sought end ≡ true
+            → class_cmp other (Below name) ≢ Less
+        first (Exact alone) query end of_name ends sought_too less = not_exact exact is e alone query end of_name ends sought_too
+        first (Below above) query end of_name ends sought_too less =
+            never_before_itself name_cmp names_total name (subst (λ (n : Labels). name_cmp n name ≡ Less) of_name less)
+
+    -- what stands for the class below it
+    pub below_found : (exact end : PairEnd) → IsPairEnd two name exact → is_sought sought exact ≡ false → IsBelowEnd two name (Some end)
+        → is_sought sought end ≡ true → (found : Option Found) → IsFoundBelow two name end found → IsSoughtAt two sought name found
+    below_found exact end is e (also, stands, told) holds None none = absurd (none also stands)
+    below_found exact end is e told holds (Some found) (stands, same) =
+        subst (λ (other : PairEnd). IsFirstSoughtAt two sought name (record { query = found.query; end = other })) (sym same)
+        (found_below exact end is e told holds found.query stands)
+
+    pub none_found : (exact : PairEnd) (below : Option PairEnd) → IsPairEnd two name exact → IsBelowEnd two name below → is_sought sought exact ≡ false
+        → option_map_or (is_sought sought) below false ≡ false → NoneSoughtAt two sought name
+    none_found exact below is told e f = by where
+      by : (class : Class) (query : Labels) (end : PairEnd) → class_name class ≡ name → ClassEnds two class query end → is_sought sought end ≡ true → ⊥
+      by (Exact alone) query end of_name ends holds = not_exact exact is e alone query end of_name ends holds
+      by (Below above) query end of_name ends holds = not_below below told f above query end of_name ends holds
+
+  -- ---- the classes of all names
+
+  module _ {W : Type 0} (rows : List (Row W)) (are : AreRows two rows) where
+    row_at : (class : Class) (query : Labels) (end : PairEnd) → ClassEnds two class query end
+        → (k : ℕ) × (k < length rows) × ((d : Row W) → (get_or rows k d).item ≡ class_name class)
+    row_at class query end ends =
+        let (row, (k, within, is), same) =
+        from_map (λ (r : Row W). r.item) rows (class_name class)
+        ((are.tree.all (class_name class)).1 (record { named = ends.is_class.0; is_name = ends.is_class.1; within = refl })) in
+        (k, within, λ d. ap (λ (r : Row W). r.item) (get_or_default rows k d row within ∙ is) ∙ same)
+
+    -- where it is told of no class of any name, it is told of none
+    pub none_of_rows : ((k : ℕ) (d : Row W) → k < length rows → NoneSoughtAt two sought (get_or rows k d).item) → NoneSought two sought
+    none_of_rows none class query end ends holds =
+        let (k, within, is) = row_at class query end ends in
+        let d : Row W = get_or rows k (record { item = []; verdict = record { exact = Equal; below = None } }) in
+        none k d within class query end (sym (is d)) ends holds
+
+    -- and the first of the first name is the first
+    pub first_of_rows : (i : ℕ) (e : Row W) → i < length rows → ((k : ℕ) (d : Row W) → k < i → NoneSoughtAt two sought (get_or rows k d).item)
+        → (found : Found) → IsFirstSoughtAt two sought (get_or rows i e).item found → IsFirstSought two sought found
+    first_of_rows i e inside none found is_found =
+        record { class = is_found.class; ends = is_found.ends; is = is_found.is; first = first }
+      where
+        first : (other : Class) (query : Labels) (end : PairEnd) → ClassEnds two other query end → is_sought sought end ≡ true → class_cmp other is_found.class ≢ Less
+        first other query end ends holds less =
+            let (k, within, is) = row_at other query end ends in
+            elim (cases_lt k i) [
+              | inl before ↦ none k e before other query end (sym (is e)) ends holds
+              | inr not_before ↦ elim (cases_lt i k) [
+                | inl behind ↦ (
+                    let rising : name_cmp (get_or rows i e).item (class_name other) ≡ Less =
+                    subst (λ (n : Labels). name_cmp (get_or rows i e).item n ≡ Less) (is e) (are.ordered i k e behind within) in
+                    never_both is_found.class other
+                    (by_names is_found.class other (subst (λ (n : Labels). name_cmp n (class_name other) ≡ Less) (sym is_found.of_name) rising)) less)
+                | inr not_behind ↦ (
+                    let same : k ≡ i = omega (arith, not_before, not_behind) in
+                    is_found.first other query end (sym (is e) ∙ ap (λ (n : ℕ). (get_or rows n e).item) same) ends holds less)
+              ]
+            ]
+
+-- ---- what the search for classes tells
+
+module _ (two : Compared) where
+  -- where none passes is found, none passes
+  pub none_passes : NoneSought two sought_as.Passed → SomeClassPassesInOne two → ⊥
+  none_passes none (class, query, it) = none class query StatesPassed (record { is_class = it.is_class; represents = it.represents; is_end = it.passes }) refl
+
+  -- and the one that is found is the first
+  pub passed_first : (found : Found) → IsFirstSought two sought_as.Passed found → IsFirstPassedInOne two found.query
+  passed_first found is = by found.end is.is is.ends where
+    by : (end : PairEnd) → is_sought sought_as.Passed end ≡ true → ClassEnds two is.class found.query end → IsFirstPassedInOne two found.query
+    by StatesPassed e ends =
+        record {
+          class = is.class;
+          passes = record { is_class = ends.is_class; represents = ends.represents; passes = ends.is_end };
+          first = λ other name it.
+              is.first other name StatesPassed (record { is_class = it.is_class; represents = it.represents; is_end = it.passes }) refl;
+        }
+    by Equal e ends = absurd (true≢false (sym e))
+    by (Apart rtype) e ends = absurd (true≢false (sym e))
+    by Unbounded e ends = absurd (true≢false (sym e))
+
+  module _ (few : SomeClassPassesInOne two → ⊥) (learnt : SomeServerPassesInOne two → ⊥) where
+    -- what is told of a representative that is bounded and whose outcomes differ is that they do
+    apart_told : (class : Class) (query : Labels) → ClassIsApart two class query → (end : PairEnd) → IsPairEnd two query end → is_sought sought_as.Apart end ≡ true
+    apart_told class query apart (Apart rtype) is = refl
+    apart_told class query apart StatesPassed is =
+        absurd (few (class, query, record { is_class = apart.is_class; represents = apart.represents; passes = is }))
+    apart_told class query apart Unbounded is = absurd (is.1 apart.bounded)
+    apart_told class query apart Equal is = absurd (apart.differ.1 ((is.1 learnt).1 apart.differ.0))
+
+    -- so where none is apart, all are alike
+    pub all_same : NoneSought two sought_as.Apart → ClassesAlike two
+    all_same none class query in_tree stands bounded =
+        let (end, is) = end_exists two query in by end is
+      where
+        by : (end : PairEnd) → IsPairEnd two query end → (rtype : RrType) → AnswersAlike two query rtype
+        by Equal is = (is.1 learnt).1
+        by StatesPassed is = absurd (few (class, query, record { is_class = in_tree; represents = stands; passes = is }))
+        by Unbounded is = absurd (is.1 bounded)
+        by (Apart rtype) is = absurd (none class query (Apart rtype) (record { is_class = in_tree; represents = stands; is_end = is }) refl)
+
+    -- and the one that is found is the first difference
+    pub apart_first : (query : Labels) (rtype : RrType) → IsFirstSought two sought_as.Apart (record { query = query; end = Apart rtype })
+        → IsFirstDifference two query rtype
+    apart_first query rtype is =
+        record {
+          class = is.class;
+          apart = record {
+            is_class = is.ends.is_class;
+            represents = is.ends.represents;
+            bounded = is.ends.is_end.1;
+            differ = (rtype, is.ends.is_end.2.differ);
+          };
+          is_name = representative_is_name two is.class query is.ends.is_class is.ends.represents;
+          first_class = λ other name apart.
+              let (end, told) = end_exists two name in
+              is.first other name end (record { is_class = apart.is_class; represents = apart.represents; is_end = told }) (apart_told other name apart end told);
+          first_type = is.ends.is_end.2;
+        }
+
+    -- which is what is told
+    pub told_apart : (found : Found) (sameness : Sameness) → IsFirstSought two sought_as.Apart found → IsApartBy found sameness → IsSameness two sameness
+    told_apart found sameness is (rtype, end, told) =
+        subst (IsSameness two) (sym told)
+        (apart_first found.query rtype
+        (subst (λ (e : PairEnd). IsFirstSought two sought_as.Apart (record { query = found.query; end = e })) end is))

@@ -1,0 +1,10 @@
+pub mod Comparing
+pub mod FirstSought
+pub mod FoundNext
+pub mod GraphEnds
+pub mod OneSameness
+pub mod PairEnds
+pub mod PairRows
+pub mod PairValues
+pub mod Passing
+pub mod OutcomeSets

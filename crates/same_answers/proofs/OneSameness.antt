@@ -1,0 +1,122 @@
+-- One thing is told of a class, of a name of the joint tree and of two configurations.
+use Rattle.std.proofs.Common.{◌≡◌, ◌∙◌, ℕ, ◌+◌, List, [], length, Option, Some, None, refl, sym, ap, subst, arith}
+use Rattle.dns_data.specs.Name.{Labels, name_cmp}
+use Rattle.dns_data.specs.declared.rr_type.RrType.{RrType}
+use Rattle.dns_data.proofs.NameOrder.{names_total}
+use Rattle.dns_data.proofs.OrderedLists.{neither_before, same_rising}
+use Rattle.graph_form.specs.Report.{IsTreeSize}
+use Rattle.net_model.specs.declared.class.Class.{Class}
+use Rattle.net_model.specs.declared.class.Class.TheVariants.{Below}
+use Rattle.net_model.specs.Class.{class_cmp, IsRepresentative}
+use Rattle.net_model.specs.Reading.{Ground}
+use Rattle.net_model.specs.Tree.{IsTreePart, AreBelowClasses}
+use Rattle.net_model.proofs.FaultOrder.{classes_total, one_class, one_type}
+use Rattle.net_model.proofs.TrialOrder.{one_representative}
+use Rattle.same_answers.specs.Compared.{Compared, joint}
+use Rattle.same_answers.specs.Passed.{IsFirstPassedInOne}
+use Rattle.same_answers.specs.Sameness.{IsFirstDifference, IsSameness}
+use Rattle.same_answers.specs.Verdict.{IsBelowEnd, IsFirstApart, IsPairEnd, IsPairVerdict}
+use Rattle.same_answers.specs.declared.sameness.Sameness.{Sameness}
+use Rattle.same_answers.specs.declared.sameness.Sameness.TheVariants as told
+use Rattle.same_answers.specs.declared.verdict.PairEnd.{PairEnd}
+use Rattle.same_answers.specs.declared.verdict.PairEnd.TheVariants.{Equal, Apart, Unbounded, StatesPassed}
+use Rattle.same_answers.specs.declared.verdict.PairVerdict.{PairVerdict}
+
+-- ---- of a class
+
+module _ (two : Compared) (query : Labels) where
+  one_first : (a b : RrType) → IsFirstApart two query a → IsFirstApart two query b → a ≡ b
+  one_first a b one other = one_type a b (omega (arith, one.first b other.differ, other.first a one.differ))
+
+  pub one_end : (a b : PairEnd) → IsPairEnd two query a → IsPairEnd two query b → a ≡ b
+  one_end StatesPassed StatesPassed one other = refl
+  one_end StatesPassed Unbounded one other = absurd (other.0.few one)
+  one_end StatesPassed (Apart rtype) one other = absurd (other.0.few one)
+  one_end StatesPassed Equal one other = absurd (other.0 one)
+  one_end Unbounded StatesPassed one other = absurd (one.0.few other)
+  one_end Unbounded Unbounded one other = refl
+  one_end Unbounded (Apart rtype) one other = absurd (one.1 other.1)
+  one_end Unbounded Equal one other = absurd (one.1 (other.1 one.0.learnt).0)
+  one_end (Apart rtype) StatesPassed one other = absurd (one.0.few other)
+  one_end (Apart rtype) Unbounded one other = absurd (other.1 one.1)
+  one_end (Apart a) (Apart b) one other = ap Apart (one_first a b one.2 other.2)
+  one_end (Apart rtype) Equal one other = absurd (one.2.differ ((other.1 one.0.learnt).1 rtype))
+  one_end Equal StatesPassed one other = absurd (one.0 other)
+  one_end Equal Unbounded one other = absurd (other.1 (one.1 other.0.learnt).0)
+  one_end Equal (Apart rtype) one other = absurd (other.2.differ ((one.1 other.0.learnt).1 rtype))
+  one_end Equal Equal one other = refl
+
+-- ---- of a name of the tree
+
+module _ (two : Compared) where
+  one_below : (above : Labels) (a b : Option PairEnd) → IsBelowEnd two above a → IsBelowEnd two above b → a ≡ b
+  one_below above None None one other = refl
+  one_below above None (Some end) none (query, stands, is) = absurd (none query stands)
+  one_below above (Some end) None (query, stands, is) none = absurd (none query stands)
+  one_below above (Some a) (Some b) (query, stands, is) (also, represents, other) =
+      let same : also ≡ query = one_representative (joint two) (Below above) also query represents stands in
+      ap (λ (end : PairEnd). Some end) (one_end two query a b is (subst (λ (name : Labels). IsPairEnd two name b) same other))
+
+  pub one_verdict : (name : Labels) (a b : PairVerdict) → IsPairVerdict two name a → IsPairVerdict two name b → a ≡ b
+  one_verdict name a b one other =
+      ap (λ (end : PairEnd). record a { exact = end }) (one_end two name a.exact b.exact one.exact other.exact)
+      ∙ ap (λ (end : Option PairEnd). record b { below = end }) (one_below name a.below b.below one.below other.below)
+
+-- ---- of two configurations
+
+module _ (ground : Ground) where
+  one_part : (a b : List Labels) → IsTreePart ground [] a → IsTreePart ground [] b → a ≡ b
+  one_part a b one other =
+      same_rising name_cmp names_total a b one.ordered other.ordered
+      (λ name has. (other.all name).1 ((one.all name).0 has)) (λ name has. (one.all name).1 ((other.all name).0 has))
+
+  one_list_below : (tree a b : List Labels) → AreBelowClasses ground tree a → AreBelowClasses ground tree b → a ≡ b
+  one_list_below tree a b one other =
+      same_rising name_cmp names_total a b one.ordered other.ordered
+      (λ above has. (other.all above).1 ((one.all above).0 has)) (λ above has. (one.all above).1 ((other.all above).0 has))
+
+  -- a class tree has one size
+  one_size : (names classes names' classes' : ℕ) → IsTreeSize ground [] names classes → IsTreeSize ground [] names' classes'
+      → (names ≡ names') × (classes ≡ classes')
+  one_size names classes names' classes' one other =
+      let part : one.part ≡ other.part = one_part one.part other.part one.is_part other.is_part in
+      let below : one.below ≡ other.below =
+      one_list_below other.part one.below other.below (subst (λ (names : List Labels). AreBelowClasses ground names one.below) part one.are_below) other.are_below in (
+        one.counts_names ∙ ap (λ (names : List Labels). length names) part ∙ sym other.counts_names,
+        one.counts_classes
+            ∙ ap (λ (names : List Labels). length names + length one.below) part
+            ∙ ap (λ (names : List Labels). length other.part + length names) below
+            ∙ sym other.counts_classes,
+      )
+
+module _ (two : Compared) where
+  -- representatives of one class are one
+  one_query : (c d : Class) (a b : Labels) → c ≡ d → IsRepresentative (joint two) c a → IsRepresentative (joint two) d b → a ≡ b
+  one_query c d a b same one other =
+      one_representative (joint two) d a b (subst (λ (class : Class). IsRepresentative (joint two) class a) same one) other
+
+  one_difference : (a b : Labels) (r t : RrType) → IsFirstDifference two a r → IsFirstDifference two b t → told.Apart a r ≡ told.Apart b t
+  one_difference a b r t one other =
+      let class : one.class ≡ other.class =
+      neither_before class_cmp classes_total one_class one.class other.class
+      (other.first_class one.class a one.apart) (one.first_class other.class b other.apart) in
+      let query : a ≡ b = one_query one.class other.class a b class one.apart.represents other.apart.represents in
+      let rtype : r ≡ t = one_first two b r t (subst (λ (name : Labels). IsFirstApart two name r) query one.first_type) other.first_type in
+      ap (λ (name : Labels). told.Apart name r) query ∙ ap (λ (other : RrType). told.Apart b other) rtype
+
+  pub one_sameness : (a b : Sameness) → IsSameness two a → IsSameness two b → a ≡ b
+  one_sameness (told.Same classes names) (told.Same classes' names') one other =
+      let (same_names, same_classes) = one_size (joint two) names classes names' classes' one.0 other.0 in
+      ap (λ (n : ℕ). told.Same n names) same_classes ∙ ap (λ (n : ℕ). told.Same classes' n) same_names
+  one_sameness (told.Same classes names) (told.Apart query rtype) one other =
+      absurd (other.first_type.differ (one.1 query other.is_name other.apart.bounded rtype))
+  one_sameness (told.Apart query rtype) (told.Same classes names) one other =
+      absurd (one.first_type.differ (other.1 query one.is_name one.apart.bounded rtype))
+  one_sameness (told.Apart a r) (told.Apart b t) one other = one_difference a b r t one other
+
+  pub one_passed : (a b : Labels) → IsFirstPassedInOne two a → IsFirstPassedInOne two b → a ≡ b
+  one_passed a b one other =
+      let class : one.class ≡ other.class =
+      neither_before class_cmp classes_total one_class one.class other.class
+      (other.first one.class a one.passes) (one.first other.class b other.passes) in
+      one_query one.class other.class a b class one.passes.represents other.passes.represents

@@ -1,0 +1,15 @@
+use Rattle.std.proofs.Common.{Option, refl, subst}
+use Rattle.dns_data.specs.Name.{Labels}
+use Rattle.query_verdicts.specs.Subjects.{RepresentsBelow}
+use Rattle.same_answers.specs.Compared.{joint}
+use Rattle.same_answers.proofs.pairing.Pairing.found_below.Goals as goal
+
+pub returns-in-Some : goal.returns-in-Some
+returns-in-Some g c =
+    let stands =
+    subst (λ (found : Option Labels). RepresentsBelow (joint g.N.PairNaming.compared) c.args.above.now.name found) c.in-Some.is c.in_ok-query.ensures in
+    (stands.represents, refl)
+
+pub returns-in-None : goal.returns-in-None
+returns-in-None g c =
+    subst (λ (found : Option Labels). RepresentsBelow (joint g.N.PairNaming.compared) c.args.above.now.name found) c.in-None.is c.in_ok-query.ensures

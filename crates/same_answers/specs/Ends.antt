@@ -1,0 +1,69 @@
+-- The ends of the graph of a query's walks, and how those of two graphs are compared: for the contracts of inner calls alone.
+use Rattle.std.specs.Prelude.{Bool, false, ◌&&◌, not, List, [], ◌∷◌, if◌then◌else◌}
+use Rattle.std.specs.List.{find, flat_map, list_all, list_any}
+use Rattle.std.specs.Option.{option_map_or}
+use Rattle.dns_data.specs.RrType.{types}
+use Rattle.dns_data.specs.declared.rr_type.RrType.{RrType}
+use Rattle.graph_form.specs.FirstPath.{answer_eq}
+use Rattle.graph_form.specs.Graph.{PlainGraph, branches_of}
+use Rattle.graph_form.specs.declared.node.Branch.{Branch}
+use Rattle.graph_form.specs.declared.node.Branch.TheVariants.{Go, End}
+use Rattle.graph_form.specs.declared.node.Node.{Node}
+use Rattle.net_model.specs.Shown.{is_authoritative}
+use Rattle.net_model.specs.Tails.{is_overlong}
+use Rattle.net_model.specs.declared.walk.Leaf.{Leaf}
+use Rattle.same_answers.specs.declared.verdict.PairEnd.{PairEnd}
+use Rattle.same_answers.specs.declared.verdict.PairEnd.TheVariants.{Equal, Apart, Unbounded}
+
+-- the end of a branch, if it is one
+abbrev pub branch_ends : Branch → List Leaf
+branch_ends (Go hop to) = []
+branch_ends (End hop leaf) = leaf ∷ []
+
+-- the ends of a node with a type
+abbrev pub node_ends : RrType → Node → List Leaf
+node_ends rtype node = flat_map branch_ends (branches_of node rtype)
+
+-- those of all nodes
+abbrev pub ends_of : PlainGraph → RrType → List Leaf
+ends_of graph rtype = flat_map (node_ends rtype) graph.nodes
+
+-- the branch ends in a name of more than 255 octets
+abbrev pub branch_overlong : Branch → Bool
+branch_overlong (Go hop to) = false
+branch_overlong (End hop leaf) = is_overlong leaf
+
+-- so does a branch of the node with the type
+abbrev pub node_overlong : RrType → Node → Bool
+node_overlong rtype node = list_any branch_overlong (branches_of node rtype)
+
+-- and of some node
+abbrev pub graph_overlong : PlainGraph → RrType → Bool
+graph_overlong graph rtype = list_any (node_overlong rtype) graph.nodes
+
+-- with no type does the graph end so
+abbrev pub is_bounded : PlainGraph → Bool
+is_bounded graph = list_all (λ rtype. not (graph_overlong graph rtype)) types
+
+-- two ends have one outcome: they tell the same, or neither tells anything
+abbrev pub outcome_eq : Leaf → Leaf → Bool
+outcome_eq a b = if is_authoritative a then answer_eq a b else not (is_authoritative b)
+
+-- each of the ends has the outcome of one of the others
+abbrev pub are_within : List Leaf → List Leaf → Bool
+are_within some others = list_all (λ leaf. list_any (outcome_eq leaf) others) some
+
+-- the ends have the same outcomes
+abbrev pub are_alike : List Leaf → List Leaf → Bool
+are_alike some others = are_within some others && are_within others some
+
+-- the two graphs have the same outcomes with the type
+abbrev pub graphs_alike : PlainGraph → PlainGraph → RrType → Bool
+graphs_alike first second rtype = are_alike (ends_of first rtype) (ends_of second rtype)
+
+-- what the graphs of a query's walks tell of it
+abbrev pub graphs_end : PlainGraph → PlainGraph → PairEnd
+graphs_end first second =
+    if is_bounded first && is_bounded second
+    then option_map_or Apart (find (λ rtype. not (graphs_alike first second rtype)) types) Equal
+    else Unbounded

@@ -1,0 +1,14 @@
+pub use Rattle.graph_form.specs.Report
+pub use Rattle.walk_laws.specs.Outcome
+pub use Rattle.verdict_book.specs.Items
+pub use Rattle.verdict_book.specs.Lists
+pub mod Alike
+pub mod Compared
+pub mod Ends
+pub mod Looked
+pub mod Outcomes
+pub mod Passed
+pub mod Rows
+pub mod Sameness
+pub mod Values
+pub mod Verdict

@@ -1,0 +1,29 @@
+-- What is found of a query in one configuration: for the contracts of inner calls alone.
+use Rattle.dns_data.specs.Name.{Labels}
+use Rattle.query_verdicts.specs.Queries.{IsLeastGraph, LimitedQueries}
+use Rattle.query_verdicts.specs.Verdict.{PassesStates, SomeServerPasses}
+use Rattle.same_answers.specs.Ends.{graphs_end}
+use Rattle.same_answers.specs.declared.looked.Looked.{Looked}
+use Rattle.same_answers.specs.declared.looked.Looked.TheVariants.{Passed, Unlearnt, Walks}
+use Rattle.same_answers.specs.declared.verdict.PairEnd.{PairEnd}
+use Rattle.same_answers.specs.declared.verdict.PairEnd.TheVariants.{Equal, StatesPassed}
+
+-- it is found so in the configuration of these queries
+abbrev pub IsLooked : LimitedQueries → Labels → Looked → Type 0
+IsLooked queries query Passed = PassesStates queries.config queries.rewrites queries.states query
+IsLooked queries query Unlearnt =
+    (PassesStates queries.config queries.rewrites queries.states query → ⊥) × SomeServerPasses queries.config queries.rewrites queries.states
+IsLooked queries query (Walks graph) =
+    (PassesStates queries.config queries.rewrites queries.states query → ⊥)
+    × (SomeServerPasses queries.config queries.rewrites queries.states → ⊥)
+    × IsLeastGraph queries.config queries.rewrites query graph
+
+-- what is told by what is found in both configurations
+abbrev pub looked_end : Looked → Looked → PairEnd
+looked_end Passed second = StatesPassed
+looked_end Unlearnt Passed = StatesPassed
+looked_end Unlearnt Unlearnt = Equal
+looked_end Unlearnt (Walks graph) = Equal
+looked_end (Walks graph) Passed = StatesPassed
+looked_end (Walks graph) Unlearnt = Equal
+looked_end (Walks first) (Walks second) = graphs_end first second

@@ -1,0 +1,51 @@
+-- The verdict of a class and of a name of the joint class tree.
+use Rattle.std.specs.Prelude.{◌≤◌, ◌⊎◌, Option, Some, None}
+use Rattle.dns_data.specs.Name.{Labels}
+use Rattle.dns_data.specs.RrType.{number_of}
+use Rattle.dns_data.specs.declared.rr_type.RrType.{RrType}
+use Rattle.net_model.specs.declared.class.Class.TheVariants.{Below}
+use Rattle.net_model.specs.Class.{IsRepresentative}
+use Rattle.query_verdicts.specs.Verdict.{PassesStates, SomeServerPasses}
+use Rattle.same_answers.specs.Alike.{AnswersAlike, AreBounded}
+use Rattle.same_answers.specs.Compared.{Compared, joint}
+use Rattle.same_answers.specs.declared.verdict.PairEnd.{PairEnd}
+use Rattle.same_answers.specs.declared.verdict.PairEnd.TheVariants.{Equal, Apart, Unbounded, StatesPassed}
+use Rattle.same_answers.specs.declared.verdict.PairVerdict.{PairVerdict}
+
+-- the query reaches more pairs of state and type than are looked at, in one of the configurations
+abbrev pub PassesInOne : Compared → Labels → Type 0
+PassesInOne two query = PassesStates two.first two.rewrites two.states query ⊎ PassesStates two.second two.rewrites two.states query
+
+-- so does the name of some server, in the configuration that has the server
+abbrev pub SomeServerPassesInOne : Compared → Type 0
+SomeServerPassesInOne two = SomeServerPasses two.first two.rewrites two.states ⊎ SomeServerPasses two.second two.rewrites two.states
+
+-- the query can be looked at in both: neither it nor the name of a server passes
+pub record IsLookedAt (two : Compared) (query : Labels) : Type 0 where
+  pub few : PassesInOne two query → ⊥
+  pub learnt : SomeServerPassesInOne two → ⊥
+
+-- the type is the first, in the order of their numbers, with which the outcomes of the query differ
+pub record IsFirstApart (two : Compared) (query : Labels) (rtype : RrType) : Type 0 where
+  pub differ : AnswersAlike two query rtype → ⊥
+  pub first : (other : RrType) → (AnswersAlike two query other → ⊥) → number_of rtype ≤ number_of other
+
+-- What is told of the class that the query represents. Where the name of some server passes, outcomes aren't looked for, and
+-- nothing is told apart: some representative passes then.
+abbrev pub IsPairEnd : Compared → Labels → PairEnd → Type 0
+IsPairEnd two query StatesPassed = PassesInOne two query
+IsPairEnd two query Unbounded = IsLookedAt two query × (AreBounded two query → ⊥)
+IsPairEnd two query (Apart rtype) = IsLookedAt two query × AreBounded two query × IsFirstApart two query rtype
+IsPairEnd two query Equal =
+    (PassesInOne two query → ⊥)
+    × ((SomeServerPassesInOne two → ⊥) → AreBounded two query × ((rtype : RrType) → AnswersAlike two query rtype))
+
+-- what is told of the class below a name of the joint class tree, if it has a representative
+abbrev pub IsBelowEnd : Compared → Labels → Option PairEnd → Type 0
+IsBelowEnd two above None = (query : Labels) → IsRepresentative (joint two) (Below above) query → ⊥
+IsBelowEnd two above (Some end) = (query : Labels) × IsRepresentative (joint two) (Below above) query × IsPairEnd two query end
+
+-- the verdict of a name of the joint class tree
+pub record IsPairVerdict (two : Compared) (name : Labels) (verdict : PairVerdict) : Type 0 where
+  pub exact : IsPairEnd two name verdict.exact
+  pub below : IsBelowEnd two name verdict.below

@@ -1,0 +1,87 @@
+//! The ends of the graph of a query's walks.
+
+ghost use Rattle.std.specs.Prelude.{◌≡◌, ◌++◌, map, IfOk, OnOk};
+ghost use Rattle.same_answers.specs.Ends.{branch_ends, branch_overlong, ends_of, graph_overlong, is_bounded, node_ends, node_overlong};
+
+use dns_data::{NoMemory, RrType};
+use graph_form::{Branch, Graph, Node};
+use net_model::Leaf;
+use std::alloc::Global;
+
+/// The ends of the graph with a type, node by node. Nothing is copied.
+pub(crate) fn ends_of<'g>(
+    alloc: Global,
+    graph: &'g Graph,
+    rtype: RrType,
+) -> Result<Vec<&'g Leaf>, NoMemory>
+    ensures { IfOk result (λ ends. map (λ leaf. leaf.now) ends.items ≡ ends_of graph.now rtype) }
+{
+    let mut ends = Vec::new(alloc);
+    for i in 0..graph.nodes() {
+        put_ends(graph.node(i), rtype, &mut ends)?;
+    }
+    Ok(ends)
+}
+
+/// Puts the ends of a node with a type behind the others.
+fn put_ends<'g>(node: &'g Node, rtype: RrType, ends: &mut Vec<&'g Leaf>) -> Result<(), NoMemory>
+    ensures { OnOk result (map (λ leaf. leaf.now) ends.new.items ≡ map (λ leaf. leaf.now) ends.old.items ++ node_ends rtype node.now) }
+{
+    for branch in node.branches(rtype) {
+        put_end(branch, ends)?;
+    }
+    Ok(())
+}
+
+/// Puts the end of a branch behind the others, if it is one.
+fn put_end<'g>(branch: &'g Branch, ends: &mut Vec<&'g Leaf>) -> Result<(), NoMemory>
+    ensures { OnOk result (map (λ leaf. leaf.now) ends.new.items ≡ map (λ leaf. leaf.now) ends.old.items ++ branch_ends branch.now) }
+{
+    if let Branch::End { leaf, .. } = branch {
+        ends.push(leaf)?;
+    }
+    Ok(())
+}
+
+/// Whether the graph ends in no name of more than 255 octets, with any type (RFC 6672 section 2.2).
+pub(crate) fn is_bounded(graph: &Graph) -> bool
+    ensures { result ≡ is_bounded graph.now }
+{
+    RrType::ALL
+        .iter()
+        .all(|rtype| !ends_overlong(graph, *rtype))
+}
+
+/// Whether the graph ends in such a name with the type.
+fn ends_overlong(graph: &Graph, rtype: RrType) -> bool
+    ensures { result ≡ graph_overlong graph.now rtype }
+{
+    for i in 0..graph.nodes() {
+        if node_ends_overlong(graph.node(i), rtype) {
+            return true;
+        }
+    }
+    false
+}
+
+/// Whether a node does.
+fn node_ends_overlong(node: &Node, rtype: RrType) -> bool
+    ensures { result ≡ node_overlong rtype node.now }
+{
+    node.branches(rtype)
+        .iter()
+        .any(|branch| is_overlong_end(branch))
+}
+
+/// Whether the branch ends so.
+fn is_overlong_end(branch: &Branch) -> bool
+    ensures { result ≡ branch_overlong branch.now }
+{
+    matches!(
+        branch,
+        Branch::End {
+            leaf: Leaf::Overlong(_),
+            ..
+        }
+    )
+}

@@ -1,0 +1,27 @@
+//! Two configurations compared: whether some query that both bound has other outcomes in the one than in the other.
+//!
+//! The layer above may rest on this: each query of at most 255 octets that both configurations bound has the same outcomes in
+//! both, with each type, exactly where so has the representative of each class that they bound, under the ground of both
+//! (`laws::comparing`); so what `Pairing` tells of representatives is told of all queries. `Pairing` is a work whose items are the
+//! names of the class tree of that ground, whose children are those of the tree and whose verdicts are the one that each name
+//! has.
+//!
+//! Costs: `prepare` makes what query_verdicts prepares, for both configurations, and one graph of the base names of both. Judging
+//! a class makes the graph of its representative's walks in each, for all types at once; the ends with a type are compared by an
+//! ordered set of each side's, in which they aren't copied. No walk is listed. A verdict takes no memory of its own.
+#![tactic(auto)]
+
+mod ends;
+pub mod laws;
+mod looked;
+mod naming;
+mod outcomes;
+mod pairing;
+mod sameness;
+mod search;
+mod verdict;
+
+pub use naming::{JointGround, PairNaming};
+pub use pairing::Pairing;
+pub use sameness::{SameFault, Sameness};
+pub use verdict::{PairEnd, PairVerdict};

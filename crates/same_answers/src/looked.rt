@@ -1,0 +1,96 @@
+//! The graphs of a query in two configurations, and what they tell of it.
+
+ghost use Rattle.std.specs.Prelude.{◌≡◌, not, IfOk};
+ghost use Rattle.std.specs.List.{find};
+ghost use Rattle.dns_data.specs.RrType.{types};
+ghost use Rattle.same_answers.specs.Ends.{graphs_alike, graphs_end};
+ghost use Rattle.same_answers.specs.Looked.{IsLooked, looked_end};
+
+use crate::ends::{ends_of, is_bounded};
+use crate::outcomes::are_alike;
+use crate::verdict::PairEnd;
+use dns_data::{Name, NoMemory, RrType};
+use graph_form::Graph;
+use interp_graph::GraphFault;
+use query_verdicts::QueryGraphs;
+use std::alloc::Global;
+
+/// What is found of a query in one configuration.
+#[derive(Drop)]
+pub(crate) enum Looked {
+    /// It reaches more pairs of state and type than are looked at.
+    Passed,
+    /// The name of some server does.
+    Unlearnt,
+    /// The graph of its walks.
+    Walks(Graph),
+}
+
+/// What is found of a query in the configuration of these graphs.
+pub(crate) fn looked_at(graphs: &QueryGraphs<'_>, query: &Name) -> Result<Looked, NoMemory>
+    ensures { IfOk result (IsLooked graphs.now query.now) }
+{
+    match graphs.graph(query) {
+        Ok(Some(graph)) => match graphs.sets() {
+            Ok(_) => Ok(Looked::Walks(graph)),
+            Err(_) => Ok(Looked::Unlearnt),
+        },
+        Ok(None) => Ok(Looked::Unlearnt),
+        Err(GraphFault::StatesPassed) => Ok(Looked::Passed),
+        Err(GraphFault::NoMemory) => Err(NoMemory),
+    }
+}
+
+/// What is told of a class by what is found of its representative in both configurations.
+pub(crate) fn looked_end(
+    alloc: Global,
+    first: &Looked,
+    second: &Looked,
+) -> Result<PairEnd, NoMemory>
+    ensures { IfOk result (λ end. end ≡ looked_end first.now second.now) }
+{
+    match (first, second) {
+        (Looked::Passed, _) | (_, Looked::Passed) => Ok(PairEnd::StatesPassed),
+        (Looked::Unlearnt, _) | (_, Looked::Unlearnt) => Ok(PairEnd::Equal),
+        (Looked::Walks(first), Looked::Walks(second)) => graphs_end(alloc, first, second),
+    }
+}
+
+/// What is told of it by the graphs of its walks.
+fn graphs_end(alloc: Global, first: &Graph, second: &Graph) -> Result<PairEnd, NoMemory>
+    ensures { IfOk result (λ end. end ≡ graphs_end first.now second.now) }
+{
+    if !is_bounded(first) || !is_bounded(second) {
+        return Ok(PairEnd::Unbounded);
+    }
+    match first_apart(alloc, first, second)? {
+        Some(rtype) => Ok(PairEnd::Apart(rtype)),
+        None => Ok(PairEnd::Equal),
+    }
+}
+
+/// The first type with which the outcomes of the graphs differ, or `None`.
+fn first_apart(alloc: Global, first: &Graph, second: &Graph) -> Result<Option<RrType>, NoMemory>
+    ensures { IfOk result (λ found. found ≡ find (λ rtype. not (graphs_alike first.now second.now rtype)) types) }
+{
+    for rtype in RrType::ALL.iter() {
+        if !graphs_alike(alloc, first, second, *rtype)? {
+            return Ok(Some(*rtype));
+        }
+    }
+    Ok(None)
+}
+
+/// Whether the graphs have the same outcomes with the type.
+fn graphs_alike<'g>(
+    alloc: Global,
+    first: &'g Graph,
+    second: &'g Graph,
+    rtype: RrType,
+) -> Result<bool, NoMemory>
+    ensures { IfOk result (λ alike. alike ≡ graphs_alike first.now second.now rtype) }
+{
+    let of_first = ends_of(alloc, first, rtype)?;
+    let of_second = ends_of(alloc, second, rtype)?;
+    are_alike(alloc, of_first.as_slice(), of_second.as_slice())
+}

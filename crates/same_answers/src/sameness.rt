@@ -1,0 +1,145 @@
+//! What the verdicts of the names of the joint class tree tell of two configurations.
+
+ghost use Rattle.std.specs.Prelude.{◌≡◌, ◌+◌, ◌≤◌, ◌<◌, ◌^◌, true, [], length, IfOk, IfErr, OnOk};
+ghost use Rattle.dns_data.specs.Name.{name_cmp};
+ghost use Rattle.same_answers.specs.Passed.{SomeClassPassesInOne};
+ghost use Rattle.same_answers.specs.Rows.{AreRows, IsApartBy, below_count, is_sought};
+ghost use Rattle.same_answers.specs.Sameness.{IsSameFault, IsSameness};
+ghost use Rattle.same_answers.specs.declared.sameness.Sameness.TheVariants.{Same};
+ghost use Rattle.verdict_book.specs.Lists.{IsWholeTree};
+
+use crate::naming::{JointGround, PairNaming};
+use crate::pairing::Pairing;
+use crate::search::{Found, Sought};
+use crate::verdict::{PairEnd, PairVerdict};
+use dns_data::{List, Name, NoMemory, RrType};
+use query_classes::TreeName;
+use thiserror::Error;
+use verdict_book::{Filed, Work};
+
+/// What is told of two configurations.
+#[derive(Debug, Drop)]
+pub enum Sameness {
+    /// Each query of at most 255 octets that both bound has the same outcomes in both, with each type. So many classes that
+    /// aren't empty, and so many names, were looked at.
+    Same { classes: u32, names: u32 },
+    /// Both bound this query, and its outcomes differ with the type. It is the first representative of which that is so, with the
+    /// first type.
+    Apart { query: Name, rtype: RrType },
+}
+
+/// Why two configurations aren't compared.
+#[derive(Debug, Drop, Error)]
+pub enum SameFault {
+    /// The representative of some class reaches more pairs of state and type than are looked at, in one of the configurations;
+    /// this one is the first.
+    #[error("more states than are looked at")]
+    StatesPassed(Name),
+    #[error("no memory")]
+    NoMemory,
+}
+
+impl From<NoMemory> for SameFault {
+    ghost from_gives = { λ _ fault. fault ≡ NoMemory };
+
+    ghost use Rattle.same_answers.specs.declared.sameness.SameFault.TheVariants.{NoMemory};
+
+    fn from(_fault: NoMemory) -> SameFault {
+        SameFault::NoMemory
+    }
+}
+
+impl<'a, N: PairNaming + Send> Pairing<'a, N> {
+    /// What is told of the two configurations, from the verdicts of all names of their joint class tree. `Same` speaks of every
+    /// query that both bound, and `Apart` names one. Where some representative reaches more pairs of state and type than are
+    /// looked at, in one of the configurations, it is `StatesPassed` with the first such one.
+    pub fn outcome(&self, filed: List<Filed<Pairing<'a, N>>>) -> Result<Sameness, SameFault>
+        requires whole { IsWholeTree name_cmp [] N.children_of N.verdict_of filed }
+        requires few { length filed < 2 ^ 31 }
+        ensures sameness { IfOk result (IsSameness N.compared) }
+        ensures none_passes { OnOk result (SomeClassPassesInOne N.compared → ⊥) }
+        ensures fault { IfErr result (IsSameFault N.compared) }
+    {
+        // The memory is asked, so that what the work is made of is known here.
+        let _ = self.alloc();
+        self.told_of(filed)
+    }
+
+    /// What is told by the names of the tree with their verdicts.
+    fn told_of<W: Work<Item = TreeName<JointGround<N>>, Verdict = PairVerdict>>(
+        &self,
+        filed: List<Filed<W>>,
+    ) -> Result<Sameness, SameFault>
+        requires rows { AreRows N.compared filed }
+        requires few { length filed < 2 ^ 31 }
+        ensures sameness { IfOk result (IsSameness N.compared) }
+        ensures none_passes { OnOk result (SomeClassPassesInOne N.compared → ⊥) }
+        ensures fault { IfErr result (IsSameFault N.compared) }
+    {
+        self.told_by(filed.items())
+    }
+
+    /// What is told by the rows of the tree.
+    fn told_by<W: Work<Item = TreeName<JointGround<N>>, Verdict = PairVerdict>>(
+        &self,
+        rows: &[Filed<W>],
+    ) -> Result<Sameness, SameFault>
+        requires rows { AreRows N.compared rows.now }
+        requires few { length rows.now < 2 ^ 31 }
+        ensures sameness { IfOk result (IsSameness N.compared) }
+        ensures none_passes { OnOk result (SomeClassPassesInOne N.compared → ⊥) }
+        ensures fault { IfErr result (IsSameFault N.compared) }
+    {
+        if let Some(Found { query, .. }) = self.first_sought(rows, Sought::Passed)? {
+            return Err(SameFault::StatesPassed(query));
+        }
+        self.servers_are_learnt();
+        match self.first_sought(rows, Sought::Apart)? {
+            Some(found) => Ok(apart_by(found)),
+            None => Ok(counted(rows)),
+        }
+    }
+}
+
+/// The query and the type of a class whose outcomes differ.
+fn apart_by(found: Found) -> Sameness
+    requires { is_sought Sought.Apart found.end ≡ true }
+    ensures { IsApartBy found result }
+{
+    let Found { query, end } = found;
+    match end {
+        PairEnd::Apart(rtype) => Sameness::Apart { query, rtype },
+        _ => unreachable!(),
+    }
+}
+
+/// So many classes and names, of which none tells the configurations apart.
+fn counted<N: PairNaming, W: Work<Item = TreeName<JointGround<N>>, Verdict = PairVerdict>>(
+    rows: &[Filed<W>],
+) -> Sameness
+    requires few { length rows.now < 2 ^ 31 }
+    ensures { result ≡ Same (length rows.now + below_count rows.now) (length rows.now) }
+{
+    let names = rows.len();
+    let below = below_count(rows);
+    Sameness::Same {
+        classes: (names + below) as u32,
+        names: names as u32,
+    }
+}
+
+/// How many of the classes below the names aren't empty.
+fn below_count<N: PairNaming, W: Work<Item = TreeName<JointGround<N>>, Verdict = PairVerdict>>(
+    rows: &[Filed<W>],
+) -> usize
+    ensures value { result ≡ below_count rows.now }
+    ensures within { result ≤ length rows.now }
+{
+    let mut count = 0;
+    for one in rows {
+        if one.verdict.below.is_some() {
+            count += 1;
+        }
+    }
+    count
+}
