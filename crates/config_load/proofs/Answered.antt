@@ -7,7 +7,7 @@ use Rattle.net_model.specs.declared.config.Config.{Config}
 use Rattle.config_load.specs.Conf.{conf}
 use Rattle.config_load.specs.Faults.{FailedAt}
 use Rattle.config_load.specs.Follows.{ByTold, TellsNoOther, StopsEarly, Follows, Reaches, Answers}
-use Rattle.config_load.specs.Load.{without, ReadingComesTo, NoReadFailed, Gives, FailedWhereItCame, IsReadFault, IsWhole}
+use Rattle.config_load.specs.Load.{without, Comes, NoReadFailed, Gives, FailedWhereItCame, IsReadFault, IsWhole}
 use Rattle.config_load.specs.Reading.{Reading, Reads, Refuses, Misses, Unknown}
 use Rattle.config_load.specs.declared.fault.LoadFault.{LoadFault}
 use Rattle.config_load.specs.declared.fault.LoadFault.TheVariants.{Read, TooLong, Meta, Text, Rule, ZoneTwice, NoMemory}
@@ -66,36 +66,37 @@ TellsNoOther-without told file name =
     [ true ↦ inr (inr refl) | false ↦ inr (inl refl) ]
 
 -- without a file nothing of it is told
-without-here : (told : FilesTold) (file : List ℕ) → without file told file ≡ Untold
+pub without-here : (told : FilesTold) (file : List ℕ) → without file told file ≡ Untold
 without-here told file = ap (λ b. if b then Untold else told file) ((label_eq_decides file file).1 refl)
 
 -- a file alone is told, and not without it
-without-only : (told : FilesTold) (file name : List ℕ) → without file told name ≡ Untold → told name ≢ Untold → name ≡ file
+pub without-only : (told : FilesTold) (file name : List ℕ) → without file told name ≡ Untold → told name ≢ Untold → name ≡ file
 without-only told file name untold some = by_test (pointwise nat_eq name file) refl untold where
   by_test : (same : Bool) → pointwise nat_eq name file ≡ same → (if same then Untold else told name) ≡ Untold → name ≡ file
   by_test true same gone = (label_eq_decides name file).0 same
   by_test false apart gone = absurd (some gone)
 
--- the reading comes to a file to which what is told takes it
-pub comes-reaches : (told : FilesTold) (meta file : List ℕ) → Reaches told (conf meta) file → ReadingComesTo meta told file
-comes-reaches told meta file a = by_cases (a (without file told) (TellsNoOther-without told file) (without-here told file)) where
-  by_cases : (conf meta (without file told) ≡ Unknown file) ⊎ StopsEarly told (without file told) (conf meta (without file told)) → ReadingComesTo meta told file
-  by_cases (inl e) = e
-  by_cases (inr (name, is, untold, some)) = is ∙ ap Unknown (without-only told file name untold some)
+module _ {A : Type 0} where
+  -- the reading comes to a file to which what is told takes it
+  pub comes-reaches : (told : FilesTold) (reading : ByTold A) (file : List ℕ) → Reaches told reading file → Comes reading told file
+  comes-reaches told reading file a = by_cases (a (without file told) (TellsNoOther-without told file) (without-here told file)) where
+    by_cases : (reading (without file told) ≡ Unknown file) ⊎ StopsEarly told (without file told) (reading (without file told)) → Comes reading told file
+    by_cases (inl e) = e
+    by_cases (inr (name, is, untold, some)) = is ∙ ap Unknown (without-only told file name untold some)
 
--- a failed read is of such a file
-pub FailedWhereItCame-answers : (told : FilesTold) (meta : List ℕ) (result : Result Config LoadFault) → Answers told (conf meta) result → FailedWhereItCame meta told result
-FailedWhereItCame-answers told meta (Err (Read file)) a = comes-reaches told meta file a
-FailedWhereItCame-answers told meta (Ok value) a = tt
-FailedWhereItCame-answers told meta (Err NoMemory) a = tt
-FailedWhereItCame-answers told meta (Err (TooLong file)) a = tt
-FailedWhereItCame-answers told meta (Err (Meta fault)) a = tt
-FailedWhereItCame-answers told meta (Err (Text file line cause)) a = tt
-FailedWhereItCame-answers told meta (Err (Rule file line cause)) a = tt
-FailedWhereItCame-answers told meta (Err (ZoneTwice row)) a = tt
+  -- a failed read is of such a file
+  pub FailedWhereItCame-answers : (told : FilesTold) (reading : ByTold A) (result : Result A LoadFault) → Answers told reading result → FailedWhereItCame reading told result
+  FailedWhereItCame-answers told reading (Err (Read file)) a = comes-reaches told reading file a
+  FailedWhereItCame-answers told reading (Ok value) a = tt
+  FailedWhereItCame-answers told reading (Err NoMemory) a = tt
+  FailedWhereItCame-answers told reading (Err (TooLong file)) a = tt
+  FailedWhereItCame-answers told reading (Err (Meta fault)) a = tt
+  FailedWhereItCame-answers told reading (Err (Text file line cause)) a = tt
+  FailedWhereItCame-answers told reading (Err (Rule file line cause)) a = tt
+  FailedWhereItCame-answers told reading (Err (ZoneTwice row)) a = tt
 
 -- where no read failed the answer is the whole of what the reading gives
-pub IsWhole-answers : (told : FilesTold) (meta : List ℕ) (before after : List ℕ → ℕ) (reading : Reading Config) (result : Result Config LoadFault) → Gives reading result → FailedAt before after result → FailedWhereItCame meta told result → NoReadFailed meta told before after → IsWhole reading result
+pub IsWhole-answers : (told : FilesTold) (meta : List ℕ) (before after : List ℕ → ℕ) (reading : Reading Config) (result : Result Config LoadFault) → Gives reading result → FailedAt before after result → FailedWhereItCame (conf meta) told result → NoReadFailed meta told before after → IsWhole reading result
 IsWhole-answers told meta before after reading (Ok value) gives rose came none = subst (λ r. IsWhole r (Ok value)) (sym gives) (inl refl)
 IsWhole-answers told meta before after reading (Err (Read file)) gives rose came none = absurd (none file came rose)
 IsWhole-answers told meta before after (Reads value) (Err NoMemory) gives rose came none = inr refl

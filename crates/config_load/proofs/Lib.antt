@@ -7,5 +7,6 @@ pub mod OwnRefusals
 pub mod ReadRows
 pub mod ServerPlaces
 pub mod Sources
+pub mod Steady
 pub mod Steps
 mod Worked

@@ -37,7 +37,7 @@ ReadsOnly-then {name} {first} {between} {last} {counts} {counts'} {counts''} a b
 }
 
 -- a count that rose behind others that didn't fall
-rose_then : (before between after : ℕ) → before ≤ between → Rose between after → Rose before after
+pub rose_then : (before between after : ℕ) → before ≤ between → Rose between after → Rose before after
 rose_then before between after below (inl less) = inl (omega arith)
 rose_then before between after below (inr last) = inr last
 

@@ -1,8 +1,8 @@
 -- What loading answers.
-use Rattle.std.specs.Prelude.{◌≡◌, ℕ, ◌⊎◌, nat_eq, List, Result, Ok, Err, if◌then◌else◌}
+use Rattle.std.specs.Prelude.{◌≡◌, ◌≢◌, ℕ, ◌⊎◌, nat_eq, List, Result, Ok, Err, if◌then◌else◌}
 use lib.Pointwise.{pointwise}
 use Rattle.io_edges.specs.Counts.{Rose}
-use Rattle.io_edges.specs.Files.{FilesTold, Told, Untold}
+use Rattle.io_edges.specs.Files.{FilesTold, Told, Untold, StaysTold}
 use Rattle.config_load.specs.Conf.{conf}
 use Rattle.config_load.specs.Reading.{Reading, Reads, Refuses, Misses, Unknown}
 use Rattle.config_load.specs.declared.fault.LoadFault.{LoadFault}
@@ -12,10 +12,14 @@ use Rattle.config_load.specs.declared.fault.LoadFault.TheVariants.{Read, NoMemor
 abbrev pub without : List ℕ → FilesTold → List ℕ → Told
 without file told name = if pointwise nat_eq name file then Untold else told name
 
--- The reading comes to this file: if nothing were told of it, nothing more would be known. Each step before gives no
+-- A reading comes to this file: if nothing were told of it, nothing more would be known. Each step before gives no
 -- refusal and comes to no file that isn't held.
+abbrev pub Comes : {T : Type 0} → (FilesTold → Reading T) → FilesTold → List ℕ → Type 0
+Comes reading told file = reading (without file told) ≡ Unknown file
+
+-- the reading of a metadata file and of the files that it names comes to this file
 abbrev pub ReadingComesTo : List ℕ → FilesTold → List ℕ → Type 0
-ReadingComesTo meta told file = conf meta (without file told) ≡ Unknown file
+ReadingComesTo meta told file = Comes (conf meta) told file
 
 -- no count of a file rose to which the reading comes
 abbrev pub NoReadFailed : List ℕ → FilesTold → (List ℕ → ℕ) → (List ℕ → ℕ) → Type 0
@@ -29,13 +33,19 @@ Gives reading (Err NoMemory) = Unit {0}
 Gives reading (Err fault) = reading ≡ Refuses fault
 
 -- a failed read is of a file to which the reading comes
-abbrev pub FailedWhereItCame : {T : Type 0} → List ℕ → FilesTold → Result T LoadFault → Type 0
-FailedWhereItCame meta told (Err (Read file)) = ReadingComesTo meta told file
-FailedWhereItCame meta told result = Unit {0}
+abbrev pub FailedWhereItCame : {T : Type 0} → (FilesTold → Reading T) → FilesTold → Result T LoadFault → Type 0
+FailedWhereItCame reading told (Err (Read file)) = Comes reading told file
+FailedWhereItCame reading told result = Unit {0}
 
 -- no other file is opened than those to which the reading comes: of any other name the same is told as before
-abbrev pub OpensNoOther : List ℕ → FilesTold → FilesTold → Type 0
-OpensNoOther meta before after = (file : List ℕ) → (after file ≡ before file) ⊎ ReadingComesTo meta after file
+abbrev pub OpensNoOther : {T : Type 0} → (FilesTold → Reading T) → FilesTold → FilesTold → Type 0
+OpensNoOther reading before after = (file : List ℕ) → (after file ≡ before file) ⊎ Comes reading after file
+
+-- By what tells more a reading gives the same, unless it stopped at a name of which nothing was told and now something is.
+abbrev pub IsSteady : {T : Type 0} → (FilesTold → Reading T) → Type 0
+IsSteady reading =
+    (told later : FilesTold) → StaysTold told later
+    → (reading later ≡ reading told) ⊎ ((name : List ℕ) × (reading told ≡ Unknown name) × (told name ≡ Untold) × (later name ≢ Untold))
 
 -- a failed read, or want of memory
 abbrev pub IsReadFault : {T : Type 0} → Result T LoadFault → Type 0

@@ -20,6 +20,10 @@ abbrev pub ◌>>=◌ : {A B : Type 0} → Reading A → (A → Reading B) → Re
 (Misses file) >>= next = Misses file
 (Unknown file) >>= next = Unknown file
 
+-- two readings, one after the other
+abbrev pub both : {A B : Type 0} → (FilesTold → Reading A) → (FilesTold → Reading B) → FilesTold → Reading (A × B)
+both first second told = first told >>= λ one. second told >>= λ other. Reads (one, other)
+
 -- what a definition says of what was read, its fault told as a refusal
 abbrev pub unless_refused : {T E : Type 0} → (E → LoadFault) → Result T E → Reading T
 unless_refused told (Ok value) = Reads value

@@ -1,9 +1,11 @@
 //! Reading files to their ends.
 
 ghost use Rattle.std.specs.Prelude.{◌≡◌, ◌+◌, ◌<◌, ◌≤◌, ◌++◌, length, take, vec_len, false, IfOk, IfErr, OnOk};
-ghost use Rattle.io_edges.specs.Files.{Holds, first_told};
+ghost use Rattle.io_edges.specs.Counts.{NoneFell};
+ghost use Rattle.io_edges.specs.Files.{FilesTold, Holds, StaysTold, TellsAll, first_told};
 ghost use Rattle.config_load.specs.Faults.{FailedAt, IsReadOf};
 ghost use Rattle.config_load.specs.Fed.{HasFed, FailsToRead, IsFed};
+ghost use Rattle.config_load.specs.Load.{Gives, FailedWhereItCame, OpensNoOther};
 ghost use Rattle.config_load.specs.Reading.{file_octets, most_octets};
 ghost use Rattle.config_load.specs.Sources.{ReadsOnly, HasAnswered};
 
@@ -18,6 +20,26 @@ const MOST_OCTETS: usize = 16_777_216;
 
 /// How many octets a read asks for.
 const PIECE: usize = 4_096;
+
+/// The octets of the file of this name, which is opened as it stands and read to its end. It is `TooLong` where the file has
+/// more than 16,777,216 octets.
+pub fn read_file<F: Files>(alloc: Global, files: &mut F, name: &str) -> Result<List<u8>, LoadFault>
+    // What it answers is what the file gives, by what is told of it after the call and by whatever tells more.
+    ensures gives { Gives (file_octets name.now (F.told files.new)) result }
+    ensures later { (later : FilesTold) → StaysTold (F.told files.new) later → Gives (file_octets name.now later) result }
+
+    // A failed read is of this file, and has its cause in a count.
+    ensures cause { FailedAt (F.faults files.old) (F.faults files.new) result }
+    ensures order { FailedWhereItCame (file_octets name.now) (F.told files.new) result }
+
+    // What the call does to the source. One that told all from the start tells the same after the call.
+    ensures stays { StaysTold (F.told files.old) (F.told files.new) }
+    ensures from_the_start { TellsAll (F.told files.old) → F.told files.new ≡ F.told files.old }
+    ensures opens { OpensNoOther (file_octets name.now) (F.told files.old) (F.told files.new) }
+    ensures never_fall { NoneFell (F.faults files.old) (F.faults files.new) }
+{
+    read_whole(alloc, files, name)
+}
 
 /// The octets of the file of this name, read to its end.
 pub(crate) fn read_whole<F: Files>(

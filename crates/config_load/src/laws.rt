@@ -3,7 +3,8 @@
 ghost use Rattle.std.specs.Prelude.{◌≢◌, ℕ, List};
 ghost use Rattle.io_edges.specs.Files.{FilesTold};
 ghost use Rattle.config_load.specs.Conf.{conf};
-ghost use Rattle.config_load.specs.Reading.{Refuses};
+ghost use Rattle.config_load.specs.Load.{IsSteady};
+ghost use Rattle.config_load.specs.Reading.{Refuses, file_octets};
 
 use crate::fault::LoadFault;
 
@@ -11,4 +12,11 @@ use crate::fault::LoadFault;
 pub fn files_want_nothing()
     ensures read { (meta : List ℕ) (told : FilesTold) (file : List ℕ) → conf meta told ≢ Refuses (LoadFault.Read file) }
     ensures memory { (meta : List ℕ) (told : FilesTold) → conf meta told ≢ Refuses LoadFault.NoMemory }
+{}
+
+/// What the files of a metadata file give, and what one file gives, they give by whatever is told later, unless the reading
+/// stopped at a name of which nothing was told and now is.
+pub fn readings_stay()
+    ensures conf { (meta : List ℕ) → IsSteady (conf meta) }
+    ensures file { (name : List ℕ) → IsSteady (file_octets name) }
 {}

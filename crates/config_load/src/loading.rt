@@ -3,7 +3,7 @@
 ghost use Rattle.std.specs.Prelude.{◌≡◌, ◌≤◌, ℕ, List, length, IfOk};
 ghost use Rattle.dns_data.specs.Answers.{AnswersOr, with_fault};
 ghost use Rattle.io_edges.specs.Counts.{NoneFell};
-ghost use Rattle.io_edges.specs.Files.{StaysTold, TellsAll};
+ghost use Rattle.io_edges.specs.Files.{FilesTold, StaysTold, TellsAll};
 ghost use Rattle.meta_read.specs.Metadata.{metadata_of};
 ghost use Rattle.meta_read.specs.Rows.{most_rows};
 ghost use Rattle.config_load.specs.Conf.{conf, metadata};
@@ -29,21 +29,22 @@ use std::alloc::Global;
 /// in the order of their first rows, the zones of each in the order of rows. Nothing is left of what was read where it
 /// is refused.
 pub fn load<F: Files>(alloc: Global, files: &mut F, meta: &str) -> Result<Config, LoadFault>
-    // What it answers is what the files give, by what is told of them after the call.
+    // What it answers is what the files give, by what is told of them after the call and by whatever tells more.
     ensures gives { Gives (conf meta.now (F.told files.new)) result }
+    ensures later { (later : FilesTold) → StaysTold (F.told files.new) later → Gives (conf meta.now later) result }
     ensures whole { NoReadFailed meta.now (F.told files.new) (F.faults files.old) (F.faults files.new)
         → IsWhole (conf meta.now (F.told files.new)) result }
 
     // A failed read has its cause in a count, and comes before no refusal.
     ensures cause { FailedAt (F.faults files.old) (F.faults files.new) result }
-    ensures order { FailedWhereItCame meta.now (F.told files.new) result }
+    ensures order { FailedWhereItCame (conf meta.now) (F.told files.new) result }
     ensures misses { (file : List ℕ) → conf meta.now (F.told files.new) ≡ Misses file → IsReadFault result }
     ensures unknown { (file : List ℕ) → conf meta.now (F.told files.new) ≡ Unknown file → IsReadFault result }
 
     // What the call does to the source. One that told all from the start tells the same after the call.
     ensures stays { StaysTold (F.told files.old) (F.told files.new) }
     ensures from_the_start { TellsAll (F.told files.old) → F.told files.new ≡ F.told files.old }
-    ensures opens { OpensNoOther meta.now (F.told files.old) (F.told files.new) }
+    ensures opens { OpensNoOther (conf meta.now) (F.told files.old) (F.told files.new) }
     ensures never_fall { NoneFell (F.faults files.old) (F.faults files.new) }
 {
     read_config(alloc, files, meta)

@@ -1,0 +1,217 @@
+-- What a reading gives by what is told it gives by whatever tells more; and what follows for two readings, one after the
+-- other.
+use Rattle.std.proofs.Common.{◌≡◌, ◌≢◌, ℕ, zero, suc, ◌+◌, ◌⊎◌, List, [], ◌∷◌, ◌++◌, Result, Ok, Err, if◌then◌else◌, refl, sym, ap, ◌∙◌, subst, inl, inr, Bool, true, false, nat_eq}
+use Rattle.std.specs.Prelude.{unwrap_or}
+use lib.Pointwise.{pointwise}
+use Rattle.dns_data.specs.Name.{Labels}
+use Rattle.io_edges.specs.Files.{FilesTold, Told, Untold, NotHeld, Holds, StaysTold}
+use Rattle.master_read.specs.ZoneText.{Unread, Faulty, Asks, zone_text}
+use Rattle.master_read.specs.declared.zone_text.ZoneText.{ZoneText}
+use Rattle.meta_read.specs.Metadata.{metadata_of}
+use Rattle.meta_read.specs.declared.meta.Meta.{Meta as Metadata}
+use Rattle.meta_read.specs.declared.meta.MetaRow.{MetaRow}
+use Rattle.net_model.specs.declared.config.Config.{Config}
+use Rattle.zone_rules.specs.ZoneOf.{zone_of}
+use Rattle.config_load.specs.Conf.{settled, files_behind, zone_files, zone_read, left_behind, with_row, with_rows, no_rows, metadata, conf}
+use Rattle.config_load.specs.Faults.{of_metadata, of_text, of_rule}
+use Rattle.config_load.specs.Follows.{ByTold}
+use Rattle.config_load.specs.Joined.{joined}
+use Rattle.config_load.specs.Load.{without, Comes, IsSteady, Gives, OpensNoOther}
+use Rattle.config_load.specs.Reading.{Reading, Reads, Refuses, Misses, Unknown, ◌>>=◌, both, unless_refused, file_octets, told_octets}
+use Rattle.config_load.specs.Servers.{given}
+use Rattle.config_load.specs.declared.fault.LoadFault.{LoadFault}
+use Rattle.config_load.specs.declared.fault.LoadFault.TheVariants as faults
+use Rattle.config_load.specs.declared.left.Left.{Left}
+use Rattle.config_load.specs.declared.rows.ReadRows.{ReadRows}
+use Rattle.config_load.specs.declared.zone.ReadZone.{ReadZone}
+use Rattle.config_load.specs.declared.zone_files.ZoneFiles.{ZoneFiles}
+use Rattle.config_load.proofs.Answered.{without-here, without-only}
+
+-- the reading stopped at a name of which nothing was told, and now something is
+abbrev Stopped : {A : Type 0} → FilesTold → FilesTold → Reading A → Type 0
+Stopped told later reading = (name : List ℕ) × (reading ≡ Unknown name) × (told name ≡ Untold) × (later name ≢ Untold)
+
+-- ---- each reading is steady
+
+-- a file
+pub file_is_steady : (name : List ℕ) → IsSteady (file_octets name)
+file_is_steady name told later stays = by (stays name) where
+  on : told name ≡ Untold → (is : Told) → later name ≡ is → (file_octets name later ≡ file_octets name told) ⊎ Stopped told later (file_octets name told)
+  on untold Untold here = inl (ap (told_octets name) (here ∙ sym untold))
+  on untold NotHeld here = inr (name, ap (told_octets name) untold, untold, λ gone. let no : NotHeld ≡ Untold = sym here ∙ gone in absurd cc)
+  on untold (Holds octets) here = inr (name, ap (told_octets name) untold, untold, λ gone. let no : Holds octets ≡ Untold = sym here ∙ gone in absurd cc)
+
+  by : (told name ≡ Untold) ⊎ (later name ≡ told name) → (file_octets name later ≡ file_octets name told) ⊎ Stopped told later (file_octets name told)
+  by (inl untold) = on untold (later name) refl
+  by (inr same) = inl (ap (told_octets name) same)
+
+module _ {A : Type 0} where
+  -- what no file is read for
+  pub known_is_steady : (reading : Reading A) → IsSteady (λ told. reading)
+  known_is_steady reading told later stays = inl refl
+
+module _ {A B : Type 0} where
+  -- a step, and the next
+  pub bind_is_steady : (first : ByTold A) (next : FilesTold → A → Reading B) → IsSteady first → ((value : A) → IsSteady (λ told. next told value)) → IsSteady (λ told. first told >>= next told)
+  bind_is_steady first next steady each told later stays = by (steady told later stays) where
+    on : (read : Reading A) → (read >>= next later ≡ read >>= next told) ⊎ Stopped told later (read >>= next told)
+    on (Reads value) = each value told later stays
+    on (Refuses fault) = inl refl
+    on (Misses file) = inl refl
+    on (Unknown file) = inl refl
+
+    by : (first later ≡ first told) ⊎ Stopped told later (first told) → (first later >>= next later ≡ first told >>= next told) ⊎ Stopped told later (first told >>= next told)
+    by (inl same) = subst (λ read. (read >>= next later ≡ first told >>= next told) ⊎ Stopped told later (first told >>= next told)) (sym same) (on (first told))
+    by (inr (name, is, untold, some)) = inr (name, ap (λ read. read >>= next told) is, untold, some)
+
+module _ {A B : Type 0} where
+  -- two readings, one after the other
+  pub both_are_steady : (first : ByTold A) (second : ByTold B) → IsSteady first → IsSteady second → IsSteady (both first second)
+  both_are_steady first second steady other = bind_is_steady first (λ told one. second told >>= λ two. Reads (one, two)) steady
+      (λ one. bind_is_steady second (λ told two. Reads (one, two)) other (λ two. known_is_steady (Reads (one, two))))
+
+-- the texts of files, and what follows with the file that they ask for
+settled_is_steady : (names : List (List ℕ)) (next : FilesTold → List ℕ → Reading ZoneFiles) → ((file : List ℕ) → IsSteady (λ told. next told file)) → (given : Result ZoneText Unread) → IsSteady (λ told. settled names (next told) given)
+settled_is_steady names next each (Ok text) = known_is_steady _
+settled_is_steady names next each (Err (Faulty fault)) = known_is_steady _
+settled_is_steady names next each (Err (Asks file)) = each file
+
+files_are_steady : (meta : List ℕ) (origin : Labels) (left : Left) (times : ℕ) (names texts : List (List ℕ)) → IsSteady (files_behind meta origin left times names texts)
+unfolding files_behind
+files_are_steady meta origin left zero names texts = λ told later stays. inl refl
+files_are_steady meta origin left (suc times) names texts =
+    settled_is_steady names (λ told file. file_octets (joined meta file) told >>= λ text. files_behind meta origin left times (names ++ joined meta file ∷ []) (texts ++ text ∷ []) told)
+    (λ file. bind_is_steady (file_octets (joined meta file)) (λ told text. files_behind meta origin left times (names ++ joined meta file ∷ []) (texts ++ text ∷ []) told)
+    (file_is_steady (joined meta file)) (λ text. files_are_steady meta origin left times (names ++ joined meta file ∷ []) (texts ++ text ∷ [])))
+    (zone_text origin left.records left.includes texts)
+
+zone_files_are_steady : (meta : List ℕ) (row : MetaRow) (left : Left) → IsSteady (zone_files meta row left)
+unfolding zone_files
+zone_files_are_steady meta row left =
+    bind_is_steady (file_octets (joined meta row.file)) (λ told text. files_behind meta (unwrap_or row.origin []) left left.includes (joined meta row.file ∷ []) (text ∷ []) told)
+    (file_is_steady (joined meta row.file)) (λ text. files_are_steady meta (unwrap_or row.origin []) left left.includes (joined meta row.file ∷ []) (text ∷ []))
+
+zone_is_steady : (meta : List ℕ) (row : MetaRow) (left : Left) → IsSteady (zone_read meta row left)
+unfolding zone_read
+zone_is_steady meta row left =
+    bind_is_steady (zone_files meta row left)
+    (λ told files. unless_refused (of_rule files.names) (zone_of row.origin files.text.rrs) >>= λ zone. Reads (record { zone = zone; left = left_behind left files.text }))
+    (zone_files_are_steady meta row left) (λ files. known_is_steady _)
+
+row_is_steady : (meta : List ℕ) (number : ℕ) (row : MetaRow) (rows : ReadRows) → IsSteady (with_row meta number row rows)
+unfolding with_row
+row_is_steady meta number row rows =
+    bind_is_steady (zone_read meta row rows.left)
+    (λ told read. unless_refused (λ fault. fault) (given number row.server read.zone rows.servers) >>= λ servers. Reads (record { left = read.left; servers = servers }))
+    (zone_is_steady meta row rows.left) (λ read. known_is_steady _)
+
+rows_are_steady : (meta : List ℕ) (number : ℕ) (more : List MetaRow) (rows : ReadRows) → IsSteady (with_rows meta number more rows)
+unfolding with_rows
+rows_are_steady meta number [] rows = λ told later stays. inl refl
+rows_are_steady meta number (row ∷ more) rows =
+    bind_is_steady (with_row meta number row rows) (λ told rows. with_rows meta (number + 1) more rows told)
+    (row_is_steady meta number row rows) (λ rows. rows_are_steady meta (number + 1) more rows)
+
+metadata_are_steady : (meta : List ℕ) → IsSteady (metadata meta)
+unfolding metadata
+metadata_are_steady meta =
+    bind_is_steady (file_octets meta) (λ told octets. unless_refused of_metadata (metadata_of octets)) (file_is_steady meta) (λ octets. known_is_steady _)
+
+-- the configuration of a metadata file
+pub conf_is_steady : (meta : List ℕ) → IsSteady (conf meta)
+unfolding conf
+conf_is_steady meta =
+    bind_is_steady (metadata meta) (λ told found. with_rows meta 1 found.rows no_rows told >>= λ rows. Reads (record { tops = found.tops; servers = rows.servers }))
+    (metadata_are_steady meta)
+    (λ found. bind_is_steady (with_rows meta 1 found.rows no_rows) (λ told rows. Reads (record { tops = found.tops; servers = rows.servers }))
+    (rows_are_steady meta 1 found.rows no_rows) (λ rows. known_is_steady _))
+
+-- ---- by what tells more
+
+-- something is told of no name without which it is told
+StaysTold-without : (told : FilesTold) (file : List ℕ) → StaysTold (without file told) told
+StaysTold-without told file name =
+    elim (pointwise nat_eq name file) as (λ b. ((if b then Untold else told name) ≡ Untold) ⊎ (told name ≡ (if b then Untold else told name)))
+    [ true ↦ inl refl | false ↦ inr refl ]
+
+-- what stays told stays so without a file
+StaysTold-both : (told later : FilesTold) (file : List ℕ) → StaysTold told later → StaysTold (without file told) (without file later)
+StaysTold-both told later file stays name =
+    elim (pointwise nat_eq name file) as (λ b. ((if b then Untold else told name) ≡ Untold) ⊎ ((if b then Untold else later name) ≡ (if b then Untold else told name)))
+    [ true ↦ inl refl | false ↦ stays name ]
+
+module _ {A : Type 0} {reading : ByTold A} (steady : IsSteady reading) where
+  -- what was read, or refused, or missed
+  pub reads_later : (told later : FilesTold) (value : A) → StaysTold told later → reading told ≡ Reads value → reading later ≡ Reads value
+  reads_later told later value stays is = by (steady told later stays) where
+    by : (reading later ≡ reading told) ⊎ Stopped told later (reading told) → reading later ≡ Reads value
+    by (inl same) = same ∙ is
+    by (inr (name, stopped, untold, some)) = let no : Unknown name ≡ Reads value = sym stopped ∙ is in absurd cc
+
+  pub refuses_later : (told later : FilesTold) (fault : LoadFault) → StaysTold told later → reading told ≡ Refuses fault → reading later ≡ Refuses fault
+  refuses_later told later fault stays is = by (steady told later stays) where
+    by : (reading later ≡ reading told) ⊎ Stopped told later (reading told) → reading later ≡ Refuses fault
+    by (inl same) = same ∙ is
+    by (inr (name, stopped, untold, some)) = let no : Unknown name ≡ Refuses fault = sym stopped ∙ is in absurd cc
+
+  -- what a call answered
+  pub Gives-later : (told later : FilesTold) (result : Result A LoadFault) → StaysTold told later → Gives (reading told) result → Gives (reading later) result
+  Gives-later told later (Ok value) stays gives = reads_later told later value stays gives
+  Gives-later told later (Err (faults.Read file)) stays gives = tt
+  Gives-later told later (Err faults.NoMemory) stays gives = tt
+  Gives-later told later (Err (faults.TooLong file)) stays gives = refuses_later told later (faults.TooLong file) stays gives
+  Gives-later told later (Err (faults.Meta fault)) stays gives = refuses_later told later (faults.Meta fault) stays gives
+  Gives-later told later (Err (faults.Text file line cause)) stays gives = refuses_later told later (faults.Text file line cause) stays gives
+  Gives-later told later (Err (faults.Rule file line cause)) stays gives = refuses_later told later (faults.Rule file line cause) stays gives
+  Gives-later told later (Err (faults.ZoneTwice row)) stays gives = refuses_later told later (faults.ZoneTwice row) stays gives
+
+  -- a file to which the reading comes
+  pub comes_later : (told later : FilesTold) (file : List ℕ) → StaysTold told later → Comes reading told file → Comes reading later file
+  comes_later told later file stays comes = by (steady (without file told) (without file later) (StaysTold-both told later file stays)) where
+    by : (reading (without file later) ≡ reading (without file told)) ⊎ Stopped (without file told) (without file later) (reading (without file told)) → Comes reading later file
+    by (inl same) = same ∙ comes
+    by (inr (name, stopped, untold, some)) =
+        let here : name ≡ file = same_Unknown (sym stopped ∙ comes) in
+        absurd (some (subst (λ n. without file later n ≡ Untold) (sym here) (without-here later file)))
+      where
+        same_Unknown : {a b : List ℕ} → (let one : Reading A = Unknown a in one ≡ Unknown b) → a ≡ b
+        same_Unknown e = cc
+
+  -- without a file to which it may come, it gives what it gave, or comes to the file
+  gives_without : (told : FilesTold) (file : List ℕ) → (reading (without file told) ≡ reading told) ⊎ Comes reading told file
+  gives_without told file = by (steady (without file told) told (StaysTold-without told file)) where
+    by : (reading told ≡ reading (without file told)) ⊎ Stopped (without file told) told (reading (without file told)) → (reading (without file told) ≡ reading told) ⊎ Comes reading told file
+    by (inl same) = inl (sym same)
+    by (inr (name, stopped, untold, some)) = inr (stopped ∙ ap Unknown (without-only told file name untold some))
+
+-- ---- two readings, one after the other
+
+module _ {A B : Type 0} (first : ByTold A) (second : ByTold B) where
+  -- a file to which the first comes
+  pub comes_first : (told : FilesTold) (file : List ℕ) → Comes first told file → Comes (both first second) told file
+  comes_first told file comes = ap (λ read. read >>= λ one. second (without file told) >>= λ other. Reads (one, other)) comes
+
+  -- a file to which the second comes, where the first was read
+  pub comes_second : IsSteady first → (told : FilesTold) (value : A) (file : List ℕ) → first told ≡ Reads value → Comes second told file → Comes (both first second) told file
+  comes_second steady told value file is comes = by (gives_without steady told file) where
+    by : (first (without file told) ≡ first told) ⊎ Comes first told file → Comes (both first second) told file
+    by (inl same) =
+        ap (λ read. read >>= λ one. second (without file told) >>= λ other. Reads (one, other)) (same ∙ is)
+        ∙ ap (λ read. read >>= λ other. Reads (value, other)) comes
+    by (inr earlier) = comes_first told file earlier
+
+  -- no other file is opened than those to which they come
+  pub opens_both : IsSteady first → (before between after : FilesTold) (value : A) → StaysTold between after → first between ≡ Reads value
+      → OpensNoOther first before between → OpensNoOther second between after → OpensNoOther (both first second) before after
+  opens_both steady before between after value stays is a b file = by (a file) (b file) where
+    by : (between file ≡ before file) ⊎ Comes first between file → (after file ≡ between file) ⊎ Comes second after file → (after file ≡ before file) ⊎ Comes (both first second) after file
+    by (inl kept) (inl same) = inl (same ∙ kept)
+    by (inr comes) (inl same) = inr (comes_first after file (comes_later steady between after file stays comes))
+    by earlier (inr comes) = inr (comes_second steady after value file (reads_later steady between after value stays is) comes)
+
+  -- where the first gives nothing, no other file is opened than those to which it comes
+  pub opens_first : (before after : FilesTold) → OpensNoOther first before after → OpensNoOther (both first second) before after
+  opens_first before after a file = by (a file) where
+    by : (after file ≡ before file) ⊎ Comes first after file → (after file ≡ before file) ⊎ Comes (both first second) after file
+    by (inl same) = inl same
+    by (inr comes) = inr (comes_first after file comes)
