@@ -11,7 +11,7 @@ use Rattle.groot_line.specs.Command.{has_option}
 use Rattle.groot_line.specs.Line.{command_line, operands_rule, option_rule}
 use Rattle.groot_line.specs.LineOption.{option_name}
 use Rattle.groot_line.specs.declared.command.Command.{Command}
-use Rattle.groot_line.specs.declared.command.Command.TheVariants.{Check, Ask, Classes, Drill}
+use Rattle.groot_line.specs.declared.command.Command.TheVariants.{Check, Ask, Classes, Drill, Site, Recheck}
 use Rattle.groot_line.specs.declared.line_option.LineOption.{LineOption}
 use Rattle.groot_line.specs.declared.line_option.LineOption.TheVariants as options
 
@@ -27,6 +27,8 @@ rules Check = option_built options.Workers ∷ option_built options.Classes ∷ 
 rules Ask = operands_built ∷ []
 rules Classes = option_built options.Classes ∷ operands_built ∷ []
 rules Drill = option_built options.Workers ∷ operands_built ∷ []
+rules Site = operands_built ∷ []
+rules Recheck = operands_built ∷ []
 
 -- what else `clap` has built
 abbrev pub line_shape : List Rule → Shape
@@ -38,6 +40,8 @@ is_free Check = refl
 is_free Ask = refl
 is_free Classes = refl
 is_free Drill = refl
+is_free Site = refl
+is_free Recheck = refl
 
 -- the command line of each command is simple, in `clap`'s sense: its definitions give the matches
 pub is_plain : (command : Command) → is_simple (command_line command) ≡ true
@@ -45,6 +49,8 @@ is_plain Check = refl
 is_plain Ask = refl
 is_plain Classes = refl
 is_plain Drill = refl
+is_plain Site = refl
+is_plain Recheck = refl
 
 -- the option with this name
 pub by_long : (command : Command) (name : Text) → arg_by_long (rules command) name ≡ option_map option_built (option_named command name)
@@ -66,21 +72,23 @@ by_long Drill name = go (bytes_eq (codes "workers") name) where
   go : (b : Bool) → cond (b || false) (Some (option_built options.Workers)) None ≡ option_map option_built (cond b (Some options.Workers) None)
   go true = refl
   go false = refl
+by_long Site name = refl
+by_long Recheck name = refl
 
 -- an option that the command has is found under its name
 pub by_option : (command : Command) (o : LineOption) → has_option command o ≡ true → arg_by_id (rules command) (option_name o) ≡ Some (option_built o)
 by_option Check options.Workers has = refl
 by_option Check options.Classes has = refl
 by_option Check options.Rewrites has = refl
-by_option Ask options.Workers has = absurd (true≢false (sym has))
-by_option Ask options.Classes has = absurd (true≢false (sym has))
-by_option Ask options.Rewrites has = absurd (true≢false (sym has))
+by_option Ask o has = absurd (true≢false (sym has))
 by_option Classes options.Workers has = absurd (true≢false (sym has))
 by_option Classes options.Classes has = refl
 by_option Classes options.Rewrites has = absurd (true≢false (sym has))
 by_option Drill options.Workers has = refl
 by_option Drill options.Classes has = absurd (true≢false (sym has))
 by_option Drill options.Rewrites has = absurd (true≢false (sym has))
+by_option Site o has = absurd (true≢false (sym has))
+by_option Recheck o has = absurd (true≢false (sym has))
 
 -- the operands are found under their name
 pub by_operands : (command : Command) → arg_by_id (rules command) (codes "operands") ≡ Some operands_built
@@ -88,6 +96,8 @@ by_operands Check = refl
 by_operands Ask = refl
 by_operands Classes = refl
 by_operands Drill = refl
+by_operands Site = refl
+by_operands Recheck = refl
 
 -- the first operand's argument is that of all operands
 pub by_index : (command : Command) → arg_by_index (rules command) 1 ≡ Some operands_built
@@ -95,6 +105,8 @@ by_index Check = refl
 by_index Ask = refl
 by_index Classes = refl
 by_index Drill = refl
+by_index Site = refl
+by_index Recheck = refl
 
 -- the option that a name gives is one of the command
 pub named_has : (command : Command) (name : Text) (o : LineOption) → option_named command name ≡ Some o → has_option command o ≡ true
@@ -108,6 +120,8 @@ named_has Drill name o e = go (bytes_eq (codes "workers") name) e where
   go : (b : Bool) → cond b (Some options.Workers) None ≡ Some o → has_option Drill o ≡ true
   go true same = subst (λ (x : Option LineOption). IfSome x (λ p. has_option Drill p ≡ true)) same refl
   go false same = cc
+named_has Site name o e = cc
+named_has Recheck name o e = cc
 
 -- ---- after the words
 
@@ -132,6 +146,8 @@ rows_end Check rows = no_operand _ ∙ no_default _ options.Rewrites ∙ no_defa
 rows_end Ask rows = no_operand rows
 rows_end Classes rows = no_operand _ ∙ no_default rows options.Classes
 rows_end Drill rows = no_operand _ ∙ no_default rows options.Workers
+rows_end Site rows = no_operand rows
+rows_end Recheck rows = no_operand rows
 
 option_passes : (rows : List Row) (o : LineOption) → default_fault rows (option_built o) ≡ []
 option_passes rows o = ap (λ b. cond b [] (given_default_fault (option_built o) (option_built o).defaults)) (or_true (has_row (option_name o) rows))
@@ -150,6 +166,8 @@ defaults_pass Check rows =
 defaults_pass Ask rows = past _ _ (operands_pass rows)
 defaults_pass Classes rows = past _ _ (option_passes rows options.Classes) ∙ past _ _ (operands_pass (with_default rows (option_built options.Classes)))
 defaults_pass Drill rows = past _ _ (option_passes rows options.Workers) ∙ past _ _ (operands_pass (with_default rows (option_built options.Workers)))
+defaults_pass Site rows = past _ _ (operands_pass rows)
+defaults_pass Recheck rows = past _ _ (operands_pass rows)
 
 -- no argument is required at the end
 pub nothing_required : (command : Command) (rows : List Row) → check_fault (line_shape (rules command)) rows false ≡ []
@@ -157,3 +175,5 @@ nothing_required Check rows = refl
 nothing_required Ask rows = refl
 nothing_required Classes rows = refl
 nothing_required Drill rows = refl
+nothing_required Site rows = refl
+nothing_required Recheck rows = refl

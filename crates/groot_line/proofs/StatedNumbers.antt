@@ -11,7 +11,7 @@ use Rattle.groot_line.specs.Command.{command_of}
 use Rattle.groot_line.specs.Job.{asked, job_by, job_of, InRange, AreInRange}
 use Rattle.groot_line.specs.LineOption.{most_of}
 use Rattle.groot_line.specs.Number.{unless_zero, number_to, number_by}
-use Rattle.groot_line.specs.Operands.{asked_meta, only_meta, asked_name, asked_type, most_zones, drill_number}
+use Rattle.groot_line.specs.Operands.{asked_file, only_meta, two_files, asked_name, asked_type, most_zones, drill_number}
 use Rattle.groot_line.specs.declared.command.Command.{Command}
 use Rattle.groot_line.specs.declared.command.Command.TheVariants as commands
 use Rattle.groot_line.specs.declared.fault.LineFault.{LineFault}
@@ -69,7 +69,7 @@ asked_in : (operands : List (List ℕ)) → IfOk (asked operands) AreInRange
 asked_in [] = tt
 asked_in (meta ∷ []) = tt
 asked_in (meta ∷ name ∷ []) = tt
-asked_in (meta ∷ name ∷ rtype ∷ []) = through AreInRange (asked_meta meta) _ (λ m. through AreInRange (asked_name name) _ (λ n. through AreInRange (asked_type rtype) _ (λ t. tt)))
+asked_in (meta ∷ name ∷ rtype ∷ []) = through AreInRange (asked_file meta) _ (λ m. through AreInRange (asked_name name) _ (λ n. through AreInRange (asked_type rtype) _ (λ t. tt)))
 asked_in (meta ∷ name ∷ rtype ∷ other ∷ rest) = tt
 
 drill_in : (operands : List (List ℕ)) → IfOk (drill_number operands) (InRange most_zones)
@@ -91,6 +91,8 @@ job_by_in commands.Classes arguments =
 job_by_in commands.Drill arguments =
     if_ok_then (InRange most_zones) AreInRange (drill_number arguments.operands) _ (drill_in arguments.operands)
     (λ n within. if_ok_then (InRange (most_of options.Workers)) AreInRange (number_by options.Workers arguments.workers) _ (option_in options.Workers arguments.workers) (λ workers second. (within, second)))
+job_by_in commands.Site arguments = through AreInRange (only_meta arguments.operands) _ (λ meta. tt)
+job_by_in commands.Recheck arguments = through AreInRange (two_files arguments.operands) _ (λ files. tt)
 
 -- the numbers of the job that words ask for are in their ranges
 in_range : (words : List (List ℕ)) → IfOk (job_of words) AreInRange

@@ -5,7 +5,7 @@ use Rattle.groot_line.specs.Job.{job_of}
 use Rattle.groot_line.specs.declared.fault.LineFault.{LineFault}
 use Rattle.groot_line.specs.declared.fault.LineFault.TheVariants.{Usage}
 use Rattle.groot_line.specs.declared.job.Job.{Job}
-use Rattle.groot_line.specs.declared.job.Job.TheVariants.{Check, Ask, Classes, Drill}
+use Rattle.groot_line.specs.declared.job.Job.TheVariants.{Check, Ask, Classes, Drill, Site, Recheck}
 
 -- the job of a command and the words behind it
 abbrev said : List ℕ → List (List ℕ) → Result Job LineFault
@@ -109,6 +109,38 @@ too_many_zones = refl
 
 no_number_of_zones : said (codes "drill") [] ≡ Err Usage
 no_number_of_zones = refl
+
+-- the checks of sites take a metadata file and no option
+plain_site : said (codes "site") (codes "m.json" ∷ []) ≡ Ok (Site (codes "m.json"))
+plain_site = refl
+
+site_without_meta : said (codes "site") [] ≡ Err Usage
+site_without_meta = refl
+
+workers_of_a_site : said (codes "site") (codes "m.json" ∷ codes "--workers=2" ∷ []) ≡ Err Usage
+workers_of_a_site = refl
+
+-- a report is checked with the metadata file before it; neither word is empty
+plain_recheck : said (codes "recheck") (codes "m.json" ∷ codes "r.json" ∷ []) ≡ Ok (Recheck (codes "m.json") (codes "r.json"))
+plain_recheck = refl
+
+same_file_twice : said (codes "recheck") (codes "m.json" ∷ codes "m.json" ∷ []) ≡ Ok (Recheck (codes "m.json") (codes "m.json"))
+same_file_twice = refl
+
+no_report : said (codes "recheck") (codes "m.json" ∷ []) ≡ Err Usage
+no_report = refl
+
+empty_report : said (codes "recheck") (codes "m.json" ∷ [] ∷ []) ≡ Err Usage
+empty_report = refl
+
+report_without_meta : said (codes "recheck") ([] ∷ codes "r.json" ∷ []) ≡ Err Usage
+report_without_meta = refl
+
+two_reports : said (codes "recheck") (codes "m.json" ∷ codes "r.json" ∷ codes "s.json" ∷ []) ≡ Err Usage
+two_reports = refl
+
+rewrites_of_a_recheck : said (codes "recheck") (codes "m.json" ∷ codes "r.json" ∷ codes "--rewrites=12" ∷ []) ≡ Err Usage
+rewrites_of_a_recheck = refl
 
 -- a command in another case
 upper_case : said (codes "CHECK") (codes "m.json" ∷ []) ≡ Err Usage

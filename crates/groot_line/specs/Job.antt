@@ -5,19 +5,19 @@ use Rattle.groot_line.specs.Arguments.{Arguments, arguments_of}
 use Rattle.groot_line.specs.Command.{command_of}
 use Rattle.groot_line.specs.LineOption.{most_of}
 use Rattle.groot_line.specs.Number.{number_by}
-use Rattle.groot_line.specs.Operands.{asked_meta, only_meta, asked_name, asked_type, most_zones, drill_number}
+use Rattle.groot_line.specs.Operands.{asked_file, only_meta, two_files, asked_name, asked_type, most_zones, drill_number}
 use Rattle.groot_line.specs.declared.command.Command.{Command}
 use Rattle.groot_line.specs.declared.command.Command.TheVariants as commands
 use Rattle.groot_line.specs.declared.fault.LineFault.{LineFault}
 use Rattle.groot_line.specs.declared.fault.LineFault.TheVariants.{Usage}
 use Rattle.groot_line.specs.declared.job.Job.{Job}
-use Rattle.groot_line.specs.declared.job.Job.TheVariants.{Check, Ask, Classes, Drill}
+use Rattle.groot_line.specs.declared.job.Job.TheVariants.{Check, Ask, Classes, Drill, Site, Recheck}
 use Rattle.groot_line.specs.declared.line_option.LineOption.TheVariants as options
 
 -- the query that operands ask
 abbrev pub asked : List (List ℕ) → Result Job LineFault
 asked (meta_word ∷ name_word ∷ type_word ∷ []) = do
-  meta ← asked_meta meta_word
+  meta ← asked_file meta_word
   name ← asked_name name_word
   rtype ← asked_type type_word
   Ok (Ask meta name rtype)
@@ -40,6 +40,12 @@ job_by commands.Drill arguments = do
   n ← drill_number arguments.operands
   workers ← number_by options.Workers arguments.workers
   Ok (Drill n workers)
+job_by commands.Site arguments = do
+  meta ← only_meta arguments.operands
+  Ok (Site meta)
+job_by commands.Recheck arguments = do
+  files ← two_files arguments.operands
+  Ok (Recheck files.0 files.1)
 
 -- the job that the words ask for
 abbrev pub job_of : List (List ℕ) → Result Job LineFault
@@ -60,3 +66,5 @@ AreInRange (Check meta workers classes rewrites) =
 AreInRange (Ask meta name rtype) = Unit {0}
 AreInRange (Classes meta classes) = InRange (most_of options.Classes) classes
 AreInRange (Drill n workers) = InRange most_zones n × InRange (most_of options.Workers) workers
+AreInRange (Site meta) = Unit {0}
+AreInRange (Recheck meta report) = Unit {0}

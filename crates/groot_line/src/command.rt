@@ -16,15 +16,21 @@ pub(crate) enum Command {
     Classes,
     /// A report on files that are made for it.
     Drill,
+    /// What the checks of sites find in a configuration.
+    Site,
+    /// Whether the entries of a report are right.
+    Recheck,
 }
 
 impl Command {
     /// The commands that the program has.
-    const ALL: [Command; 4] = [
+    const ALL: [Command; 6] = [
         Command::Check,
         Command::Ask,
         Command::Classes,
         Command::Drill,
+        Command::Site,
+        Command::Recheck,
     ];
 
     /// The command's word.
@@ -36,6 +42,8 @@ impl Command {
             Command::Ask => "ask",
             Command::Classes => "classes",
             Command::Drill => "drill",
+            Command::Site => "site",
+            Command::Recheck => "recheck",
         }
     }
 

@@ -9,7 +9,7 @@ use crate::arguments::{number, read_arguments};
 use crate::command::Command;
 use crate::fault::LineFault;
 use crate::line_option::LineOption;
-use crate::operands::{asked_meta, asked_name, asked_type, drill_number, only_meta};
+use crate::operands::{asked_file, asked_name, asked_type, drill_number, only_meta, two_files};
 use clap::ArgMatches;
 use dns_data::{Name, RrType, Text};
 use std::alloc::Global;
@@ -39,6 +39,15 @@ pub enum Job {
     Drill {
         n: u32,
         workers: u32,
+    },
+    /// What the checks of sites find in the configuration that a metadata file gives.
+    Site {
+        meta: Text,
+    },
+    /// Whether the entries of a report are right in the configuration that a metadata file gives.
+    Recheck {
+        meta: Text,
+        report: Text,
     },
 }
 
@@ -77,6 +86,13 @@ fn job_by(alloc: Global, command: Command, matches: &ArgMatches<'_>) -> Result<J
             n: drill_number(operands)?,
             workers: number(matches, LineOption::Workers)?,
         }),
+        Command::Site => Ok(Job::Site {
+            meta: only_meta(alloc, operands)?,
+        }),
+        Command::Recheck => {
+            let (meta, report) = two_files(alloc, operands)?;
+            Ok(Job::Recheck { meta, report })
+        }
     }
 }
 
@@ -87,7 +103,7 @@ fn asked(alloc: Global, operands: &[&str]) -> Result<Job, LineFault>
     let [meta, name, rtype] = operands else {
         return Err(LineFault::Usage);
     };
-    let meta = asked_meta(alloc, meta)?;
+    let meta = asked_file(alloc, meta)?;
     let name = asked_name(alloc, name)?;
     let rtype = asked_type(rtype)?;
     Ok(Job::Ask { meta, name, rtype })

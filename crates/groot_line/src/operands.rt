@@ -2,7 +2,7 @@
 
 ghost use Rattle.std.specs.Prelude.{◌≡◌, map};
 ghost use Rattle.dns_data.specs.Answers.{AnswersOr};
-ghost use Rattle.groot_line.specs.Operands.{asked_meta, asked_name, asked_type, only_meta, drill_number};
+ghost use Rattle.groot_line.specs.Operands.{asked_file, asked_name, asked_type, only_meta, two_files, drill_number};
 
 use crate::fault::LineFault;
 use crate::number::number_to;
@@ -17,14 +17,26 @@ pub(crate) fn only_meta(alloc: Global, operands: &[&str]) -> Result<Text, LineFa
     ensures { AnswersOr LineFault.NoMemory result (only_meta (map (λ word. word.now) operands.now)) }
 {
     match operands {
-        [meta] => asked_meta(alloc, meta),
+        [meta] => asked_file(alloc, meta),
         _ => Err(LineFault::Usage),
     }
 }
 
-/// The metadata file that a word names. It has an octet.
-pub(crate) fn asked_meta(alloc: Global, word: &str) -> Result<Text, LineFault>
-    ensures { AnswersOr LineFault.NoMemory result (asked_meta word.now) }
+/// The two files, in order, if their words are the only operands.
+pub(crate) fn two_files(alloc: Global, operands: &[&str]) -> Result<(Text, Text), LineFault>
+    ensures { AnswersOr LineFault.NoMemory result (two_files (map (λ word. word.now) operands.now)) }
+{
+    let [first, second] = operands else {
+        return Err(LineFault::Usage);
+    };
+    let first = asked_file(alloc, first)?;
+    let second = asked_file(alloc, second)?;
+    Ok((first, second))
+}
+
+/// The file that a word names. The word has an octet.
+pub(crate) fn asked_file(alloc: Global, word: &str) -> Result<Text, LineFault>
+    ensures { AnswersOr LineFault.NoMemory result (asked_file word.now) }
 {
     if word.is_empty() {
         return Err(LineFault::Usage);

@@ -31,3 +31,4 @@ mod texts;
 
 pub use answer::{CheckFault, Checked};
 pub use check::check_report;
+pub use learning::MOST_WALKS;

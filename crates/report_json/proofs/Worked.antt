@@ -21,7 +21,9 @@ use Rattle.report_json.specs.Ask.{ask_text}
 use Rattle.graph_form.specs.declared.report.Report.{Report}
 use Rattle.graph_form.specs.declared.report.ReportEntry.{ReportEntry}
 use Rattle.report_json.specs.Report.{entry_text, report_text}
+use Rattle.report_json.specs.Sites.{sites_text, scope_text}
 use Rattle.report_json.specs.Walks.{walk_text}
+use Rattle.site_checks.specs.declared.shown.Told.{Told}
 
 abbrev t : Labels
 t = codes "t" ∷ []
@@ -113,3 +115,21 @@ alias : walk_text (from (at a ∷ at b ∷ []) (Rewrite place false b ∷ []) le
     ≡ codes "[{\"did\":\"cname\",\"name\":\"a.t.\",\"owner\":\"a.t.\",\"server\":\"ns.t.\",\"to\":\"b.t.\",\"zone\":\"t.\"},{\"did\":\"nxdomain\",\"name\":\"b.t.\",\"server\":\"ns.t.\",\"zone\":\"t.\"}]"
 unfolding serde_json_on_literals
 alias = refl
+
+-- what two checks tell, what none tells, and what is told behind the report of a scope
+abbrev tells : List ℕ → List (List ℕ) → Told
+tells title findings = record { title = title; findings = findings }
+
+two_checks : sites_text (tells (codes "a-only") (codes "a-only www.t." ∷ []) ∷ tells (codes "answering") (codes "answers ns.t." ∷ codes "\"" ∷ []) ∷ [])
+    ≡ codes "{\"sites\":[{\"findings\":[\"a-only www.t.\"],\"name\":\"a-only\"},{\"findings\":[\"answers ns.t.\",\"\\\"\"],\"name\":\"answering\"}]}\n"
+unfolding serde_json_on_literals
+two_checks = refl
+
+no_check : sites_text [] ≡ codes "{\"sites\":[]}\n"
+unfolding serde_json_on_literals
+no_check = refl
+
+scope : scope_text (report 2 1 12 []) a (tells (codes "a-only") [] ∷ [])
+    ≡ codes "{\"classes\":2,\"faults\":[],\"names\":1,\"rewrites\":12,\"scope\":\"a.t.\",\"sites\":[{\"findings\":[],\"name\":\"a-only\"}]}\n"
+unfolding serde_json_on_literals digits
+scope = refl

@@ -1,8 +1,10 @@
 pub use Rattle.net_model.specs.Walk
+pub use Rattle.site_checks.specs.Views
 pub mod Json
 pub mod Plain
 pub mod Walks
 pub mod Ask
 pub mod Faults
 pub mod Report
+pub mod Sites
 pub mod Members

@@ -27,13 +27,17 @@ entry_value entry = object_of (
 abbrev pub entry_text : ReportEntry → List ℕ
 entry_text entry = compact_text (entry_value entry)
 
--- a report: how many classes and names there are, how many rewrites a query may use, and the entries
-abbrev pub report_value : Report → Data
-report_value report = object_of (
+-- what a report says: how many classes and names there are, how many rewrites a query may use, and the entries
+abbrev pub report_members : Report → List (List ℕ × Data)
+report_members report =
     (codes "classes", number (unsigned report.classes))
     ∷ (codes "faults", array_of (map entry_value report.entries))
     ∷ (codes "names", number (unsigned report.names))
-    ∷ (codes "rewrites", number (unsigned report.rewrites)) ∷ [])
+    ∷ (codes "rewrites", number (unsigned report.rewrites)) ∷ []
+
+-- a report
+abbrev pub report_value : Report → Data
+report_value report = object_of (report_members report)
 
 -- its text without white space, and a line feed
 abbrev pub report_text : Report → List ℕ

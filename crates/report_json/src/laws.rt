@@ -12,10 +12,13 @@ ghost use Rattle.serde_json.specs.Written.{compact_text};
 ghost use Rattle.report_json.specs.Ask.{ask_value, ask_text};
 ghost use Rattle.report_json.specs.Plain.{IsPlain, IsWritten};
 ghost use Rattle.report_json.specs.Report.{entry_value, entry_text, report_value, report_text};
+ghost use Rattle.report_json.specs.Sites.{sites_value, sites_text, scope_value, scope_text};
 ghost use Rattle.report_json.specs.Walks.{walk_value, walk_text};
+ghost use Rattle.site_checks.specs.declared.shown.Told.{Told};
 
 /// The compact text of a plain value is read as that value, also with a line feed behind it. So are the texts of walks,
-/// entries and answers of `ask`, and that of a report whose three numbers have 64 bits at most.
+/// entries, answers of `ask` and what checks tell, and that of a report whose three numbers have 64 bits at most, also of a
+/// scope's.
 pub fn texts_read_back()
     ensures value { (value : Data) → IsPlain value → depth value ≤ max_depth → read (compact_text value) ≡ Some value }
     ensures line { (value : Data) → IsPlain value → depth value ≤ max_depth → read (compact_text value ++ codes "\n") ≡ Some value }
@@ -24,6 +27,9 @@ pub fn texts_read_back()
     ensures report { (report : Report) → report.classes < 2 ^ 64 → report.names < 2 ^ 64 → report.rewrites < 2 ^ 64
         → read (report_text report) ≡ Some (report_value report) }
     ensures ask { (name : Labels) (rtype : RrType) (walks : List Walk) → read (ask_text name rtype walks) ≡ Some (ask_value name rtype walks) }
+    ensures sites { (told : List Told) → read (sites_text told) ≡ Some (sites_value told) }
+    ensures scope { (report : Report) (name : Labels) (told : List Told) → report.classes < 2 ^ 64 → report.names < 2 ^ 64 → report.rewrites < 2 ^ 64
+        → read (scope_text report name told) ≡ Some (scope_value report name told) }
 {}
 
 /// Two texts of walks, and two of entries, are equal exactly where the values are. So it is with what serde_json writes of a

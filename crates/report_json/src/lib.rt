@@ -1,7 +1,7 @@
 //! The texts of JSON that go to out (RFC 8259).
 //!
-//! The layers above may rest on these: `report_text`, `entry_text`, `walk_text` and `ask_text` give the octets that the
-//! definitions of the same names say; the texts are read as the values that they are of (`laws::texts_read_back`); and two
+//! The layers above may rest on these: `report_text`, `entry_text`, `walk_text`, `ask_text`, `sites_text` and `scope_text` give the
+//! octets that the definitions of the same names say; the texts are read as the values that they are of (`laws::texts_read_back`); and two
 //! texts of entries, or of walks, are equal exactly where the values are (`laws::texts_tell_values`).
 //!
 //! Costs: a text is written into one buffer as its values are gone through, once, and no tree of values is made. The
@@ -13,9 +13,11 @@ mod fault;
 pub mod laws;
 mod object;
 mod report;
+mod sites;
 mod walk;
 mod written;
 
 pub use ask::ask_text;
 pub use report::{entry_text, report_text};
+pub use sites::{scope_text, sites_text};
 pub use walk::walk_text;

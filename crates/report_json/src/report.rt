@@ -3,7 +3,8 @@
 ghost use Rattle.std.specs.Prelude.{◌≡◌, IfOk, OnOk};
 ghost use Rattle.serde_json.specs.Events.{SendsValue, SendsMembers};
 ghost use Rattle.report_json.specs.Json.{json_members};
-ghost use Rattle.report_json.specs.Report.{showing_members, entry_value, entry_text, report_value, report_text};
+ghost use Rattle.report_json.specs.Members.{SendsMore};
+ghost use Rattle.report_json.specs.Report.{showing_members, entry_value, entry_text, report_members, report_value, report_text};
 
 use crate::fault::{kind_word, send_fault};
 use crate::object::send_name;
@@ -50,6 +51,18 @@ fn send_report<S: Serializer>(alloc: Global, report: &Report, out: &mut S) -> Re
     ensures { OnOk result (SendsValue (report_value report.now) (S.written out.old) (S.written out.new)) }
 {
     out.begin_map(Some(4))?;
+    send_report_members(alloc, report, out)?;
+    out.end_map()
+}
+
+/// Writes what a report says, as members of an object that isn't ended.
+pub(crate) fn send_report_members<S: Serializer>(
+    alloc: Global,
+    report: &Report,
+    out: &mut S,
+) -> Result<(), S::Error>
+    ensures { OnOk result (SendsMore (report_members report.now) (S.written out.old) (S.written out.new)) }
+{
     out.key("classes")?;
     out.u64(u64::from(report.classes))?;
     out.key("faults")?;
@@ -57,8 +70,7 @@ fn send_report<S: Serializer>(alloc: Global, report: &Report, out: &mut S) -> Re
     out.key("names")?;
     out.u64(u64::from(report.names))?;
     out.key("rewrites")?;
-    out.u64(u64::from(report.rewrites))?;
-    out.end_map()
+    out.u64(u64::from(report.rewrites))
 }
 
 /// Writes an entry.

@@ -1,0 +1,34 @@
+-- The texts of what checks of sites tell, alone and behind the report of a scope.
+use Rattle.std.specs.Prelude.{ℕ, List, [], ◌∷◌, ◌++◌, map, codes}
+use Rattle.dns_data.specs.Name.{Labels}
+use Rattle.graph_form.specs.declared.report.Report.{Report}
+use Rattle.serde_json.specs.Data.{Data, string}
+use Rattle.serde_json.specs.Written.{compact_text}
+use Rattle.site_checks.specs.declared.shown.Told.{Told}
+use Rattle.report_json.specs.Json.{array_of, object_of, name_value}
+use Rattle.report_json.specs.Report.{report_members}
+
+-- what a check tells: its findings, in order, and its name
+abbrev pub site_value : Told → Data
+site_value told = object_of (
+    (codes "findings", array_of (map string told.findings))
+    ∷ (codes "name", string told.title) ∷ [])
+
+-- what all checks tell, in order
+abbrev pub sites_members : List Told → List (List ℕ × Data)
+sites_members told = (codes "sites", array_of (map site_value told)) ∷ []
+
+abbrev pub sites_value : List Told → Data
+sites_value told = object_of (sites_members told)
+
+-- its text without white space, and a line feed
+abbrev pub sites_text : List Told → List ℕ
+sites_text told = compact_text (sites_value told) ++ codes "\n"
+
+-- the report on the queries at or below a name, the name, and what all checks tell of their classes
+abbrev pub scope_value : Report → Labels → List Told → Data
+scope_value report name told = object_of (report_members report ++ (codes "scope", name_value name) ∷ sites_members told)
+
+-- its text without white space, and a line feed
+abbrev pub scope_text : Report → Labels → List Told → List ℕ
+scope_text report name told = compact_text (scope_value report name told) ++ codes "\n"
