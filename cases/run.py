@@ -8,6 +8,7 @@ case is written.
 """
 import copy
 import difflib
+import json
 import os
 import shlex
 import subprocess
@@ -147,7 +148,7 @@ def cut_off(said):
 
 
 def example(name):
-    """An example: its report, or what it says on err, and its status, where it isn't the one of the report."""
+    """An example: its report, what checks find, what it says on out or on err, and its status, where it isn't the one of the report."""
     folder = os.path.join("examples", name)
     case = Case(folder)
     case.folder = os.path.join(TOP, folder)
@@ -158,11 +159,28 @@ def example(name):
         report = contents(folder, "report.json")
         case.want("out", report)
         case.want("status", 0 if b'"faults":[]' in report else 1)
+    if beside("findings.json"):
+        case.want("out", contents(folder, "findings.json"))
+    if beside("out"):
+        case.want("out", contents(folder, "out"))
     if beside("err"):
         case.want("err", contents(folder, "err"))
     if beside("status"):
         case.wanted["status"] = int(contents(folder, "status"))
     return case
+
+
+def rechecked(name):
+    """The report of an example is right, entry by entry."""
+    folder = os.path.join("examples", name)
+    if not os.path.exists(os.path.join(TOP, folder, "report.json")):
+        return
+    case = Case(f"{folder} rechecked")
+    case.folder = os.path.join(TOP, folder)
+    case.words = ["recheck", "metadata.json", "report.json"]
+    entries = len(json.loads(contents(folder, "report.json"))["faults"])
+    case.want("out", octets(f"recheck: entries {entries}, right\n"))
+    yield case
 
 
 def all_cases():
@@ -172,6 +190,7 @@ def all_cases():
     for name in sorted(os.listdir(os.path.join(TOP, "examples"))):
         if os.path.isdir(os.path.join(TOP, "examples", name)):
             yield example(name)
+            yield from rechecked(name)
 
 
 def is_asked_for(case, words):

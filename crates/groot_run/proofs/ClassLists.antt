@@ -1,4 +1,4 @@
--- The lines of the rows of a class tree are the list of the configuration's classes.
+-- The rows of the class tree of a graph with the configuration's ground are its classes, and their lines the list of these.
 use Rattle.std.proofs.Common.{◌≡◌, ◌++◌, ℕ, List, [], ◌∷◌, inr, sym, refl, ap, ◌∙◌}
 use Rattle.std.proofs.lemmas.Grind.{flat_map-append}
 use Rattle.net_model.specs.declared.config.Config.{Config}
@@ -12,7 +12,7 @@ use Rattle.groot_run.specs.declared.ending.Ending.{Ending}
 use Rattle.groot_run.specs.declared.status.Status.TheVariants.{Clean}
 use Rattle.groot_run.specs.ClassList.{class_line, class_list_text}
 use Rattle.groot_run.specs.ClassRows.{rows_text}
-use Rattle.groot_run.specs.Outcome.{with_output, listed, ListsClasses}
+use Rattle.groot_run.specs.Outcome.{with_output, listed, HasMoreNames, ListsClasses}
 
 -- the lines of rows are those of their classes
 text_by_rows : (rows : List ClassRow) → rows_text rows ≡ class_list_text (classes_of_rows rows)
@@ -21,16 +21,29 @@ text_by_rows (row ∷ rows) =
     ap (λ (text : List ℕ). class_list_text (classes_of_row row) ++ text) (text_by_rows rows)
     ∙ sym (flat_map-append (λ (listed : ListedClass). class_line listed.class listed.representative) (classes_of_row row) (classes_of_rows rows))
 
--- so the rows of the class tree of a graph with the configuration's ground are what `classes` lists
-pub lists_classes : (config : Config) (limit : ℕ) (graph : Ground) (rows viewed : List ClassRow) (ending : Ending) → AreSame graph (ground_of config)
-    → rows ≡ viewed → AreListed graph [] (classes_of_rows viewed) → (HasMoreThan (IsInPart graph []) limit → ⊥)
-    → ending ≡ with_output Clean (rows_text rows) → ListsClasses limit config ending
-lists_classes config limit graph rows viewed ending same is are few lists =
+-- so where rows are those of the configuration's classes, their lines are what `classes` lists
+pub lists_classes : (config : Config) (limit : ℕ) (rows viewed : List ClassRow) (ending : Ending) → rows ≡ viewed
+    → AreListed (ground_of config) [] (classes_of_rows viewed) → (HasMoreNames config limit → ⊥) → ending ≡ with_output Clean (rows_text rows)
+    → ListsClasses limit config ending
+lists_classes config limit rows viewed ending is are few lists =
     inr (
-      λ more. few (more_same (ground_of config) graph (same_back graph (ground_of config) same) [] limit ((more_in_whole (ground_of config) limit).1 more)),
+      few,
       record {
         classes = classes_of_rows viewed;
-        are_listed = listed_same graph (ground_of config) same [] (classes_of_rows viewed) are;
+        are_listed = are;
         as_text = lists ∙ ap (λ (text : List ℕ). with_output Clean text) (text_by_rows rows) ∙ ap (λ (rs : List ClassRow). listed (classes_of_rows rs)) is;
       },
     )
+
+-- ---- the class tree of a graph with the configuration's ground
+
+module _ (config : Config) (graph : Ground) (same : AreSame graph (ground_of config)) where
+  pub are_listed : (rows : List ClassRow) → AreListed graph [] (classes_of_rows rows) → AreListed (ground_of config) [] (classes_of_rows rows)
+  are_listed rows are = listed_same graph (ground_of config) same [] (classes_of_rows rows) are
+
+  pub has_more : (limit : ℕ) → HasMoreThan (IsInPart graph []) limit → HasMoreNames config limit
+  has_more limit more = (more_in_whole (ground_of config) limit).0 (more_same graph (ground_of config) same [] limit more)
+
+  pub has_no_more : (limit : ℕ) → (HasMoreThan (IsInPart graph []) limit → ⊥) → HasMoreNames config limit → ⊥
+  has_no_more limit few more =
+      few (more_same (ground_of config) graph (same_back graph (ground_of config) same) [] limit ((more_in_whole (ground_of config) limit).1 more))

@@ -4,7 +4,7 @@ use Rattle.std.specs.Prelude.{◌⊎◌, IsTrue, codes}
 use Rattle.config_load.specs.Conf.{conf}
 use Rattle.config_load.specs.Faults.{FailedAt}
 use Rattle.config_load.specs.Load.{FailedWhereItCame, Gives, NoReadFailed}
-use Rattle.config_load.specs.Reading.{Reading, Reads, Refuses, Misses, Unknown}
+use Rattle.config_load.specs.Reading.{Reading, Reads, Refuses, Misses, Unknown, file_octets}
 use Rattle.config_load.specs.declared.fault.LoadFault.{LoadFault}
 use Rattle.config_load.specs.declared.fault.LoadFault.TheVariants as load_faults
 use Rattle.dns_data.specs.declared.rr_type.RrType.{RrType}
@@ -15,18 +15,23 @@ use Rattle.groot_line.specs.declared.job.Job.TheVariants as jobs
 use Rattle.io_edges.specs.Counts.{Rose}
 use Rattle.io_edges.specs.Files.{FilesTold}
 use Rattle.net_model.specs.declared.config.Config.{Config}
+use Rattle.site_checks.specs.Views.{Site}
+use Rattle.report_check.specs.declared.answer.Checked.{Checked}
+use Rattle.report_check.specs.declared.answer.Checked.TheVariants as checks
+use Rattle.report_check.specs.declared.answer.CheckFault.{CheckFault}
+use Rattle.report_check.specs.declared.answer.CheckFault.TheVariants as check_faults
 use Rattle.zone_maker.specs.Source.{drill_told}
 use Rattle.groot_run.specs.declared.ending.Ending.{Ending}
 use Rattle.groot_run.specs.declared.status.Status.{Status}
 use Rattle.groot_run.specs.declared.status.Status.TheVariants.{Clean, Faults, ReadFault, WriteFault}
 use Rattle.groot_run.specs.JobEnds.{JobEnds, EndsOver, EndsWithout, IsNotLoaded}
-use Rattle.groot_run.specs.Outcome.{status_of, WithinNames, WithinStates, IsReported, Checks, ListsClasses, IsAnswerWith, Asks, IsDrilled, Drills, drill_names, drill_rewrites, OfReading, Outcome, IsEnding, JobComesTo, NoJobReadFailed, writes_nothing, no_memory}
+use Rattle.groot_run.specs.Outcome.{status_of, WithinNames, WithinStates, IsReported, Checks, ListsClasses, IsAnswerWith, Asks, IsDrilled, Drills, drill_names, drill_rewrites, AreTold, ShowsClasses, site_names, site_rewrites, answered_to, IsRechecked, Rechecks, OfReading, Outcome, IsEnding, JobComesTo, NoJobReadFailed, writes_nothing, no_memory}
 
 -- ---- by what the files give
 
 -- a fault of loading says how the run ends
 pub not_loaded : (told : FilesTold) (before after : List ℕ → ℕ) (meta : List ℕ) (fault : LoadFault) (ending : Ending)
-    → Gives {T = Config} (conf meta told) (Err fault) → FailedWhereItCame {T = Config} meta told (Err fault) → FailedAt {T = Config} before after (Err fault)
+    → Gives {T = Config} (conf meta told) (Err fault) → FailedWhereItCame {T = Config} (conf meta) told (Err fault) → FailedAt {T = Config} before after (Err fault)
     → IsNotLoaded meta fault ending ⊎ (ending ≡ no_memory) → EndsWithout meta told before after ending
 not_loaded told before after meta fault ending gives came failed (inr ran_out) = inr (inr ran_out)
 not_loaded told before after meta (load_faults.Read file) ending gives came failed (inl is) = inr (inl (file, is, came, failed))
@@ -48,9 +53,16 @@ module _ (told : FilesTold) (before after : List ℕ → ℕ) (of_config : Confi
     by (inl (fault, refuses, is)) = inl (subst (λ (read : Reading Config). OfReading own of_config read ending) (sym refuses) is)
     by (inr failed) = inr failed
 
+-- a run that ends since the class tree has too many names ends so, whatever its command gives within the limit
+pub without_rows : (config : Config) (limit : ℕ) (P : Type 0) (ending : Ending) → WithinNames config limit ⊥ ending ⊎ (ending ≡ no_memory)
+    → WithinNames config limit P ending ⊎ (ending ≡ no_memory)
+without_rows config limit P ending (inl (inl more)) = inl (inl more)
+without_rows config limit P ending (inl (inr (few, none))) = absurd none
+without_rows config limit P ending (inr ran_out) = inr ran_out
+
 -- ---- the clauses
 
-module _ (told : FilesTold) (said : Result Job LineFault) (before after : List ℕ → ℕ) where
+module _ (told : FilesTold) (said : Result Job LineFault) (sites : List Site) (before after : List ℕ → ℕ) where
   -- What the status of a run says, and whether out gets something: a failed read is of a file to which the job comes and
   -- whose count rose, and no output has failed.
   abbrev Says : Status → List ℕ → Type 0
@@ -84,14 +96,23 @@ module _ (told : FilesTold) (said : Result Job LineFault) (before after : List �
     by (inl (more, is)) = subst Tells (sym is) refl
     by (inr (few, are)) = subst Tells (sym are.as_text) tt
 
-  of_reading : (meta : List ℕ) (of_config : Config → Ending → Type 0) (ending : Ending) → ((config : Config) → of_config config ending → Tells ending)
-      → (reading : Reading Config) → OfReading meta of_config reading ending → Tells ending
-  of_reading meta of_config ending of (Reads config) ends = of config ends
-  of_reading meta of_config ending of (Refuses fault) is = subst Tells (sym is) refl
-  of_reading meta of_config ending of (Misses file) ends = absurd ends
-  of_reading meta of_config ending of (Unknown file) ends = absurd ends
+  the_answer : (file : List ℕ) (config : Config) (octets : List ℕ) (ending : Ending) → IsRechecked file config octets ending → Tells ending
+  the_answer file config octets ending is = by is.answer is.as_line where
+    by : (answer : Result Checked CheckFault) → ending ≡ answered_to file answer → Tells ending
+    by (Ok (checks.Right entries)) line = subst Tells (sym line) tt
+    by (Ok (checks.Wrong entry)) line = subst Tells (sym line) tt
+    by (Err check_faults.NotReport) line = subst Tells (sym line) refl
+    by (Err (check_faults.Walks entry)) line = subst Tells (sym line) refl
+    by (Err check_faults.NoMemory) line = subst Tells (sym line) refl
 
-  of_outcome : (files : FilesTold) (job : Result Job LineFault) (ending : Ending) → Outcome files job ending → Tells ending
+  of_reading : {T : Type 0} (name : List ℕ) (of_value : T → Ending → Type 0) (ending : Ending) → ((value : T) → of_value value ending → Tells ending)
+      → (reading : Reading T) → OfReading name of_value reading ending → Tells ending
+  of_reading name of_value ending of (Reads value) ends = of value ends
+  of_reading name of_value ending of (Refuses fault) is = subst Tells (sym is) refl
+  of_reading name of_value ending of (Misses file) ends = absurd ends
+  of_reading name of_value ending of (Unknown file) ends = absurd ends
+
+  of_outcome : (files : FilesTold) (job : Result Job LineFault) (ending : Ending) → Outcome files job sites ending → Tells ending
   of_outcome files (Ok (jobs.Check meta workers classes rewrites)) ending =
       of_reading meta (Checks classes rewrites) ending
       (λ config. within config classes rewrites (IsReported config rewrites ending) ending (λ is. subst Tells (sym is.as_text) (of_entries is.report.entries _)))
@@ -104,23 +125,31 @@ module _ (told : FilesTold) (said : Result Job LineFault) (before after : List �
       of_reading (codes "meta.json") (Drills zones) ending
       (λ config. within config drill_names drill_rewrites (IsDrilled zones config ending) ending (λ is. subst Tells (sym is.as_line) (of_entries is.report.entries _)))
       (conf (codes "meta.json") (drill_told zones))
+  of_outcome files (Ok (jobs.Site meta)) ending =
+      of_reading meta (ShowsClasses sites) ending
+      (λ config. within config site_names site_rewrites (AreTold config sites ending) ending (λ are. subst Tells (sym are.as_text) tt))
+      (conf meta files)
+  of_outcome files (Ok (jobs.Recheck meta report)) ending =
+      of_reading meta (Rechecks files report) ending
+      (λ config. of_reading report (IsRechecked report config) ending (λ octets. the_answer report config octets ending) (file_octets report files))
+      (conf meta files)
   of_outcome files (Err fault) ending = λ is. subst Tells (sym is) refl
 
-  module _ (job : Job) (is_job : said ≡ Ok job) (ending : Ending) (ended : JobEnds told (Ok job) before after ending) where
-    ends : JobEnds told said before after ending
-    ends = subst (λ (other : Result Job LineFault). JobEnds told other before after ending) (sym is_job) ended
+  module _ (job : Job) (is_job : said ≡ Ok job) (ending : Ending) (ended : JobEnds told (Ok job) sites before after ending) where
+    ends : JobEnds told said sites before after ending
+    ends = subst (λ (other : Result Job LineFault). JobEnds told other sites before after ending) (sym is_job) ended
 
     tells : Tells ending
     tells = by ends where
-      by : JobEnds told said before after ending → Tells ending
+      by : JobEnds told said sites before after ending → Tells ending
       by (inl outcome) = of_outcome told said ending outcome
       by (inr (inl (file, is, comes, rose))) = subst Tells (sym is) ((comes, rose), refl)
       by (inr (inr is)) = subst Tells (sym is) refl
 
     -- where no read of a job's files failed, its run has the job's outcome, or ends for want of memory
-    pub complete : NoJobReadFailed told said before after → Outcome told said ending ⊎ (ending ≡ no_memory)
+    pub complete : NoJobReadFailed told said before after → Outcome told said sites ending ⊎ (ending ≡ no_memory)
     complete none = by ends where
-      by : JobEnds told said before after ending → Outcome told said ending ⊎ (ending ≡ no_memory)
+      by : JobEnds told said sites before after ending → Outcome told said sites ending ⊎ (ending ≡ no_memory)
       by (inl outcome) = inl outcome
       by (inr (inl (file, is, comes, rose))) = absurd (none file comes rose)
       by (inr (inr is)) = inr is
@@ -131,16 +160,16 @@ module _ (told : FilesTold) (said : Result Job LineFault) (before after : List �
         → Checks classes rewrites config ending ⊎ (ending ≡ no_memory)
     headline meta workers classes rewrites config is reads none =
         by (complete (subst (λ (other : Result Job LineFault). NoJobReadFailed told other before after) (sym is) none)) where
-          by : Outcome told said ending ⊎ (ending ≡ no_memory) → Checks classes rewrites config ending ⊎ (ending ≡ no_memory)
+          by : Outcome told said sites ending ⊎ (ending ≡ no_memory) → Checks classes rewrites config ending ⊎ (ending ≡ no_memory)
           by (inl outcome) =
               inl (subst (λ (read : Reading Config). OfReading meta (Checks classes rewrites) read ending) reads
-              (subst (λ (other : Result Job LineFault). Outcome told other ending) is outcome))
+              (subst (λ (other : Result Job LineFault). Outcome told other sites ending) is outcome))
           by (inr ran_out) = inr ran_out
 
     -- a job's run has the job's outcome, or ends for an unread file or want of memory
-    pub cause : IsEnding told said ending
+    pub cause : IsEnding told said sites ending
     cause = by ends where
-      by : JobEnds told said before after ending → IsEnding told said ending
+      by : JobEnds told said sites before after ending → IsEnding told said sites ending
       by (inl outcome) = inl outcome
       by (inr (inl (file, is, comes, rose))) = inr (inl (file, is))
       by (inr (inr is)) = inr (inr is)

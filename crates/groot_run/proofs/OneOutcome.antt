@@ -6,16 +6,19 @@ use Rattle.io_edges.specs.Files.{FilesTold}
 use Rattle.dns_data.specs.Name.{Labels}
 use Rattle.dns_data.specs.declared.rr_type.RrType.{RrType}
 use Rattle.net_model.specs.declared.config.Config.{Config}
+use Rattle.site_checks.specs.Views.{Site}
+use Rattle.site_checks.proofs.OneViews.{one_list_of_views}
 use Rattle.net_model.specs.Reading.{ground_of}
 use Rattle.net_model.specs.Step.{following}
 use Rattle.query_verdicts.specs.Carried.{whole}
 use Rattle.config_load.specs.Conf.{conf}
-use Rattle.config_load.specs.Reading.{Reading, Reads, Refuses, Misses, Unknown}
+use Rattle.config_load.specs.Reading.{Reading, Reads, Refuses, Misses, Unknown, file_octets}
 use Rattle.groot_line.specs.declared.fault.LineFault.{LineFault}
 use Rattle.groot_line.specs.declared.job.Job.{Job}
 use Rattle.groot_line.specs.declared.job.Job.TheVariants as jobs
 use Rattle.groot_run.specs.declared.ending.Ending.{Ending}
-use Rattle.groot_run.specs.Outcome.{reported, listed, WithinNames, WithinStates, IsReported, most_states, too_many_states, Checks, IsClassList, ListsClasses, ask_rewrites, most_learning_walks, IsAnswerWith, Asks, walks_written, too_many_to_learn, OfReading, Outcome, Drills, IsDrilled, drilled, drill_names, drill_rewrites}
+use Rattle.groot_run.specs.Outcome.{reported, listed, WithinNames, WithinStates, IsReported, most_states, too_many_states, Checks, IsClassList, ListsClasses, ask_rewrites, most_learning_walks, IsAnswerWith, Asks, walks_written, too_many_to_learn, OfReading, Outcome, Drills, IsDrilled, drilled, drill_names, drill_rewrites, answered_to, IsRechecked, Rechecks, AreTold, ShowsClasses, told_of_views, site_names, site_rewrites}
+use Rattle.report_check.proofs.OneAnswer.{only_answer}
 use Rattle.groot_run.proofs.OneReport.{one_report}
 use Rattle.groot_run.proofs.Budgets.{one_passed}
 use Rattle.groot_run.proofs.OneClassList.{one_class_list}
@@ -52,6 +55,12 @@ one_drill zones config a b =
     (one_within_states config drill_rewrites (IsDrilled zones config a) (IsDrilled zones config b) a b
     (λ p q. p.as_line ∙ ap (drilled zones config) (one_report (whole config drill_rewrites) p.report q.report p.is_report q.is_report) ∙ sym q.as_line))
 
+one_told : (sites : List Site) (config : Config) (a b : Ending) → ShowsClasses sites config a → ShowsClasses sites config b → a ≡ b
+one_told sites config a b =
+    one_within config site_names (WithinStates config site_rewrites (AreTold config sites a) a) (WithinStates config site_rewrites (AreTold config sites b) b) a b
+    (one_within_states config site_rewrites (AreTold config sites a) (AreTold config sites b) a b
+    (λ p q. p.as_text ∙ ap (told_of_views sites) (one_list_of_views (whole config site_rewrites) p.views q.views p.are_views q.are_views) ∙ sym q.as_text))
+
 one_list : (limit : ℕ) (config : Config) (a b : Ending) → ListsClasses limit config a → ListsClasses limit config b → a ≡ b
 one_list limit config a b =
     one_within config limit (IsClassList config a) (IsClassList config b) a b
@@ -81,22 +90,32 @@ one_asked name rtype config a b (inr p) (inr q) =
     (one_in_force config ask_rewrites p.followed q.followed p.in_force q.in_force) p.answer)
     q.answer
 
--- what is read gives one thing, where a configuration does
-one_by_reading : (meta : List ℕ) (of_config : Config → Ending → Type 0) → ((config : Config) (a b : Ending) → of_config config a → of_config config b → a ≡ b)
-    → (reading : Reading Config) (a b : Ending) → OfReading meta of_config reading a → OfReading meta of_config reading b → a ≡ b
-one_by_reading meta of_config one (Reads config) a b p q = one config a b p q
-one_by_reading meta of_config one (Refuses fault) a b p q = p ∙ sym q
-one_by_reading meta of_config one (Misses file) a b p q = absurd p
-one_by_reading meta of_config one (Unknown file) a b p q = absurd p
+-- what is read gives one thing, where a value does
+one_by_reading : {T : Type 0} (name : List ℕ) (of_value : T → Ending → Type 0) → ((value : T) (a b : Ending) → of_value value a → of_value value b → a ≡ b)
+    → (reading : Reading T) (a b : Ending) → OfReading name of_value reading a → OfReading name of_value reading b → a ≡ b
+one_by_reading name of_value one (Reads value) a b p q = one value a b p q
+one_by_reading name of_value one (Refuses fault) a b p q = p ∙ sym q
+one_by_reading name of_value one (Misses file) a b p q = absurd p
+one_by_reading name of_value one (Unknown file) a b p q = absurd p
+
+one_recheck : (told : FilesTold) (file : List ℕ) (config : Config) (a b : Ending) → Rechecks told file config a → Rechecks told file config b → a ≡ b
+one_recheck told file config a b =
+    one_by_reading file (IsRechecked file config)
+    (λ octets one other p q. p.as_line ∙ ap (answered_to file) (only_answer config octets p.answer q.answer p.is_checked q.is_checked p.is_answered q.is_answered) ∙ sym q.as_line)
+    (file_octets file told) a b
 
 -- two outcomes of a job, by what is told of the files, are one
-pub one_outcome : (told : FilesTold) (job : Result Job LineFault) (a b : Ending) → Outcome told job a → Outcome told job b → a ≡ b
-one_outcome told (Ok (jobs.Check meta workers classes rewrites)) a b =
+pub one_outcome : (told : FilesTold) (job : Result Job LineFault) (sites : List Site) (a b : Ending) → Outcome told job sites a → Outcome told job sites b → a ≡ b
+one_outcome told (Ok (jobs.Check meta workers classes rewrites)) sites a b =
     one_by_reading meta (Checks classes rewrites) (one_check classes rewrites) (conf meta told) a b
-one_outcome told (Ok (jobs.Classes meta classes)) a b =
+one_outcome told (Ok (jobs.Classes meta classes)) sites a b =
     one_by_reading meta (ListsClasses classes) (one_list classes) (conf meta told) a b
-one_outcome told (Ok (jobs.Ask meta name rtype)) a b =
+one_outcome told (Ok (jobs.Ask meta name rtype)) sites a b =
     one_by_reading meta (Asks name rtype) (one_asked name rtype) (conf meta told) a b
-one_outcome told (Ok (jobs.Drill zones workers)) a b =
+one_outcome told (Ok (jobs.Drill zones workers)) sites a b =
     one_by_reading (codes "meta.json") (Drills zones) (one_drill zones) (conf (codes "meta.json") (drill_told zones)) a b
-one_outcome told (Err fault) a b = λ p q. p ∙ sym q
+one_outcome told (Ok (jobs.Site meta)) sites a b =
+    one_by_reading meta (ShowsClasses sites) (one_told sites) (conf meta told) a b
+one_outcome told (Ok (jobs.Recheck meta report)) sites a b =
+    one_by_reading meta (Rechecks told report) (one_recheck told report) (conf meta told) a b
+one_outcome told (Err fault) sites a b = λ p q. p ∙ sym q

@@ -10,6 +10,7 @@ use Rattle.config_load.specs.declared.fault.LoadFault.TheVariants.{Read, NoMemor
 use Rattle.groot_line.specs.declared.fault.LineFault.{LineFault}
 use Rattle.groot_line.specs.declared.job.Job.{Job}
 use Rattle.net_model.specs.declared.config.Config.{Config}
+use Rattle.site_checks.specs.Views.{Site}
 use Rattle.groot_run.specs.declared.ending.Ending.{Ending}
 use Rattle.groot_run.specs.Outcome.{OfReading, Outcome, JobComesTo, read_failed, refused, no_memory}
 
@@ -21,8 +22,8 @@ EndsOrFails EndsSo Comes before after ending =
     ⊎ (ending ≡ no_memory))
 
 -- how the run of a job ends
-abbrev pub JobEnds : FilesTold → Result Job LineFault → (List ℕ → ℕ) → (List ℕ → ℕ) → Ending → Type 0
-JobEnds told job before after ending = EndsOrFails (Outcome told job ending) (JobComesTo told job) before after ending
+abbrev pub JobEnds : FilesTold → Result Job LineFault → List Site → (List ℕ → ℕ) → (List ℕ → ℕ) → Ending → Type 0
+JobEnds told job sites before after ending = EndsOrFails (Outcome told job sites ending) (JobComesTo told job) before after ending
 
 -- how a run over the files of this metadata file ends, by what it gives of a configuration
 abbrev pub EndsOver : List ℕ → (Config → Ending → Type 0) → FilesTold → (List ℕ → ℕ) → (List ℕ → ℕ) → Ending → Type 0

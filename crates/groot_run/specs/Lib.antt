@@ -17,6 +17,7 @@ pub use Rattle.query_verdicts.specs.Carried
 pub use Rattle.query_verdicts.specs.Passed
 pub use Rattle.report_json.specs.Ask
 pub use Rattle.report_json.specs.Report as ReportText
+pub use Rattle.report_json.specs.Sites as SitesText
 pub use Rattle.plain_resolver.specs.Passed as WalksPassed
 pub use Rattle.query_classes.specs.Children
 pub use Rattle.query_classes.specs.ClassList as ListedClasses
@@ -28,8 +29,10 @@ pub use Rattle.config_load.specs.Load
 pub use Rattle.config_load.specs.Reading as FileReading
 pub use Rattle.config_load.specs.Refusal
 pub use Rattle.groot_line.specs.Job
+pub use Rattle.report_check.specs.Checked
 pub use Rattle.groot_line.specs.LineOption
 pub use Rattle.groot_line.specs.Usage
+pub use Rattle.site_checks.specs.Views
 pub use Rattle.zone_maker.specs.Drill
 pub use Rattle.zone_maker.specs.Source
 pub mod ClassList
@@ -41,3 +44,4 @@ pub mod Line
 pub mod Judged
 pub mod ClassRows
 pub mod JobEnds
+pub mod ShownClasses

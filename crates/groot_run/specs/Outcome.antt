@@ -1,5 +1,5 @@
 -- How a run ends: its status, the text for out and the line for err, by its job and by what is told of the files.
-use Rattle.std.specs.Prelude.{◌≡◌, ℕ, ◌⊎◌, Bool, true, false, List, [], ◌∷◌, ◌++◌, length, min, codes, decimal, Result, Ok}
+use Rattle.std.specs.Prelude.{◌≡◌, ◌≢◌, ℕ, ◌⊎◌, Bool, true, false, List, [], ◌∷◌, ◌++◌, length, map, min, codes, decimal, Result, Ok, Err}
 use Rattle.io_edges.specs.Counts.{last_count, Rose}
 use Rattle.io_edges.specs.Files.{FilesTold}
 use Rattle.dns_data.specs.Name.{Labels}
@@ -14,14 +14,19 @@ use Rattle.net_model.specs.Reading.{ground_of}
 use Rattle.query_verdicts.specs.Carried.{whole}
 use Rattle.query_verdicts.specs.Passed.{SomeClassPasses, IsFirstPassed}
 use Rattle.config_load.specs.Conf.{conf}
-use Rattle.config_load.specs.Load.{ReadingComesTo}
-use Rattle.config_load.specs.Reading.{Reading, Reads, Refuses, Misses, Unknown}
-use Rattle.config_load.specs.Refusal.{refusal_line}
+use Rattle.config_load.specs.Load.{Comes, ReadingComesTo}
+use Rattle.config_load.specs.Reading.{Reading, Reads, Refuses, Misses, Unknown, both, file_octets}
+use Rattle.config_load.specs.Refusal.{fields_line, refusal_line}
 use Rattle.config_load.specs.declared.fault.LoadFault.{LoadFault}
 use Rattle.graph_form.specs.Report.{IsReport}
 use Rattle.graph_form.specs.declared.report.Report.{Report}
 use Rattle.graph_form.specs.declared.report.ReportEntry.{ReportEntry}
 use Rattle.plain_resolver.specs.Passed.{HasMoreWalks, NoneInRounds, IsFirstWithTooMany}
+use Rattle.report_check.specs.Checked.{IsChecked, most_walks as most_walks_checked}
+use Rattle.report_check.specs.declared.answer.Checked.{Checked}
+use Rattle.report_check.specs.declared.answer.Checked.TheVariants as checks
+use Rattle.report_check.specs.declared.answer.CheckFault.{CheckFault}
+use Rattle.report_check.specs.declared.answer.CheckFault.TheVariants as check_faults
 use Rattle.report_json.specs.Ask.{ask_text}
 use Rattle.report_json.specs.Report.{report_text}
 use Rattle.groot_line.specs.LineOption.{usual_names, usual_rewrites}
@@ -35,6 +40,9 @@ use Rattle.groot_run.specs.declared.status.Status.TheVariants.{Clean, Faults, Us
 use Rattle.net_model.specs.Tree.{HasMoreThan}
 use Rattle.query_classes.specs.Children.{IsInTree}
 use Rattle.zone_maker.specs.Source.{drill_told}
+use Rattle.report_json.specs.Sites.{sites_text}
+use Rattle.site_checks.specs.Views.{AreViews, Site, told_by}
+use Rattle.site_checks.specs.declared.views.View.{View}
 use Rattle.groot_run.specs.DrillLine.{drill_line, records_of}
 use Rattle.query_classes.specs.ClassList.{ListedClass, AreListed}
 use Rattle.groot_run.specs.ClassList.{class_list_text}
@@ -124,6 +132,10 @@ most_learning_walks = 10000
 abbrev pub too_many_to_learn : Labels → Ending
 too_many_to_learn server =
     without_output Walks (codes "walks: more than " ++ (decimal most_learning_walks ++ (codes " for " ++ (name_text server ++ codes "\n"))))
+
+-- what checks tell that were shown these views
+abbrev pub told_of_views : List Site → List View → Ending
+told_of_views sites views = with_output Clean (sites_text (map (told_by views) sites))
 
 -- ---- the outcome of a job
 
@@ -220,26 +232,87 @@ abbrev pub Drills : ℕ → Config → Ending → Type 0
 Drills zones config ending =
     WithinNames config drill_names (WithinStates config drill_rewrites (IsDrilled zones config ending) ending) ending
 
--- What a command gives that reads the files of this metadata file, by what it gives of a configuration. Where a file isn't
--- held, or nothing is told of it, it gives nothing: such a run ends in a failed read.
-abbrev pub OfReading : List ℕ → (Config → Ending → Type 0) → Reading Config → Ending → Type 0
-OfReading meta of_config (Reads config) ending = of_config config ending
-OfReading meta of_config (Refuses fault) ending = ending ≡ refused meta fault
-OfReading meta of_config (Misses file) ending = ⊥
-OfReading meta of_config (Unknown file) ending = ⊥
+-- how many names the class tree may have whose classes are shown to checks
+abbrev pub site_names : ℕ
+site_names = usual_names
 
--- what the words' job gives, by what is told of the files; a drill reads its own
-abbrev pub Outcome : FilesTold → Result Job LineFault → Ending → Type 0
-Outcome told (Ok (jobs.Check meta workers classes rewrites)) ending = OfReading meta (Checks classes rewrites) (conf meta told) ending
-Outcome told (Ok (jobs.Classes meta classes)) ending = OfReading meta (ListsClasses classes) (conf meta told) ending
-Outcome told (Ok (jobs.Ask meta name rtype)) ending = OfReading meta (Asks name rtype) (conf meta told) ending
-Outcome told (Ok (jobs.Drill zones workers)) ending = OfReading (codes "meta.json") (Drills zones) (conf (codes "meta.json") (drill_told zones)) ending
-Outcome told job ending = ending ≡ usage
+-- how many rewrites a query of these classes may use
+abbrev pub site_rewrites : ℕ
+site_rewrites = usual_rewrites
+
+-- the run ends with what the checks tell that were shown the views of all classes of the configuration
+pub record AreTold (config : Config) (sites : List Site) (ending : Ending) : Type 0 where
+  pub views : List View
+  pub are_views : AreViews (whole config site_rewrites) views
+  pub as_text : ending ≡ told_of_views sites views
+
+-- what `site` gives of a configuration: what the checks tell, unless the class tree has too many names, or a representative
+-- reaches too many pairs of state and type
+abbrev pub ShowsClasses : List Site → Config → Ending → Type 0
+ShowsClasses sites config ending =
+    WithinNames config site_names (WithinStates config site_rewrites (AreTold config sites ending) ending) ending
+
+-- What a command gives that reads the file of this name, and those that it names, by what it gives of what was read. Where a
+-- file isn't held, or nothing is told of it, it gives nothing: such a run ends in a failed read.
+abbrev pub OfReading : {T : Type 0} → List ℕ → (T → Ending → Type 0) → Reading T → Ending → Type 0
+OfReading name of_value (Reads value) ending = of_value value ending
+OfReading name of_value (Refuses fault) ending = ending ≡ refused name fault
+OfReading name of_value (Misses file) ending = ⊥
+OfReading name of_value (Unknown file) ending = ⊥
+
+-- ---- a report that is checked
+
+-- each entry is right, and there are so many
+abbrev pub all_right : ℕ → Ending
+all_right entries = with_output Clean (codes "recheck: entries " ++ (decimal entries ++ codes ", right\n"))
+
+-- the entry with this number isn't right
+abbrev pub entry_wrong : ℕ → Ending
+entry_wrong entry = with_output Faults (codes "recheck: entry " ++ (decimal entry ++ codes " wrong\n"))
+
+-- the file has no report
+abbrev pub not_report : List ℕ → Ending
+not_report file = without_output Refused (fields_line file (decimal 0) (codes "not-report"))
+
+-- the query of the entry with this number has more walks than are followed; with the number 0, a server's name has more
+abbrev pub too_many_to_check : ℕ → Ending
+too_many_to_check entry =
+    without_output Walks (codes "walks: more than " ++ (decimal most_walks_checked ++ (codes " for entry " ++ (decimal entry ++ codes "\n"))))
+
+-- how a run ends by what is answered to the report in this file
+abbrev pub answered_to : List ℕ → Result Checked CheckFault → Ending
+answered_to file (Ok (checks.Right entries)) = all_right entries
+answered_to file (Ok (checks.Wrong entry)) = entry_wrong entry
+answered_to file (Err check_faults.NotReport) = not_report file
+answered_to file (Err (check_faults.Walks entry)) = too_many_to_check entry
+answered_to file (Err check_faults.NoMemory) = no_memory
+
+-- the run ends with the answer to the octets of the report in this file
+pub record IsRechecked (file : List ℕ) (config : Config) (octets : List ℕ) (ending : Ending) : Type 0 where
+  pub answer : Result Checked CheckFault
+  pub is_checked : IsChecked config octets answer
+  pub is_answered : answer ≢ Err check_faults.NoMemory
+  pub as_line : ending ≡ answered_to file answer
+
+-- what `recheck` gives of a configuration: the answer to the report in this file
+abbrev pub Rechecks : FilesTold → List ℕ → Config → Ending → Type 0
+Rechecks told file config ending = OfReading file (IsRechecked file config) (file_octets file told) ending
+
+-- what the words' job gives, by what is told of the files, and by the checks that the operator brings; a drill reads its own
+-- files
+abbrev pub Outcome : FilesTold → Result Job LineFault → List Site → Ending → Type 0
+Outcome told (Ok (jobs.Check meta workers classes rewrites)) sites ending = OfReading meta (Checks classes rewrites) (conf meta told) ending
+Outcome told (Ok (jobs.Classes meta classes)) sites ending = OfReading meta (ListsClasses classes) (conf meta told) ending
+Outcome told (Ok (jobs.Ask meta name rtype)) sites ending = OfReading meta (Asks name rtype) (conf meta told) ending
+Outcome told (Ok (jobs.Drill zones workers)) sites ending = OfReading (codes "meta.json") (Drills zones) (conf (codes "meta.json") (drill_told zones)) ending
+Outcome told (Ok (jobs.Site meta)) sites ending = OfReading meta (ShowsClasses sites) (conf meta told) ending
+Outcome told (Ok (jobs.Recheck meta report)) sites ending = OfReading meta (Rechecks told report) (conf meta told) ending
+Outcome told job sites ending = ending ≡ usage
 
 -- a run ends in the outcome of its job, in a failed read or for want of memory
-abbrev pub IsEnding : FilesTold → Result Job LineFault → Ending → Type 0
-IsEnding told job ending =
-    Outcome told job ending ⊎ ((file : List ℕ) × (ending ≡ read_failed file)) ⊎ (ending ≡ no_memory)
+abbrev pub IsEnding : FilesTold → Result Job LineFault → List Site → Ending → Type 0
+IsEnding told job sites ending =
+    Outcome told job sites ending ⊎ ((file : List ℕ) × (ending ≡ read_failed file)) ⊎ (ending ≡ no_memory)
 
 -- ---- failed reads
 
@@ -249,6 +322,8 @@ abbrev pub JobComesTo : FilesTold → Result Job LineFault → List ℕ → Type
 JobComesTo told (Ok (jobs.Check meta workers classes rewrites)) file = ReadingComesTo meta told file
 JobComesTo told (Ok (jobs.Classes meta classes)) file = ReadingComesTo meta told file
 JobComesTo told (Ok (jobs.Ask meta name rtype)) file = ReadingComesTo meta told file
+JobComesTo told (Ok (jobs.Site meta)) file = ReadingComesTo meta told file
+JobComesTo told (Ok (jobs.Recheck meta report)) file = Comes (both (conf meta) (file_octets report)) told file
 JobComesTo told job file = ⊥
 
 -- no other file is opened than those to which the job comes: of any other name the same is told as before

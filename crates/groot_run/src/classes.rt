@@ -1,15 +1,16 @@
 //! The list of classes of query names.
 
-ghost use Rattle.std.specs.Prelude.{◌≡◌, ◌⊎◌, ◌++◌, IfOk, OnOk};
+ghost use Rattle.std.specs.Prelude.{◌≡◌, ◌⊎◌, ◌++◌, [], IfOk, IfErr, OnOk};
 ghost use Rattle.net_model.specs.declared.class.Class.TheVariants.{Exact, Below};
 ghost use Rattle.groot_run.specs.ClassList.{class_line, class_list_text};
 ghost use Rattle.groot_run.specs.ClassRows.{rows_text};
-ghost use Rattle.query_classes.specs.ClassList.{classes_of_row};
-ghost use Rattle.groot_run.specs.Outcome.{ListsClasses, no_memory};
+ghost use Rattle.net_model.specs.Reading.{ground_of};
+ghost use Rattle.query_classes.specs.ClassList.{AreListed, classes_of_row, classes_of_rows};
+ghost use Rattle.groot_run.specs.Outcome.{HasMoreNames, ListsClasses, WithinNames, no_memory};
 
 use crate::ending::Ending;
 use crate::status::Status;
-use dns_data::{Name, NoMemory, Octets};
+use dns_data::{List, Name, NoMemory, Octets};
 use label_graph::LabelGraph;
 use net_model::Config;
 use query_classes::{ClassRow, TreeFault, class_tree};
@@ -19,13 +20,29 @@ use std::alloc::Global;
 pub(crate) fn list_classes(alloc: Global, config: &Config, limit: u32) -> Ending
     ensures { ListsClasses limit config.now result ⊎ (result ≡ no_memory) }
 {
+    match rows_within(alloc, config, limit) {
+        Ok(rows) => Ending::written(Status::Clean, text_of(alloc, rows.items())),
+        Err(ending) => ending,
+    }
+}
+
+/// The rows of the configuration's class tree, or how a run ends since it has more names than the limit.
+pub(crate) fn rows_within(
+    alloc: Global,
+    config: &Config,
+    limit: u32,
+) -> Result<List<ClassRow>, Ending>
+    ensures listed { IfOk result (λ rows. AreListed (ground_of config.now) [] (classes_of_rows rows)) }
+    ensures few { OnOk result (HasMoreNames config.now limit → ⊥) }
+    ensures err { IfErr result (λ ending. WithinNames config.now limit ⊥ ending ⊎ (ending ≡ no_memory)) }
+{
     match LabelGraph::of_config(alloc, config) {
         Ok(graph) => match class_tree(alloc, &graph, &Name::root(), limit) {
-            Ok(rows) => Ending::written(Status::Clean, text_of(alloc, rows.items())),
-            Err(TreeFault::TooMany) => Ending::too_many_names(alloc, limit),
-            Err(TreeFault::NoMemory) => Ending::no_memory(),
+            Ok(rows) => Ok(rows),
+            Err(TreeFault::TooMany) => Err(Ending::too_many_names(alloc, limit)),
+            Err(TreeFault::NoMemory) => Err(Ending::no_memory()),
         },
-        Err(NoMemory) => Ending::no_memory(),
+        Err(NoMemory) => Err(Ending::no_memory()),
     }
 }
 

@@ -13,6 +13,7 @@ use config_load::LoadFault;
 use dns_data::{Name, NoMemory, Octets, Text};
 use groot_line::usage_line;
 use itoa::Buffer;
+use report_check::MOST_WALKS as MOST_WALKS_CHECKED;
 use std::alloc::Global;
 
 /// How a run ends: its status, the text for out, and the line for err.
@@ -92,6 +93,26 @@ impl Ending {
         }
     }
 
+    /// The file has no report.
+    pub(crate) fn not_report(alloc: Global, file: &str) -> Ending
+        ensures { (result ≡ outcome.not_report file.now) ⊎ (result ≡ outcome.no_memory) }
+    {
+        match refusal_line(alloc, file, 0, "not-report") {
+            Ok(line) => without_output(Status::Refused, line),
+            Err(NoMemory) => Ending::no_memory(),
+        }
+    }
+
+    /// The query of the entry with this number has more walks than are followed; with the number 0, a server's name has more.
+    pub(crate) fn too_many_to_check(alloc: Global, entry: u64) -> Ending
+        ensures { (result ≡ outcome.too_many_to_check entry) ⊎ (result ≡ outcome.no_memory) }
+    {
+        match more_than_for_entry(alloc, b"walks: more than ", MOST_WALKS_CHECKED, entry) {
+            Ok(line) => without_output(Status::Walks, line),
+            Err(NoMemory) => Ending::no_memory(),
+        }
+    }
+
     /// The query reaches more pairs of state and type than are looked at.
     pub(crate) fn too_many_states(alloc: Global, query: &Name) -> Ending
         ensures { (result ≡ outcome.too_many_states query.now) ⊎ (result ≡ outcome.no_memory) }
@@ -110,6 +131,14 @@ impl Ending {
             Ok(line) => without_output(Status::Classes, line),
             Err(NoMemory) => Ending::no_memory(),
         }
+    }
+}
+
+impl From<NoMemory> for Ending {
+    ghost from_gives = { λ _ ending. ending ≡ outcome.no_memory };
+
+    fn from(_fault: NoMemory) -> Ending {
+        Ending::no_memory()
     }
 }
 
@@ -150,6 +179,29 @@ fn more_than_for<'a>(
             digits.format(limit).as_bytes(),
             b" for ",
             name.as_str().as_bytes(),
+            b"\n",
+        ],
+    )
+}
+
+/// A line that says what there is more of than a limit, and for the entry of which number.
+fn more_than_for_entry<'a>(
+    alloc: Global,
+    front: &'a [u8],
+    limit: u32,
+    entry: u64,
+) -> Result<Line, NoMemory>
+    ensures { IfOk result (λ line. line ≡ front.now ++ (decimal limit ++ (codes " for entry " ++ (decimal entry ++ codes "\n")))) }
+{
+    let mut digits = Buffer::new();
+    let mut numeral = Buffer::new();
+    Line::of_pieces(
+        alloc,
+        &[
+            front,
+            digits.format(limit).as_bytes(),
+            b" for entry ",
+            numeral.format(entry).as_bytes(),
             b"\n",
         ],
     )

@@ -1,6 +1,6 @@
 //! What a job gives.
 
-ghost use Rattle.std.specs.Prelude.{◌≡◌, Ok};
+ghost use Rattle.std.specs.Prelude.{◌≡◌, map, Ok};
 ghost use Rattle.io_edges.specs.Files.{TellsAll};
 ghost use Rattle.groot_line.specs.Job.{AreInRange};
 ghost use Rattle.groot_run.specs.JobEnds.{JobEnds};
@@ -13,22 +13,28 @@ use crate::drill::drill;
 use crate::ending::Ending;
 use crate::judging::CheckLimits;
 use crate::load::configuration;
+use crate::recheck::recheck;
+use crate::site::site;
 use groot_line::Job;
 use io_edges::{Files, Gate};
+use site_checks::SiteCheck;
 use std::alloc::Global;
 use std::sync::Wait;
 use std::thread::Threads;
 
-/// What a job gives. Each but a drill begins with the configuration of its metadata file. The gate is asked where workers judge.
+/// What a job gives. Each but a drill begins with the configuration of its metadata file. The gate is asked where workers judge,
+/// and the checks that the operator brings are shown the classes of `site`.
 pub(crate) fn of_job<F: Files, G: Gate + Sync, R: Threads + Wait + Sync>(
     rt: &R,
     alloc: Global,
     files: &mut F,
     job: &Job,
     gate: &G,
+    sites: &mut Vec<Box<dyn SiteCheck>>,
 ) -> Ending
     requires { AreInRange job.now }
-    ensures cause { JobEnds (F.told files.new) (Ok job.now) (F.faults files.old) (F.faults files.new) result }
+    ensures cause { JobEnds (F.told files.new) (Ok job.now) (map (λ b. record { name = name b; held = held b; step = step b }) sites.old.items)
+        (F.faults files.old) (F.faults files.new) result }
     ensures from_the_start { TellsAll (F.told files.old) → F.told files.new ≡ F.told files.old }
     ensures opens { JobOpensNoOther (F.told files.old) (F.told files.new) (Ok job.now) }
 {
@@ -58,5 +64,10 @@ pub(crate) fn of_job<F: Files, G: Gate + Sync, R: Threads + Wait + Sync>(
             Err(ending) => ending,
         },
         Job::Drill { n, workers } => drill(rt, alloc, *n, *workers, gate),
+        Job::Site { meta } => match configuration(alloc, files, meta.as_str()) {
+            Ok(config) => site(alloc, &config, sites),
+            Err(ending) => ending,
+        },
+        Job::Recheck { meta, report } => recheck(alloc, files, meta.as_str(), report.as_str()),
     }
 }

@@ -1,6 +1,6 @@
 //! What the definitions say of query names, of reports and of outcomes.
 
-ghost use Rattle.std.specs.Prelude.{◌≡◌, ℕ, ◌≤◌, Result, Ok};
+ghost use Rattle.std.specs.Prelude.{◌≡◌, ℕ, ◌≤◌, List, Result, Ok};
 ghost use Rattle.io_edges.specs.Files.{FilesTold};
 ghost use Rattle.net_model.specs.declared.config.Config.{Config};
 ghost use Rattle.groot_line.specs.declared.fault.LineFault.{LineFault};
@@ -11,6 +11,7 @@ ghost use Rattle.groot_run.specs.Laws.{HasClasses};
 ghost use Rattle.groot_run.specs.Outcome.{Drills, Outcome};
 ghost use Rattle.graph_form.specs.declared.report.Report.{Report};
 ghost use Rattle.graph_form.specs.Report.{Subject, IsReport};
+ghost use Rattle.site_checks.specs.Views.{Site};
 
 use class_judge::laws;
 
@@ -26,16 +27,18 @@ pub fn query_classes()
     laws::classes_are_told();
 }
 
-/// By what is told of the files, a job has at most one outcome.
+/// By what is told of the files, and by the checks that the operator brings, a job has at most one outcome.
 pub fn one_outcome()
-    ensures one { (told : FilesTold) (job : Result Job LineFault) (a b : Ending) → Outcome told job a → Outcome told job b → a ≡ b }
+    ensures one { (told : FilesTold) (job : Result Job LineFault) (sites : List Site) (a b : Ending)
+        → Outcome told job sites a → Outcome told job sites b → a ≡ b }
 {}
 
 /// The files of a drill of 1 to 5,000 zones are never refused: they give a configuration, and an outcome of the drill is what
 /// a drill gives of it.
 pub fn drills_read()
     ensures { (zones workers : ℕ) → 1 ≤ zones → zones ≤ 5000
-        → (config : Config) × ((told : FilesTold) (ending : Ending) → Outcome told (Ok (jobs.Drill zones workers)) ending → Drills zones config ending) }
+        → (config : Config) × ((told : FilesTold) (sites : List Site) (ending : Ending)
+        → Outcome told (Ok (jobs.Drill zones workers)) sites ending → Drills zones config ending) }
 {
     drill_laws::drill_files_read();
 }

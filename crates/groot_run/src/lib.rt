@@ -16,11 +16,14 @@ mod laws;
 mod line;
 mod load;
 mod output;
+mod recheck;
 mod run;
+mod shown;
+mod site;
 mod status;
 
 pub use ending::Ending;
 pub use laws::{drills_read, one_outcome, one_report, query_classes};
 pub use line::Line;
-pub use run::{groot, run_words};
+pub use run::{groot, groot_with_sites, run_words};
 pub use status::Status;

@@ -1,7 +1,8 @@
 //! The configuration of files, or how a run ends without one.
 
 ghost use Rattle.std.specs.Prelude.{◌≡◌, ◌⊎◌, IfOk, IfErr};
-ghost use Rattle.io_edges.specs.Files.{TellsAll};
+ghost use Rattle.io_edges.specs.Counts.{NoneFell};
+ghost use Rattle.io_edges.specs.Files.{StaysTold, TellsAll};
 ghost use Rattle.config_load.specs.Conf.{conf};
 ghost use Rattle.config_load.specs.Load.{OpensNoOther};
 ghost use Rattle.config_load.specs.Reading.{Reads};
@@ -22,8 +23,10 @@ pub(crate) fn configuration<F: Files>(
 ) -> Result<Config, Ending>
     ensures ok { IfOk result (λ config. conf meta.now (F.told files.new) ≡ Reads config) }
     ensures err { IfErr result (EndsWithout meta.now (F.told files.new) (F.faults files.old) (F.faults files.new)) }
+    ensures stays { StaysTold (F.told files.old) (F.told files.new) }
+    ensures never_fall { NoneFell (F.faults files.old) (F.faults files.new) }
     ensures from_the_start { TellsAll (F.told files.old) → F.told files.new ≡ F.told files.old }
-    ensures opens { OpensNoOther meta.now (F.told files.old) (F.told files.new) }
+    ensures opens { OpensNoOther (conf meta.now) (F.told files.old) (F.told files.new) }
 {
     match load(alloc, files, meta) {
         Ok(config) => Ok(config),
@@ -32,7 +35,7 @@ pub(crate) fn configuration<F: Files>(
 }
 
 /// How a run ends over files that give no configuration.
-fn not_loaded(alloc: Global, meta: &str, fault: LoadFault) -> Ending
+pub(crate) fn not_loaded(alloc: Global, meta: &str, fault: LoadFault) -> Ending
     ensures { IsNotLoaded meta.now fault result ⊎ (result ≡ no_memory) }
 {
     match fault {

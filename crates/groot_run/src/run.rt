@@ -22,12 +22,77 @@ use crate::output::{tell, write_all};
 use crate::status::Status;
 use groot_line::{LineFault, read_words};
 use io_edges::{Failed, Files, Gate, Sink};
+use site_checks::SiteCheck;
 use std::alloc::Global;
 use std::sync::Wait;
 use std::thread::Threads;
 
 /// Does what the words after the program's name ask for, writes its text on out, and tells on err how it ended. A check is
-/// judged by as many workers as the words say; each asks the gate once for each name that it takes.
+/// judged by as many workers as the words say; each asks the gate once for each name that it takes. The checks that the
+/// operator brings are shown the classes where the words say so; whatever they ask for, and however the run ends, they are
+/// let go.
+pub fn groot_with_sites<F: Files, O: Sink, E: Sink, G: Gate + Sync, R: Threads + Wait + Sync>(
+    rt: &R,
+    alloc: Global,
+    words: &[&str],
+    files: &mut F,
+    out: &mut O,
+    err: &mut E,
+    gate: &G,
+    sites: Vec<Box<dyn SiteCheck>>,
+) -> Status
+    // For files that read, by the octets that were read of them: each query name is in exactly one class and walks as its
+    // class's representative; and out took exactly the text of their report, unless a budget is passed, and the status says
+    // whether it has a fault. So it is for every number of workers and every schedule, if the call returns.
+    ensures headline { (meta : List ℕ) (workers classes rewrites : ℕ) (config : Configuration) →
+        job_of (map (λ word. word.now) words.now) ≡ Ok (Check meta workers classes rewrites) →
+        conf meta (F.told files.new) ≡ Reads config →
+        NoReadFailed meta (F.told files.new) (F.faults files.old) (F.faults files.new) →
+        (Rose (O.faults out.old) (O.faults out.new) → ⊥) →
+        HasClasses config rewrites
+        × (((ending : Ended) × Checks classes rewrites config ending
+        × (result ≡ ending.status) × Appends (O.taken out.old) (O.taken out.new) ending.out)
+        ⊎ (result ≡ Status.NoMemory)) }
+
+    // Where nothing failed, the run is the outcome of the words' job.
+    ensures complete { NoJobReadFailed (F.told files.new) (job_of (map (λ word. word.now) words.now)) (F.faults files.old) (F.faults files.new) →
+        (Rose (O.faults out.old) (O.faults out.new) → ⊥) →
+        ((ending : Ended)
+        × Outcome (F.told files.new) (job_of (map (λ word. word.now) words.now)) (map (λ b. record { name = name b; held = held b; step = step b }) sites.items) ending
+        × (result ≡ ending.status) × Appends (O.taken out.old) (O.taken out.new) ending.out)
+        ⊎ (result ≡ Status.NoMemory) }
+
+    // However it ends: as its job does, in a failed read or for want of memory, unless out fails; and err took its line.
+    ensures cause { (ending left : Ended)
+        × IsEnding (F.told files.new) (job_of (map (λ word. word.now) words.now)) (map (λ b. record { name = name b; held = held b; step = step b }) sites.items) ending
+        × IsLeft ending (O.taken out.old) (O.taken out.new) (O.faults out.old) (O.faults out.new) left
+        × (result ≡ left.status) × TookLine (E.taken err.old) (E.taken err.new) (E.faults err.old) (E.faults err.new) left.err }
+    ensures read_fault { (file : List ℕ) → result ≡ Status.ReadFault file →
+        JobComesTo (F.told files.new) (job_of (map (λ word. word.now) words.now)) file
+        × Rose (F.faults files.old file) (F.faults files.new file) }
+    ensures write_fault { result ≡ Status.WriteFault → Rose (O.faults out.old) (O.faults out.new) }
+    ensures silent { IsTrue (writes_nothing result) → Keeps (O.taken out.old) (O.taken out.new) }
+
+    // Files that told all from the start tell the same after the run. No other file is opened than those to which the job
+    // comes: so no zone file of metadata that are refused.
+    ensures from_the_start { TellsAll (F.told files.old) → F.told files.new ≡ F.told files.old }
+    ensures opens { JobOpensNoOther (F.told files.old) (F.told files.new) (job_of (map (λ word. word.now) words.now)) }
+{
+    laws::query_classes();
+    let ending = run_words(rt, alloc, words, files, gate, sites);
+    match write_all(out, ending.out.items()) {
+        Ok(()) => {
+            tell(err, ending.err.octets());
+            ending.status
+        }
+        Err(Failed) => {
+            tell(err, b"output failed\n");
+            Status::WriteFault
+        }
+    }
+}
+
+/// The same as `groot_with_sites` for an operator who brings no check.
 pub fn groot<F: Files, O: Sink, E: Sink, G: Gate + Sync, R: Threads + Wait + Sync>(
     rt: &R,
     alloc: Global,
@@ -53,13 +118,13 @@ pub fn groot<F: Files, O: Sink, E: Sink, G: Gate + Sync, R: Threads + Wait + Syn
     // Where nothing failed, the run is the outcome of the words' job.
     ensures complete { NoJobReadFailed (F.told files.new) (job_of (map (λ word. word.now) words.now)) (F.faults files.old) (F.faults files.new) →
         (Rose (O.faults out.old) (O.faults out.new) → ⊥) →
-        ((ending : Ended) × Outcome (F.told files.new) (job_of (map (λ word. word.now) words.now)) ending
+        ((ending : Ended) × Outcome (F.told files.new) (job_of (map (λ word. word.now) words.now)) [] ending
         × (result ≡ ending.status) × Appends (O.taken out.old) (O.taken out.new) ending.out)
         ⊎ (result ≡ Status.NoMemory) }
 
     // However it ends: as its job does, in a failed read or for want of memory, unless out fails; and err took its line.
     ensures cause { (ending left : Ended)
-        × IsEnding (F.told files.new) (job_of (map (λ word. word.now) words.now)) ending
+        × IsEnding (F.told files.new) (job_of (map (λ word. word.now) words.now)) [] ending
         × IsLeft ending (O.taken out.old) (O.taken out.new) (O.faults out.old) (O.faults out.new) left
         × (result ≡ left.status) × TookLine (E.taken err.old) (E.taken err.new) (E.faults err.old) (E.faults err.new) left.err }
     ensures read_fault { (file : List ℕ) → result ≡ Status.ReadFault file →
@@ -73,28 +138,19 @@ pub fn groot<F: Files, O: Sink, E: Sink, G: Gate + Sync, R: Threads + Wait + Syn
     ensures from_the_start { TellsAll (F.told files.old) → F.told files.new ≡ F.told files.old }
     ensures opens { JobOpensNoOther (F.told files.old) (F.told files.new) (job_of (map (λ word. word.now) words.now)) }
 {
-    laws::query_classes();
-    let ending = run_words(rt, alloc, words, files, gate);
-    match write_all(out, ending.out.items()) {
-        Ok(()) => {
-            tell(err, ending.err.octets());
-            ending.status
-        }
-        Err(Failed) => {
-            tell(err, b"output failed\n");
-            Status::WriteFault
-        }
-    }
+    let none = Vec::new(alloc);
+    groot_with_sites(rt, alloc, words, files, out, err, gate, none)
 }
 
 /// Does what the words after the program's name ask for, up to the writing: the status with which the run ends, the
-/// text for out and the line for err.
+/// text for out and the line for err. The checks that the operator brings are let go.
 pub fn run_words<F: Files, G: Gate + Sync, R: Threads + Wait + Sync>(
     rt: &R,
     alloc: Global,
     words: &[&str],
     files: &mut F,
     gate: &G,
+    sites: Vec<Box<dyn SiteCheck>>,
 ) -> Ending
     // For files that read, by the octets that were read of them, the run ends in the report of their configuration.
     ensures headline { (meta : List ℕ) (workers classes rewrites : ℕ) (config : Configuration) →
@@ -105,10 +161,11 @@ pub fn run_words<F: Files, G: Gate + Sync, R: Threads + Wait + Sync>(
 
     // Where no read failed, it is the outcome of the words' job.
     ensures complete { NoJobReadFailed (F.told files.new) (job_of (map (λ word. word.now) words.now)) (F.faults files.old) (F.faults files.new) →
-        Outcome (F.told files.new) (job_of (map (λ word. word.now) words.now)) result ⊎ (result ≡ no_memory) }
+        Outcome (F.told files.new) (job_of (map (λ word. word.now) words.now)) (map (λ b. record { name = name b; held = held b; step = step b }) sites.items) result
+        ⊎ (result ≡ no_memory) }
 
     // However it ends: as its job does, in a failed read or for want of memory. A failed read comes before no refusal.
-    ensures cause { IsEnding (F.told files.new) (job_of (map (λ word. word.now) words.now)) result }
+    ensures cause { IsEnding (F.told files.new) (job_of (map (λ word. word.now) words.now)) (map (λ b. record { name = name b; held = held b; step = step b }) sites.items) result }
     ensures read_fault { (file : List ℕ) → result.status ≡ Status.ReadFault file →
         JobComesTo (F.told files.new) (job_of (map (λ word. word.now) words.now)) file
         × Rose (F.faults files.old file) (F.faults files.new file) }
@@ -120,8 +177,9 @@ pub fn run_words<F: Files, G: Gate + Sync, R: Threads + Wait + Sync>(
     ensures from_the_start { TellsAll (F.told files.old) → F.told files.new ≡ F.told files.old }
     ensures opens { JobOpensNoOther (F.told files.old) (F.told files.new) (job_of (map (λ word. word.now) words.now)) }
 {
+    let mut sites = sites;
     match read_words(alloc, words) {
-        Ok(job) => of_job(rt, alloc, files, &job, gate),
+        Ok(job) => of_job(rt, alloc, files, &job, gate, &mut sites),
         Err(LineFault::Usage) => Ending::usage(),
         Err(LineFault::NoMemory) => Ending::no_memory(),
     }

@@ -4,7 +4,6 @@ mod InOrder
 mod Lines
 mod NodesAfter
 pub mod OneViews
-pub mod Places
 mod SearchSteps
 pub mod Seen
 mod WalksEnd

@@ -1,9 +1,10 @@
 -- Checks that have seen some views, and then some more; and what they tell.
-use Rattle.std.proofs.Common.{◌≡◌, ℕ, ◌+◌, ◌<◌, List, [], ◌∷◌, ◌++◌, length, take, get_or, refl, sym, ap, subst, ◌∙◌}
+use Rattle.std.proofs.Common.{◌≡◌, ℕ, ◌+◌, ◌<◌, List, [], ◌∷◌, ◌++◌, map, length, take, get_or, refl, sym, ap, subst, ◌∙◌}
 use Rattle.std.proofs.lemmas.List.{take_more}
-use Rattle.std.proofs.lemmas.List.Sums.{fold_push}
+use Rattle.std.proofs.lemmas.List.Sums.{fold-append}
 use Rattle.std.specs.List.{AllZip, fold}
 use Rattle.site_checks.specs.Shown.{HasSeen, Tells}
+use Rattle.site_checks.specs.Views.{told_by}
 use Rattle.site_checks.specs.declared.shown.Told.{Told}
 use Rattle.site_checks.specs.declared.views.View.{View}
 
@@ -13,34 +14,55 @@ module _ {B : Type 0} (name : B → List ℕ) (held : B → List (List ℕ)) (st
   nothing_seen [] = tt
   nothing_seen (b ∷ all) = (record { name_is = refl; step_is = λ found view. refl; held_is = refl }, nothing_seen all)
 
-  -- one check has seen one view more
-  one_seen : (views : List View) (view : View) (a b c : B) → HasSeen name held step views a b → HasSeen name held step (view ∷ []) b c → HasSeen name held step (views ++ view ∷ []) a c
-  one_seen views view a b c first next = record {
+  -- checks with one step hold the same, whichever of them it is
+  one_step : (a b : B) → ((found : List (List ℕ)) (view : View) → step b found view ≡ step a found view) → (found : List (List ℕ)) (views : List View)
+      → fold (step b) found views ≡ fold (step a) found views
+  one_step a b same found [] = refl
+  one_step a b same found (view ∷ views) = ap (λ h. fold (step b) h views) (same found view) ∙ one_step a b same (step a found view) views
+
+  -- one check has seen some views more
+  one_seen : (views more : List View) (a b c : B) → HasSeen name held step views a b → HasSeen name held step more b c → HasSeen name held step (views ++ more) a c
+  one_seen views more a b c first next = record {
     name_is = next.name_is ∙ first.name_is;
     step_is = λ found seen. next.step_is found seen ∙ first.step_is found seen;
-    held_is = next.held_is ∙ first.step_is (held b) view ∙ ap (λ h. step a h view) first.held_is ∙ sym (fold_push (step a) (held a) views view);
+    held_is =
+        next.held_is ∙ one_step a b first.step_is (held b) more ∙ ap (λ h. fold (step a) h more) first.held_is
+        ∙ sym (fold-append (step a) (held a) views more);
   }
 
-  -- one view more
-  pub view_seen : (views : List View) (view : View) (olds bs cs : List B) → AllZip (HasSeen name held step views) olds bs → AllZip (HasSeen name held step (view ∷ [])) bs cs
-      → AllZip (HasSeen name held step (views ++ view ∷ [])) olds cs
-  view_seen views view [] [] [] first next = tt
-  view_seen views view [] [] (c ∷ cs) first next = absurd next
-  view_seen views view [] (b ∷ bs) cs first next = absurd first
-  view_seen views view (a ∷ olds) [] cs first next = absurd first
-  view_seen views view (a ∷ olds) (b ∷ bs) [] first next = absurd next
-  view_seen views view (a ∷ olds) (b ∷ bs) (c ∷ cs) first next = (one_seen views view a b c first.0 next.0, view_seen views view olds bs cs first.1 next.1)
+  -- some views more
+  pub more_seen : (views more : List View) (olds bs cs : List B) → AllZip (HasSeen name held step views) olds bs → AllZip (HasSeen name held step more) bs cs
+      → AllZip (HasSeen name held step (views ++ more)) olds cs
+  more_seen views more [] [] [] first next = tt
+  more_seen views more [] [] (c ∷ cs) first next = absurd next
+  more_seen views more [] (b ∷ bs) cs first next = absurd first
+  more_seen views more (a ∷ olds) [] cs first next = absurd first
+  more_seen views more (a ∷ olds) (b ∷ bs) [] first next = absurd next
+  more_seen views more (a ∷ olds) (b ∷ bs) (c ∷ cs) first next = (one_seen views more a b c first.0 next.0, more_seen views more olds bs cs first.1 next.1)
 
-  -- what is told at the end is told of the checks that were handed in
-  pub told_at_the_end : (views : List View) (olds bs : List B) (told : List Told) → AllZip (HasSeen name held step views) olds bs → AllZip (Tells name held) bs told
-      → AllZip (Tells name (λ b. fold (step b) (held b) views)) olds told
-  told_at_the_end views [] [] [] seen tells = tt
-  told_at_the_end views [] [] (t ∷ told) seen tells = absurd tells
-  told_at_the_end views [] (b ∷ bs) told seen tells = absurd seen
-  told_at_the_end views (a ∷ olds) [] told seen tells = absurd seen
-  told_at_the_end views (a ∷ olds) (b ∷ bs) [] seen tells = absurd tells
-  told_at_the_end views (a ∷ olds) (b ∷ bs) (t ∷ told) seen tells =
-      (record { title_is = tells.0.title_is ∙ seen.0.name_is; findings_are = tells.0.findings_are ∙ seen.0.held_is }, told_at_the_end views olds bs told seen.1 tells.1)
+  -- what checks tell is told once
+  pub tell_all : (all : List B) (told : List Told) → AllZip (Tells name held) all told → told ≡ map (λ b. record { title = name b; findings = held b }) all
+  tell_all [] [] tells = refl
+  tell_all [] (t ∷ told) tells = absurd tells
+  tell_all (b ∷ all) [] tells = absurd tells
+  tell_all (b ∷ all) (t ∷ told) tells =
+      by (as_told t (name b) (held b) tells.0.title_is tells.0.findings_are) (tell_all all told tells.1)
+    where
+      as_told : (t : Told) (title : List ℕ) (findings : List (List ℕ)) → t.title ≡ title → t.findings ≡ findings → t ≡ record { title = title; findings = findings }
+      as_told t title findings one other = λ i. record { title = one i; findings = other i }
+
+      by : {x y : Told} {xs ys : List Told} → x ≡ y → xs ≡ ys → x ∷ xs ≡ y ∷ ys
+      by one rest = λ i. one i ∷ rest i
+
+  -- checks that were shown views tell what they mean that were handed in
+  pub told_after : (views : List View) (olds bs : List B) → AllZip (HasSeen name held step views) olds bs
+      → map (λ b. record { title = name b; findings = held b }) bs ≡ map (told_by views) (map (λ b. record { name = name b; held = held b; step = step b }) olds)
+  told_after views [] [] seen = refl
+  told_after views [] (b ∷ bs) seen = absurd seen
+  told_after views (a ∷ olds) [] seen = absurd seen
+  told_after views (a ∷ olds) (b ∷ bs) seen =
+      let rest = told_after views olds bs seen.1 in
+      λ i. record { title = seen.0.name_is i; findings = seen.0.held_is i } ∷ rest i
 
 -- one more is told
 one_told : {A B : Type 0} (R : A → B → Type 0) (xs : List A) (ys : List B) (x : A) (y : B) → AllZip R xs ys → R x y → AllZip R (xs ++ x ∷ []) (ys ++ y ∷ [])

@@ -1,8 +1,8 @@
 //! Checks that an operator brings: what a class of queries ends in, shown to a check of his own.
 //!
 //! The layer above may rest on this: a view has all ends of its query's walks (`view`); a check means its name, what it
-//! holds, and what it holds once it was shown one more view (`SiteCheck`); and it does what it means. `show` shows a view
-//! to boxed checks, and `tell` asks each for its name and its findings.
+//! holds, and what it holds once it was shown one more view (`SiteCheck`); and it does what it means. `tell` asks boxed
+//! checks for their names and their findings.
 //!
 //! Costs: `view` passes over each node of the graph once for each type that comes to it, and keeps a mark a node; it
 //! compares each end with those that were found. `AOnly` goes over a view's ends twice at most. `Answering` compares the
@@ -26,5 +26,5 @@ pub use ends::view;
 pub use fault::LineBad;
 pub use laws::views_are_one;
 pub use line::{Line, copied_lines};
-pub use shown::{Told, show, tell};
+pub use shown::{Told, tell};
 pub use views::{TypedEnd, View};

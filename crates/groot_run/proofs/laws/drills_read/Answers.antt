@@ -8,4 +8,4 @@ use Rattle.groot_run.proofs.laws.drills_read.Goals as goal
 pub returns : goal.returns
 returns c = λ zones workers some few.
     let read = c.drill_files_read.ensures zones some few in
-    (read.0, λ told ending is. subst (λ (reading : Reading Config). OfReading (codes "meta.json") (Drills zones) reading ending) read.1 is)
+    (read.0, λ told sites ending is. subst (λ (reading : Reading Config). OfReading (codes "meta.json") (Drills zones) reading ending) read.1 is)

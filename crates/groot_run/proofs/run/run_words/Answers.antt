@@ -11,27 +11,27 @@ of_job-requires g c = (c.type_bounds.sync-G, (c.type_bounds.sync-R, job_in_range
 
 pub returns-in-Ok-clause-headline : goal.returns-in-Ok-clause-headline
 returns-in-Ok-clause-headline g c =
-    headline (g.F.Files.told c.of_job.new.files) _ (g.F.Files.faults c.args.files.now) (g.F.Files.faults c.of_job.new.files) c.in-Ok.job c.in-Ok.ensures c.of_job.result c.of_job.ensures.cause
+    headline (g.F.Files.told c.of_job.new.files) _ _ (g.F.Files.faults c.args.files.now) (g.F.Files.faults c.of_job.new.files) c.in-Ok.job c.in-Ok.ensures c.of_job.result c.of_job.ensures.cause
 
 pub returns-in-Ok-clause-complete : goal.returns-in-Ok-clause-complete
 returns-in-Ok-clause-complete g c =
-    complete (g.F.Files.told c.of_job.new.files) _ (g.F.Files.faults c.args.files.now) (g.F.Files.faults c.of_job.new.files) c.in-Ok.job c.in-Ok.ensures c.of_job.result c.of_job.ensures.cause
+    complete (g.F.Files.told c.of_job.new.files) _ _ (g.F.Files.faults c.args.files.now) (g.F.Files.faults c.of_job.new.files) c.in-Ok.job c.in-Ok.ensures c.of_job.result c.of_job.ensures.cause
 
 pub returns-in-Ok-clause-cause : goal.returns-in-Ok-clause-cause
 returns-in-Ok-clause-cause g c =
-    cause (g.F.Files.told c.of_job.new.files) _ (g.F.Files.faults c.args.files.now) (g.F.Files.faults c.of_job.new.files) c.in-Ok.job c.in-Ok.ensures c.of_job.result c.of_job.ensures.cause
+    cause (g.F.Files.told c.of_job.new.files) _ _ (g.F.Files.faults c.args.files.now) (g.F.Files.faults c.of_job.new.files) c.in-Ok.job c.in-Ok.ensures c.of_job.result c.of_job.ensures.cause
 
 pub returns-in-Ok-clause-read_fault : goal.returns-in-Ok-clause-read_fault
 returns-in-Ok-clause-read_fault g c =
-    read_fault (g.F.Files.told c.of_job.new.files) _ (g.F.Files.faults c.args.files.now) (g.F.Files.faults c.of_job.new.files) c.in-Ok.job c.in-Ok.ensures c.of_job.result c.of_job.ensures.cause
+    read_fault (g.F.Files.told c.of_job.new.files) _ _ (g.F.Files.faults c.args.files.now) (g.F.Files.faults c.of_job.new.files) c.in-Ok.job c.in-Ok.ensures c.of_job.result c.of_job.ensures.cause
 
 pub returns-in-Ok-clause-no_write_fault : goal.returns-in-Ok-clause-no_write_fault
 returns-in-Ok-clause-no_write_fault g c =
-    no_write_fault (g.F.Files.told c.of_job.new.files) _ (g.F.Files.faults c.args.files.now) (g.F.Files.faults c.of_job.new.files) c.in-Ok.job c.in-Ok.ensures c.of_job.result c.of_job.ensures.cause
+    no_write_fault (g.F.Files.told c.of_job.new.files) _ _ (g.F.Files.faults c.args.files.now) (g.F.Files.faults c.of_job.new.files) c.in-Ok.job c.in-Ok.ensures c.of_job.result c.of_job.ensures.cause
 
 pub returns-in-Ok-clause-silent : goal.returns-in-Ok-clause-silent
 returns-in-Ok-clause-silent g c =
-    silent (g.F.Files.told c.of_job.new.files) _ (g.F.Files.faults c.args.files.now) (g.F.Files.faults c.of_job.new.files) c.in-Ok.job c.in-Ok.ensures c.of_job.result c.of_job.ensures.cause
+    silent (g.F.Files.told c.of_job.new.files) _ _ (g.F.Files.faults c.args.files.now) (g.F.Files.faults c.of_job.new.files) c.in-Ok.job c.in-Ok.ensures c.of_job.result c.of_job.ensures.cause
 
 pub returns-in-Ok-clause-opens : goal.returns-in-Ok-clause-opens
 returns-in-Ok-clause-opens g c =

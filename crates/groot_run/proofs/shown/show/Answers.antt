@@ -1,6 +1,6 @@
 use Rattle.std.proofs.Common.{rules}
-use Rattle.site_checks.proofs.Places.{none_done, one_item_more, all_done}
-use Rattle.site_checks.proofs.shown.show.Goals as goal
+use Rattle.groot_run.proofs.Places.{none_done, one_item_more, all_done}
+use Rattle.groot_run.proofs.shown.show.Goals as goal
 
 pub loop-i-init : goal.loop-i-init
 loop-i-init g c = none_done _ _

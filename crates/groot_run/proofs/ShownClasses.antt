@@ -1,0 +1,250 @@
+-- Classes whose views are shown, some after others: what checks have seen, and where a run ends among them.
+use Rattle.std.proofs.Common.{◌≡◌, ℕ, suc, ◌+◌, ◌<◌, ◌≤◌, List, [], ◌∷◌, ◌++◌, map, append_assoc, append-nil, length, take, drop, get_or, Option, Some, None, Result, Ok, Err, IfErr, refl, sym, ap, subst, ◌∙◌, inl, inr, arith}
+use Rattle.std.specs.Prelude.{◌⊎◌, Contains, OnOk, IsErrAnd}
+use Rattle.std.specs.List.{AllZip}
+use Rattle.std.proofs.Math.Seq.{drop-cons}
+use Rattle.std.proofs.lemmas.List.{map-append, take-append-drop, take_more, take_all}
+use Rattle.std.proofs.lemmas.List.Elements.{Contains-append_cases}
+use Rattle.std.proofs.lemmas.List.Concat.{flat_map-append}
+use Rattle.dns_data.specs.Name.{Labels}
+use Rattle.dns_data.proofs.Membership.{none_in_nil, first_or_later}
+use Rattle.graph_form.specs.Graph.{PlainGraph}
+use Rattle.graph_form.specs.GraphOf.{IsGraphOf}
+use Rattle.net_model.specs.declared.class.Class.{Class}
+use Rattle.net_model.specs.Step.{Setting, following}
+use Rattle.query_classes.specs.ClassList.{ListedClass, class_below, classes_of_row, classes_of_rows}
+use Rattle.query_classes.specs.declared.tree.ClassRow.{ClassRow}
+use Rattle.query_verdicts.specs.Queries.{LimitedQueries, IsLeastGraph}
+use Rattle.site_checks.specs.Ends.{AreEnds}
+use Rattle.site_checks.specs.Shown.{HasSeen}
+use Rattle.site_checks.specs.declared.views.View.{View}
+use Rattle.site_checks.proofs.Seen.{nothing_seen, more_seen}
+use Rattle.groot_run.specs.declared.ending.Ending.{Ending}
+use Rattle.groot_run.specs.Outcome.{too_many_states, no_memory}
+use Rattle.groot_run.specs.ShownClasses.{Passes, ServerPasses, NonePasses, exact_class, below_class, class_of, HasEnds, AreViewsOf, AreShown, IsFirstOf, EndsAmong}
+
+-- ---- what follows of an answer
+
+pub on_ok : {T E P Q : Type 0} (result : Result T E) → (P → Q) → OnOk result P → OnOk result Q
+on_ok (Ok value) follows holds = follows holds
+on_ok (Err fault) follows holds = tt
+
+pub if_err : {T E : Type 0} {P Q : E → Type 0} (result : Result T E) → ((fault : E) → P fault → Q fault) → IfErr result P → IfErr result Q
+if_err (Ok value) follows holds = tt
+if_err (Err fault) follows holds = follows fault holds
+
+-- what holds of a fault holds of the answer that hands it on
+pub handed_on : {T E : Type 0} (P : E → Type 0) (fault : E) (result : Result T E) → IsErrAnd result (λ other. other ≡ fault) → P fault → IfErr result P
+handed_on P fault (Ok value) is holds = tt
+handed_on P fault (Err other) is holds = subst P (sym is) holds
+
+-- ---- the classes of rows
+
+-- those of the rows up to one, and of that row
+classes_more : (rows : List ClassRow) (i : ℕ) (row : ClassRow) → i < length rows → row ≡ get_or rows i row
+    → classes_of_rows (take (i + 1) rows) ≡ classes_of_rows (take i rows) ++ classes_of_row row
+classes_more rows i row there is =
+    ap classes_of_rows (take_more rows i row there ∙ ap (λ r. take i rows ++ r ∷ []) (sym is))
+    ∙ flat_map-append classes_of_row (take i rows) (row ∷ [])
+    ∙ ap (λ cs. classes_of_rows (take i rows) ++ cs) (append-nil (classes_of_row row))
+
+-- those of the rows up to one, of that row, and of the rows behind it
+classes_split : (rows : List ClassRow) (i : ℕ) (row : ClassRow) → i < length rows → row ≡ get_or rows i row
+    → classes_of_rows rows ≡ classes_of_rows (take i rows) ++ (classes_of_row row ++ classes_of_rows (drop (i + 1) rows))
+classes_split rows i row there is =
+    let next : suc i ≡ i + 1 = omega arith in
+    ap classes_of_rows (sym (take-append-drop i rows) ∙ ap (λ rest. take i rows ++ rest) (drop-cons rows i row there ∙ (λ j. sym is j ∷ drop (next j) rows)))
+    ∙ flat_map-append classes_of_row (take i rows) (row ∷ drop (i + 1) rows)
+
+module _ (queries : LimitedQueries) where
+  -- ---- representatives that pass
+
+  none_of_none : NonePasses queries []
+  none_of_none listed has = absurd (none_in_nil listed has)
+
+  -- where none of some classes and none of some more passes, none of all does
+  none_of_more : (classes more : List ListedClass) → NonePasses queries classes → NonePasses queries more → NonePasses queries (classes ++ more)
+  none_of_more classes more none also listed has =
+      elim (Contains-append_cases classes more listed has) [
+        | inl first ↦ none listed first
+        | inr later ↦ also listed later
+      ]
+
+  none_of_one : (class : Class) (query : Labels) → (Passes queries query → ⊥) → NonePasses queries (record { class = class; representative = query } ∷ [])
+  none_of_one class query few listed has passes = elim (first_or_later (record { class = class; representative = query }) [] listed has) [
+    | inl same ↦ few (subst (λ (one : ListedClass). Passes queries one.representative) (sym same) passes)
+    | inr none ↦ none_in_nil listed none
+  ]
+
+  -- the views of some classes and of some more
+  views_of_more : (classes more : List ListedClass) (views others : List View) → AreViewsOf queries classes views → AreViewsOf queries more others
+      → AreViewsOf queries (classes ++ more) (views ++ others)
+  views_of_more classes more views others are also = record {
+    of_classes = map-append class_of views others ∙ (λ i. are.of_classes i ++ also.of_classes i);
+    have_ends = λ view has. elim (Contains-append_cases views others view has) [
+      | inl first ↦ are.have_ends view first
+      | inr later ↦ also.have_ends view later
+    ];
+  }
+
+  -- ---- where a run ends
+
+  -- among some classes, so among these and more
+  pub ends_before : (classes more : List ListedClass) (ending : Ending) → EndsAmong queries classes ending → EndsAmong queries (classes ++ more) ending
+  ends_before classes more ending (inl (query, first, is)) =
+      inl (
+        query,
+        record {
+          before = first.before;
+          listed = first.listed;
+          after = first.after ++ more;
+          splits = ap (λ cs. cs ++ more) first.splits ∙ append_assoc first.before (first.listed ∷ first.after) more;
+          none_before = first.none_before;
+          represents = first.represents;
+          passes = first.passes;
+        },
+        is,
+      )
+  ends_before classes more ending (inr ran_out) = inr ran_out
+
+  -- behind classes of which none passes
+  pub ends_behind : (classes more : List ListedClass) (ending : Ending) → NonePasses queries classes → EndsAmong queries more ending
+      → EndsAmong queries (classes ++ more) ending
+  ends_behind classes more ending none (inl (query, first, is)) =
+      inl (
+        query,
+        record {
+          before = classes ++ first.before;
+          listed = first.listed;
+          after = first.after;
+          splits = ap (λ cs. classes ++ cs) first.splits ∙ sym (append_assoc classes first.before (first.listed ∷ first.after));
+          none_before = none_of_more classes first.before none first.none_before;
+          represents = first.represents;
+          passes = first.passes;
+        },
+        is,
+      )
+  ends_behind classes more ending none (inr ran_out) = inr ran_out
+
+  -- at a class whose representative passes
+  pub ends_there : (class : Class) (query : Labels) (ending : Ending) → Passes queries query → (ending ≡ too_many_states query) ⊎ (ending ≡ no_memory)
+      → EndsAmong queries (record { class = class; representative = query } ∷ []) ending
+  ends_there class query ending passes (inl is) =
+      inl (
+        query,
+        record {
+          before = [];
+          listed = record { class = class; representative = query };
+          after = [];
+          splits = refl;
+          none_before = none_of_none;
+          represents = refl;
+          passes = passes;
+        },
+        is,
+      )
+  ends_there class query ending passes (inr ran_out) = inr ran_out
+
+  -- among the classes of a row
+  pub ends_exact : (row : ClassRow) (ending : Ending) → EndsAmong queries (exact_class row.name ∷ []) ending → EndsAmong queries (classes_of_row row) ending
+  ends_exact row ending ends = ends_before (exact_class row.name ∷ []) (class_below row.name row.below) ending ends
+
+  pub ends_below : (row : ClassRow) (representative : Labels) (ending : Ending) → row.below ≡ Some representative
+      → NonePasses queries (exact_class row.name ∷ []) → EndsAmong queries (below_class row.name representative ∷ []) ending
+      → EndsAmong queries (classes_of_row row) ending
+  ends_below row representative ending below none ends =
+      subst (λ (found : Option Labels). EndsAmong queries (exact_class row.name ∷ class_below row.name found) ending) (sym below)
+      (ends_behind (exact_class row.name ∷ []) (below_class row.name representative ∷ []) ending none ends)
+
+  -- among those of a row behind others
+  pub ends_at_row : (rows : List ClassRow) (i : ℕ) (row : ClassRow) (ending : Ending) → i < length rows → row ≡ get_or rows i row
+      → NonePasses queries (classes_of_rows (take i rows)) → EndsAmong queries (classes_of_row row) ending → EndsAmong queries (classes_of_rows rows) ending
+  ends_at_row rows i row ending there is none ends =
+      let rest = classes_of_rows (drop (i + 1) rows) in
+      subst (λ (classes : List ListedClass). EndsAmong queries classes ending) (sym (classes_split rows i row there is))
+      (ends_behind (classes_of_rows (take i rows)) (classes_of_row row ++ rest) ending none (ends_before (classes_of_row row) rest ending ends))
+
+  -- ---- what checks have seen
+
+  module _ {B : Type 0} (name : B → List ℕ) (held : B → List (List ℕ)) (step : B → List (List ℕ) → View → List (List ℕ)) where
+    -- of no class
+    pub shown_none : (all : List B) → AreShown name held step queries [] all all
+    shown_none all = record {
+      none_passes = none_of_none;
+      shown = λ clear. record {
+        views = [];
+        are_views = record { of_classes = refl; have_ends = λ view has. absurd (none_in_nil view has) };
+        seen = nothing_seen name held step all;
+      };
+    }
+
+    -- of some classes and then of some more
+    pub shown_more : (classes more : List ListedClass) (a b c : List B) → AreShown name held step queries classes a b → AreShown name held step queries more b c
+        → AreShown name held step queries (classes ++ more) a c
+    shown_more classes more a b c first next = record {
+      none_passes = none_of_more classes more first.none_passes next.none_passes;
+      shown = λ clear.
+          let one = first.shown clear in
+          let other = next.shown clear in
+          record {
+            views = one.views ++ other.views;
+            are_views = views_of_more classes more one.views other.views one.are_views other.are_views;
+            seen = more_seen name held step one.views other.views a b c one.seen other.seen;
+          };
+    }
+
+    -- of one class, whose representative doesn't pass, by the graph of its walks
+    pub shown_one : (class : Class) (query : Labels) (graph : PlainGraph) (view : View) (a b : List B) → IsLeastGraph queries.config queries.rewrites query graph
+        → (Passes queries query → ⊥) → view.class ≡ class → view.query ≡ query
+        → ((setting : Setting) → IsGraphOf setting query graph → AreEnds setting query view.ends)
+        → AllZip (HasSeen name held step (view ∷ [])) a b → AreShown name held step queries (record { class = class; representative = query } ∷ []) a b
+    shown_one class query graph view a b is few of_class of_query ends seen = record {
+      none_passes = none_of_one class query few;
+      shown = λ clear. record {
+        views = view ∷ [];
+        are_views = record { of_classes = λ i. record { class = of_class i; representative = of_query i } ∷ []; have_ends = have };
+        seen = seen;
+      };
+    } where
+      setting : Setting
+      setting = following queries.config queries.rewrites is.followed
+
+      has : HasEnds queries view
+      has = record { followed = is.followed; in_force = is.in_force; ends = subst (λ (name : Labels). AreEnds setting name view.ends) (sym of_query) (ends setting is.is_graph) }
+
+      have : (other : View) → Contains (view ∷ []) other → HasEnds queries other
+      have other among = elim (first_or_later view [] other among) [
+        | inl same ↦ subst (HasEnds queries) same has
+        | inr none ↦ absurd (none_in_nil other none)
+      ]
+
+    -- of one class, where the name of some server passes: there is nothing to be shown
+    pub shown_beside : (class : Class) (query : Labels) (all : List B) → ServerPasses queries → (Passes queries query → ⊥)
+        → AreShown name held step queries (record { class = class; representative = query } ∷ []) all all
+    shown_beside class query all passes few = record { none_passes = none_of_one class query few; shown = λ clear. absurd (clear passes) }
+
+    -- ---- of the classes of a row
+
+    pub shown_alone : (row : ClassRow) (a b : List B) → row.below ≡ None → AreShown name held step queries (exact_class row.name ∷ []) a b
+        → AreShown name held step queries (classes_of_row row) a b
+    shown_alone row a b alone shown = subst (λ (below : Option Labels). AreShown name held step queries (exact_class row.name ∷ class_below row.name below) a b) (sym alone) shown
+
+    pub shown_both : (row : ClassRow) (representative : Labels) (a b c : List B) → row.below ≡ Some representative
+        → AreShown name held step queries (exact_class row.name ∷ []) a b → AreShown name held step queries (below_class row.name representative ∷ []) b c
+        → AreShown name held step queries (classes_of_row row) a c
+    shown_both row representative a b c below first next =
+        subst (λ (found : Option Labels). AreShown name held step queries (exact_class row.name ∷ class_below row.name found) a c) (sym below)
+        (shown_more (exact_class row.name ∷ []) (below_class row.name representative ∷ []) a b c first next)
+
+    -- ---- of the classes of rows
+
+    pub shown_row : (rows : List ClassRow) (i : ℕ) (row : ClassRow) (a b c : List B) → i < length rows → row ≡ get_or rows i row
+        → AreShown name held step queries (classes_of_rows (take i rows)) a b → AreShown name held step queries (classes_of_row row) b c
+        → AreShown name held step queries (classes_of_rows (take (i + 1) rows)) a c
+    shown_row rows i row a b c there is first next =
+        subst (λ (classes : List ListedClass). AreShown name held step queries classes a c) (sym (classes_more rows i row there is))
+        (shown_more (classes_of_rows (take i rows)) (classes_of_row row) a b c first next)
+
+    pub shown_all : (rows : List ClassRow) (i : ℕ) (a b : List B) → length rows ≤ i → AreShown name held step queries (classes_of_rows (take i rows)) a b
+        → AreShown name held step queries (classes_of_rows rows) a b
+    shown_all rows i a b past shown = subst (λ (some : List ClassRow). AreShown name held step queries (classes_of_rows some) a b) (take_all i rows past) shown

@@ -1,0 +1,15 @@
+use Rattle.std.proofs.Common.{inl, inr}
+use Rattle.groot_run.specs.Outcome.{WithinStates, AreTold, site_names, site_rewrites}
+use Rattle.groot_run.proofs.Endings.{without_rows}
+use Rattle.groot_run.proofs.site.site.Goals as goal
+
+pub returns-in-Ok : goal.returns-in-Ok
+returns-in-Ok g c = elim c.find.ensures [
+  | inl ends ↦ inl (inr (c.in-Ok.ensures.few, ends))
+  | inr ran_out ↦ inr ran_out
+]
+
+pub returns-in-Err : goal.returns-in-Err
+returns-in-Err g c =
+    without_rows c.args.config.now site_names (WithinStates c.args.config.now site_rewrites (AreTold c.args.config.now _ c.in-Err.ending) c.in-Err.ending) c.in-Err.ending
+    c.in-Err.ensures.err

@@ -1,0 +1,79 @@
+-- For the code alone, no public clause cites it: classes whose views are shown to checks, and how a run ends among them.
+use Rattle.std.specs.Prelude.{◌≡◌, ◌⊎◌, ℕ, List, ◌∷◌, ◌++◌, map, Contains}
+use Rattle.std.specs.List.{AllZip}
+use Rattle.dns_data.specs.Name.{Labels}
+use Rattle.net_model.specs.declared.class.Class.TheVariants.{Exact, Below}
+use Rattle.net_model.specs.Learnt.{IsInForce}
+use Rattle.net_model.specs.Step.{following}
+use Rattle.query_classes.specs.ClassList.{ListedClass}
+use Rattle.query_verdicts.specs.Queries.{LimitedQueries}
+use Rattle.query_verdicts.specs.Verdict.{PassesStates, SomeServerPasses}
+use Rattle.site_checks.specs.Ends.{AreEnds}
+use Rattle.site_checks.specs.Shown.{HasSeen}
+use Rattle.site_checks.specs.declared.views.View.{View}
+use Rattle.groot_run.specs.declared.ending.Ending.{Ending}
+use Rattle.groot_run.specs.Outcome.{too_many_states, no_memory}
+
+-- the query reaches more pairs of state and type than it may
+abbrev pub Passes : LimitedQueries → Labels → Type 0
+Passes queries query = PassesStates queries.config queries.rewrites queries.states query
+
+-- the name of some server does
+abbrev pub ServerPasses : LimitedQueries → Type 0
+ServerPasses queries = SomeServerPasses queries.config queries.rewrites queries.states
+
+-- the representative of none of these classes does
+abbrev pub NonePasses : LimitedQueries → List ListedClass → Type 0
+NonePasses queries classes = (listed : ListedClass) → Contains classes listed → Passes queries listed.representative → ⊥
+
+-- a name that is alone in its class
+abbrev pub exact_class : Labels → ListedClass
+exact_class name = record { class = Exact name; representative = name }
+
+-- the class below a name, with its representative
+abbrev pub below_class : Labels → Labels → ListedClass
+below_class above representative = record { class = Below above; representative = representative }
+
+-- the class of a view, with its representative
+abbrev pub class_of : View → ListedClass
+class_of view = record { class = view.class; representative = view.query }
+
+-- the view has the ends of its query's walks by the set in force
+pub record HasEnds (queries : LimitedQueries) (view : View) : Type 0 where
+  pub followed : List Labels
+  pub in_force : IsInForce queries.config queries.rewrites followed
+  pub ends : AreEnds (following queries.config queries.rewrites followed) view.query view.ends
+
+-- the views are those of these classes, in order
+pub record AreViewsOf (queries : LimitedQueries) (classes : List ListedClass) (views : List View) : Type 0 where
+  pub of_classes : map class_of views ≡ classes
+  pub have_ends : (view : View) → Contains views view → HasEnds queries view
+
+-- checks were shown the views of these classes, in order
+pub record HaveSeen {B : Type 0} (name : B → List ℕ) (held : B → List (List ℕ)) (step : B → List (List ℕ) → View → List (List ℕ)) (queries : LimitedQueries)
+    (classes : List ListedClass) (before after : List B) : Type 0 where
+  pub views : List View
+  pub are_views : AreViewsOf queries classes views
+  pub seen : AllZip (HasSeen name held step views) before after
+
+-- None of these classes' representatives passes; and where no server's name does, checks were shown the views of all of them,
+-- in order.
+pub record AreShown {B : Type 0} (name : B → List ℕ) (held : B → List (List ℕ)) (step : B → List (List ℕ) → View → List (List ℕ)) (queries : LimitedQueries)
+    (classes : List ListedClass) (before after : List B) : Type 0 where
+  pub none_passes : NonePasses queries classes
+  pub shown : (ServerPasses queries → ⊥) → HaveSeen name held step queries classes before after
+
+-- it is the first of these classes' representatives that passes
+pub record IsFirstOf (queries : LimitedQueries) (classes : List ListedClass) (query : Labels) : Type 0 where
+  pub before : List ListedClass
+  pub listed : ListedClass
+  pub after : List ListedClass
+  pub splits : classes ≡ before ++ listed ∷ after
+  pub none_before : NonePasses queries before
+  pub represents : query ≡ listed.representative
+  pub passes : Passes queries query
+
+-- a run ends among these classes: at the first whose representative passes, or for want of memory
+abbrev pub EndsAmong : LimitedQueries → List ListedClass → Ending → Type 0
+EndsAmong queries classes ending =
+    ((query : Labels) × IsFirstOf queries classes query × (ending ≡ too_many_states query)) ⊎ (ending ≡ no_memory)

@@ -1,0 +1,176 @@
+//! What the checks that an operator brings find in a configuration.
+
+ghost use Rattle.std.specs.Prelude.{◌≡◌, ◌⊎◌, ◌∷◌, [], map, IfOk, IfErr, OnOk};
+ghost use Rattle.net_model.specs.Reading.{ground_of};
+ghost use Rattle.query_classes.specs.ClassList.{AreListed, classes_of_row, classes_of_rows};
+ghost use Rattle.query_verdicts.specs.Queries.{limited_to};
+ghost use Rattle.report_json.specs.Sites.{sites_text};
+ghost use Rattle.groot_run.specs.Outcome.{AreTold, ShowsClasses, WithinStates, most_states, no_memory, site_rewrites};
+ghost use Rattle.groot_run.specs.ShownClasses.{AreShown, EndsAmong, below_class, exact_class};
+
+use crate::classes::rows_within;
+use crate::ending::Ending;
+use crate::judging::MOST_STATES;
+use crate::shown::show;
+use crate::status::Status;
+use dns_data::{Name, NoMemory, Octets};
+use groot_line::{USUAL_NAMES, USUAL_REWRITES};
+use interp_graph::GraphFault;
+use net_model::{Class, Config};
+use query_classes::ClassRow;
+use query_verdicts::QueryGraphs;
+use report_json::sites_text;
+use site_checks::{SiteCheck, tell, view};
+use std::alloc::Global;
+
+/// What the checks find in the classes of the configuration, unless its class tree has too many names or else a representative
+/// reaches too many pairs of state and type. Each check is shown the view of each class, in class order.
+pub(crate) fn site(alloc: Global, config: &Config, sites: &mut Vec<Box<dyn SiteCheck>>) -> Ending
+    ensures { ShowsClasses (map (λ b. record { name = name b; held = held b; step = step b }) sites.old.items) config.now result
+        ⊎ (result ≡ no_memory) }
+{
+    match rows_within(alloc, config, USUAL_NAMES) {
+        Ok(rows) => find(alloc, config, rows.items(), sites),
+        Err(ending) => ending,
+    }
+}
+
+/// What the checks find in the classes of the rows, which are those of the configuration, unless a representative reaches too
+/// many pairs of state and type.
+fn find(
+    alloc: Global,
+    config: &Config,
+    rows: &[ClassRow],
+    sites: &mut Vec<Box<dyn SiteCheck>>,
+) -> Ending
+    requires { AreListed (ground_of config.now) [] (classes_of_rows rows.now) }
+    ensures { WithinStates config.now site_rewrites
+        (AreTold config.now (map (λ b. record { name = name b; held = held b; step = step b }) sites.old.items) result) result
+        ⊎ (result ≡ no_memory) }
+{
+    match QueryGraphs::prepare(alloc, config, USUAL_REWRITES, MOST_STATES) {
+        Ok(graphs) => find_by(alloc, &graphs, rows, sites),
+        Err(NoMemory) => Ending::no_memory(),
+    }
+}
+
+/// What the checks find in the classes of the rows, by the graphs of their representatives.
+fn find_by(
+    alloc: Global,
+    graphs: &QueryGraphs<'_>,
+    rows: &[ClassRow],
+    sites: &mut Vec<Box<dyn SiteCheck>>,
+) -> Ending
+    requires limits { graphs.now ≡ limited_to graphs.now.config site_rewrites most_states }
+    requires listed { AreListed (ground_of graphs.now.config) [] (classes_of_rows rows.now) }
+    ensures { WithinStates graphs.now.config site_rewrites
+        (AreTold graphs.now.config (map (λ b. record { name = name b; held = held b; step = step b }) sites.old.items) result) result
+        ⊎ (result ≡ no_memory) }
+{
+    match show_rows(alloc, graphs, rows, sites) {
+        Ok(()) => match graphs.sets() {
+            Ok(_) => Ending::written(Status::Clean, text_of(alloc, sites.as_slice())),
+            // Where a server's name reaches too many pairs, so does some representative, and the run has ended for it.
+            Err(_) => unreachable!(),
+        },
+        Err(ending) => ending,
+    }
+}
+
+/// The text of what the checks tell.
+fn text_of(alloc: Global, sites: &[Box<dyn SiteCheck>]) -> Result<Octets, NoMemory>
+    ensures { IfOk result (λ text. text ≡ sites_text (map (λ b. record { title = name b; findings = held b }) sites.now)) }
+{
+    let told = tell(alloc, sites)?;
+    sites_text(alloc, told.items())
+}
+
+/// Shows the views of the classes of the rows to all checks, in order, up to the first representative that reaches too many
+/// pairs of state and type; then it is how the run ends.
+pub(crate) fn show_rows(
+    alloc: Global,
+    graphs: &QueryGraphs<'_>,
+    rows: &[ClassRow],
+    sites: &mut Vec<Box<dyn SiteCheck>>,
+) -> Result<(), Ending>
+    ensures ok { OnOk result (AreShown (λ b. name b) (λ b. held b) (λ b. step b) graphs.now (classes_of_rows rows.now) sites.old.items sites.new.items) }
+    ensures err { IfErr result (EndsAmong graphs.now (classes_of_rows rows.now)) }
+{
+    for row in rows {
+        show_row(alloc, graphs, row, sites)?;
+    }
+    Ok(())
+}
+
+/// Shows the views of the classes of a row to all checks.
+fn show_row(
+    alloc: Global,
+    graphs: &QueryGraphs<'_>,
+    row: &ClassRow,
+    sites: &mut Vec<Box<dyn SiteCheck>>,
+) -> Result<(), Ending>
+    ensures ok { OnOk result (AreShown (λ b. name b) (λ b. held b) (λ b. step b) graphs.now (classes_of_row row.now) sites.old.items sites.new.items) }
+    ensures err { IfErr result (EndsAmong graphs.now (classes_of_row row.now)) }
+{
+    show_exact(alloc, graphs, &row.name, sites)?;
+    match &row.below {
+        Some(representative) => show_below(alloc, graphs, &row.name, representative, sites),
+        None => Ok(()),
+    }
+}
+
+/// Shows the view of a name that is alone in its class to all checks.
+fn show_exact(
+    alloc: Global,
+    graphs: &QueryGraphs<'_>,
+    query: &Name,
+    sites: &mut Vec<Box<dyn SiteCheck>>,
+) -> Result<(), Ending>
+    ensures ok { OnOk result (AreShown (λ b. name b) (λ b. held b) (λ b. step b) graphs.now
+        (exact_class query.now ∷ []) sites.old.items sites.new.items) }
+    ensures err { IfErr result (EndsAmong graphs.now (exact_class query.now ∷ [])) }
+{
+    let class = Class::Exact(query.copy(alloc)?);
+    show_class(alloc, graphs, &class, query, sites)
+}
+
+/// Shows the view of the class below a name, by its representative, to all checks.
+fn show_below(
+    alloc: Global,
+    graphs: &QueryGraphs<'_>,
+    above: &Name,
+    representative: &Name,
+    sites: &mut Vec<Box<dyn SiteCheck>>,
+) -> Result<(), Ending>
+    ensures ok { OnOk result (AreShown (λ b. name b) (λ b. held b) (λ b. step b) graphs.now
+        (below_class above.now representative.now ∷ []) sites.old.items sites.new.items) }
+    ensures err { IfErr result (EndsAmong graphs.now (below_class above.now representative.now ∷ [])) }
+{
+    let class = Class::Below(above.copy(alloc)?);
+    show_class(alloc, graphs, &class, representative, sites)
+}
+
+/// Shows the view of a class for which the query stands to all checks. Where the name of some server reaches too many pairs of
+/// state and type, there is none to be shown: some representative reaches too many then.
+fn show_class(
+    alloc: Global,
+    graphs: &QueryGraphs<'_>,
+    class: &Class,
+    query: &Name,
+    sites: &mut Vec<Box<dyn SiteCheck>>,
+) -> Result<(), Ending>
+    ensures ok { OnOk result (AreShown (λ b. name b) (λ b. held b) (λ b. step b) graphs.now
+        (record { class = class.now; representative = query.now } ∷ []) sites.old.items sites.new.items) }
+    ensures err { IfErr result (EndsAmong graphs.now (record { class = class.now; representative = query.now } ∷ [])) }
+{
+    match graphs.graph(query) {
+        Ok(Some(graph)) => {
+            let seen = view(alloc, class, query, &graph)?;
+            show(alloc, sites, &seen)?;
+            Ok(())
+        }
+        Ok(None) => Ok(()),
+        Err(GraphFault::StatesPassed) => Err(Ending::too_many_states(alloc, query)),
+        Err(GraphFault::NoMemory) => Err(Ending::no_memory()),
+    }
+}
