@@ -2,6 +2,7 @@
 
 mod addresses;
 mod classes;
+mod comparisons;
 mod configs;
 mod entries;
 mod open_tails;
@@ -10,6 +11,7 @@ mod pool_machine;
 mod reports;
 mod runs;
 mod scopes;
+mod site_runs;
 mod sites;
 mod texts;
 mod values;

@@ -9,7 +9,7 @@ use graph_form::Graph;
 use interp_graph::GraphFault;
 use net_model::{Class, Config};
 use site_checks::{
-    AOnly, Answering, Line, LineBad, SiteCheck, Told, View, copied_lines, show, tell, view,
+    AOnly, Answering, Line, LineBad, SiteCheck, Told, View, copied_lines, tell, view,
 };
 use std::alloc::Global;
 use std::test::Fail;
@@ -58,7 +58,9 @@ fn are_told(alloc: Global, view: &View) -> Result<bool, NoMemory> {
     let mut sites: Vec<Box<dyn SiteCheck>> = Vec::new(alloc);
     sites.push(Box::new(alloc, AOnly::new(alloc))?)?;
     sites.push(Box::new(alloc, Answering::new(alloc))?)?;
-    show(alloc, &mut sites, view)?;
+    for i in 0..sites.len() {
+        sites[i].see(alloc, view)?;
+    }
     let told = tell(alloc, sites.as_slice())?;
     Ok(are_both(told.items()))
 }

@@ -1,9 +1,10 @@
-//! The text of an entry by itself.
+//! The texts of an entry by itself, and of the report of a scope.
 
+use super::configs::name;
 use dns_data::{List, Name, NoMemory, RrType};
-use graph_form::{ReportEntry, Seen};
+use graph_form::{Report, ReportEntry, Seen};
 use net_model::{Class, Fault};
-use report_json::entry_text;
+use report_json::{entry_text, scope_text};
 use std::alloc::Global;
 use std::test::Fail;
 
@@ -46,6 +47,30 @@ fn is_only_text(alloc: Global, entries: &[ReportEntry], wanted: &str) -> bool {
 /// Whether this is the entry's text.
 fn is_text(alloc: Global, entry: &ReportEntry, wanted: &str) -> bool {
     match entry_text(alloc, entry) {
+        Ok(text) => text.items() == wanted.as_bytes(),
+        Err(NoMemory) => false,
+    }
+}
+
+#[test]
+fn a_scope_has_a_text(rt: HostRuntime) -> Result<(), Fail> {
+    let scope = name(rt.alloc(), "c.b.t.")?;
+    let wanted =
+        "{\"classes\":2,\"faults\":[],\"names\":1,\"rewrites\":12,\"scope\":\"c.b.t.\",\"sites\":[]}\n";
+    assert!(rt; is_text_of_scope(rt.alloc(), &scope, wanted));
+    Ok(())
+}
+
+/// Whether this is the text of a report of the scope of this name, which has no fault, with the name alone and the class below
+/// it, where no check tells anything.
+fn is_text_of_scope(alloc: Global, scope: &Name, wanted: &str) -> bool {
+    let report = Report {
+        classes: 2,
+        names: 1,
+        rewrites: 12,
+        entries: List::new(alloc),
+    };
+    match scope_text(alloc, &report, scope, &[]) {
         Ok(text) => text.items() == wanted.as_bytes(),
         Err(NoMemory) => false,
     }

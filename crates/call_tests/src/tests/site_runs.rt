@@ -1,0 +1,155 @@
+//! Runs with checks that an operator brings: these are let go however a run ends, and one of them may run out of memory.
+
+use super::configs::{ALONE, files};
+use dns_data::{List, NoMemory};
+use groot_run::{Status, groot, groot_with_sites};
+use io_edges::{FreeGate, MemoryFiles, MemorySink};
+use site_checks::{Line, SiteCheck, View};
+use std::alloc::Global;
+use std::sync::atomic::{AtomicU64, Ordering};
+use std::sync::{Arc, Wait};
+use std::test::Fail;
+use std::thread::Threads;
+
+/// A zone in which `www.t.` has an address.
+const ZONE: &str = "t. 60 SOA ns.t. h.t. 1 2 3 4 5\nt. 60 NS ns.t.\nwww.t. 60 A 10.0.0.1\n";
+
+/// A zone that is refused: a number of an address is too large.
+const REFUSED: &str = "t. 60 SOA ns.t. h.t. 1 2 3 4 5\nt. 60 NS ns.t.\nwww.t. 60 A 10.0.0.256\n";
+
+/// A check that finds nothing, and may run out of memory at its first view. It raises a shared count when it is let go.
+struct LetGo {
+    count: Arc<AtomicU64>,
+    fails: bool,
+}
+
+impl Drop for LetGo {
+    fn drop(self) {
+        let LetGo { count, fails: _ } = self;
+        count.fetch_add(1, Ordering::SeqCst);
+    }
+}
+
+impl SiteCheck for LetGo {
+    ghost use Rattle.std.specs.Prelude.{[], codes};
+
+    ghost name = { λ check. codes "let-go" };
+
+    ghost held = { λ check. [] };
+
+    ghost step = { λ check held view. [] };
+
+    fn title(&self, alloc: Global) -> Result<Line, NoMemory> {
+        Line::of_text(alloc, "let-go")
+    }
+
+    fn see(&mut self, _alloc: Global, _view: &View) -> Result<(), NoMemory> {
+        if self.fails {
+            return Err(NoMemory);
+        }
+        Ok(())
+    }
+
+    fn findings(&self, alloc: Global) -> Result<List<Line>, NoMemory> {
+        Ok(List::new(alloc))
+    }
+}
+
+/// How a run ends: its number, and what out and err took.
+#[derive(Drop)]
+struct End {
+    number: u8,
+    out: &'static str,
+    err: &'static str,
+}
+
+/// What a run writes on, and the files that it reads.
+#[derive(Drop)]
+struct Around {
+    files: MemoryFiles,
+    out: MemorySink,
+    err: MemorySink,
+}
+
+/// The files of one zone, and two outputs with room for any of these runs.
+fn around(alloc: Global, zone: &str) -> Result<Around, NoMemory> {
+    Ok(Around {
+        files: files(alloc, ALONE, &[("t.zone", zone)], List::new(alloc))?,
+        out: MemorySink::new(alloc, 100, List::new(alloc))?,
+        err: MemorySink::new(alloc, 100, List::new(alloc))?,
+    })
+}
+
+/// Whether the run has ended so.
+fn has_ended(status: &Status, around: &Around, end: &End) -> bool {
+    status.number() == end.number
+        && around.out.taken() == end.out.as_bytes()
+        && around.err.taken() == end.err.as_bytes()
+}
+
+/// Whether `site` ends so over a zone, with one check that shares this count and fails or not.
+fn ends<R: Threads + Wait + Sync>(
+    rt: &R,
+    alloc: Global,
+    zone: &str,
+    count: &Arc<AtomicU64>,
+    fails: bool,
+    end: &End,
+) -> Result<bool, NoMemory> {
+    let mut around = around(alloc, zone)?;
+    let mut sites: Vec<Box<dyn SiteCheck>> = Vec::new(alloc);
+    let count = Arc::try_clone(count)?;
+    sites.push(Box::new(alloc, LetGo { count, fails })?)?;
+    let words = ["site", "m.json"];
+    let Around { files, out, err } = &mut around;
+    let status = groot_with_sites(rt, alloc, &words, files, out, err, &FreeGate, sites);
+    Ok(has_ended(&status, &around, end))
+}
+
+// The check is let go once where the run tells what it found, where a file is refused, and where it ran out of memory; then
+// nothing is written.
+#[test]
+fn checks_are_let_go_however_a_run_ends(rt: HostRuntime) -> Result<(), Fail> {
+    let told = "{\"sites\":[{\"findings\":[],\"name\":\"let-go\"}]}\n";
+    let cases = [
+        (ZONE, false, 0, told, ""),
+        (REFUSED, false, 3, "", "t.zone:3: bad-address\n"),
+        (ZONE, true, 7, "", "no memory\n"),
+    ];
+    let count = Arc::new(rt.alloc(), AtomicU64::new(0))?;
+    let mut runs = 0;
+    for (zone, fails, number, out, err) in cases {
+        let end = End { number, out, err };
+        assert!(rt;
+            ends(&rt, rt.alloc(), zone, &count, fails, &end)?,
+            "status {number}"
+        );
+        runs += 1;
+        assert_eq!(rt; count.load(Ordering::SeqCst), runs, "after status {number}");
+    }
+    Ok(())
+}
+
+/// Whether `site` ends so for an operator who brings no check.
+fn ends_alone<R: Threads + Wait + Sync>(
+    rt: &R,
+    alloc: Global,
+    end: &End,
+) -> Result<bool, NoMemory> {
+    let mut around = around(alloc, ZONE)?;
+    let words = ["site", "m.json"];
+    let Around { files, out, err } = &mut around;
+    let status = groot(rt, alloc, &words, files, out, err, &FreeGate);
+    Ok(has_ended(&status, &around, end))
+}
+
+#[test]
+fn without_checks_nothing_is_told(rt: HostRuntime) -> Result<(), Fail> {
+    let end = End {
+        number: 0,
+        out: "{\"sites\":[]}\n",
+        err: "",
+    };
+    assert!(rt; ends_alone(&rt, rt.alloc(), &end)?);
+    Ok(())
+}
