@@ -34,7 +34,10 @@ def main():
 
 def wanted(what, command, status=0):
     """A line on what doesn't hold, if the command ends with another status or prints to the standard error without a fault."""
-    run = subprocess.run([str(word) for word in command], capture_output=True, text=True, check=False)
+    try:
+        run = subprocess.run([str(word) for word in command], capture_output=True, text=True, check=False)
+    except OSError as fault:
+        return [f"{what}: {fault.filename}: {fault.strerror}"]
     holds = run.returncode == status and (status or not run.stderr)
     return [] if holds else [f"{what}: status {run.returncode}, not {status}\n{run.stdout}{run.stderr}"]
 
