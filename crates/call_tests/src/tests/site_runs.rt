@@ -72,7 +72,7 @@ struct Around {
 }
 
 /// The files of one zone, and two outputs with room for any of these runs.
-fn around(alloc: Global, zone: &str) -> Result<Around, NoMemory> {
+fn over_zone(alloc: Global, zone: &str) -> Result<Around, NoMemory> {
     Ok(Around {
         files: files(alloc, ALONE, &[("t.zone", zone)], List::new(alloc))?,
         out: MemorySink::new(alloc, 100, List::new(alloc))?,
@@ -96,7 +96,7 @@ fn ends<R: Threads + Wait + Sync>(
     fails: bool,
     end: &End,
 ) -> Result<bool, NoMemory> {
-    let mut around = around(alloc, zone)?;
+    let mut around = over_zone(alloc, zone)?;
     let mut sites: Vec<Box<dyn SiteCheck>> = Vec::new(alloc);
     let count = Arc::try_clone(count)?;
     sites.push(Box::new(alloc, LetGo { count, fails })?)?;
@@ -136,7 +136,7 @@ fn ends_alone<R: Threads + Wait + Sync>(
     alloc: Global,
     end: &End,
 ) -> Result<bool, NoMemory> {
-    let mut around = around(alloc, ZONE)?;
+    let mut around = over_zone(alloc, ZONE)?;
     let words = ["site", "m.json"];
     let Around { files, out, err } = &mut around;
     let status = groot(rt, alloc, &words, files, out, err, &FreeGate);
