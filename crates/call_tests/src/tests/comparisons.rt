@@ -45,15 +45,20 @@ fn is_compared<N: PairNaming + Send>(alloc: Global, first: &Config, second: &Con
     }
 }
 
-/// Whether the verdicts of some ten names at most tell so.
+/// Whether the verdicts of the four names of both tell so.
 fn is_told<N: PairNaming + Send>(alloc: Global, pairing: &Pairing<'_, N>) -> bool {
     match walk_tree(alloc, pairing, 10) {
-        Ok(filed) => match pairing.outcome(filed) {
-            Ok(Sameness::Apart { query, rtype }) => {
-                rtype == RrType::A && spells(alloc, "x.t.", &query)
+        Ok(filed) => {
+            if filed.len() != 4 {
+                return false;
             }
-            _ => false,
-        },
+            match pairing.outcome(filed) {
+                Ok(Sameness::Apart { query, rtype }) => {
+                    rtype == RrType::A && spells(alloc, "x.t.", &query)
+                }
+                _ => false,
+            }
+        }
         Err(_) => false,
     }
 }
