@@ -55,12 +55,13 @@ fn view_by(alloc: Global, query: &Name, graph: &Graph) -> Result<View, NoMemory>
 
 /// Whether the two checks of the library, shown the view, tell what they are for.
 fn are_told(alloc: Global, view: &View) -> Result<bool, NoMemory> {
+    let mut a_only = AOnly::new(alloc);
+    a_only.see(alloc, view)?;
+    let mut answering = Answering::new(alloc);
+    answering.see(alloc, view)?;
     let mut sites: Vec<Box<dyn SiteCheck>> = Vec::new(alloc);
-    sites.push(Box::new(alloc, AOnly::new(alloc))?)?;
-    sites.push(Box::new(alloc, Answering::new(alloc))?)?;
-    for i in 0..sites.len() {
-        sites[i].see(alloc, view)?;
-    }
+    sites.push(Box::new(alloc, a_only)?)?;
+    sites.push(Box::new(alloc, answering)?)?;
     let told = tell(alloc, sites.as_slice())?;
     Ok(are_both(told.items()))
 }
