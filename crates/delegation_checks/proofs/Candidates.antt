@@ -18,14 +18,10 @@ use Rattle.net_model.specs.declared.walk.Hop.{Hop}
 use Rattle.net_model.specs.declared.walk.Hop.TheVariants.{Refer, Rewrite}
 use Rattle.net_model.specs.declared.walk.Leaf.{Leaf}
 use Rattle.delegation_checks.specs.Met.{IsOfReferral}
-use Rattle.delegation_checks.specs.Referrals.{branch_referrals, cut_faults, faults_at, leaf_faults, typed_referrals}
+use Rattle.delegation_checks.specs.Referrals.{branch_referrals, faults_at, leaf_faults, typed_referrals}
+use Rattle.zone_lookup.specs.ReferralFaults.{cut_faults, hop_faults}
 
--- the faults of a hop, whatever comes behind it
-abbrev pub hop_faults : Config → Deps → Hop → List Fault
-hop_faults config deps (Refer cut) = cut_faults config deps cut
-hop_faults config deps (Rewrite place by_dname to) = []
-
--- those of an end behind a hop
+-- the faults of an end behind a hop
 abbrev pub behind_faults : Deps → Hop → Leaf → List Fault
 behind_faults deps (Refer cut) leaf = leaf_faults deps cut leaf
 behind_faults deps (Rewrite place by_dname to) leaf = []

@@ -1,13 +1,13 @@
 -- The branches of a graph of a query show their faults, and each fault of a delegation is shown by one.
 use Rattle.std.proofs.Common.{◌≡◌, ℕ, Bool, true, false, ◌&&◌, not, List, [], ◌∷◌, ◌++◌, refl, sym, ap, ◌∙◌, subst, inl, inr, Some, None, true≢false, arith}
-use Rattle.std.specs.Prelude.{Contains, Option, if◌then◌else◌}
+use Rattle.std.specs.Prelude.{Contains, Option}
 use Rattle.std.specs.List.{AllByRecursion, flat_map}
 use Rattle.std.specs.Option.{option_to_list}
 use Rattle.std.proofs.lemmas.Bool.{and_from, and_parts, not-true, not_from_false, false_from_ne_true}
 use Rattle.std.proofs.lemmas.List.Elements.{Contains-append_cases, Contains-append_left, Contains-append_right}
 use Rattle.dns_data.specs.Name.{Labels, name_eq, is_prefix}
 use Rattle.dns_data.specs.declared.rr_type.RrType.{RrType}
-use Rattle.dns_data.proofs.Membership.{none_in_nil, has_first, first_or_later}
+use Rattle.dns_data.proofs.Membership.{none_in_nil}
 use Rattle.dns_data.proofs.Names.{name_eq_decides}
 use Rattle.graph_form.specs.Branches.{plain, typed_branches}
 use Rattle.graph_form.specs.Graph.{HasBranch, PlainGraph}
@@ -40,22 +40,15 @@ use Rattle.net_model.specs.declared.walk.Leaf.TheVariants as leaves
 use Rattle.net_model.specs.declared.walk.Walk.{Walk}
 use Rattle.delegation_checks.specs.Delegations.{IsGraphIn, is_of_delegations}
 use Rattle.delegation_checks.specs.Met.{AreOfReferrals}
-use Rattle.delegation_checks.specs.Referrals.{if_shown, leaf_faults, referral_faults, typed_referrals}
-use Rattle.delegation_checks.proofs.Candidates.{behind_faults, branch_faults, candidate, hop_faults, referral_met}
+use Rattle.delegation_checks.specs.Referrals.{leaf_faults, typed_referrals}
+use Rattle.delegation_checks.proofs.Candidates.{behind_faults, branch_faults, candidate, referral_met}
 use Rattle.zone_lookup.specs.LearntSets.{is_among}
+use Rattle.zone_lookup.specs.ReferralFaults.{hop_faults, referral_faults}
 use Rattle.zone_lookup.specs.Sides.{addresses_differ, zones_differ}
 use Rattle.zone_lookup.specs.Sound.{depends_on_itself, wants_glue}
 use Rattle.zone_lookup.proofs.ZonesTell.{among_has, cyclic_told, differ_told, glue_told, has_among, other_addresses, told_addresses, told_cyclic, told_differ, told_glue}
 use Rattle.zone_lookup.proofs.InsideZones.{BranchInside, HopInside, next_inside}
-
--- a fault that is shown, or none
-shown_one : (b : Bool) (fault other : Fault) → Contains (if_shown b fault) other → (b ≡ true) × (fault ≡ other)
-shown_one true fault other has = (refl, elim (first_or_later fault [] other has) [ inl same ↦ same | inr none ↦ absurd (none_in_nil other none) ])
-shown_one false fault other has = absurd (none_in_nil other has)
-
-one_shown : (b : Bool) (fault : Fault) → b ≡ true → Contains (if_shown b fault) fault
-one_shown true fault e = has_first fault []
-one_shown false fault e = cc
+use Rattle.zone_lookup.proofs.ReferralParts.{each_part, from_cut, has_cyclic, has_differs, has_no_glue, has_other_glue, in_cut, one_shown, shown_one}
 
 module _ (setting : Setting) (query : Labels) (deps : Deps) (graph : PlainGraph) (is : IsGraphOf setting query graph) (exact : IsExactIn setting query graph)
     (seen : List Seen) (are : AreOfReferrals setting.config deps (flat_map typed_referrals (typed_branches graph)) seen) where
@@ -63,98 +56,39 @@ module _ (setting : Setting) (query : Labels) (deps : Deps) (graph : PlainGraph)
   abbrev Shown : RrType → Fault → Type 0
   Shown rtype fault = Shows (with_lists setting deps.least deps.greatest) query rtype fault
 
-  -- ---- the parts of a referral's faults
-
-  abbrev differing : Cut → List Fault
-  differing cut = if_shown (zones_differ setting.config cut) (faults.Differs cut)
-
-  abbrev missing : Cut → List Fault
-  missing cut = if_shown (wants_glue setting.config cut) (faults.NoGlue cut)
-
-  abbrev other_glue : Cut → List Fault
-  other_glue cut = if_shown (addresses_differ setting.config cut) (faults.GlueDiffers cut)
-
-  abbrev cyclic : Cut → List Fault
-  cyclic cut = if_shown (depends_on_itself setting.config deps cut) (faults.Cyclic cut)
-
-  in_differing : (cut : Cut) (fault : Fault) → Contains (differing cut) fault → Contains (referral_faults setting.config deps cut) fault
-  in_differing cut fault has =
-      Contains-append_left (differing cut ++ missing cut ++ other_glue cut) (cyclic cut) fault
-      (Contains-append_left (differing cut ++ missing cut) (other_glue cut) fault (Contains-append_left (differing cut) (missing cut) fault has))
-
-  in_missing : (cut : Cut) (fault : Fault) → Contains (missing cut) fault → Contains (referral_faults setting.config deps cut) fault
-  in_missing cut fault has =
-      Contains-append_left (differing cut ++ missing cut ++ other_glue cut) (cyclic cut) fault
-      (Contains-append_left (differing cut ++ missing cut) (other_glue cut) fault (Contains-append_right (differing cut) (missing cut) fault has))
-
-  in_other_glue : (cut : Cut) (fault : Fault) → Contains (other_glue cut) fault → Contains (referral_faults setting.config deps cut) fault
-  in_other_glue cut fault has =
-      Contains-append_left (differing cut ++ missing cut ++ other_glue cut) (cyclic cut) fault
-      (Contains-append_right (differing cut ++ missing cut) (other_glue cut) fault has)
-
-  in_cyclic : (cut : Cut) (fault : Fault) → Contains (cyclic cut) fault → Contains (referral_faults setting.config deps cut) fault
-  in_cyclic cut fault has = Contains-append_right (differing cut ++ missing cut ++ other_glue cut) (cyclic cut) fault has
-
-  -- in which of them a fault stands
-  by_part : (P : Type 0) (cut : Cut) (fault : Fault) → (Contains (differing cut) fault → P) → (Contains (missing cut) fault → P)
-      → (Contains (other_glue cut) fault → P) → (Contains (cyclic cut) fault → P) → Contains (referral_faults setting.config deps cut) fault → P
-  by_part P cut fault one two three four has =
-      elim (Contains-append_cases (differing cut ++ missing cut ++ other_glue cut) (cyclic cut) fault has) [
-        | inl first ↦ elim (Contains-append_cases (differing cut ++ missing cut) (other_glue cut) fault first) [
-          | inl both ↦ elim (Contains-append_cases (differing cut) (missing cut) fault both) [ inl here ↦ one here | inr here ↦ two here ]
-          | inr here ↦ three here
-        ]
-        | inr last ↦ four last
-      ]
-
   -- ---- what a branch shows
 
   -- of a referral, whatever comes behind it
   by_referral : (rtype : RrType) (cut : Cut) (fault : Fault) → WalkWith graph rtype setting query is exact (Refer cut)
       → Contains (referral_faults setting.config deps cut) fault → Shown rtype fault
-  by_referral rtype cut fault on has = by_part (Shown rtype fault) cut fault of_differs of_glue of_other_glue of_cyclic has where
-    of_differs : Contains (if_shown (zones_differ setting.config cut) (faults.Differs cut)) fault → Shown rtype fault
-    of_differs here =
-        let one = shown_one (zones_differ setting.config cut) (faults.Differs cut) fault here in
-        let zones = differ_told setting.config cut one.0 in
-        subst (Shown rtype) one.1
-        (record { walks = on.walk ∷ []; by = record { may = tt; are_walks = (on.is_walk, tt); show = record { refers = on.among; zones = zones } } })
+  by_referral rtype cut fault on has =
+      each_part setting.config deps cut (Shown rtype) of_differs of_no_glue of_other_glue of_cyclic fault has
+    where
+      of_differs : zones_differ setting.config cut ≡ true → Shown rtype (faults.Differs cut)
+      of_differs e =
+          let zones = differ_told setting.config cut e in
+          record { walks = on.walk ∷ []; by = record { may = tt; are_walks = (on.is_walk, tt); show = record { refers = on.among; zones = zones } } }
 
-    of_glue : Contains (if_shown (wants_glue setting.config cut) (faults.NoGlue cut)) fault → Shown rtype fault
-    of_glue here =
-        let one = shown_one (wants_glue setting.config cut) (faults.NoGlue cut) fault here in
-        let wants = glue_told setting.config cut one.0 in
-        subst (Shown rtype) one.1
-        (record { walks = on.walk ∷ []; by = record { may = tt; are_walks = (on.is_walk, tt); show = record { refers = on.among; wants = wants } } })
+      of_no_glue : wants_glue setting.config cut ≡ true → Shown rtype (faults.NoGlue cut)
+      of_no_glue e =
+          let wants = glue_told setting.config cut e in
+          record { walks = on.walk ∷ []; by = record { may = tt; are_walks = (on.is_walk, tt); show = record { refers = on.among; wants = wants } } }
 
-    of_cyclic : Contains (if_shown (depends_on_itself setting.config deps cut) (faults.Cyclic cut)) fault → Shown rtype fault
-    of_cyclic here =
-        let one = shown_one (depends_on_itself setting.config deps cut) (faults.Cyclic cut) fault here in
-        let depends = cyclic_told setting deps cut one.0 in
-        subst (Shown rtype) one.1
-        (record {
-          walks = on.walk ∷ [];
-          by = record { may = tt; are_walks = (on.is_walk, tt); show = record { refers = on.among; depends = depends } };
-        })
+      of_other_glue : addresses_differ setting.config cut ≡ true → Shown rtype (faults.GlueDiffers cut)
+      of_other_glue e =
+          let glue = other_addresses setting.config cut e in
+          record { walks = on.walk ∷ []; by = record { may = tt; are_walks = (on.is_walk, tt); show = record { refers = on.among; glue = glue } } }
 
-    of_other_glue : Contains (other_glue cut) fault → Shown rtype fault
-    of_other_glue here =
-        let one = shown_one (addresses_differ setting.config cut) (faults.GlueDiffers cut) fault here in
-        let zones = other_addresses setting.config cut one.0 in
-        subst (Shown rtype) one.1
-        (record {
-          walks = on.walk ∷ [];
-          by = record { may = tt; are_walks = (on.is_walk, tt); show = record { refers = on.among; glue = zones } };
-        })
+      of_cyclic : depends_on_itself setting.config deps cut ≡ true → Shown rtype (faults.Cyclic cut)
+      of_cyclic e =
+          let depends = cyclic_told setting deps cut e in
+          record { walks = on.walk ∷ []; by = record { may = tt; are_walks = (on.is_walk, tt); show = record { refers = on.among; depends = depends } } }
 
   -- of a hop
   by_hop : (rtype : RrType) (hop : Hop) (fault : Fault) → WalkWith graph rtype setting query is exact hop
       → Contains (hop_faults setting.config deps hop) fault → Shown rtype fault
   by_hop rtype (Rewrite place by_dname to) fault on has = absurd (none_in_nil fault has)
-  by_hop rtype (Refer cut) fault on has = by (is_prefix cut.zone cut.cut) has where
-    by : (b : Bool) → Contains (if b then referral_faults setting.config deps cut else []) fault → Shown rtype fault
-    by true has = by_referral rtype cut fault on has
-    by false has = absurd (none_in_nil fault has)
+  by_hop rtype (Refer cut) fault on has = by_referral rtype cut fault on (from_cut setting.config deps cut fault has)
 
   -- of an end behind a hop
   by_leaf : (rtype : RrType) (node : Node) (cut : Cut) (leaf : Leaf) (fault : Fault) → WalkBy graph rtype setting query is exact node (Some (Refer cut)) leaf
@@ -211,21 +145,11 @@ module _ (setting : Setting) (query : Labels) (deps : Deps) (graph : PlainGraph)
 
   -- ---- its kind
 
-  of_referral_kind : (cut : Cut) (fault : Fault) → Contains (referral_faults setting.config deps cut) fault → is_of_delegations fault ≡ true
-  of_referral_kind cut fault has =
-      by_part (is_of_delegations fault ≡ true) cut fault
-      (λ here. ap is_of_delegations (sym (shown_one (zones_differ setting.config cut) (faults.Differs cut) fault here).1))
-      (λ here. ap is_of_delegations (sym (shown_one (wants_glue setting.config cut) (faults.NoGlue cut) fault here).1))
-      (λ here. ap is_of_delegations (sym (shown_one (addresses_differ setting.config cut) (faults.GlueDiffers cut) fault here).1))
-      (λ here. ap is_of_delegations (sym (shown_one (depends_on_itself setting.config deps cut) (faults.Cyclic cut) fault here).1))
-      has
-
   of_hop_kind : (hop : Hop) (fault : Fault) → Contains (hop_faults setting.config deps hop) fault → is_of_delegations fault ≡ true
   of_hop_kind (Rewrite place by_dname to) fault has = absurd (none_in_nil fault has)
-  of_hop_kind (Refer cut) fault has = by (is_prefix cut.zone cut.cut) has where
-    by : (b : Bool) → Contains (if b then referral_faults setting.config deps cut else []) fault → is_of_delegations fault ≡ true
-    by true has = of_referral_kind cut fault has
-    by false has = absurd (none_in_nil fault has)
+  of_hop_kind (Refer cut) fault has =
+      each_part setting.config deps cut (λ (one : Fault). is_of_delegations one ≡ true) (λ e. refl) (λ e. refl) (λ e. refl) (λ e. refl) fault
+      (from_cut setting.config deps cut fault has)
 
   of_leaf_kind : (cut : Cut) (leaf : Leaf) (fault : Fault) → Contains (leaf_faults deps cut leaf) fault → is_of_delegations fault ≡ true
   of_leaf_kind cut (leaves.Lame ns) fault has = ap is_of_delegations (sym (shown_one (name_eq cut.ns ns) (faults.Lame cut) fault has).1)
@@ -282,7 +206,7 @@ module _ (setting : Setting) (query : Labels) (deps : Deps) (graph : PlainGraph)
   of_referral : (rtype : RrType) (cut : Cut) (fault : Fault) (at : HopAt graph rtype (Refer cut)) → Contains (referral_faults setting.config deps cut) fault → Covered rtype fault
   of_referral rtype cut fault at has = collected rtype fault at.at at.number at.node at.branch at.has (by at.branch at.has_hop) where
     of_hop : Contains (hop_faults setting.config deps (Refer cut)) fault
-    of_hop = subst (λ (b : Bool). Contains (if b then referral_faults setting.config deps cut else []) fault) (sym (inside rtype cut at)) has
+    of_hop = in_cut setting.config deps cut (inside rtype cut at) fault has
 
     by : (branch : Branch) → HasHop (Refer cut) branch → Contains (branch_faults setting.config deps branch) fault
     by (Go hop to) same = subst (λ h. Contains (hop_faults setting.config deps h) fault) (sym same) of_hop
@@ -332,22 +256,16 @@ module _ (setting : Setting) (query : Labels) (deps : Deps) (graph : PlainGraph)
       (not_from_false (is_among deps.greatest cut.ns) (false_from_ne_true (is_among deps.greatest cut.ns) (λ e. show.not_at_most (among_has deps.greatest cut.ns e))))))
   by_kind rtype (faults.Differs cut) walk kind is_walk show =
       of_referral rtype cut (faults.Differs cut) (hop_of_walk graph rtype setting query is exact walk (Refer cut) is_walk show.refers)
-      (in_differing cut (faults.Differs cut)
-      (one_shown (zones_differ setting.config cut) (faults.Differs cut) (told_differ setting.config cut show.zones)))
+      (has_differs setting.config deps cut (told_differ setting.config cut show.zones))
   by_kind rtype (faults.NoGlue cut) walk kind is_walk show =
       of_referral rtype cut (faults.NoGlue cut) (hop_of_walk graph rtype setting query is exact walk (Refer cut) is_walk show.refers)
-      (in_missing cut (faults.NoGlue cut)
-      (one_shown (wants_glue setting.config cut) (faults.NoGlue cut) (told_glue setting.config cut show.wants)))
+      (has_no_glue setting.config deps cut (told_glue setting.config cut show.wants))
   by_kind rtype (faults.GlueDiffers cut) walk kind is_walk show =
       of_referral rtype cut (faults.GlueDiffers cut) (hop_of_walk graph rtype setting query is exact walk (Refer cut) is_walk show.refers)
-      (in_other_glue cut (faults.GlueDiffers cut)
-      (one_shown (addresses_differ setting.config cut) (faults.GlueDiffers cut)
-      (told_addresses setting.config cut show.glue)))
+      (has_other_glue setting.config deps cut (told_addresses setting.config cut show.glue))
   by_kind rtype (faults.Cyclic cut) walk kind is_walk show =
       of_referral rtype cut (faults.Cyclic cut) (hop_of_walk graph rtype setting query is exact walk (Refer cut) is_walk show.refers)
-      (in_cyclic cut (faults.Cyclic cut)
-      (one_shown (depends_on_itself setting.config deps cut) (faults.Cyclic cut)
-      (told_cyclic setting deps cut show.depends)))
+      (has_cyclic setting.config deps cut (told_cyclic setting deps cut show.depends))
   by_kind rtype fault walk kind is_walk show = cc
 
   shown_collected : (rtype : RrType) (fault : Fault) → is_of_delegations fault ≡ true → Shown rtype fault → Covered rtype fault

@@ -19,7 +19,8 @@ use Rattle.net_model.specs.declared.place.Cut.{Cut}
 use Rattle.net_model.specs.declared.walk.Leaf.{Leaf}
 use Rattle.graph_form.specs.Branches.{with_type}
 use Rattle.delegation_checks.specs.Met.{AreOfReferrals, IsAgain, IsOfReferral, is_met}
-use Rattle.delegation_checks.specs.Referrals.{cut_faults, referral_end_faults, faults_at}
+use Rattle.delegation_checks.specs.Referrals.{referral_end_faults, faults_at}
+use Rattle.zone_lookup.specs.ReferralFaults.{cut_faults}
 use Rattle.delegation_checks.specs.declared.referrals.Met.{Met}
 
 -- an item of a longer list covers as well

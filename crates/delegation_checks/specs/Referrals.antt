@@ -1,6 +1,6 @@
 -- The faults of a referral to a name server and of an end behind it.
-use Rattle.std.specs.Prelude.{Bool, ◌&&◌, not, List, [], ◌∷◌, ◌++◌, map, Option, Some, None, if◌then◌else◌}
-use Rattle.dns_data.specs.Name.{name_eq, is_prefix}
+use Rattle.std.specs.Prelude.{◌&&◌, not, List, [], ◌∷◌, ◌++◌, map, Option, Some, None}
+use Rattle.dns_data.specs.Name.{name_eq}
 use Rattle.dns_data.specs.declared.rr_type.RrType.{RrType}
 use Rattle.graph_form.specs.Branches.{PlainBranch}
 use Rattle.net_model.specs.declared.deps.Deps.{Deps}
@@ -15,23 +15,7 @@ use Rattle.net_model.specs.declared.walk.Hop.TheVariants.{Refer, Rewrite}
 use Rattle.net_model.specs.declared.walk.Leaf.{Leaf}
 use Rattle.net_model.specs.declared.walk.Leaf.TheVariants as leaves
 use Rattle.zone_lookup.specs.LearntSets.{is_among}
-use Rattle.zone_lookup.specs.Sides.{addresses_differ, zones_differ}
-use Rattle.zone_lookup.specs.Sound.{depends_on_itself, wants_glue}
-
--- a fault that is shown, or none
-abbrev pub if_shown : Bool → Fault → List Fault
-if_shown shown fault = if shown then fault ∷ [] else []
-
--- the faults of a referral, whatever comes behind it
-abbrev pub referral_faults : Config → Deps → Cut → List Fault
-referral_faults config deps cut =
-    if_shown (zones_differ config cut) (faults.Differs cut) ++ if_shown (wants_glue config cut) (faults.NoGlue cut)
-    ++ if_shown (addresses_differ config cut) (faults.GlueDiffers cut) ++ if_shown (depends_on_itself config deps cut) (faults.Cyclic cut)
-
--- the faults of a referral whose zone cut is at or below its zone's origin, as that of every referral on a walk is; another
--- referral has none
-abbrev pub cut_faults : Config → Deps → Cut → List Fault
-cut_faults config deps cut = if is_prefix cut.zone cut.cut then referral_faults config deps cut else []
+use Rattle.zone_lookup.specs.ReferralFaults.{cut_faults, if_shown}
 
 -- the faults of an end behind a referral
 abbrev pub leaf_faults : Deps → Cut → Leaf → List Fault

@@ -4,9 +4,10 @@ ghost use Rattle.std.specs.Prelude.{◌≡◌, ◌++◌, ◌<◌, IfOk, OnOk, le
 ghost use Rattle.std.specs.Option.{option_copied};
 ghost use Rattle.dns_data.specs.Name.{is_prefix};
 ghost use Rattle.delegation_checks.specs.Met.{AreOfReferrals, IsAgain, is_met, met_cmp};
-ghost use Rattle.delegation_checks.specs.Referrals.{cut_faults, referral_end_faults, if_shown, leaf_faults, referral_faults};
+ghost use Rattle.delegation_checks.specs.Referrals.{leaf_faults, referral_end_faults};
 ghost use Rattle.graph_form.specs.Branches.{with_type};
 ghost use Rattle.net_model.specs.declared.fault.Fault.TheVariants as faults;
+ghost use Rattle.zone_lookup.specs.ReferralFaults.{cut_faults, if_shown, referral_faults};
 ghost use Rattle.zone_lookup.specs.Sides.{addresses_differ, zones_differ};
 ghost use Rattle.zone_lookup.specs.Sound.{depends_on_itself, wants_glue};
 

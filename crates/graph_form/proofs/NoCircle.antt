@@ -35,11 +35,13 @@ at_place P (y ∷ ys) (suc k) x all e = at_place P ys k x all.1 e
 abbrev pub Earlier : State → State → Type 0
 Earlier a b = (a.used < b.used) ⊎ ((a.used ≡ b.used) × (a.cut < b.cut))
 
-earlier_than_itself : (a : State) → Earlier a a → ⊥
+-- no state is earlier than itself
+pub earlier_than_itself : (a : State) → Earlier a a → ⊥
 earlier_than_itself a (inl less) = omega arith
 earlier_than_itself a (inr less) = omega (arith, less.1)
 
-earlier_still : (a b c : State) → Earlier a b → Earlier b c → Earlier a c
+-- what is earlier than an earlier state is earlier
+pub earlier_still : (a b c : State) → Earlier a b → Earlier b c → Earlier a c
 earlier_still a b c (inl one) (inl other) = inl (omega arith)
 earlier_still a b c (inl one) (inr other) = inl (omega (arith, other.0))
 earlier_still a b c (inr one) (inl other) = inl (omega (arith, one.0))

@@ -32,10 +32,11 @@ use Rattle.graph_form.proofs.TakenPaths.{ended, path_parts, IsRest, Tells}
 -- ---- what is equal
 
 -- names that are equal are one
-same_name : (a b : Labels) → name_eq a b ≡ true → a ≡ b
+pub same_name : (a b : Labels) → name_eq a b ≡ true → a ≡ b
 same_name a b e = (name_eq_decides a b).0 e
 
-name_itself : (a : Labels) → name_eq a a ≡ true
+-- a name is equal to itself by the test
+pub name_itself : (a : Labels) → name_eq a a ≡ true
 name_itself a = (name_eq_decides a a).1 refl
 
 -- places that are equal are one

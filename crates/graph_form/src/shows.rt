@@ -143,8 +143,8 @@ fn is_last(place: &Place, last: &Option<Place>) -> bool
     }
 }
 
-/// Whether two places are equal.
-fn is_place(a: &Place, b: &Place) -> bool
+/// Whether two places are equal: server, zone and owner.
+pub fn is_place(a: &Place, b: &Place) -> bool
     ensures { result ≡ place_eq a.now b.now }
 {
     a.server == b.server && a.zone == b.zone && a.owner == b.owner

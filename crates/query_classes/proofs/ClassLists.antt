@@ -38,7 +38,7 @@ of_its_name row listed has =
         ]
 
 -- classes stand as the names by which they go
-by_names : (a b : Class) → name_cmp (class_name a) (class_name b) ≡ Less → class_cmp a b ≡ Less
+pub by_names : (a b : Class) → name_cmp (class_name a) (class_name b) ≡ Less → class_cmp a b ≡ Less
 by_names (Exact a) (Exact b) before = before
 by_names (Exact a) (Below b) before = ap (λ o. ordering_then o Less) before
 by_names (Below a) (Exact b) before = ap (λ o. ordering_then o Greater) before

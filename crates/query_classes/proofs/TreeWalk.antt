@@ -142,8 +142,8 @@ pub record AreWalked (ground : Ground) (from : Labels) (passed waiting : List La
   pub apart : Falls waiting
   pub all : (name : Labels) → IsInPart ground from name → Contains passed name ⊎ ((above : Labels) × Contains waiting above × Begins above name)
 
--- one item alone
-only : {X : Type 0} (x y : X) → Contains (x ∷ []) y → x ≡ y
+-- what a list of one item has is that item
+pub only : {X : Type 0} (x y : X) → Contains (x ∷ []) y → x ≡ y
 only x y has = elim (first_or_later x [] y has) [ inl same ↦ same | inr none ↦ absurd (none_in_nil y none) ]
 
 module _ (ground : Ground) (closed : IsClosed ground) (from : Labels) where

@@ -2,6 +2,7 @@
 use Rattle.std.proofs.Common.{◌≡◌, ℕ, ◌+◌, ◌<◌, ◌≤◌, List, [], ◌∷◌, ◌++◌, zero, suc, length, map, take, drop, get_or, Some, Result, Ok, Err, IsErr, IsErrAnd, refl, sym, ap, subst, ◌∙◌, arith}
 use Rattle.std.proofs.lemmas.List.{take_more, take_all}
 use Rattle.std.specs.List.{AllByRecursion}
+use Rattle.dns_data.proofs.Names.{all_push}
 use Rattle.net_model.specs.declared.config.Config.{Config}
 use Rattle.serde_json.specs.Data.{Data}
 use Rattle.report_check.specs.Checked.{IsChecked, IsConfirmed, IsFirst, IsWrong, LearningPasses, PassesWalks}
@@ -11,10 +12,6 @@ use Rattle.report_check.specs.declared.answer.Checked.{Checked}
 use Rattle.report_check.specs.declared.answer.Checked.TheVariants.{Right, Wrong}
 use Rattle.report_check.specs.declared.answer.CheckFault.{CheckFault}
 use Rattle.report_check.specs.declared.answer.CheckFault.TheVariants.{NotReport, Walks, NoMemory}
-
-all_more : {X : Type 0} (P : X → Type 0) (xs : List X) (x : X) → AllByRecursion P xs → P x → AllByRecursion P (xs ++ x ∷ [])
-all_more P [] x each one = (one, tt)
-all_more P (y ∷ xs) x each one = (each.0, all_more P xs x each.1 one)
 
 module _ {V : Type 0} (see : V → Data) where
   -- what holds along a list holds of one item
@@ -27,7 +24,7 @@ module _ {V : Type 0} (see : V → Data) where
   pub one_more : (P : Data → Type 0) (xs : List V) (i : ℕ) (x : V) → i < length xs → x ≡ get_or xs i x → AllByRecursion P (map see (take i xs)) → P (see x) → AllByRecursion P (map see (take (i + 1) xs))
   one_more P xs i x there is each one =
       subst (λ l. AllByRecursion P (map see l)) (ap (λ y. take i xs ++ y ∷ []) is ∙ sym (take_more xs i x there))
-      (subst (AllByRecursion P) (mapped (take i xs)) (all_more P (map see (take i xs)) (see x) each one))
+      (subst (AllByRecursion P) (mapped (take i xs)) (all_push P (map see (take i xs)) (see x) each one))
     where
       mapped : (ys : List V) → map see ys ++ see x ∷ [] ≡ map see (ys ++ x ∷ [])
       mapped [] = refl

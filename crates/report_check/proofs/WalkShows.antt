@@ -1,12 +1,12 @@
 -- The faults that are found on one walk are those that it shows by itself.
-use Rattle.std.proofs.Common.{◌≡◌, ◌↔◌, Bool, true, false, ◌&&◌, not, List, [], ◌∷◌, ◌++◌, refl, sym, ap, ◌∙◌, subst, inl, inr, Option, Some, None, true≢false}
-use Rattle.std.specs.Prelude.{Contains, if◌then◌else◌}
+use Rattle.std.proofs.Common.{◌≡◌, ◌↔◌, true, ◌&&◌, not, List, [], ◌∷◌, ◌++◌, refl, sym, ap, ◌∙◌, subst, inl, inr, Option, Some, None, true≢false}
+use Rattle.std.specs.Prelude.{Contains}
 use Rattle.std.specs.List.{flat_map}
 use Rattle.std.proofs.lemmas.Bool.{and_from, and_parts, not-true, not_from_false, false_from_ne_true}
 use Rattle.std.proofs.lemmas.List.Elements.{Contains-append_cases, Contains-append_left, Contains-append_right}
 use Rattle.dns_data.specs.Name.{Labels, name_eq, is_prefix}
 use Rattle.dns_data.specs.declared.rr_type.RrType.{RrType}
-use Rattle.dns_data.proofs.Membership.{none_in_nil, has_first, first_or_later, flat_map_has, from_flat_map}
+use Rattle.dns_data.proofs.Membership.{none_in_nil, has_first, flat_map_has, from_flat_map}
 use Rattle.dns_data.proofs.Names.{name_eq_decides}
 use Rattle.net_model.specs.Shown.{DependsOnItself, Refers, WalksShow, with_lists, with_sets}
 use Rattle.net_model.specs.Step.{Setting}
@@ -24,26 +24,16 @@ use Rattle.net_model.specs.declared.walk.State.{State}
 use Rattle.net_model.specs.declared.walk.Walk.{Walk}
 use Rattle.net_model.proofs.LearntSets.{in_least, in_greatest}
 use Rattle.zone_lookup.specs.LearntSets.{is_among}
+use Rattle.zone_lookup.specs.ReferralFaults.{hop_faults, referral_faults}
 use Rattle.zone_lookup.specs.Sides.{addresses_differ, zones_differ}
 use Rattle.zone_lookup.specs.Sound.{depends_on_itself, wants_glue}
+use Rattle.zone_lookup.proofs.ReferralParts.{each_part, from_cut, has_cyclic, has_differs, has_no_glue, has_other_glue, in_cut, one_shown, shown_one}
 use Rattle.zone_lookup.proofs.ZonesTell.{among_has, cyclic_told, differ_told, glue_told, has_among, other_addresses, told_addresses, told_cyclic, told_differ, told_glue}
 use Rattle.report_check.specs.Entries.{AreLearnt}
-use Rattle.report_check.specs.WalkFaults.{blackhole_in, blackhole_of, end_faults, hop_faults, if_shown, lame_behind, last_of, referral_faults, unlearnt_behind, walk_faults}
+use Rattle.query_classes.proofs.TreeWalk.{only}
+use Rattle.report_check.specs.WalkFaults.{blackhole_in, blackhole_of, end_faults, lame_behind, last_of, unlearnt_behind, walk_faults}
 use Rattle.report_check.proofs.HopsInside.{refers_inside}
 use Rattle.report_check.proofs.Lasts.{before_last, last_behind}
-
--- a fault that is shown, or none
-shown_one : (b : Bool) (fault other : Fault) → Contains (if_shown b fault) other → (b ≡ true) × (fault ≡ other)
-shown_one true fault other has = (refl, elim (first_or_later fault [] other has) [ inl same ↦ same | inr none ↦ absurd (none_in_nil other none) ])
-shown_one false fault other has = absurd (none_in_nil other has)
-
-one_shown : (b : Bool) (fault : Fault) → b ≡ true → Contains (if_shown b fault) fault
-one_shown true fault e = has_first fault []
-one_shown false fault e = cc
-
--- the only item
-only : {X : Type 0} (x y : X) → Contains (x ∷ []) y → x ≡ y
-only x y has = elim (first_or_later x [] y has) [ inl same ↦ same | inr none ↦ absurd (none_in_nil y none) ]
 
 module _ (setting : Setting) (deps : Deps) (learnt : AreLearnt setting.config setting.rewrites deps) where
   -- ---- the lists stand for the sets
@@ -73,83 +63,27 @@ module _ (setting : Setting) (deps : Deps) (learnt : AreLearnt setting.config se
     abbrev Shown : Fault → Type 0
     Shown fault = WalksShow (with_sets setting) (walk ∷ []) fault
 
-    -- ---- the parts of a referral's faults
-
-    abbrev differing : Cut → List Fault
-    differing cut = if_shown (zones_differ setting.config cut) (faults.Differs cut)
-
-    abbrev missing : Cut → List Fault
-    missing cut = if_shown (wants_glue setting.config cut) (faults.NoGlue cut)
-
-    abbrev other_glue : Cut → List Fault
-    other_glue cut = if_shown (addresses_differ setting.config cut) (faults.GlueDiffers cut)
-
-    abbrev cyclic : Cut → List Fault
-    cyclic cut = if_shown (depends_on_itself setting.config deps cut) (faults.Cyclic cut)
-
-    in_differing : (cut : Cut) (fault : Fault) → Contains (differing cut) fault → Contains (referral_faults setting.config deps cut) fault
-    in_differing cut fault has =
-        Contains-append_left (differing cut ++ missing cut ++ other_glue cut) (cyclic cut) fault
-        (Contains-append_left (differing cut ++ missing cut) (other_glue cut) fault (Contains-append_left (differing cut) (missing cut) fault has))
-
-    in_missing : (cut : Cut) (fault : Fault) → Contains (missing cut) fault → Contains (referral_faults setting.config deps cut) fault
-    in_missing cut fault has =
-        Contains-append_left (differing cut ++ missing cut ++ other_glue cut) (cyclic cut) fault
-        (Contains-append_left (differing cut ++ missing cut) (other_glue cut) fault (Contains-append_right (differing cut) (missing cut) fault has))
-
-    in_other_glue : (cut : Cut) (fault : Fault) → Contains (other_glue cut) fault → Contains (referral_faults setting.config deps cut) fault
-    in_other_glue cut fault has =
-        Contains-append_left (differing cut ++ missing cut ++ other_glue cut) (cyclic cut) fault
-        (Contains-append_right (differing cut ++ missing cut) (other_glue cut) fault has)
-
-    in_cyclic : (cut : Cut) (fault : Fault) → Contains (cyclic cut) fault → Contains (referral_faults setting.config deps cut) fault
-    in_cyclic cut fault has = Contains-append_right (differing cut ++ missing cut ++ other_glue cut) (cyclic cut) fault has
-
     -- ---- what is found is shown
-
-    of_differing : (cut : Cut) (fault : Fault) → Refers walk cut → Contains (differing cut) fault → Shown fault
-    of_differing cut fault refers has =
-        let one = shown_one (zones_differ setting.config cut) (faults.Differs cut) fault has in
-        let zones = differ_told setting.config cut one.0 in
-        subst Shown one.1 (record { refers = refers; zones = zones })
-
-    of_missing : (cut : Cut) (fault : Fault) → Refers walk cut → Contains (missing cut) fault → Shown fault
-    of_missing cut fault refers has =
-        let one = shown_one (wants_glue setting.config cut) (faults.NoGlue cut) fault has in
-        let wants = glue_told setting.config cut one.0 in
-        subst Shown one.1 (record { refers = refers; wants = wants })
-
-    of_other_glue : (cut : Cut) (fault : Fault) → Refers walk cut → Contains (other_glue cut) fault → Shown fault
-    of_other_glue cut fault refers has =
-        let one = shown_one (addresses_differ setting.config cut) (faults.GlueDiffers cut) fault has in
-        let glue = other_addresses setting.config cut one.0 in
-        subst Shown one.1 (record { refers = refers; glue = glue })
-
-    of_cyclic : (cut : Cut) (fault : Fault) → Refers walk cut → Contains (cyclic cut) fault → Shown fault
-    of_cyclic cut fault refers has =
-        let one = shown_one (depends_on_itself setting.config deps cut) (faults.Cyclic cut) fault has in
-        let depends = by_sets cut (cyclic_told setting deps cut one.0) in
-        subst Shown one.1 (record { refers = refers; depends = depends })
 
     of_referral : (cut : Cut) (fault : Fault) → Refers walk cut → Contains (referral_faults setting.config deps cut) fault → Shown fault
     of_referral cut fault refers has =
-        elim (Contains-append_cases (differing cut ++ missing cut ++ other_glue cut) (cyclic cut) fault has) [
-          | inl three ↦ elim (Contains-append_cases (differing cut ++ missing cut) (other_glue cut) fault three) [
-            | inl two ↦ elim (Contains-append_cases (differing cut) (missing cut) fault two) [
-              | inl one ↦ of_differing cut fault refers one
-              | inr one ↦ of_missing cut fault refers one
-            ]
-            | inr one ↦ of_other_glue cut fault refers one
-          ]
-          | inr one ↦ of_cyclic cut fault refers one
-        ]
+        each_part setting.config deps cut Shown of_differs of_no_glue of_other_glue of_cyclic fault has
+      where
+        of_differs : zones_differ setting.config cut ≡ true → Shown (faults.Differs cut)
+        of_differs e = let zones = differ_told setting.config cut e in record { refers = refers; zones = zones }
+
+        of_no_glue : wants_glue setting.config cut ≡ true → Shown (faults.NoGlue cut)
+        of_no_glue e = let wants = glue_told setting.config cut e in record { refers = refers; wants = wants }
+
+        of_other_glue : addresses_differ setting.config cut ≡ true → Shown (faults.GlueDiffers cut)
+        of_other_glue e = let glue = other_addresses setting.config cut e in record { refers = refers; glue = glue }
+
+        of_cyclic : depends_on_itself setting.config deps cut ≡ true → Shown (faults.Cyclic cut)
+        of_cyclic e = let depends = by_sets cut (cyclic_told setting deps cut e) in record { refers = refers; depends = depends }
 
     of_hop : (hop : Hop) (fault : Fault) → Contains walk.hops hop → Contains (hop_faults setting.config deps hop) fault → Shown fault
     of_hop (Rewrite place by_dname to) fault among has = absurd (none_in_nil fault has)
-    of_hop (Refer cut) fault among has = by (is_prefix cut.zone cut.cut) has where
-      by : (b : Bool) → Contains (if b then referral_faults setting.config deps cut else []) fault → Shown fault
-      by true has = of_referral cut fault among has
-      by false has = absurd (none_in_nil fault has)
+    of_hop (Refer cut) fault among has = of_referral cut fault among (from_cut setting.config deps cut fault has)
 
     of_lame : (ns : Labels) (hop : Option Hop) (fault : Fault) → last_of walk.hops ≡ hop → walk.leaf ≡ leaves.Lame ns → Contains (lame_behind ns hop) fault → Shown fault
     of_lame ns (Some (Refer cut)) fault last is has =
@@ -209,8 +143,7 @@ module _ (setting : Setting) (deps : Deps) (learnt : AreLearnt setting.config se
         → Contains (walk_faults setting.config deps walk) fault
     by_referral cut fault refers inside has =
         Contains-append_left (flat_map (hop_faults setting.config deps) walk.hops) (end_faults deps (last_of walk.hops) (last_of walk.states) walk.leaf) fault
-        (flat_map_has (hop_faults setting.config deps) walk.hops (Refer cut) fault refers
-        (subst (λ (b : Bool). Contains (if b then referral_faults setting.config deps cut else []) fault) (sym inside) has))
+        (flat_map_has (hop_faults setting.config deps) walk.hops (Refer cut) fault refers (in_cut setting.config deps cut inside fault has))
 
     by_end : (hop : Option Hop) (state : Option State) (leaf : Leaf) (fault : Fault) → last_of walk.hops ≡ hop → last_of walk.states ≡ state → walk.leaf ≡ leaf
         → Contains (end_faults deps hop state leaf) fault → Contains (walk_faults setting.config deps walk) fault
@@ -233,16 +166,16 @@ module _ (setting : Setting) (deps : Deps) (learnt : AreLearnt setting.config se
           (one_shown (name_eq cut.ns cut.ns) (faults.Lame cut) ((name_eq_decides cut.ns cut.ns).1 refl))
       shown_found (faults.Differs cut) show =
           by_referral cut (faults.Differs cut) show.refers (inside cut show.refers)
-          (in_differing cut (faults.Differs cut) (one_shown (zones_differ setting.config cut) (faults.Differs cut) (told_differ setting.config cut show.zones)))
+          (has_differs setting.config deps cut (told_differ setting.config cut show.zones))
       shown_found (faults.NoGlue cut) show =
           by_referral cut (faults.NoGlue cut) show.refers (inside cut show.refers)
-          (in_missing cut (faults.NoGlue cut) (one_shown (wants_glue setting.config cut) (faults.NoGlue cut) (told_glue setting.config cut show.wants)))
+          (has_no_glue setting.config deps cut (told_glue setting.config cut show.wants))
       shown_found (faults.GlueDiffers cut) show =
           by_referral cut (faults.GlueDiffers cut) show.refers (inside cut show.refers)
-          (in_other_glue cut (faults.GlueDiffers cut) (one_shown (addresses_differ setting.config cut) (faults.GlueDiffers cut) (told_addresses setting.config cut show.glue)))
+          (has_other_glue setting.config deps cut (told_addresses setting.config cut show.glue))
       shown_found (faults.Cyclic cut) show =
           by_referral cut (faults.Cyclic cut) show.refers (inside cut show.refers)
-          (in_cyclic cut (faults.Cyclic cut) (one_shown (depends_on_itself setting.config deps cut) (faults.Cyclic cut) (told_cyclic setting deps cut (by_lists cut show.depends))))
+          (has_cyclic setting.config deps cut (told_cyclic setting deps cut (by_lists cut show.depends)))
       shown_found (faults.Limit place) show =
           by_end (last_of walk.hops) (last_of walk.states) (leaves.Limit place) (faults.Limit place) refl refl show (has_first (faults.Limit place) [])
       shown_found (faults.Blackhole place) show =

@@ -1,7 +1,7 @@
 -- The faults that one walk shows by itself, one after the other: for the contracts of inner calls alone.
-use Rattle.std.specs.Prelude.{Bool, ◌-◌, ◌&&◌, not, List, [], ◌∷◌, ◌++◌, length, Option, Some, None, slice_get, if◌then◌else◌}
+use Rattle.std.specs.Prelude.{◌-◌, ◌&&◌, not, List, [], ◌∷◌, ◌++◌, length, Option, Some, None, slice_get}
 use Rattle.std.specs.List.{flat_map}
-use Rattle.dns_data.specs.Name.{Labels, name_eq, is_prefix}
+use Rattle.dns_data.specs.Name.{Labels, name_eq}
 use Rattle.net_model.specs.declared.config.Config.{Config}
 use Rattle.net_model.specs.declared.deps.Deps.{Deps}
 use Rattle.net_model.specs.declared.fault.Fault.{Fault}
@@ -9,33 +9,13 @@ use Rattle.net_model.specs.declared.fault.Fault.TheVariants as faults
 use Rattle.net_model.specs.declared.place.Cut.{Cut}
 use Rattle.net_model.specs.declared.place.Place.{Place}
 use Rattle.net_model.specs.declared.walk.Hop.{Hop}
-use Rattle.net_model.specs.declared.walk.Hop.TheVariants.{Refer, Rewrite}
+use Rattle.net_model.specs.declared.walk.Hop.TheVariants.{Refer}
 use Rattle.net_model.specs.declared.walk.Leaf.{Leaf}
 use Rattle.net_model.specs.declared.walk.Leaf.TheVariants as leaves
 use Rattle.net_model.specs.declared.walk.State.{State}
 use Rattle.net_model.specs.declared.walk.Walk.{Walk}
 use Rattle.zone_lookup.specs.LearntSets.{is_among}
-use Rattle.zone_lookup.specs.Sides.{addresses_differ, zones_differ}
-use Rattle.zone_lookup.specs.Sound.{depends_on_itself, wants_glue}
-
--- a fault that is shown, or none
-abbrev pub if_shown : Bool → Fault → List Fault
-if_shown shown fault = if shown then fault ∷ [] else []
-
--- the faults of a referral, whatever comes behind it
-abbrev pub referral_faults : Config → Deps → Cut → List Fault
-referral_faults config deps cut =
-    if_shown (zones_differ config cut) (faults.Differs cut) ++ if_shown (wants_glue config cut) (faults.NoGlue cut)
-    ++ if_shown (addresses_differ config cut) (faults.GlueDiffers cut) ++ if_shown (depends_on_itself config deps cut) (faults.Cyclic cut)
-
--- the faults of a referral whose zone cut is at or below its zone's origin, as that of every referral on a walk is
-abbrev pub cut_faults : Config → Deps → Cut → List Fault
-cut_faults config deps cut = if is_prefix cut.zone cut.cut then referral_faults config deps cut else []
-
--- the faults of a hop: those of a referral's zone cut, and none of a rewrite
-abbrev pub hop_faults : Config → Deps → Hop → List Fault
-hop_faults config deps (Refer cut) = cut_faults config deps cut
-hop_faults config deps (Rewrite place by_dname to) = []
+use Rattle.zone_lookup.specs.ReferralFaults.{hop_faults, if_shown}
 
 -- the last of some
 abbrev pub last_of : {X : Type 0} → List X → Option X

@@ -3,7 +3,8 @@
 ghost use Rattle.std.specs.Prelude.{◌≡◌, ◌++◌, ◌-◌, length, slice_get, true, IfOk, OnOk};
 ghost use Rattle.std.specs.Option.{option_map};
 ghost use Rattle.dns_data.specs.Name.{is_prefix};
-ghost use Rattle.report_check.specs.WalkFaults.{blackhole_in, blackhole_of, cut_faults, end_faults, hop_faults, if_shown, lame_behind, last_of, referral_faults, unlearnt_behind, walk_faults};
+ghost use Rattle.report_check.specs.WalkFaults.{blackhole_in, blackhole_of, end_faults, lame_behind, last_of, unlearnt_behind, walk_faults};
+ghost use Rattle.zone_lookup.specs.ReferralFaults.{cut_faults, hop_faults, if_shown, referral_faults};
 
 use dns_data::{List, Name, NoMemory};
 use net_model::{Cut, Fault, Hop, Leaf, Place, State, Walk};

@@ -3,37 +3,15 @@ use Rattle.std.proofs.Common.{◌≡◌, true, refl, ap, subst}
 use Rattle.std.specs.Prelude.{◌↔◌, ◌&&◌}
 use Rattle.std.proofs.lemmas.Bool.{and_parts, and_from, eqb-true, eq-eqb}
 use Rattle.std.specs.Cmp.Lexicographic.{pointwise_decides}
-use Rattle.dns_data.specs.Name.{Labels, name_eq}
+use Rattle.dns_data.specs.Name.{name_eq}
 use Rattle.dns_data.specs.RrType.{number_of, type_eq}
 use Rattle.dns_data.proofs.EqualData.{equal_is_same}
-use Rattle.dns_data.proofs.Names.{name_eq_decides}
-use Rattle.graph_form.specs.FirstPath.{place_eq}
-use Rattle.net_model.specs.declared.place.Place.{Place}
+use Rattle.graph_form.proofs.ShownKinds.{name_itself, place_itself, same_name, same_place}
 use Rattle.net_model.specs.declared.walk.Leaf.{Leaf}
 use Rattle.net_model.specs.declared.walk.Leaf.TheVariants.{Answer, NoData, NxDomain, Outside, Unhosted, Lame, Limit, Overlong, NoAddress}
 use Rattle.net_model.proofs.FaultOrder.{one_type}
 use Rattle.site_checks.specs.Ends.{leaf_eq, end_eq}
 use Rattle.site_checks.specs.declared.views.TypedEnd.{TypedEnd}
-
-same_name : (a b : Labels) → name_eq a b ≡ true → a ≡ b
-same_name a b e = (name_eq_decides a b).0 e
-
-name_itself : (a : Labels) → name_eq a a ≡ true
-name_itself a = (name_eq_decides a a).1 refl
-
-same_place : (a b : Place) → place_eq a b ≡ true → a ≡ b
-same_place a b e =
-    let two = and_parts (name_eq a.server b.server && name_eq a.zone b.zone) (name_eq a.owner b.owner) e in
-    let one = and_parts (name_eq a.server b.server) (name_eq a.zone b.zone) two.0 in
-    by (same_name a.server b.server one.0) (same_name a.zone b.zone one.1) (same_name a.owner b.owner two.1)
-  where
-    by : a.server ≡ b.server → a.zone ≡ b.zone → a.owner ≡ b.owner → a ≡ b
-    by server zone owner = λ i. record { server = server i; zone = zone i; owner = owner i }
-
-place_itself : (a : Place) → place_eq a a ≡ true
-place_itself a =
-    and_from (name_eq a.server a.server && name_eq a.zone a.zone) (name_eq a.owner a.owner)
-    (and_from (name_eq a.server a.server) (name_eq a.zone a.zone) (name_itself a.server) (name_itself a.zone)) (name_itself a.owner)
 
 same_leaf : (a b : Leaf) → leaf_eq a b ≡ true → a ≡ b
 same_leaf (Answer a) (Answer b) e = ap Answer ((pointwise_decides (λ x y. equal_is_same x y) a b).0 e)

@@ -4,7 +4,7 @@ use Rattle.std.specs.Prelude.{◌⊎◌, ◌&&◌, ◌==◌, nat_lt}
 use Rattle.std.proofs.lemmas.Bool.{and_parts, and_from, or_cases, or_left, or_right, ltb-true, lt-ltb, eqb-true, eq-eqb, false_from_ne_true}
 use Rattle.dns_data.proofs.Membership.{none_in_nil, first_or_later}
 use Rattle.graph_form.specs.declared.node.Node.{Node}
-use Rattle.graph_form.proofs.NoCircle.{Earlier}
+use Rattle.graph_form.proofs.NoCircle.{Earlier, earlier_still, earlier_than_itself}
 use Rattle.net_model.specs.declared.walk.State.{State}
 use Rattle.site_checks.specs.PathEnds.{comes_before, nodes_after}
 
@@ -27,16 +27,7 @@ is_before a b (inr longer) =
     (and_from (a.used == b.used) (nat_lt a.cut b.cut) (eq-eqb a.used b.used longer.0) (lt-ltb a.cut b.cut longer.1))
 
 not_before_itself : (a : State) → comes_before a a ≡ false
-not_before_itself a = false_from_ne_true (comes_before a a) (λ e. never (earlier a a e)) where
-  never : Earlier a a → ⊥
-  never (inl less) = omega arith
-  never (inr less) = omega (arith, less.1)
-
-earlier_still : (a b c : State) → Earlier a b → Earlier b c → Earlier a c
-earlier_still a b c (inl one) (inl other) = inl (omega arith)
-earlier_still a b c (inl one) (inr other) = inl (omega (arith, other.0))
-earlier_still a b c (inr one) (inl other) = inl (omega (arith, one.0))
-earlier_still a b c (inr one) (inr other) = inr (one.0 ∙ other.0, omega (arith, one.1, other.1))
+not_before_itself a = false_from_ne_true (comes_before a a) (λ e. earlier_than_itself a (earlier a a e))
 
 before_still : (a b c : State) → comes_before a b ≡ true → comes_before b c ≡ true → comes_before a c ≡ true
 before_still a b c one other = is_before a c (earlier_still a b c (earlier a b one) (earlier b c other))

@@ -3,7 +3,6 @@
 ghost use Rattle.std.specs.Prelude.{◌≡◌, ◌<◌, [], length, IfOk, OnOk};
 ghost use Rattle.std.specs.List.{fold, list_any};
 ghost use Rattle.dns_data.specs.Name.{Labels};
-ghost use Rattle.graph_form.specs.FirstPath.{place_eq};
 ghost use Rattle.graph_form.specs.GraphOf.{IsGraphOf};
 ghost use Rattle.net_model.specs.Step.{Setting};
 ghost use Rattle.site_checks.specs.Ends.{AreEnds, end_eq, leaf_eq, typed_end};
@@ -12,8 +11,8 @@ ghost use Rattle.site_checks.specs.PathEnds.{AreDone, IsMet, ends_from, ends_wit
 
 use crate::views::{TypedEnd, View};
 use dns_data::{List, Name, NoMemory, RrType};
-use graph_form::{Branch, Graph, is_same_answer};
-use net_model::{Class, Leaf, Place};
+use graph_form::{Branch, Graph, is_place, is_same_answer};
+use net_model::{Class, Leaf};
 use std::alloc::Global;
 
 /// The view of a class for which the query stands, from the graph of the query's walks. Each node of the graph is passed
@@ -140,14 +139,7 @@ fn is_same_leaf(a: &Leaf, b: &Leaf) -> bool
         | (Leaf::Lame(ns), Leaf::Lame(other))
         | (Leaf::NoAddress(ns), Leaf::NoAddress(other)) => *ns == *other,
         (Leaf::Limit(place), Leaf::Limit(other)) | (Leaf::Overlong(place), Leaf::Overlong(other)) =>
-            is_same_place(place, other),
+            is_place(place, other),
         _ => false,
     }
-}
-
-/// Whether two places are equal.
-fn is_same_place(a: &Place, b: &Place) -> bool
-    ensures { result ≡ place_eq a.now b.now }
-{
-    a.server == b.server && a.zone == b.zone && a.owner == b.owner
 }

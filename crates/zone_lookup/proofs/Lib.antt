@@ -5,5 +5,6 @@ pub mod InsideZones
 pub mod NearestZones
 mod OriginsBefore
 mod PlacesNear
+pub mod ReferralParts
 pub mod SoundReferrals
 pub mod ZonesTell

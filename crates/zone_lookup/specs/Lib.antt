@@ -7,6 +7,7 @@ pub mod Firsts
 pub mod Hosts
 pub mod LearntSets
 pub mod Named
+pub mod ReferralFaults
 pub mod Sides
 pub mod Sound
 pub mod Steps

@@ -3,7 +3,7 @@ use Rattle.std.specs.Prelude.{◌⊎◌}
 use Rattle.graph_form.specs.declared.report.Seen.{Seen}
 use Rattle.graph_form.specs.Branches.{with_type}
 use Rattle.delegation_checks.specs.Met.{IsAgain}
-use Rattle.delegation_checks.specs.Referrals.{cut_faults}
+use Rattle.zone_lookup.specs.ReferralFaults.{cut_faults}
 use Rattle.delegation_checks.proofs.LookedInto.{AreSoFar, all_met, next_so_far, none_so_far}
 use Rattle.delegation_checks.proofs.referral_faults.faults_in_order.Goals as goal
 use Rattle.delegation_checks.proofs.referral_faults.faults_in_order.Goals.{then-not-comes_again+in_ok-put_cut, else-not-comes_again}

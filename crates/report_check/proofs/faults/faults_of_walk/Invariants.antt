@@ -1,6 +1,6 @@
 use Rattle.std.proofs.Common.{◌≡◌, take}
 use Rattle.std.specs.List.{flat_map}
-use Rattle.report_check.specs.WalkFaults.{hop_faults}
+use Rattle.zone_lookup.specs.ReferralFaults.{hop_faults}
 use Rattle.report_check.proofs.faults.faults_of_walk.Given as goal
 
 -- the faults of the hops so far
