@@ -14,6 +14,7 @@ pub mod FoundNothing
 pub mod FoundRight
 pub mod JudgedItems
 pub mod NameVerdicts
+pub mod OnePassed
 pub mod OneVerdict
 pub mod OwnClasses
 pub mod PassingNames

@@ -1,6 +1,6 @@
 -- The first class whose representative reaches more pairs of state and type than are looked at, from the rows of the tree.
 use Rattle.std.proofs.Common.{◌≡◌, ◌≢◌, ◌∙◌, ℕ, ◌<◌, ◌≤◌, true, false, List, [], length, get_or, Option, Some, None, refl, sym, ap, subst, inl, inr, arith, true≢false}
-use Rattle.std.specs.Ordering.{ordering_reverse, ordering_then}
+use Rattle.std.specs.Ordering.{ordering_then}
 use Rattle.std.specs.declared.cmp.Ordering.{Ordering}
 use Rattle.std.specs.declared.cmp.Ordering.TheVariants.{Less, Equal, Greater}
 use Rattle.std.specs.Option.{option_map_or}
@@ -14,9 +14,11 @@ use Rattle.dns_data.proofs.OrderedLists.{never_before_itself}
 use Rattle.net_model.specs.declared.class.Class.{Class}
 use Rattle.net_model.specs.declared.class.Class.TheVariants.{Exact, Below}
 use Rattle.net_model.specs.Class.{class_cmp, class_name, IsRepresentative}
+use Rattle.net_model.proofs.FaultOrder.{classes_total}
 use Rattle.net_model.proofs.TrialOrder.{one_representative}
 use Rattle.graph_form.specs.Report.{Subject}
 use Rattle.net_model.specs.Tree.{IsInPart}
+use Rattle.query_classes.proofs.ClassLists.{by_names}
 use Rattle.query_verdicts.specs.Subjects.{RepresentsBelow}
 use Rattle.query_verdicts.specs.Passed.{ClassPasses, SomeClassPasses, IsFirstPassed}
 use Rattle.query_verdicts.specs.Rows.{AreRows, Row, IsFirstPassedAt, IsPassedAt, NonePassesAt, passes}
@@ -24,22 +26,13 @@ use Rattle.query_verdicts.specs.Verdict.{IsBelowVerdict, IsClassVerdict, PassesS
 use Rattle.query_verdicts.specs.declared.verdict.ClassVerdict.{ClassVerdict}
 use Rattle.query_verdicts.specs.declared.verdict.ClassVerdict.TheVariants.{Faults, StatesPassed}
 
--- what stands behind by its name isn't before
-greater_first : (o p : Ordering) → o ≡ Greater → ordering_then o p ≢ Less
-greater_first Less p e less = cc
-greater_first Equal p e less = cc
-greater_first Greater p e less = cc
-
-behind_not_before : (other class : Class) → name_cmp (class_name class) (class_name other) ≡ Less → class_cmp other class ≢ Less
-behind_not_before other class rising = by other class (names_total.antisymm (class_name other) (class_name class) ∙ ap ordering_reverse rising) where
-  by : (a b : Class) → name_cmp (class_name a) (class_name b) ≡ Greater → class_cmp a b ≢ Less
-  by (Exact a) (Exact b) greater less = cc
-  by (Exact a) (Below b) greater less = greater_first (name_cmp a b) Less greater less
-  by (Below a) (Exact b) greater less = greater_first (name_cmp a b) Greater greater less
-  by (Below a) (Below b) greater less = cc
+-- a class whose name stands behind that of another isn't before it
+pub behind_not_before : (other class : Class) → name_cmp (class_name class) (class_name other) ≡ Less → class_cmp other class ≢ Less
+behind_not_before other class rising less =
+    never_before_itself class_cmp classes_total class (classes_total.trans class other class (by_names class other rising) less)
 
 -- of the classes of a name that of the name alone is the first
-exact_first : (name : Labels) (other : Class) → class_name other ≡ name → class_cmp other (Exact name) ≢ Less
+pub exact_first : (name : Labels) (other : Class) → class_name other ≡ name → class_cmp other (Exact name) ≢ Less
 exact_first name (Exact alone) of_name less = never_before_itself name_cmp names_total name (subst (λ (n : Labels). name_cmp n name ≡ Less) of_name less)
 exact_first name (Below above) of_name less =
     let tie : name_cmp above name ≡ Equal = ap (λ (n : Labels). name_cmp n name) of_name ∙ tied_itself names_total name in

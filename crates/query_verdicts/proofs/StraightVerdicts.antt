@@ -1,6 +1,6 @@
--- The verdict of a class whose representative's walks go straight: no faults.
-use Rattle.std.proofs.Common.{◌≡◌, ℕ, Bool, true, [], Result, Ok, Err, arith}
-use Rattle.std.specs.Prelude.{IfOk}
+-- The verdict of a class whose representative's walks go straight: no faults. And what its walks end in.
+use Rattle.std.proofs.Common.{◌≡◌, ℕ, true, [], Option, Some, None, Result, Ok, Err, arith}
+use Rattle.std.specs.Prelude.{◌↔◌, is_some, IfOk, IfSome}
 use Rattle.dns_data.specs.Name.{Labels}
 use Rattle.dns_data.specs.declared.rr_type.RrType.{RrType}
 use Rattle.graph_form.specs.Verdict.{AreShownOf}
@@ -10,8 +10,13 @@ use Rattle.net_model.specs.declared.fault.Fault.{Fault}
 use Rattle.net_model.specs.Shown.{FaultSetting, Shows, with_lists}
 use Rattle.net_model.specs.Step.{following}
 use Rattle.net_model.specs.Tree.{HasMoreThan, IsReached}
+use Rattle.net_model.specs.Walk.{IsBoundedWith}
+use Rattle.net_model.specs.declared.walk.Leaf.{Leaf}
+use Rattle.straight_walks.specs.Ends.{IsOutcomeOf}
+use Rattle.straight_walks.specs.declared.ends.StraightEnds.{StraightEnds}
+use Rattle.walk_laws.specs.Outcome.{HasOutcome}
 use Rattle.walk_laws.proofs.GivenSets.{lists_show}
-use Rattle.query_verdicts.specs.Queries.{AreSets}
+use Rattle.query_verdicts.specs.Queries.{AreSets, AreStraightEnds}
 use Rattle.query_verdicts.specs.Verdict.{IsClassVerdict}
 use Rattle.query_verdicts.specs.declared.verdict.ClassVerdict.TheVariants.{Faults}
 use Rattle.query_verdicts.proofs.ClassesJudged.{all_sought}
@@ -28,30 +33,46 @@ none_shown setting query silent =
       all_shown = λ fault rtype kind shows. absurd (silent rtype fault shows);
     }
 
--- a query that is seen to go straight reaches few pairs
-abbrev pub IsFew : Config → ℕ → Labels → Bool → Type 0
-IsFew config states query straight = straight ≡ true → (rewrites : ℕ) → HasMoreThan (IsReached config rewrites query) states → ⊥
+-- the query reaches few pairs
+abbrev pub IsFew : Config → ℕ → Labels → Type 0
+IsFew config states query = (rewrites : ℕ) → HasMoreThan (IsReached config rewrites query) states → ⊥
 
 -- and shows nothing
-abbrev pub IsSilent : Config → Labels → Deps → Bool → Type 0
-IsSilent config query deps straight =
-    straight ≡ true → (rewrites : ℕ) (rtype : RrType) (fault : Fault)
-    → Shows (with_lists (following config rewrites deps.least) deps.least deps.greatest) query rtype fault → ⊥
+abbrev pub IsSilent : Config → Labels → Deps → Type 0
+IsSilent config query deps =
+    (rewrites : ℕ) (rtype : RrType) (fault : Fault) → Shows (with_lists (following config rewrites deps.least) deps.least deps.greatest) query rtype fault → ⊥
 
 module _ (config : Config) (rewrites states : ℕ) (query : Labels) (deps : Deps) (sets : AreSets config rewrites states deps) where
   -- so its class has no faults
-  straight_verdict : (straight : Bool) → IsFew config states query straight → IsSilent config query deps straight → straight ≡ true
-      → IsClassVerdict config rewrites states query (Faults [])
-  straight_verdict straight few silent is = (
-    few is rewrites,
+  straight_verdict : IsFew config states query → IsSilent config query deps → IsClassVerdict config rewrites states query (Faults [])
+  straight_verdict few silent = (
+    few rewrites,
     all_sought config rewrites states deps sets query []
         (none_shown _ query
-        (λ rtype fault shows. silent is rewrites rtype fault
+        (λ rtype fault shows. silent rewrites rtype fault
         ((lists_show config rewrites deps.least deps.least deps.greatest sets.least sets.greatest query rtype fault).1 shows))),
   )
 
-  -- with what a call gives
-  pub straight_given : {E : Type 0} (given : Result Bool E) → IfOk given (IsFew config states query) → IfOk given (IsSilent config query deps)
-      → IfOk given (λ straight. straight ≡ true → IsClassVerdict config rewrites states query (Faults []))
-  straight_given (Ok straight) few silent = straight_verdict straight few silent
-  straight_given (Err fault) few silent = tt
+  -- where its walks are seen to go straight
+  pub straight_found : (found : Option StraightEnds) → IfSome found (λ ends. IsFew config states query) → IfSome found (λ ends. IsSilent config query deps)
+      → is_some found ≡ true → IsClassVerdict config rewrites states query (Faults [])
+  straight_found None few silent e = cc
+  straight_found (Some ends) few silent e = straight_verdict few silent
+
+  -- and those of a call that gives their ends are the query's
+  pub straight_ends : {E : Type 0} (given : Result (Option StraightEnds) E) → IfOk given (λ found. IfSome found (λ ends. IsFew config states query))
+      → IfOk given (λ found. IfSome found (λ ends. (rewrites : ℕ) (rtype : RrType) → IsBoundedWith (following config rewrites deps.least) query rtype))
+      → IfOk given (λ found. IfSome found (λ ends. (rewrites : ℕ) (rtype : RrType) (outcome : Option Leaf)
+      → HasOutcome (following config rewrites deps.least) query rtype outcome ↔ IsOutcomeOf ends rtype outcome))
+      → IfOk given (λ found. IfSome found (AreStraightEnds config rewrites states query))
+  straight_ends (Ok None) few bounded outcomes = tt
+  straight_ends (Ok (Some ends)) few bounded outcomes =
+      record {
+        few = few rewrites;
+        learnt = sets.none_passes;
+        followed = deps.least;
+        in_force = sets.least;
+        bounded = bounded rewrites;
+        outcomes = outcomes rewrites;
+      }
+  straight_ends (Err fault) few bounded outcomes = tt

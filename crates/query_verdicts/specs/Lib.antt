@@ -1,6 +1,8 @@
 pub use Rattle.graph_form.specs.Report
 pub use Rattle.query_classes.specs.Children
 pub use Rattle.query_classes.specs.TreeNames
+pub use Rattle.straight_walks.specs.Ends
+pub use Rattle.walk_laws.specs.Outcome
 pub mod Carried
 pub mod Entries
 pub mod FiledVerdict

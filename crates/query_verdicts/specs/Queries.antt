@@ -1,7 +1,8 @@
 -- The queries of a configuration within their limits, and what is known of the class of one: for the contracts of the calls
 -- on query graphs.
-use Rattle.std.specs.Prelude.{ℕ, List}
+use Rattle.std.specs.Prelude.{◌↔◌, ℕ, List, Option}
 use Rattle.dns_data.specs.Name.{Labels}
+use Rattle.dns_data.specs.declared.rr_type.RrType.{RrType}
 use Rattle.graph_form.specs.Graph.{PlainGraph}
 use Rattle.graph_form.specs.GraphOf.{IsExactIn, IsGraphOf}
 use Rattle.graph_form.specs.Report.{Subject}
@@ -11,9 +12,14 @@ use Rattle.net_model.specs.Class.{IsClassOf, IsRepresentative}
 use Rattle.net_model.specs.Learnt.{IsLeast, IsGreatest, IsInForce}
 use Rattle.net_model.specs.Reading.{Ground, ground_of}
 use Rattle.net_model.specs.Step.{following}
+use Rattle.net_model.specs.Walk.{IsBoundedWith}
 use Rattle.net_model.specs.declared.deps.Deps.{Deps}
+use Rattle.net_model.specs.declared.walk.Leaf.{Leaf}
 use Rattle.query_classes.specs.TreeNames.{AreBaseNamesOf}
-use Rattle.query_verdicts.specs.Verdict.{SomeServerPasses}
+use Rattle.straight_walks.specs.Ends.{IsOutcomeOf}
+use Rattle.straight_walks.specs.declared.ends.StraightEnds.{StraightEnds}
+use Rattle.walk_laws.specs.Outcome.{HasOutcome}
+use Rattle.query_verdicts.specs.Verdict.{PassesStates, SomeServerPasses}
 use Rattle.query_verdicts.specs.declared.own_class.OwnClass.{OwnClass}
 use Rattle.query_verdicts.specs.declared.own_class.OwnClass.TheVariants.{Represents, Asked}
 
@@ -43,6 +49,17 @@ pub record IsLeastGraph (config : Config) (rewrites : ℕ) (query : Labels) (gra
   pub in_force : IsInForce config rewrites followed
   pub is_graph : IsGraphOf (following config rewrites followed) query graph
   pub exact : IsExactIn (following config rewrites followed) query graph
+
+-- The walks of the query end so while the servers of the set in force are followed: it has these outcomes and no others, and no
+-- walk of it ends in a name of more than 255 octets (RFC 6672 section 2.2). Neither it nor the name of some server reaches too many
+-- pairs of state and type.
+pub record AreStraightEnds (config : Config) (rewrites states : ℕ) (query : Labels) (ends : StraightEnds) : Type 0 where
+  pub few : PassesStates config rewrites states query → ⊥
+  pub learnt : SomeServerPasses config rewrites states → ⊥
+  pub followed : List Labels
+  pub in_force : IsInForce config rewrites followed
+  pub bounded : (rtype : RrType) → IsBoundedWith (following config rewrites followed) query rtype
+  pub outcomes : (rtype : RrType) (outcome : Option Leaf) → HasOutcome (following config rewrites followed) query rtype outcome ↔ IsOutcomeOf ends rtype outcome
 
 -- the query is of the class under the ground, and its representative
 pub record StandsFor (ground : Ground) (class : Class) (query : Labels) : Type 0 where

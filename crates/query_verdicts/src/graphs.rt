@@ -1,8 +1,8 @@
 //! The graphs and the verdicts of the queries of a configuration.
 
-ghost use Rattle.std.specs.Prelude.{◌≡◌, IfOk, IfErr, OnOk, IsErrOf, MatchOption};
+ghost use Rattle.std.specs.Prelude.{◌≡◌, IfOk, IfErr, IfSome, OnOk, IsErrOf, MatchOption};
 ghost use Rattle.query_verdicts.specs.Passed.{IsFirstServerPassed};
-ghost use Rattle.query_verdicts.specs.Queries.{AreSets, IsLeastGraph, IsOwnClass, limited_to};
+ghost use Rattle.query_verdicts.specs.Queries.{AreSets, AreStraightEnds, IsLeastGraph, IsOwnClass, limited_to};
 ghost use Rattle.query_verdicts.specs.Verdict.{IsClassVerdict, PassesStates, SomeServerPasses};
 
 use crate::learnt::{Learnt, learnt_of};
@@ -16,6 +16,7 @@ use interp_graph::GraphFault;
 use net_model::Config;
 use std::alloc::Global;
 use std::marker::Model;
+use straight_walks::{StraightEnds, straight_ends};
 use zone_lookup::{Hosts, LearntSets};
 
 /// The queries of a configuration, with what is learnt of it once: the trees of all zones, the two sets of learnt addresses and
@@ -90,6 +91,30 @@ impl<'a> QueryGraphs<'a> {
         }
     }
 
+    /// What the walks of a query end in while the servers of the least set of learnt addresses are followed, where they are seen to
+    /// go straight there without a graph, or `None`. The query's region is looked for near a place first, whatever that is, and the
+    /// place is left near which that of the next query may be looked for.
+    pub fn straight_ends(
+        &self,
+        near: &mut usize,
+        query: &Name,
+    ) -> Result<Option<StraightEnds<'_, 'a>>, NoMemory>
+        ensures { IfOk result (λ found. IfSome found (AreStraightEnds self.now.config self.now.rewrites self.now.states query.now)) }
+    {
+        match &self.learnt {
+            Ok(learnt) => straight_ends(
+                self.queries.alloc,
+                &self.queries.trees,
+                &learnt.sets,
+                &learnt.regions,
+                near,
+                query,
+                self.queries.states,
+            ),
+            Err(_) => Ok(None),
+        }
+    }
+
     /// The verdict of a query: the faults that it shows, or that it reaches more pairs of state and type than are looked at.
     /// Where the name of some server does, no fault is looked for. The query's region is looked for near a place first,
     /// whatever that is, and the place is left near which that of the next query may be looked for.
@@ -107,6 +132,7 @@ impl<'a> QueryGraphs<'a> {
             Err(_) => verdict_alone(&self.queries, query),
         }
     }
+
     /// How many rewrites a query may use.
     pub(crate) fn rewrites(&self) -> u32
         ensures { result ≡ self.now.rewrites }

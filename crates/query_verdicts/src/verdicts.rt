@@ -25,7 +25,7 @@ use interp_graph::{GraphFault, restrict};
 use net_model::Class;
 use query_classes::class_of;
 use rewrite_checks::rewrite_faults;
-use straight_walks::goes_straight;
+use straight_walks::straight_ends;
 use zone_lookup::LearntSets;
 
 /// The verdict of a query, with what is learnt of its configuration.
@@ -76,7 +76,7 @@ fn shows_nothing(
     requires { AreLearnt queries.now.trees queries.now.rewrites queries.now.states learnt.now }
     ensures { IfOk result (λ nothing. nothing ≡ true → IsClassVerdict queries.now.trees queries.now.rewrites queries.now.states query.now (Faults [])) }
 {
-    goes_straight(
+    let found = straight_ends(
         queries.alloc,
         &queries.trees,
         &learnt.sets,
@@ -84,7 +84,8 @@ fn shows_nothing(
         near,
         query,
         queries.states,
-    )
+    )?;
+    Ok(found.is_some())
 }
 
 /// The faults that a query shows, in fault order, each with its first type. The graph is that of its walks while every

@@ -1,10 +1,8 @@
 -- The first class of which something is told, from the rows of the joint class tree.
 use Rattle.std.proofs.Common.{◌≡◌, ◌≢◌, ◌∙◌, ℕ, ◌<◌, true, false, List, [], length, get_or, Option, Some, None, refl, sym, ap, subst, inl, inr, arith, true≢false}
-use Rattle.std.specs.Ordering.{ordering_then}
-use Rattle.std.specs.declared.cmp.Ordering.TheVariants.{Less, Greater}
+use Rattle.std.specs.declared.cmp.Ordering.TheVariants.{Less}
 use Rattle.std.specs.Option.{option_map_or}
 use Rattle.std.proofs.lemmas.Bool.{cases_lt}
-use Rattle.std.proofs.lemmas.Cmp.{tied_itself}
 use Rattle.std.proofs.lemmas.List.{get_or_default}
 use Rattle.dns_data.specs.Name.{Labels, name_cmp}
 use Rattle.dns_data.specs.declared.rr_type.RrType.{RrType}
@@ -14,9 +12,9 @@ use Rattle.dns_data.proofs.OrderedLists.{never_before_itself}
 use Rattle.net_model.specs.declared.class.Class.{Class}
 use Rattle.net_model.specs.declared.class.Class.TheVariants.{Exact, Below}
 use Rattle.net_model.specs.Class.{class_cmp, class_name, IsRepresentative}
-use Rattle.net_model.proofs.FaultOrder.{classes_total}
 use Rattle.net_model.proofs.TrialOrder.{one_representative}
 use Rattle.query_classes.specs.Children.{IsInTree}
+use Rattle.query_verdicts.proofs.ReportPassed.{behind_not_before, exact_first}
 use Rattle.same_answers.specs.Alike.{AnswersAlike, ClassesAlike}
 use Rattle.same_answers.specs.Compared.{Compared, joint}
 use Rattle.same_answers.specs.Passed.{IsFirstPassedInOne, SomeClassPassesInOne}
@@ -32,26 +30,6 @@ use Rattle.same_answers.specs.declared.verdict.PairEnd.TheVariants.{Equal, Apart
 use Rattle.same_answers.proofs.Comparing.{representative_is_name}
 use Rattle.same_answers.proofs.OneSameness.{one_end}
 use Rattle.same_answers.proofs.PairEnds.{end_exists}
-
--- ---- class order
-
--- no two classes stand before each other
-never_both : (a b : Class) → class_cmp a b ≡ Less → class_cmp b a ≡ Less → ⊥
-never_both a b one other = never_before_itself class_cmp classes_total a (classes_total.trans a b a one other)
-
--- classes stand as the names by which they go
-by_names : (a b : Class) → name_cmp (class_name a) (class_name b) ≡ Less → class_cmp a b ≡ Less
-by_names (Exact a) (Exact b) before = before
-by_names (Exact a) (Below b) before = ap (λ o. ordering_then o Less) before
-by_names (Below a) (Exact b) before = ap (λ o. ordering_then o Greater) before
-by_names (Below a) (Below b) before = before
-
--- of the classes of a name that of the name alone is the first
-exact_first : (name : Labels) (other : Class) → class_name other ≡ name → class_cmp other (Exact name) ≢ Less
-exact_first name (Exact alone) of_name less = never_before_itself name_cmp names_total name (subst (λ (n : Labels). name_cmp n name ≡ Less) of_name less)
-exact_first name (Below above) of_name less =
-    never_both (Exact name) (Below name) (ap (λ o. ordering_then o Less) (tied_itself names_total name))
-    (subst (λ (n : Labels). class_cmp (Below n) (Exact name) ≡ Less) of_name less)
 
 module _ (two : Compared) (sought : Sought) where
   -- what is told of a representative is told of it alone
@@ -161,8 +139,7 @@ module _ (two : Compared) (sought : Sought) where
                 | inl behind ↦ (
                     let rising : name_cmp (get_or rows i e).item (class_name other) ≡ Less =
                     subst (λ (n : Labels). name_cmp (get_or rows i e).item n ≡ Less) (is e) (are.ordered i k e behind within) in
-                    never_both is_found.class other
-                    (by_names is_found.class other (subst (λ (n : Labels). name_cmp n (class_name other) ≡ Less) (sym is_found.of_name) rising)) less)
+                    behind_not_before other is_found.class (subst (λ (n : Labels). name_cmp n (class_name other) ≡ Less) (sym is_found.of_name) rising) less)
                 | inr not_behind ↦ (
                     let same : k ≡ i = omega (arith, not_before, not_behind) in
                     is_found.first other query end (sym (is e) ∙ ap (λ (n : ℕ). (get_or rows n e).item) same) ends holds less)

@@ -1,15 +1,12 @@
 -- One thing is told of a class, of a name of the joint tree and of two configurations.
-use Rattle.std.proofs.Common.{◌≡◌, ◌∙◌, ℕ, ◌+◌, List, [], length, Option, Some, None, refl, sym, ap, subst, arith}
-use Rattle.dns_data.specs.Name.{Labels, name_cmp}
+use Rattle.std.proofs.Common.{◌≡◌, ◌∙◌, ℕ, [], Option, Some, None, refl, sym, ap, subst, arith}
+use Rattle.dns_data.specs.Name.{Labels}
 use Rattle.dns_data.specs.declared.rr_type.RrType.{RrType}
-use Rattle.dns_data.proofs.NameOrder.{names_total}
-use Rattle.dns_data.proofs.OrderedLists.{neither_before, same_rising}
-use Rattle.graph_form.specs.Report.{IsTreeSize}
+use Rattle.dns_data.proofs.OrderedLists.{neither_before}
+use Rattle.graph_form.proofs.TreeSizes.{one_size}
 use Rattle.net_model.specs.declared.class.Class.{Class}
 use Rattle.net_model.specs.declared.class.Class.TheVariants.{Below}
 use Rattle.net_model.specs.Class.{class_cmp, IsRepresentative}
-use Rattle.net_model.specs.Reading.{Ground}
-use Rattle.net_model.specs.Tree.{IsTreePart, AreBelowClasses}
 use Rattle.net_model.proofs.FaultOrder.{classes_total, one_class, one_type}
 use Rattle.net_model.proofs.TrialOrder.{one_representative}
 use Rattle.same_answers.specs.Compared.{Compared, joint}
@@ -64,31 +61,6 @@ module _ (two : Compared) where
 
 -- ---- of two configurations
 
-module _ (ground : Ground) where
-  one_part : (a b : List Labels) → IsTreePart ground [] a → IsTreePart ground [] b → a ≡ b
-  one_part a b one other =
-      same_rising name_cmp names_total a b one.ordered other.ordered
-      (λ name has. (other.all name).1 ((one.all name).0 has)) (λ name has. (one.all name).1 ((other.all name).0 has))
-
-  one_list_below : (tree a b : List Labels) → AreBelowClasses ground tree a → AreBelowClasses ground tree b → a ≡ b
-  one_list_below tree a b one other =
-      same_rising name_cmp names_total a b one.ordered other.ordered
-      (λ above has. (other.all above).1 ((one.all above).0 has)) (λ above has. (one.all above).1 ((other.all above).0 has))
-
-  -- a class tree has one size
-  one_size : (names classes names' classes' : ℕ) → IsTreeSize ground [] names classes → IsTreeSize ground [] names' classes'
-      → (names ≡ names') × (classes ≡ classes')
-  one_size names classes names' classes' one other =
-      let part : one.part ≡ other.part = one_part one.part other.part one.is_part other.is_part in
-      let below : one.below ≡ other.below =
-      one_list_below other.part one.below other.below (subst (λ (names : List Labels). AreBelowClasses ground names one.below) part one.are_below) other.are_below in (
-        one.counts_names ∙ ap (λ (names : List Labels). length names) part ∙ sym other.counts_names,
-        one.counts_classes
-            ∙ ap (λ (names : List Labels). length names + length one.below) part
-            ∙ ap (λ (names : List Labels). length other.part + length names) below
-            ∙ sym other.counts_classes,
-      )
-
 module _ (two : Compared) where
   -- representatives of one class are one
   one_query : (c d : Class) (a b : Labels) → c ≡ d → IsRepresentative (joint two) c a → IsRepresentative (joint two) d b → a ≡ b
@@ -106,7 +78,7 @@ module _ (two : Compared) where
 
   pub one_sameness : (a b : Sameness) → IsSameness two a → IsSameness two b → a ≡ b
   one_sameness (told.Same classes names) (told.Same classes' names') one other =
-      let (same_names, same_classes) = one_size (joint two) names classes names' classes' one.0 other.0 in
+      let (same_names, same_classes) = one_size (joint two) [] names classes names' classes' one.0 other.0 in
       ap (λ (n : ℕ). told.Same n names) same_classes ∙ ap (λ (n : ℕ). told.Same classes' n) same_names
   one_sameness (told.Same classes names) (told.Apart query rtype) one other =
       absurd (other.first_type.differ (one.1 query other.is_name other.apart.bounded rtype))

@@ -1,4 +1,5 @@
--- What the graphs of a query's walks tell of it is what is told of its class; and of each class something is told.
+-- What the graphs of a query's walks, or their straight ends, tell of it is what is told of its class; and of each class something
+-- is told.
 use Rattle.std.proofs.Common.{◌≡◌, ◌↔◌, ℕ, Bool, true, false, not, ◌&&◌, List, map, Contains, Option, Some, None, refl, sym, ap, ◌∙◌, subst, inl, inr, true≢false}
 use Rattle.std.specs.Prelude.{if◌then◌else◌}
 use Rattle.std.specs.List.{find}
@@ -21,15 +22,19 @@ use Rattle.net_model.specs.Tails.{is_overlong}
 use Rattle.net_model.specs.Walk.{IsBoundedWith, IsWalk}
 use Rattle.net_model.proofs.InForce.{one_in_force, some_in_force}
 use Rattle.query_classes.proofs.Decided.{Decided, any_of, both, by_test, either, not_so, turned}
-use Rattle.query_verdicts.specs.Queries.{IsLeastGraph, limited_to}
+use Rattle.query_verdicts.specs.Queries.{AreStraightEnds, IsLeastGraph, limited_to}
 use Rattle.query_verdicts.specs.Verdict.{PassesStates, SomeServerPasses}
 use Rattle.query_verdicts.proofs.FaultsExist.{walks_exist}
 use Rattle.query_verdicts.proofs.VerdictsExist.{passes_decided, server_decided}
+use Rattle.straight_walks.specs.Ends.{IsOutcomeOf, ends_alike}
+use Rattle.straight_walks.specs.declared.ends.StraightEnds.{StraightEnds}
+use Rattle.straight_walks.proofs.SameOutcomes.{alike_decides}
 use Rattle.walk_laws.specs.Outcome.{HasOutcome, outcome_of}
 use Rattle.same_answers.specs.Alike.{AnswersAlike, AreBounded, HasOutcomeIn, IsBoundedIn}
 use Rattle.same_answers.specs.Compared.{Compared}
 use Rattle.same_answers.specs.Ends.{are_alike, are_within, ends_of, graphs_alike, graphs_end, is_bounded}
 use Rattle.same_answers.specs.Looked.{IsLooked, looked_end}
+use Rattle.same_answers.specs.Straight.{straight_end}
 use Rattle.same_answers.specs.Verdict.{IsLookedAt, IsPairEnd, PassesInOne, SomeServerPassesInOne}
 use Rattle.same_answers.specs.declared.looked.Looked.{Looked}
 use Rattle.same_answers.specs.declared.looked.Looked.TheVariants.{Passed, Unlearnt, Walks}
@@ -222,6 +227,45 @@ module _ (two : Compared) (query : Labels) where
   end_by_looked (Walks graph) Unlearnt one other = (none_passes one.0 other.0, λ none. absurd (none (inr other.1)))
   end_by_looked (Walks first) (Walks second) one other =
       by_graphs first second (record { few = none_passes one.0 other.0; learnt = no_server_passes one.1 other.1 }) one.2 other.2
+
+  -- ---- what is told where walks go straight in both
+
+  module _ (config : Config) (ends : StraightEnds) (are : AreStraightEnds config two.rewrites two.states query ends) where
+    bounded_straight : IsBoundedIn config two.rewrites query
+    bounded_straight = record { followed = are.followed; in_force = are.in_force; bounded = are.bounded }
+
+    outcomes_straight : (rtype : RrType) (outcome : Option Leaf) → HasOutcomeIn config two.rewrites query rtype outcome ↔ IsOutcomeOf ends rtype outcome
+    outcomes_straight rtype outcome =
+        let in_one = in_setting config two.rewrites query rtype are.followed are.in_force outcome in
+        let by_ends = are.outcomes rtype outcome in
+        (λ has. by_ends.0 (in_one.0 has), λ told. in_one.1 (by_ends.1 told))
+
+  pub end_by_straight : (first second : StraightEnds) → AreStraightEnds two.first two.rewrites two.states query first
+      → AreStraightEnds two.second two.rewrites two.states query second → IsPairEnd two query (straight_end first second)
+  end_by_straight first second one other =
+      end_by_tests two query (record { few = none_passes one.few other.few; learnt = no_server_passes one.learnt other.learnt })
+      (bounded_straight two.first first one, bounded_straight two.second second other) (ends_alike first second) tells
+      (find (λ rtype. not (ends_alike first second rtype)) types) refl
+    where
+      of_first : (rtype : RrType) (outcome : Option Leaf) → HasOutcomeIn two.first two.rewrites query rtype outcome ↔ IsOutcomeOf first rtype outcome
+      of_first = outcomes_straight two.first first one
+
+      of_second : (rtype : RrType) (outcome : Option Leaf) → HasOutcomeIn two.second two.rewrites query rtype outcome ↔ IsOutcomeOf second rtype outcome
+      of_second = outcomes_straight two.second second other
+
+      tells : (rtype : RrType) → (ends_alike first second rtype ≡ true) ↔ AnswersAlike two query rtype
+      tells rtype = (
+        λ alike outcome.
+            let same = (alike_decides first second rtype).0 alike outcome in (
+              λ has. (of_second rtype outcome).1 (same.0 ((of_first rtype outcome).0 has)),
+              λ has. (of_first rtype outcome).1 (same.1 ((of_second rtype outcome).0 has)),
+            ),
+        λ alike.
+            (alike_decides first second rtype).1 (λ outcome. (
+              λ told. (of_second rtype outcome).0 ((alike outcome).0 ((of_first rtype outcome).1 told)),
+              λ told. (of_first rtype outcome).0 ((alike outcome).1 ((of_second rtype outcome).1 told)),
+            )),
+      )
 
   -- ---- so of each query something is told
 

@@ -10,5 +10,6 @@ pub mod Outcomes
 pub mod Passed
 pub mod Rows
 pub mod Sameness
+pub mod Straight
 pub mod Values
 pub mod Verdict

@@ -6,9 +6,10 @@
 //! names of the class tree of that ground, whose children are those of the tree and whose verdicts are the one that each name
 //! has.
 //!
-//! Costs: `prepare` makes what query_verdicts prepares, for both configurations, and one graph of the base names of both. Judging
-//! a class makes the graph of its representative's walks in each, for all types at once; the ends with a type are compared by an
-//! ordered set of each side's, in which they aren't copied. No walk is listed. A verdict takes no memory of its own.
+//! Costs: `prepare` makes what query_verdicts prepares, for both configurations, and one graph of the base names of both. Where the
+//! walks of a class's representative are seen to go straight in both, their ends are compared, type by type, and no memory is taken
+//! for them. Else judging the class makes the graph of these walks in each, for all types at once; the ends with a type are compared
+//! by an ordered set of each side's, in which they aren't copied. No walk is listed. A verdict takes no memory of its own.
 #![tactic(auto)]
 
 mod ends;
@@ -19,6 +20,7 @@ mod outcomes;
 mod pairing;
 mod sameness;
 mod search;
+mod straight;
 mod verdict;
 
 pub use naming::{JointGround, PairNaming};

@@ -1,6 +1,6 @@
 //! The comparison of two configurations: a work whose items are the names of their joint class tree.
 
-ghost use Rattle.std.specs.Prelude.{◌≡◌, [], IfOk};
+ghost use Rattle.std.specs.Prelude.{◌≡◌, [], IfOk, IfSome};
 ghost use Rattle.query_classes.specs.Children.{IsInTree};
 ghost use Rattle.query_classes.specs.TreeNames.{IsLiveIn};
 ghost use Rattle.query_verdicts.specs.Passed.{SomeNamePasses};
@@ -14,6 +14,7 @@ ghost use Rattle.same_answers.specs.Passed.{SomeClassPassesInOne};
 
 use crate::looked::{looked_at, looked_end};
 use crate::naming::{JointGround, PairNaming};
+use crate::straight::straight_end;
 use crate::verdict::{PairEnd, PairVerdict};
 use dns_data::{List, Name, NoMemory};
 use label_graph::LabelGraph;
@@ -120,32 +121,64 @@ impl<'a, N: PairNaming> Pairing<'a, N> {
         })
     }
 
-    /// The verdict of a name of the class tree: of the class of the name alone, and of the class below it.
+    /// The verdict of a name of the class tree: of the class of the name alone, and of the class below it. The second query's
+    /// regions are looked for near the first one's; for that one no place is known, as if it were past the last.
     fn judge_name(&self, name: &LiveName) -> Result<PairVerdict, NoMemory>
         requires live { IsLiveIn (joint N.compared) name.now.name name.now.live }
         requires in_tree { IsInTree (joint N.compared) name.now.name }
         ensures { IfOk result (IsPairVerdict N.compared name.now.name) }
     {
+        let mut near = PairNear {
+            first: usize::MAX,
+            second: usize::MAX,
+        };
         Ok(PairVerdict {
-            exact: self.judge_class(&name.name)?,
-            below: self.judge_below(name)?,
+            exact: self.judge_class(&mut near, &name.name)?,
+            below: self.judge_below(&mut near, name)?,
         })
     }
 
     /// What is told of the class below a name of the class tree, or `None` where it is empty.
-    fn judge_below(&self, above: &LiveName) -> Result<Option<PairEnd>, NoMemory>
+    fn judge_below(
+        &self,
+        near: &mut PairNear,
+        above: &LiveName,
+    ) -> Result<Option<PairEnd>, NoMemory>
         requires live { IsLiveIn (joint N.compared) above.now.name above.now.live }
         requires in_tree { IsInTree (joint N.compared) above.now.name }
         ensures { IfOk result (IsBelowEnd N.compared above.now.name) }
     {
         match self.representative_below(above)? {
-            Some(query) => Ok(Some(self.judge_class(&query)?)),
+            Some(query) => Ok(Some(self.judge_class(near, &query)?)),
             None => Ok(None),
         }
     }
 
-    /// What is told of the class that the query represents.
-    fn judge_class(&self, query: &Name) -> Result<PairEnd, NoMemory>
+    /// What is told of the class that the query represents. Graphs are made where its walks aren't seen to go straight in both.
+    fn judge_class(&self, near: &mut PairNear, query: &Name) -> Result<PairEnd, NoMemory>
+        ensures { IfOk result (IsPairEnd N.compared query.now) }
+    {
+        match self.straight_class(near, query)? {
+            Some(end) => Ok(end),
+            None => self.looked_class(query),
+        }
+    }
+
+    /// What is told of the class that the query represents where its walks are seen to go straight in both, or `None`.
+    fn straight_class(&self, near: &mut PairNear, query: &Name) -> Result<Option<PairEnd>, NoMemory>
+        ensures { IfOk result (λ found. IfSome found (IsPairEnd N.compared query.now)) }
+    {
+        let Some(first) = self.first.straight_ends(&mut near.first, query)? else {
+            return Ok(None);
+        };
+        let Some(second) = self.second.straight_ends(&mut near.second, query)? else {
+            return Ok(None);
+        };
+        Ok(Some(straight_end(&first, &second)))
+    }
+
+    /// What is told of the class that the query represents, by the graphs of its walks.
+    fn looked_class(&self, query: &Name) -> Result<PairEnd, NoMemory>
         ensures { IfOk result (IsPairEnd N.compared query.now) }
     {
         let first = looked_at(&self.first, query)?;
@@ -178,6 +211,13 @@ impl<'a, N: PairNaming> Pairing<'a, N> {
     {
         self.alloc
     }
+}
+
+/// Places near which the regions of a query are looked for, in the one configuration and in the other.
+#[derive(Drop)]
+struct PairNear {
+    first: usize,
+    second: usize,
 }
 
 /// A server whose name reaches more pairs of state and type than are looked at has a name of at most 255 octets, as all that

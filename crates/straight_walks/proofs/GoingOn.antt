@@ -1,10 +1,11 @@
 -- The branches of referrals.
-use Rattle.std.proofs.Common.{◌≡◌, ℕ, ◌+◌, ◌<◌, Bool, true, false, not, cond, List, [], ◌∷◌, ◌++◌, length, map, take, get_or, Option, Some, Bor, refl, sym, ap, ◌∙◌, subst, inl, inr}
+use Rattle.std.proofs.Common.{◌≡◌, ℕ, ◌+◌, ◌<◌, Bool, true, false, not, cond, List, [], ◌∷◌, ◌++◌, length, map, take, get_or, Option, Some, None, Bor, refl, sym, ap, ◌∙◌, subst, inl, inr}
 use Rattle.std.specs.Prelude.{◌⊎◌, ◌||◌, is_some, option_and_then, option_map, Contains}
 use Rattle.std.specs.List.{AllByRecursion, list_any}
-use Rattle.std.proofs.lemmas.List.{append_assoc, map-append, take_more}
-use Rattle.std.proofs.lemmas.List.Elements.{Contains-append_left}
+use Rattle.std.proofs.lemmas.List.{append-nil, append_assoc, map-append, take_more}
+use Rattle.std.proofs.lemmas.List.Elements.{Contains-append_left, Contains-append_right}
 use Rattle.dns_data.specs.Name.{Labels, name_eq, is_prefix}
+use Rattle.dns_data.proofs.Membership.{has_first}
 use Rattle.dns_data.proofs.Names.{all_push, all_so}
 use Rattle.net_model.specs.declared.deps.Deps.{Deps}
 use Rattle.net_model.specs.Nearest.{is_configured, is_top, nearest, nearest_of, server_named}
@@ -13,11 +14,14 @@ use Rattle.net_model.specs.declared.config.Config.{Config}
 use Rattle.net_model.specs.declared.config.Server.{Server}
 use Rattle.net_model.specs.declared.config.Zone.{Zone}
 use Rattle.net_model.specs.declared.place.Cut.{Cut}
+use Rattle.net_model.specs.declared.walk.Hop.{Hop}
 use Rattle.net_model.specs.declared.walk.Hop.TheVariants.{Refer}
+use Rattle.net_model.specs.declared.walk.Leaf.{Leaf}
 use Rattle.net_model.specs.declared.walk.Leaf.TheVariants as leaves
 use Rattle.net_model.specs.declared.walk.State.{State}
+use Rattle.walk_laws.specs.Outcome.{outcome_of}
 use Rattle.zone_lookup.specs.Sound.{IsSound}
-use Rattle.straight_walks.specs.Searching.{AreReferrals, Extends, IsReferral, IsSettingOf, cut_to, state_at, queued_state, to_servers}
+use Rattle.straight_walks.specs.Searching.{AreReferrals, Extends, FailsOrGoes, IsReferral, IsSettingOf, cut_to, state_at, queued_state, to_servers}
 use Rattle.straight_walks.specs.Straight.{EndsUnanswered, GoesTo}
 use Rattle.straight_walks.specs.declared.queue.Queued.{Queued}
 use Rattle.straight_walks.specs.declared.name_server.Referral.TheVariants as referral
@@ -97,56 +101,126 @@ pub goes_still : (config : Config) (deps : Deps) (states all : List State) → (
 goes_still config deps states all more branch goes = (goes.0, goes.1, goes.2, goes.3, more goes.1 goes.4)
 
 module _ (config : Config) (deps : Deps) (query server : Labels) (zone : Zone) (cut : Labels) where
-  -- where more states are queued
-  pub refers_still : (names : List Labels) (before after : List Queued) → Extends before after → AreReferrals config deps query server zone cut names before
-      → AreReferrals config deps query server zone cut names after
-  refers_still names before after more so setting above of =
-      all_so (λ branch. EndsUnanswered setting.config deps branch ⊎ GoesTo setting.config deps (map (queued_state config query) before) branch)
-      (λ branch. EndsUnanswered setting.config deps branch ⊎ GoesTo setting.config deps (map (queued_state config query) after) branch)
-      (to_servers zone cut names setting (state_at config query server above)) weaker (so setting above of)
-    where
-      weaker : (branch : Branch) → EndsUnanswered setting.config deps branch ⊎ GoesTo setting.config deps (map (queued_state config query) before) branch
-          → EndsUnanswered setting.config deps branch ⊎ GoesTo setting.config deps (map (queued_state config query) after) branch
-      weaker branch (inl ends) = inl ends
-      weaker branch (inr goes) =
-          inr (goes_still setting.config deps (map (queued_state config query) before) (map (queued_state config query) after) (still_queued (queued_state config query) before after more) branch goes)
+  -- the query's state at the server
+  abbrev from : ℕ → State
+  from above = state_at config query server above
 
-  module _ (names : List Labels) (ns : Labels) (queue : List Queued) (so : AreReferrals config deps query server zone cut names queue) where
-    abbrev to : Cut
-    to = cut_to server zone cut ns
+  -- the branches of the zone cut with these name servers
+  abbrev branches : List Labels → Setting → ℕ → List Branch
+  branches names setting above = to_servers zone cut names setting (from above)
 
-    -- one name server more
-    one_more : ((setting : Setting) (above : ℕ) → IsSettingOf config deps setting
-        → EndsUnanswered setting.config deps (referred setting (state_at config query server above) to)
-        ⊎ GoesTo setting.config deps (map (queued_state config query) queue) (referred setting (state_at config query server above) to))
-        → AreReferrals config deps query server zone cut (names ++ ns ∷ []) queue
-    one_more here setting above of =
-        subst (AllByRecursion (λ branch. EndsUnanswered setting.config deps branch ⊎ GoesTo setting.config deps (map (queued_state config query) queue) branch))
-        (sym (map-append (λ name. referred setting (state_at config query server above) (cut_to server zone cut name)) names (ns ∷ [])))
-        (all_push (λ branch. EndsUnanswered setting.config deps branch ⊎ GoesTo setting.config deps (map (queued_state config query) queue) branch)
-        (to_servers zone cut names setting (state_at config query server above)) (referred setting (state_at config query server above) to)
-        (so setting above of) (here setting above of))
+  -- the branch to one name server
+  abbrev branch_to : Labels → Setting → ℕ → Branch
+  branch_to ns setting above = referred setting (from above) (cut_to server zone cut ns)
 
-    -- each referral ends unanswered or goes to a queued state, with one name server more whose referral ends
-    pub one_that_ends : IsReferral config deps query to referral.Ends → AreReferrals config deps query server zone cut (names ++ ns ∷ []) queue
-    one_that_ends ends = one_more (λ setting above of. inl (ends setting (state_at config query server above) of))
+  -- the branches with one name server more
+  one_branch_more : (names : List Labels) (ns : Labels) (setting : Setting) (above : ℕ) → branches (names ++ ns ∷ []) setting above ≡ branches names setting above ++ branch_to ns setting above ∷ []
+  one_branch_more names ns setting above = map-append (λ name. branch_to name setting above) names (ns ∷ [])
 
-    -- each referral ends unanswered or goes to a queued state, with one name server more whose state is queued
-    pub one_to_go_to : Contains (map (queued_state config query) queue) (state_at config query ns (length cut)) → IsReferral config deps query to referral.GoesOn
-        → AreReferrals config deps query server zone cut (names ++ ns ∷ []) queue
-    one_to_go_to there goes =
-        one_more (λ setting above of.
-        let on = goes setting above of in
-        inr (to, state_at config query ns (length cut), on.0, on.1, there))
+  -- a branch to one of the name servers is one with one name server more
+  still_among : (names : List Labels) (ns : Labels) (setting : Setting) (above : ℕ) (branch : Branch) → Contains (branches names setting above) branch
+      → Contains (branches (names ++ ns ∷ []) setting above) branch
+  still_among names ns setting above branch has =
+      subst (λ (all : List Branch). Contains all branch) (sym (one_branch_more names ns setting above))
+      (Contains-append_left (branches names setting above) (branch_to ns setting above ∷ []) branch has)
 
-    -- so do those so far, where the referral ends
-    pub so_far_ends : (first : List Queued) → Extends first queue → IsReferral config deps query to referral.Ends
-        → Extends first queue × AreReferrals config deps query server zone cut (names ++ ns ∷ []) queue
-    so_far_ends first more ends = (more, one_that_ends ends)
+  -- and so is the branch to that one
+  last_among : (names : List Labels) (ns : Labels) (setting : Setting) (above : ℕ) → Contains (branches (names ++ ns ∷ []) setting above) (branch_to ns setting above)
+  last_among names ns setting above =
+      subst (λ (all : List Branch). Contains all (branch_to ns setting above)) (sym (one_branch_more names ns setting above))
+      (Contains-append_right (branches names setting above) (branch_to ns setting above ∷ []) (branch_to ns setting above) (has_first (branch_to ns setting above) []))
 
-  -- and where walks go on to it
-  pub so_far_goes_on : (names : List Labels) (ns : Labels) (first before after : List Queued) → Extends first before × AreReferrals config deps query server zone cut names before → Extends before after
-      → Contains (map (queued_state config query) after) (state_at config query ns (length cut)) → IsReferral config deps query (cut_to server zone cut ns) referral.GoesOn
-      → Extends first after × AreReferrals config deps query server zone cut (names ++ ns ∷ []) after
-  so_far_goes_on names ns first before after so more there goes =
-      (extends_further first before after so.0 more, one_to_go_to names ns after (refers_still names before after more so.1) there goes)
+  -- of no name servers
+  pub no_referrals : (queue : List Queued) (fails : Bool) → AreReferrals config deps query server zone cut [] queue fails queue fails
+  no_referrals queue fails =
+      record {
+        extends = ([], sym (append-nil queue));
+        still = λ is. is;
+        each = λ setting above of. tt;
+        leads = λ one has. inl has;
+        told = λ is. inl is;
+      }
+
+  module _ (names : List Labels) (ns : Labels) (first : List Queued) (fails_first : Bool) (before : List Queued) (fails_before : Bool)
+      (so : AreReferrals config deps query server zone cut names first fails_first before fails_before) where
+    -- where each branch so far goes straight, and the one to the next name server does
+    each_more : (after : List Queued) (fails : Bool) → Extends before after → (fails_before ≡ true → fails ≡ true) → (setting : Setting) (above : ℕ) → IsSettingOf config deps setting
+        → FailsOrGoes setting.config deps fails (map (queued_state config query) after) (branch_to ns setting above)
+        → AllByRecursion (FailsOrGoes setting.config deps fails (map (queued_state config query) after)) (branches (names ++ ns ∷ []) setting above)
+    each_more after fails more still setting above of here =
+        subst (AllByRecursion (FailsOrGoes setting.config deps fails (map (queued_state config query) after))) (sym (one_branch_more names ns setting above))
+        (all_push (FailsOrGoes setting.config deps fails (map (queued_state config query) after)) (branches names setting above) (branch_to ns setting above)
+        (all_so (FailsOrGoes setting.config deps fails_before (map (queued_state config query) before)) (FailsOrGoes setting.config deps fails (map (queued_state config query) after))
+        (branches names setting above) weaker (so.each setting above of)) here)
+      where
+        weaker : (branch : Branch) → FailsOrGoes setting.config deps fails_before (map (queued_state config query) before) branch
+            → FailsOrGoes setting.config deps fails (map (queued_state config query) after) branch
+        weaker branch (inl (failing, ending)) = inl (still failing, ending)
+        weaker branch (inr goes) =
+            inr (goes_still setting.config deps (map (queued_state config query) before) (map (queued_state config query) after) (still_queued (queued_state config query) before after more) branch goes)
+
+    -- states to which branches led so far, and those to which they lead with one name server more
+    leads_still : (one : Queued) → Contains before one → Contains first one ⊎ ((setting : Setting) (above : ℕ) → IsSettingOf config deps setting
+        → (hop : Hop) × Contains (branches (names ++ ns ∷ []) setting above) (Go hop (queued_state config query one)))
+    leads_still one has = by (so.leads one has) where
+      by : Contains first one ⊎ ((setting : Setting) (above : ℕ) → IsSettingOf config deps setting
+          → (hop : Hop) × Contains (branches names setting above) (Go hop (queued_state config query one)))
+          → Contains first one ⊎ ((setting : Setting) (above : ℕ) → IsSettingOf config deps setting
+          → (hop : Hop) × Contains (branches (names ++ ns ∷ []) setting above) (Go hop (queued_state config query one)))
+      by (inl early) = inl early
+      by (inr goes) = inr (λ setting above of.
+          let (hop, among) = goes setting above of in (hop, still_among names ns setting above (Go hop (queued_state config query one)) among))
+
+    -- so are they with one name server more, whose referral ends: then walks fail
+    pub one_that_ends : IsReferral config deps query (cut_to server zone cut ns) referral.Ends
+        → AreReferrals config deps query server zone cut (names ++ ns ∷ []) first fails_first before true
+    one_that_ends ends =
+        record {
+          extends = so.extends;
+          still = λ is. refl;
+          each = λ setting above of. each_more before true ([], sym (append-nil before)) (λ is. refl) setting above of (inl (refl, ends setting (from above) of));
+          leads = leads_still;
+          told = λ is. inr (λ setting above of.
+              let (hop, leaf, is_end, none) = end_told setting (branch_to ns setting above) (ends setting (from above) of) in
+              (hop, leaf, subst (Contains (branches (names ++ ns ∷ []) setting above)) is_end (last_among names ns setting above), none));
+        }
+      where
+        end_told : (setting : Setting) (branch : Branch) → EndsUnanswered setting.config deps branch → (hop : Option Hop) × (leaf : Leaf) × (branch ≡ End hop leaf) × (outcome_of leaf ≡ None)
+        end_told setting branch (inl outside) = (None, leaves.Outside, outside, refl)
+        end_told setting branch (inr (to, sound, unhosted)) = (Some (Refer to), leaves.Unhosted to.ns, unhosted, refl)
+
+    -- and with one more to which walks go on
+    pub one_to_go_to : (after : List Queued) → Extends before after → Contains (map (queued_state config query) after) (state_at config query ns (length cut))
+        → ((one : Queued) → Contains after one → Contains before one ⊎ ((one.server.now ≡ ns) × (one.cut ≡ length cut)))
+        → IsReferral config deps query (cut_to server zone cut ns) referral.GoesOn
+        → AreReferrals config deps query server zone cut (names ++ ns ∷ []) first fails_first after fails_before
+    one_to_go_to after more there only goes =
+        record {
+          extends = extends_further first before after so.extends more;
+          still = so.still;
+          each = λ setting above of.
+              let on = goes setting above of in
+              each_more after fails_before more (λ is. is) setting above of (inr (cut_to server zone cut ns, state_at config query ns (length cut), on.0, on.1, there));
+          leads = λ one has. leads one (only one has);
+          told = λ is. told (so.told is);
+        }
+      where
+        leads : (one : Queued) → Contains before one ⊎ ((one.server.now ≡ ns) × (one.cut ≡ length cut)) → Contains first one ⊎ ((setting : Setting) (above : ℕ) → IsSettingOf config deps setting
+            → (hop : Hop) × Contains (branches (names ++ ns ∷ []) setting above) (Go hop (queued_state config query one)))
+        leads one (inl has) = leads_still one has
+        leads one (inr (server_is, cut_is)) = inr (λ setting above of. (
+          Refer (cut_to server zone cut ns),
+          subst (Contains (branches (names ++ ns ∷ []) setting above))
+              ((goes setting above of).1
+              ∙ ap (λ (name : Labels). Go (Refer (cut_to server zone cut ns)) (state_at config query name (length cut))) (sym server_is)
+              ∙ ap (λ (n : ℕ). Go (Refer (cut_to server zone cut ns)) (state_at config query one.server.now n)) (sym cut_is))
+              (last_among names ns setting above),
+        ))
+
+        told : (fails_first ≡ true) ⊎ ((setting : Setting) (above : ℕ) → IsSettingOf config deps setting
+            → (hop : Option Hop) × (leaf : Leaf) × Contains (branches names setting above) (End hop leaf) × (outcome_of leaf ≡ None))
+            → (fails_first ≡ true) ⊎ ((setting : Setting) (above : ℕ) → IsSettingOf config deps setting
+            → (hop : Option Hop) × (leaf : Leaf) × Contains (branches (names ++ ns ∷ []) setting above) (End hop leaf) × (outcome_of leaf ≡ None))
+        told (inl early) = inl early
+        told (inr end) = inr (λ setting above of.
+            let (hop, leaf, among, none) = end setting above of in (hop, leaf, still_among names ns setting above (End hop leaf) among, none))

@@ -10,11 +10,13 @@ use Rattle.net_model.specs.Step.{Setting, Branch, Go, End, delegated, may_follow
 use Rattle.net_model.specs.declared.config.Config.{Config}
 use Rattle.net_model.specs.declared.config.Zone.{Zone}
 use Rattle.net_model.specs.declared.place.Cut.{Cut}
+use Rattle.net_model.specs.declared.walk.Hop.{Hop}
 use Rattle.net_model.specs.declared.walk.Hop.TheVariants.{Refer}
+use Rattle.net_model.specs.declared.walk.Leaf.{Leaf}
 use Rattle.net_model.specs.declared.walk.Leaf.TheVariants as leaves
 use Rattle.net_model.specs.declared.walk.State.{State}
-use Rattle.straight_walks.specs.Searching.{AreReferrals, cut_to, state_at, queued_state, to_servers}
-use Rattle.straight_walks.specs.Straight.{EndsUnanswered, GoesTo}
+use Rattle.walk_laws.specs.Outcome.{outcome_of}
+use Rattle.straight_walks.specs.Searching.{AreReferrals, FailsOrGoes, IsSettingOf, cut_to, state_at, queued_state, to_servers}
 use Rattle.straight_walks.specs.declared.queue.Queued.{Queued}
 
 -- a state, and a branch, for another name
@@ -54,36 +56,87 @@ module _ (config : Config) (deps : Deps) (one other : Labels) (same : (server : 
   state_for server above =
       ap (λ (z : Option Zone). for_name other (record (state_at config one server above) { zone = option_map (λ (zone : Zone). zone.origin) z })) (same server)
 
-  -- a branch ends, or goes on to one of the states of a name
-  abbrev Goes : List Queued → Setting → Labels → Branch → Type 0
-  Goes queue setting name branch = EndsUnanswered setting.config deps branch ⊎ GoesTo setting.config deps (map (queued_state config name) queue) branch
+  queued_for : (item : Queued) → queued_state config other item ≡ for_name other (queued_state config one item)
+  queued_for item = state_for item.server.now item.cut
 
-  goes_for : (queue : List Queued) (setting : Setting) (branch : Branch) → Goes queue setting one branch → Goes queue setting other (branch_for other branch)
-  goes_for queue setting branch (inl (inl ends)) = inl (inl (ap (branch_for other) ends))
-  goes_for queue setting branch (inl (inr (cut, sound, ends))) = inl (inr (cut, sound, ap (branch_for other) ends))
-  goes_for queue setting branch (inr (cut, to, sound, goes, has)) =
+  -- the branch fails, or goes on to one of the states of a name
+  abbrev Goes : Setting → Bool → List Queued → Labels → Branch → Type 0
+  Goes setting fails queue name branch = FailsOrGoes setting.config deps fails (map (queued_state config name) queue) branch
+
+  goes_for : (setting : Setting) (fails : Bool) (queue : List Queued) (branch : Branch) → Goes setting fails queue one branch → Goes setting fails queue other (branch_for other branch)
+  goes_for setting fails queue branch (inl (failing, inl ends)) = inl (failing, inl (ap (branch_for other) ends))
+  goes_for setting fails queue branch (inl (failing, inr (cut, sound, ends))) = inl (failing, inr (cut, sound, ap (branch_for other) ends))
+  goes_for setting fails queue branch (inr (cut, to, sound, goes, has)) =
       let from = from_map (queued_state config one) queue to has in
       inr (
         cut,
         for_name other to,
         sound,
         ap (branch_for other) goes,
-        subst (Contains (map (queued_state config other) queue)) (state_for from.0.server.now from.0.cut ∙ ap (for_name other) from.2) (map_has (queued_state config other) queue from.0 from.1),
+        subst (Contains (map (queued_state config other) queue)) (queued_for from.0 ∙ ap (for_name other) from.2) (map_has (queued_state config other) queue from.0 from.1),
       )
 
   -- a zone cut's branches
-  pub refers_for : (server : Labels) (zone : Zone) (cut : Labels) (names : List Labels) (queue : List Queued)
-      → AreReferrals config deps one server zone cut names queue → AreReferrals config deps other server zone cut names queue
-  refers_for server zone cut names queue so setting above of = by names (so setting above of) where
-    here : (ns : Labels) → referred setting (state_at config other server above) (cut_to server zone cut ns)
-        ≡ branch_for other (referred setting (state_at config one server above) (cut_to server zone cut ns))
-    here ns =
-        ap (λ (s : State). referred setting s (cut_to server zone cut ns)) (state_for server above)
-        ∙ referred_for setting (state_at config one server above) (cut_to server zone cut ns) other
-        (subst (λ (c : Config). nearest_of c ns other ≡ nearest_of c ns one) (sym of.config_is) (same ns))
+  module _ (server : Labels) (zone : Zone) (cut : Labels) (names : List Labels) where
+    abbrev branches : Labels → Setting → ℕ → List Branch
+    branches name setting above = to_servers zone cut names setting (state_at config name server above)
 
-    by : (names : List Labels) → AllByRecursion (Goes queue setting one) (to_servers zone cut names setting (state_at config one server above))
-        → AllByRecursion (Goes queue setting other) (to_servers zone cut names setting (state_at config other server above))
-    by [] all = tt
-    by (ns ∷ names) all =
-        (subst (Goes queue setting other) (sym (here ns)) (goes_for queue setting (referred setting (state_at config one server above) (cut_to server zone cut ns)) all.0), by names all.1)
+    branches_for : (setting : Setting) (above : ℕ) → IsSettingOf config deps setting → branches other setting above ≡ map (branch_for other) (branches one setting above)
+    branches_for setting above of = by names where
+      here : (ns : Labels) → referred setting (state_at config other server above) (cut_to server zone cut ns)
+          ≡ branch_for other (referred setting (state_at config one server above) (cut_to server zone cut ns))
+      here ns =
+          ap (λ (s : State). referred setting s (cut_to server zone cut ns)) (state_for server above)
+          ∙ referred_for setting (state_at config one server above) (cut_to server zone cut ns) other
+          (subst (λ (c : Config). nearest_of c ns other ≡ nearest_of c ns one) (sym of.config_is) (same ns))
+
+      by : (names : List Labels) → to_servers zone cut names setting (state_at config other server above)
+          ≡ map (branch_for other) (to_servers zone cut names setting (state_at config one server above))
+      by [] = refl
+      by (ns ∷ names) = ap (λ (b : Branch). b ∷ to_servers zone cut names setting (state_at config other server above)) (here ns)
+          ∙ ap (λ (bs : List Branch). branch_for other (referred setting (state_at config one server above) (cut_to server zone cut ns)) ∷ bs) (by names)
+
+    -- a branch among them
+    among_for : (setting : Setting) (above : ℕ) → IsSettingOf config deps setting → (branch : Branch) → Contains (branches one setting above) branch
+        → Contains (branches other setting above) (branch_for other branch)
+    among_for setting above of branch has =
+        subst (λ (all : List Branch). Contains all (branch_for other branch)) (sym (branches_for setting above of))
+        (map_has (branch_for other) (branches one setting above) branch has)
+
+    all_for : (setting : Setting) (fails : Bool) (queue : List Queued) (all : List Branch) → AllByRecursion (Goes setting fails queue one) all
+        → AllByRecursion (Goes setting fails queue other) (map (branch_for other) all)
+    all_for setting fails queue [] each = tt
+    all_for setting fails queue (branch ∷ rest) each = (goes_for setting fails queue branch each.0, all_for setting fails queue rest each.1)
+
+    -- so are referrals of the name referrals of the other
+    pub refers_for : (before : List Queued) (fails_before : Bool) (after : List Queued) (fails : Bool)
+        → AreReferrals config deps one server zone cut names before fails_before after fails → AreReferrals config deps other server zone cut names before fails_before after fails
+    refers_for before fails_before after fails so =
+        record {
+          extends = so.extends;
+          still = so.still;
+          each = λ setting above of.
+              subst (AllByRecursion (Goes setting fails after other)) (sym (branches_for setting above of))
+              (all_for setting fails after (branches one setting above) (so.each setting above of));
+          leads = λ item has. leads item (so.leads item has);
+          told = λ is. told (so.told is);
+        }
+      where
+        leads : (item : Queued) → Contains before item ⊎ ((setting : Setting) (above : ℕ) → IsSettingOf config deps setting
+            → (hop : Hop) × Contains (branches one setting above) (Go hop (queued_state config one item)))
+            → Contains before item ⊎ ((setting : Setting) (above : ℕ) → IsSettingOf config deps setting
+            → (hop : Hop) × Contains (branches other setting above) (Go hop (queued_state config other item)))
+        leads item (inl early) = inl early
+        leads item (inr goes) = inr (λ setting above of.
+            let (hop, has) = goes setting above of in (
+              hop,
+              subst (λ (to : State). Contains (branches other setting above) (Go hop to)) (sym (queued_for item)) (among_for setting above of (Go hop (queued_state config one item)) has),
+            ))
+
+        told : (fails_before ≡ true) ⊎ ((setting : Setting) (above : ℕ) → IsSettingOf config deps setting
+            → (hop : Option Hop) × (leaf : Leaf) × Contains (branches one setting above) (End hop leaf) × (outcome_of leaf ≡ None))
+            → (fails_before ≡ true) ⊎ ((setting : Setting) (above : ℕ) → IsSettingOf config deps setting
+            → (hop : Option Hop) × (leaf : Leaf) × Contains (branches other setting above) (End hop leaf) × (outcome_of leaf ≡ None))
+        told (inl early) = inl early
+        told (inr end) = inr (λ setting above of.
+            let (hop, leaf, has, none) = end setting above of in (hop, leaf, among_for setting above of (End hop leaf) has, none))

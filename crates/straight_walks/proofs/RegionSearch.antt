@@ -1,56 +1,48 @@
 -- The search for all names whose nearest origin is the same: it passes a state where it does so for the origin.
-use Rattle.std.proofs.Common.{◌≡◌, ℕ, ◌+◌, ◌<◌, ◌≤◌, List, [], ◌∷◌, ◌++◌, length, map, take, take_all, get_or, None, Bor, sym, ap, ◌∙◌, subst, inl, inr, arith}
+use Rattle.std.proofs.Common.{◌≡◌, ℕ, ◌+◌, ◌<◌, ◌≤◌, Bool, true, List, [], ◌∷◌, ◌++◌, length, map, take, take_all, get_or, Bor, sym, ap, ◌∙◌, subst, inl, inr, arith}
 use Rattle.std.specs.Prelude.{◌⊎◌, Contains}
-use Rattle.std.specs.List.{AllByRecursion}
-use Rattle.std.proofs.lemmas.List.{length-append, take_more, take-append-le}
-use Rattle.std.proofs.lemmas.List.Elements.{Contains-append_cases, Contains-append_left, Contains-append_right}
+use Rattle.std.proofs.lemmas.List.{append-nil, length-append, take_more, take-append-le}
+use Rattle.std.proofs.lemmas.List.Elements.{Contains-append_cases, Contains-append_left, Contains-append_right, Contains-get_or}
 use Rattle.dns_data.specs.Name.{Labels}
-use Rattle.dns_data.specs.declared.rr_type.RrType.{RrType}
 use Rattle.dns_data.proofs.Membership.{first_or_later, from_map, has_first, map_has, none_in_nil}
 use Rattle.dns_data.proofs.NameFronts.{is_prefix_tells}
-use Rattle.dns_data.proofs.Names.{all_push, all_so}
 use Rattle.net_model.specs.declared.deps.Deps.{Deps}
 use Rattle.net_model.specs.Lookup.{deciding}
-use Rattle.net_model.specs.Step.{Setting, start}
 use Rattle.net_model.specs.Zone.{ns_names}
 use Rattle.net_model.specs.declared.config.Config.{Config}
-use Rattle.net_model.specs.declared.walk.Leaf.{Leaf}
 use Rattle.net_model.specs.declared.walk.State.{State}
 use Rattle.zone_tree.specs.Tree.{ZoneTree, name_of}
-use Rattle.straight_walks.specs.Searching.{AreReferrals, Extends, IsReply, IsSettingOf, state_at, queued_state}
-use Rattle.straight_walks.specs.Regions.{IsLookedAt, IsNearestOrigin, IsPassed, IsSearchBelow}
-use Rattle.straight_walks.specs.Straight.{StepsStraight}
+use Rattle.straight_walks.specs.Searching.{AreReferrals, Extends, HasWalked, IsReply, Passes, queued_state, unanswered}
+use Rattle.straight_walks.specs.Regions.{IsAnsweringMore, IsLookedAt, IsNearestOrigin, IsPassedMore, IsRegionStart, IsSearchBelow}
 use Rattle.straight_walks.specs.declared.queue.Queued.{Queued}
+use Rattle.straight_walks.specs.declared.region.RegionSearch.{RegionSearch}
 use Rattle.straight_walks.specs.declared.searching.Search.{Search}
 use Rattle.straight_walks.specs.declared.server.Reply.TheVariants as reply
 use Rattle.straight_walks.proofs.BelowOrigins.{cut_stays, same_nearest}
-use Rattle.straight_walks.proofs.GoingOn.{still_queued}
 use Rattle.straight_walks.proofs.OtherNames.{refers_for}
-use Rattle.straight_walks.proofs.StraightSearch.{AreAmong, Passes, outside_passes, referral_passes, steps_still}
+use Rattle.straight_walks.proofs.StraightSearch.{begins_at_top, one_walked, outside_passes, referral_passes, walked_among}
 
 module _ (config : Config) (deps : Deps) (origin : Labels) where
   -- ---- one server
 
-  module _ (server : Labels) (queue after : List Queued) where
-    -- where walks for each of the names pass it, and it answers none of them
-    past : ((query : Labels) → IsNearestOrigin config origin query → Passes config deps query server queue None after None) → IsPassed config deps origin server after
-    past each query nearest setting answer above of = (each query nearest).steps setting answer above of tt
-
-  -- that has no zone for the origin
-  pub outside_past : (server : Labels) (queue : List Queued) → IsReply config origin server reply.Outside → IsPassed config deps origin server queue
-  outside_past server queue so =
-      past server queue queue (λ query nearest. outside_passes config deps query server queue None (same_nearest config origin query nearest server ∙ so))
+  -- that has no zone for the origin: walks for each of the names pass it
+  pub outside_past : (server : Labels) (queue : List Queued) (fails : Bool) → IsReply config origin server reply.Outside → (query : Labels) → IsNearestOrigin config origin query
+      → Passes config deps query server queue (unanswered fails) queue (unanswered true)
+  outside_past server queue fails so query nearest =
+      outside_passes config deps query server queue (unanswered fails) (same_nearest config origin query nearest server ∙ so)
 
   -- whose zone refers it
-  pub referral_past : (server : Labels) (queue after : List Queued) (tree : Bor ZoneTree) (cut : ℕ) → IsReply config origin server (reply.Refers tree cut) → Extends queue after
-      → AreReferrals config deps origin server tree.now.zone (name_of tree.now cut) (ns_names tree.now.zone (name_of tree.now cut)) after
-      → IsPassed config deps origin server after
-  referral_past server queue after tree cut so more on =
-      past server queue after (λ query nearest. referral_passes config deps query server queue None tree cut after (below query nearest) more
-      (refers_for config deps origin query (same_nearest config origin query nearest) server tree.now.zone (name_of tree.now cut) (ns_names tree.now.zone (name_of tree.now cut)) after on))
+  pub referral_past : (server : Labels) (queue : List Queued) (fails_before : Bool) (after : List Queued) (fails : Bool) (tree : Bor ZoneTree) (cut : ℕ)
+      → IsReply config origin server (reply.Refers tree cut)
+      → AreReferrals config deps origin server tree.now.zone (name_of tree.now cut) (ns_names tree.now.zone (name_of tree.now cut)) queue fails_before after fails
+      → (query : Labels) → IsNearestOrigin config origin query → Passes config deps query server queue (unanswered fails_before) after (unanswered fails)
+  referral_past server queue fails_before after fails tree cut so on query nearest =
+      referral_passes config deps query server queue (unanswered fails_before) tree cut after fails below
+      (refers_for config deps origin query (same_nearest config origin query nearest) server tree.now.zone (name_of tree.now cut) (ns_names tree.now.zone (name_of tree.now cut))
+      queue fails_before after fails on)
     where
-      below : (query : Labels) → IsNearestOrigin config origin query → IsReply config query server (reply.Refers tree cut)
-      below query nearest =
+      below : IsReply config query server (reply.Refers tree cut)
+      below =
           let begins = is_prefix_tells origin query nearest.above in (
             so.0,
             so.1,
@@ -59,21 +51,29 @@ module _ (config : Config) (deps : Deps) (origin : Labels) where
             ap (deciding tree.now.zone) (sym begins.1) ∙ cut_stays tree.now.zone origin begins.0 (name_of tree.now cut) so.4,
           )
 
-  -- still where more states are queued
-  past_still : (server : Labels) (before after : List Queued) → ((query : Labels) → AreAmong config deps query before after) → IsPassed config deps origin server before
-      → IsPassed config deps origin server after
-  past_still server before after more so query nearest setting answer above of rtype =
-      steps_still config deps query setting answer before after (more query) (state_at config query server above) (so query nearest setting answer above of) rtype
-
   -- ---- those that are either out
 
-  -- the search begins at the top servers, and of the first so many states each is among those that are passed or among those whose
-  -- servers answer
-  pub record AreLookedAt (queue : List Queued) (at : ℕ) (passed answering : List Queued) : Type 0 where
-    pub within : at ≤ length queue
-    pub begins : (query : Labels) (state : State) → Contains (start config query) state → Contains (map (queued_state config query) queue) state
-    pub either : (one : Queued) → Contains (take at queue) one → Contains (passed ++ answering) one
-    pub are_passed : AllByRecursion (λ one. IsPassed config deps origin one.server.now queue) passed
+  -- so many of the states are looked at: each of these is among those that are passed or those whose servers answer, which are all
+  -- queued, and for each of the names the search has walked over those that are passed
+  pub record AreLookedAt (at : ℕ) (search : RegionSearch) : Type 0 where
+    pub within : at ≤ length search.queue.items
+    pub walked : (query : Labels) → IsNearestOrigin config origin query → HasWalked config deps query search.queue.items search.passed.items (unanswered search.fails)
+    pub either : (one : Queued) → Contains (take at search.queue.items) one → Contains (search.passed.items ++ search.answering.items) one
+    pub only : (one : Queued) → Contains (search.passed.items ++ search.answering.items) one → Contains search.queue.items one
+
+  -- where the search begins none is
+  pub none_looked_at : (search : RegionSearch) → IsRegionStart config search → AreLookedAt 0 search
+  none_looked_at search is =
+      record {
+        within = omega arith;
+        walked = λ query nearest.
+            subst (λ (passed : List Queued). HasWalked config deps query search.queue.items passed (unanswered search.fails)) (sym is.passed)
+            (subst (λ (fails : Bool). HasWalked config deps query search.queue.items [] (unanswered fails)) (sym is.fails)
+            (begins_at_top config deps query search.queue.items (is.queue query)));
+        either = λ one has. absurd (none_in_nil one has);
+        only = λ one has. absurd (none_in_nil one
+            (subst (λ (all : List Queued). Contains all one) (ap (λ (p : List Queued). p ++ search.answering.items) is.passed ∙ is.answering) has));
+      }
 
   -- an item more on either side
   more_passed : (passed answering : List Queued) (item one : Queued) → Contains (passed ++ answering) one ⊎ (item ≡ one) → Contains ((passed ++ item ∷ []) ++ answering) one
@@ -92,86 +92,135 @@ module _ (config : Config) (deps : Deps) (origin : Labels) where
   more_answering passed answering item one (inr is) =
       Contains-append_right passed (answering ++ item ∷ []) one (Contains-append_right answering (item ∷ []) one (subst (Contains (item ∷ [])) is (has_first item [])))
 
-  -- the queued states that are looked at are one more when the next one was looked at
-  pub one_looked_at : (queue after : List Queued) (at : ℕ) (passed passed_after answering answering_after : List Queued) (item : Queued) → at < length queue → item ≡ get_or queue at item
-      → AreLookedAt queue at passed answering → IsLookedAt config deps origin item queue passed answering after passed_after answering_after → AreLookedAt after (at + 1) passed_after answering_after
-  one_looked_at queue after at passed passed_after answering answering_after item within is so one =
-      record {
-        within = subst (λ (all : List Queued). at + 1 ≤ length all) (sym one.extends.1) (omega (arith, within, length-append queue one.extends.0));
-        begins = λ query state has. still_queued (queued_state config query) queue after one.extends state (so.begins query state has);
-        either = λ other has. either other (so_far other (subst (λ (all : List Queued). Contains all other) passed_over has)) one.put;
-        are_passed = are_passed one.put;
-      }
-    where
-      passed_over : take (at + 1) after ≡ take at queue ++ item ∷ []
+  -- and the other way round
+  last_or_before : (items : List Queued) (item one : Queued) → Contains (items ++ item ∷ []) one → Contains items one ⊎ (item ≡ one)
+  last_or_before items item one has = by (Contains-append_cases items (item ∷ []) one has) where
+    last : (item ≡ one) ⊎ Contains [] one → Contains items one ⊎ (item ≡ one)
+    last (inl same) = inr same
+    last (inr none) = absurd (none_in_nil one none)
+
+    by : Contains items one ⊎ Contains (item ∷ []) one → Contains items one ⊎ (item ≡ one)
+    by (inl before) = inl before
+    by (inr here) = last (first_or_later item [] one here)
+
+  either_before : (passed answering : List Queued) (item one : Queued) → Contains ((passed ++ item ∷ []) ++ answering) one → Contains (passed ++ answering) one ⊎ (item ≡ one)
+  either_before passed answering item one has = by (Contains-append_cases (passed ++ item ∷ []) answering one has) where
+    left : Contains passed one ⊎ (item ≡ one) → Contains (passed ++ answering) one ⊎ (item ≡ one)
+    left (inl before) = inl (Contains-append_left passed answering one before)
+    left (inr same) = inr same
+
+    by : Contains (passed ++ item ∷ []) one ⊎ Contains answering one → Contains (passed ++ answering) one ⊎ (item ≡ one)
+    by (inl among) = left (last_or_before passed item one among)
+    by (inr right) = inl (Contains-append_right passed answering one right)
+
+  answering_before : (passed answering : List Queued) (item one : Queued) → Contains (passed ++ (answering ++ item ∷ [])) one → Contains (passed ++ answering) one ⊎ (item ≡ one)
+  answering_before passed answering item one has = by (Contains-append_cases passed (answering ++ item ∷ []) one has) where
+    right : Contains answering one ⊎ (item ≡ one) → Contains (passed ++ answering) one ⊎ (item ≡ one)
+    right (inl before) = inl (Contains-append_right passed answering one before)
+    right (inr same) = inr same
+
+    by : Contains passed one ⊎ Contains (answering ++ item ∷ []) one → Contains (passed ++ answering) one ⊎ (item ≡ one)
+    by (inl left) = inl (Contains-append_left passed answering one left)
+    by (inr among) = right (last_or_before answering item one among)
+
+  -- one more of the states is looked at
+  module _ (before after : RegionSearch) (at : ℕ) (item : Queued) (within : at < length before.queue.items) (is : item ≡ get_or before.queue.items at item) (so : AreLookedAt at before) where
+    queued : Contains before.queue.items item
+    queued = subst (Contains before.queue.items) (sym is) (Contains-get_or before.queue.items at item within)
+
+    in_reach : Extends before.queue.items after.queue.items → at + 1 ≤ length after.queue.items
+    in_reach more = subst (λ (all : List Queued). at + 1 ≤ length all) (sym more.1) (omega (arith, within, length-append before.queue.items more.0))
+
+    -- of the states up to the next one
+    so_far : Extends before.queue.items after.queue.items → (other : Queued) → Contains (take (at + 1) after.queue.items) other
+        → Contains (before.passed.items ++ before.answering.items) other ⊎ (item ≡ other)
+    so_far more other has = by (last_or_before (take at before.queue.items) item other (subst (λ (all : List Queued). Contains all other) passed_over has)) where
+      passed_over : take (at + 1) after.queue.items ≡ take at before.queue.items ++ item ∷ []
       passed_over =
-          ap (take (at + 1)) one.extends.1 ∙ take-append-le (at + 1) queue one.extends.0 (omega (arith, within)) ∙ take_more queue at item within ∙ (λ j. take at queue ++ sym is j ∷ [])
+          ap (take (at + 1)) more.1 ∙ take-append-le (at + 1) before.queue.items more.0 (omega (arith, within)) ∙ take_more before.queue.items at item within
+          ∙ (λ j. take at before.queue.items ++ sym is j ∷ [])
 
-      so_far : (other : Queued) → Contains (take at queue ++ item ∷ []) other → Contains (passed ++ answering) other ⊎ (item ≡ other)
-      so_far other has = by (Contains-append_cases (take at queue) (item ∷ []) other has) where
-        by : Contains (take at queue) other ⊎ Contains (item ∷ []) other → Contains (passed ++ answering) other ⊎ (item ≡ other)
-        by (inl before) = inl (so.either other before)
-        by (inr here) = last (first_or_later item [] other here) where
-          last : (item ≡ other) ⊎ Contains [] other → Contains (passed ++ answering) other ⊎ (item ≡ other)
-          last (inl same) = inr same
-          last (inr none) = absurd (none_in_nil other none)
+      by : Contains (take at before.queue.items) other ⊎ (item ≡ other) → Contains (before.passed.items ++ before.answering.items) other ⊎ (item ≡ other)
+      by (inl early) = inl (so.either other early)
+      by (inr same) = inr same
 
-      either : (other : Queued) → Contains (passed ++ answering) other ⊎ (item ≡ other)
-          → ((passed_after ≡ passed ++ item ∷ []) × (answering_after ≡ answering) × IsPassed config deps origin item.server.now after)
-          ⊎ ((passed_after ≡ passed) × (answering_after ≡ answering ++ item ∷ []))
-          → Contains (passed_after ++ answering_after) other
-      either other has (inl (passed_is, answering_is, leads)) =
-          subst (λ (all : List Queued). Contains all other) (ap (λ (p : List Queued). p ++ answering) (sym passed_is) ∙ ap (λ (a : List Queued). passed_after ++ a) (sym answering_is))
-          (more_passed passed answering item other has)
-      either other has (inr (passed_is, answering_is)) =
-          subst (λ (all : List Queued). Contains all other)
-          (ap (λ (p : List Queued). p ++ (answering ++ item ∷ [])) (sym passed_is) ∙ ap (λ (a : List Queued). passed_after ++ a) (sym answering_is))
-          (more_answering passed answering item other has)
+    -- each of those that were looked at is queued, and so is the next one
+    still_queued_after : Extends before.queue.items after.queue.items → (other : Queued) → Contains (before.passed.items ++ before.answering.items) other ⊎ (item ≡ other)
+        → Contains after.queue.items other
+    still_queued_after more other among = subst (λ (all : List Queued). Contains all other) (sym more.1) (Contains-append_left before.queue.items more.0 other (by among)) where
+      by : Contains (before.passed.items ++ before.answering.items) other ⊎ (item ≡ other) → Contains before.queue.items other
+      by (inl has) = so.only other has
+      by (inr same) = subst (Contains before.queue.items) same queued
 
-      still : AllByRecursion (λ (one : Queued). IsPassed config deps origin one.server.now after) passed
-      still =
-          all_so (λ (one : Queued). IsPassed config deps origin one.server.now queue) (λ (one : Queued). IsPassed config deps origin one.server.now after) passed
-          (λ other. past_still other.server.now queue after (λ query. still_queued (queued_state config query) queue after one.extends)) so.are_passed
+    -- it is passed
+    pub passed_looked_at : IsPassedMore config deps origin item before after → AreLookedAt (at + 1) after
+    passed_looked_at more =
+        record {
+          within = in_reach more.extends;
+          walked = λ query nearest.
+              subst (λ (passed : List Queued). HasWalked config deps query after.queue.items passed (unanswered after.fails)) (sym more.passed)
+              (one_walked config deps query before.queue.items after.queue.items before.passed.items (unanswered before.fails) (unanswered after.fails) item queued
+              (so.walked query nearest) (more.passes query nearest));
+          either = λ other has.
+              subst (λ (all : List Queued). Contains all other) (sym both) (more_passed before.passed.items before.answering.items item other (so_far more.extends other has));
+          only = λ other has.
+              still_queued_after more.extends other
+              (either_before before.passed.items before.answering.items item other (subst (λ (all : List Queued). Contains all other) both has));
+        }
+      where
+        both : after.passed.items ++ after.answering.items ≡ (before.passed.items ++ item ∷ []) ++ before.answering.items
+        both = ap (λ (p : List Queued). p ++ after.answering.items) more.passed ∙ ap (λ (a : List Queued). (before.passed.items ++ item ∷ []) ++ a) more.answering
 
-      are_passed : ((passed_after ≡ passed ++ item ∷ []) × (answering_after ≡ answering) × IsPassed config deps origin item.server.now after)
-          ⊎ ((passed_after ≡ passed) × (answering_after ≡ answering ++ item ∷ []))
-          → AllByRecursion (λ (one : Queued). IsPassed config deps origin one.server.now after) passed_after
-      are_passed (inl (passed_is, answering_is, leads)) =
-          subst (AllByRecursion (λ (one : Queued). IsPassed config deps origin one.server.now after)) (sym passed_is)
-          (all_push (λ (one : Queued). IsPassed config deps origin one.server.now after) passed item still leads)
-      are_passed (inr (passed_is, answering_is)) = subst (AllByRecursion (λ (one : Queued). IsPassed config deps origin one.server.now after)) (sym passed_is) still
+    -- or its server answers
+    pub answering_looked_at : IsAnsweringMore item before after → AreLookedAt (at + 1) after
+    answering_looked_at more =
+        record {
+          within = in_reach same_queue;
+          walked = λ query nearest.
+              subst (λ (queue : List Queued). HasWalked config deps query queue after.passed.items (unanswered after.fails)) (sym more.queue)
+              (subst (λ (passed : List Queued). HasWalked config deps query before.queue.items passed (unanswered after.fails)) (sym more.passed)
+              (subst (λ (fails : Bool). HasWalked config deps query before.queue.items before.passed.items (unanswered fails)) (sym more.fails) (so.walked query nearest)));
+          either = λ other has.
+              subst (λ (all : List Queued). Contains all other) (sym both) (more_answering before.passed.items before.answering.items item other (so_far same_queue other has));
+          only = λ other has.
+              still_queued_after same_queue other
+              (answering_before before.passed.items before.answering.items item other (subst (λ (all : List Queued). Contains all other) both has));
+        }
+      where
+        same_queue : Extends before.queue.items after.queue.items
+        same_queue = ([], more.queue ∙ sym (append-nil before.queue.items))
 
-  -- what holds at states that are passed
-  states_past : (query : Labels) → IsNearestOrigin config origin query → (setting : Setting) (answer : RrType → Leaf) → IsSettingOf config deps setting
-      → (queue passed : List Queued) → AllByRecursion (λ (one : Queued). IsPassed config deps origin one.server.now queue) passed
-      → AllByRecursion (StepsStraight setting deps answer (map (queued_state config query) queue)) (map (queued_state config query) passed)
-  states_past query nearest setting answer of queue [] all = tt
-  states_past query nearest setting answer of queue (one ∷ passed) all =
-      (all.0 query nearest setting answer one.cut of, states_past query nearest setting answer of queue passed all.1)
+        both : after.passed.items ++ after.answering.items ≡ before.passed.items ++ (before.answering.items ++ item ∷ [])
+        both = ap (λ (p : List Queued). p ++ after.answering.items) more.passed ∙ ap (λ (a : List Queued). before.passed.items ++ a) more.answering
+
+    pub one_looked_at : IsLookedAt config deps origin item before after → AreLookedAt (at + 1) after
+    one_looked_at (inl more) = passed_looked_at more
+    one_looked_at (inr more) = answering_looked_at more
 
   -- where all are looked at the search is one for each of the names
-  pub all_looked_at : (queue : List Queued) (at : ℕ) (passed answering : List Queued) → AreLookedAt queue at passed answering → length queue ≤ at
-      → (searched : Search) → searched.queue.items ≡ passed ++ answering → searched.passed ≡ length passed → IsSearchBelow config deps origin searched
-  all_looked_at queue at passed answering so all searched queue_is passed_is query nearest =
+  pub all_looked_at : (search : RegionSearch) (at : ℕ) → AreLookedAt at search → length search.queue.items ≤ at
+      → (searched : Search) → searched.queue.items ≡ search.passed.items ++ search.answering.items → searched.passed ≡ length search.passed.items → searched.fails ≡ search.fails
+      → IsSearchBelow config deps origin searched
+  all_looked_at search at so all searched queue_is passed_is fails_is query nearest =
       record {
-        within = omega (arith, ap (λ (l : List Queued). length l) queue_is, length-append passed answering, passed_is);
-        begins = λ state has. among query state (so.begins query state has);
-        inside = tt;
-        passes = λ setting answer of each.
-            subst (λ (first : List Queued). AllByRecursion (StepsStraight setting deps answer (map (queued_state config query) searched.queue.items)) (map (queued_state config query) first)) (sym first_are)
-            (states_past query nearest setting answer of searched.queue.items passed
-            (all_so (λ (one : Queued). IsPassed config deps origin one.server.now queue) (λ (one : Queued). IsPassed config deps origin one.server.now searched.queue.items) passed
-            (λ one. past_still one.server.now queue searched.queue.items among) so.are_passed));
+        within = omega (arith, ap (λ (l : List Queued). length l) queue_is, length-append search.passed.items search.answering.items, passed_is);
+        walked =
+            subst (λ (first : List Queued). HasWalked config deps query searched.queue.items first (unanswered searched.fails)) (sym first_are)
+            (subst (λ (fails : Bool). HasWalked config deps query searched.queue.items search.passed.items (unanswered fails)) (sym fails_is)
+            (walked_among config deps query search.queue.items searched.queue.items search.passed.items (unanswered search.fails) among back (so.walked query nearest)));
       }
     where
-      among : (other : Labels) (state : State) → Contains (map (queued_state config other) queue) state → Contains (map (queued_state config other) searched.queue.items) state
-      among other state has =
-          let from = from_map (queued_state config other) queue state has in
-          subst (Contains (map (queued_state config other) searched.queue.items)) from.2
-          (map_has (queued_state config other) searched.queue.items from.0
-          (subst (λ (l : List Queued). Contains l from.0) (sym queue_is) (so.either from.0 (subst (λ (l : List Queued). Contains l from.0) (sym (take_all at queue all)) from.1))))
+      among : (state : State) → Contains (map (queued_state config query) search.queue.items) state → Contains (map (queued_state config query) searched.queue.items) state
+      among state has =
+          let from = from_map (queued_state config query) search.queue.items state has in
+          subst (Contains (map (queued_state config query) searched.queue.items)) from.2
+          (map_has (queued_state config query) searched.queue.items from.0
+          (subst (λ (l : List Queued). Contains l from.0) (sym queue_is) (so.either from.0 (subst (λ (l : List Queued). Contains l from.0) (sym (take_all at search.queue.items all)) from.1))))
 
-      first_are : take searched.passed searched.queue.items ≡ passed
+      back : (one : Queued) → Contains searched.queue.items one → Contains search.queue.items one
+      back one has = so.only one (subst (λ (l : List Queued). Contains l one) queue_is has)
+
+      first_are : take searched.passed searched.queue.items ≡ search.passed.items
       first_are =
-          ap (λ (n : ℕ). take n searched.queue.items) passed_is ∙ ap (take (length passed)) queue_is
-          ∙ take-append-le (length passed) passed answering (omega arith) ∙ take_all (length passed) passed (omega arith)
+          ap (λ (n : ℕ). take n searched.queue.items) passed_is ∙ ap (take (length search.passed.items)) queue_is
+          ∙ take-append-le (length search.passed.items) search.passed.items search.answering.items (omega arith) ∙ take_all (length search.passed.items) search.passed.items (omega arith)

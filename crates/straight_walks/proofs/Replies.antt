@@ -1,6 +1,6 @@
 -- What a server replies, by what its zone has for the name.
 use Rattle.std.proofs.Common.{◌≡◌, ℕ, Bool, true, false, List, [], ◌∷◌, Option, Some, None, Bor, refl, sym, ap, ◌∙◌}
-use Rattle.std.specs.Prelude.{is_some, option_map, if◌then◌else◌}
+use Rattle.std.specs.Prelude.{if◌then◌else◌}
 use Rattle.dns_data.specs.Name.{Labels, is_prefix}
 use Rattle.dns_data.specs.RrType.{type_eq}
 use Rattle.dns_data.specs.declared.rdata.Rdata.{Rdata}
@@ -17,7 +17,8 @@ use Rattle.net_model.specs.declared.walk.Leaf.TheVariants.{Outside}
 use Rattle.net_model.specs.declared.walk.State.{State}
 use Rattle.zone_tree.specs.Tree.{ZoneTree, IsNode, name_of}
 use Rattle.zone_lookup.proofs.CutsInside.{cut_inside}
-use Rattle.straight_walks.specs.Searching.{IsReply, leaf_by, leaf_with, sorted_data, state_at, to_servers}
+use Rattle.straight_walks.specs.Answers.{leaf_with, sorted_data}
+use Rattle.straight_walks.specs.Searching.{IsReply, state_at, to_servers}
 use Rattle.straight_walks.specs.declared.server.Reply.TheVariants as reply
 use Rattle.straight_walks.proofs.Unhosted.{nearest_is_held}
 
@@ -29,11 +30,6 @@ answers (first ∷ rest) setting state origin = refl
 no_alias : (b : Bool) (alias : Option Labels) → alias ≡ None → (if b then None else alias) ≡ None
 no_alias true alias none = refl
 no_alias false alias none = none
-
--- where there is no alias there is no target
-pub without : (alias : Option (Bor Labels)) → is_some alias ≡ false → option_map (λ target. target.now) alias ≡ None
-without None none = refl
-without (Some target) none = cc
 
 -- the zone cut that decides is at or below the origin
 cut_is_inside : (zone : Zone) (query cut : Labels) → is_prefix zone.origin query ≡ true → deciding zone query ≡ ByCut cut → is_prefix zone.origin cut ≡ true
@@ -69,25 +65,20 @@ module _ (config : Config) (query server : Labels) where
     )
 
     -- a server whose zone has records that decide at the name, and no alias among them, answers the query
-    pub records_decide : (owner : Labels) → deciding tree.now.zone query ≡ ByRecords owner → first_name (targets_at tree.now.zone owner types.Cname) ≡ None
-        → IsReply config query server (reply.Answers tree)
-    records_decide owner decides none = (
-      inside,
+    pub records_decide : (owner : ℕ) → IsNode tree.now owner → deciding tree.now.zone query ≡ ByRecords (name_of tree.now owner)
+        → first_name (targets_at tree.now.zone (name_of tree.now owner) types.Cname) ≡ None → IsReply config query server (reply.Records tree owner)
+    records_decide owner node decides none = (
+      node,
       λ setting rtype above same.
-          decided_by (ByRecords owner) decides setting rtype above same
-          ∙ ap (λ (alias : Option Labels). after_lookup setting (state_at config query server above) tree.now.zone.origin (aliased tree.now.zone owner rtype alias))
-          (no_alias (type_eq rtype types.Cname) (first_name (targets_at tree.now.zone owner types.Cname)) none)
-          ∙ answers (sorted_data tree.now.zone owner rtype) setting (state_at config query server above) tree.now.zone.origin
-          ∙ sym (ap (λ (d : Deciding). End None (leaf_by tree.now.zone rtype d) ∷ []) decides),
+          decided_by (ByRecords (name_of tree.now owner)) decides setting rtype above same
+          ∙ ap (λ (alias : Option Labels). after_lookup setting (state_at config query server above) tree.now.zone.origin (aliased tree.now.zone (name_of tree.now owner) rtype alias))
+          (no_alias (type_eq rtype types.Cname) (first_name (targets_at tree.now.zone (name_of tree.now owner) types.Cname)) none)
+          ∙ answers (sorted_data tree.now.zone (name_of tree.now owner) rtype) setting (state_at config query server above) tree.now.zone.origin,
     )
 
     -- a server whose zone has nothing that decides at the name answers the query
-    pub nothing_decides : deciding tree.now.zone query ≡ ByNothing → IsReply config query server (reply.Answers tree)
-    nothing_decides decides = (
-      inside,
-      λ setting rtype above same.
-          decided_by ByNothing decides setting rtype above same ∙ sym (ap (λ (d : Deciding). End None (leaf_by tree.now.zone rtype d) ∷ []) decides),
-    )
+    pub nothing_decides : deciding tree.now.zone query ≡ ByNothing → IsReply config query server (reply.Nothing tree)
+    nothing_decides decides = decided_by ByNothing decides
 
 -- the branches of a state at a server whose zone refers the name
 pub refers_to : (config : Config) (query server : Labels) (tree : Bor ZoneTree) (cut : ℕ) → IsReply config query server (reply.Refers tree cut)

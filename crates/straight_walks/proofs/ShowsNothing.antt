@@ -1,6 +1,6 @@
--- A query whose walks go straight shows no fault.
+-- A query whose walks go straight shows no fault, is bounded, and has the outcomes of its ends.
 use Rattle.std.proofs.Common.{◌≡◌, ℕ, true, List, [], ◌∷◌, sym, ◌∙◌, subst, true≢false}
-use Rattle.std.specs.Prelude.{Contains, Some, None}
+use Rattle.std.specs.Prelude.{◌↔◌, Contains, Option, Some, None, option_map}
 use Rattle.std.specs.List.{AllByRecursion}
 use Rattle.std.proofs.lemmas.List.Elements.{Contains-append_right}
 use Rattle.dns_data.specs.Name.{Labels}
@@ -11,7 +11,7 @@ use Rattle.net_model.specs.declared.deps.Deps.{Deps}
 use Rattle.graph_form.proofs.Taking.{taken, zones}
 use Rattle.net_model.specs.Shown.{FaultSetting, Refers, Shows, ShowsAnswers, LastRewriteAt, is_authoritative, with_lists}
 use Rattle.net_model.specs.Step.{Setting}
-use Rattle.net_model.specs.Walk.{IsWalk}
+use Rattle.net_model.specs.Walk.{IsBoundedWith, IsWalk}
 use Rattle.net_model.specs.declared.fault.Fault.{Fault}
 use Rattle.net_model.specs.declared.fault.Fault.TheVariants as faults
 use Rattle.net_model.specs.declared.place.Cut.{Cut}
@@ -20,18 +20,26 @@ use Rattle.net_model.specs.declared.walk.Hop.TheVariants.{Refer}
 use Rattle.net_model.specs.declared.walk.Leaf.{Leaf}
 use Rattle.net_model.specs.declared.walk.Leaf.TheVariants as leaves
 use Rattle.net_model.specs.declared.walk.Walk.{Walk}
+use Rattle.walk_laws.specs.Outcome.{HasOutcome}
 use Rattle.zone_lookup.specs.Sound.{IsSound}
 use Rattle.zone_lookup.proofs.ZonesTell.{told_addresses, told_cyclic, told_differ, told_glue}
+use Rattle.straight_walks.specs.Answers.{leaf_of}
+use Rattle.straight_walks.specs.Ends.{IsOutcomeOf}
 use Rattle.straight_walks.specs.Straight.{GoesStraight}
-use Rattle.straight_walks.proofs.StraightWalks.{EndsSo, GoesStraightBy, IsSoundHop, goes_by}
+use Rattle.straight_walks.specs.declared.ends.StraightEnds.{StraightEnds}
+use Rattle.straight_walks.proofs.StraightWalks.{EndsSo, GoesStraightBy, IsSoundHop, end_told, goes_by}
 
--- an end with an answer has this one
-answer_end : (answer leaf : Leaf) → EndsSo answer leaf → is_authoritative leaf ≡ true → leaf ≡ answer
-answer_end answer leaves.Outside ends is = cc
-answer_end answer (leaves.Unhosted ns) ends is = cc
-answer_end answer leaf ends is = ends.1
+-- an end with an answer is the outcome
+answer_end : (ends : StraightEnds) (rtype : RrType) (leaf : Leaf) → EndsSo ends rtype leaf → is_authoritative leaf ≡ true → IsOutcomeOf ends rtype (Some leaf)
+answer_end ends rtype leaves.Outside so is = cc
+answer_end ends rtype (leaves.Unhosted ns) so is = cc
+answer_end ends rtype leaf so is = so.1
 
-module _ (setting : Setting) (deps : Deps) (most : ℕ) (query : Labels) (straight : GoesStraight setting deps most query) (rtype : RrType) where
+-- which is one
+one_leaf : (told : Option Leaf) (one other : Leaf) → told ≡ Some one → told ≡ Some other → one ≡ other
+one_leaf told one other is also = cc
+
+module _ (setting : Setting) (deps : Deps) (most : ℕ) (query : Labels) (ends : StraightEnds) (straight : GoesStraight setting deps most query ends) (rtype : RrType) where
   -- faults are read with the two lists
   abbrev lists : FaultSetting
   lists = with_lists setting deps.least deps.greatest
@@ -41,16 +49,16 @@ module _ (setting : Setting) (deps : Deps) (most : ℕ) (query : Labels) (straig
   OfQuery walk = IsWalk setting query rtype walk
 
   -- so it goes
-  so : (walk : Walk) → OfQuery walk → GoesStraightBy setting.config deps (straight.answer rtype) straight.states walk
-  so walk is = goes_by setting deps most query straight rtype walk is
+  so : (walk : Walk) → OfQuery walk → GoesStraightBy setting.config deps ends rtype straight.states walk
+  so walk is = goes_by setting deps most query ends straight rtype walk is
 
   -- its referrals are sound
   sound : (walk : Walk) (cut : Cut) → OfQuery walk → Refers walk cut → IsSound setting.config deps cut
   sound walk cut is refers = each_along (IsSoundHop setting.config deps) walk.hops (so walk is).hops (Refer cut) refers
 
   -- it ends so
-  ends_so : (walk : Walk) (leaf : Leaf) → OfQuery walk → walk.leaf ≡ leaf → EndsSo (straight.answer rtype) leaf
-  ends_so walk leaf is e = subst (EndsSo (straight.answer rtype)) e (so walk is).ends
+  ends_so : (walk : Walk) (leaf : Leaf) → OfQuery walk → walk.leaf ≡ leaf → EndsSo ends rtype leaf
+  ends_so walk leaf is e = subst (EndsSo ends rtype) e (so walk is).ends_so
 
   -- it is never rewritten
   unrewritten : (walk : Walk) (place : Place) → OfQuery walk → LastRewriteAt walk place → ⊥
@@ -65,9 +73,9 @@ module _ (setting : Setting) (deps : Deps) (most : ℕ) (query : Labels) (straig
   -- and no two walks end in different answers
   no_two : (one other : Walk) → OfQuery one → OfQuery other → ShowsAnswers one other → ⊥
   no_two one other is also show =
-      let first = answer_end (straight.answer rtype) one.leaf (so one is).ends show.first in
-      let second = answer_end (straight.answer rtype) other.leaf (so other also).ends show.second in
-      show.differ (first ∙ sym second)
+      let first = answer_end ends rtype one.leaf (so one is).ends_so show.first in
+      let second = answer_end ends rtype other.leaf (so other also).ends_so show.second in
+      show.differ (one_leaf (option_map (λ answering. leaf_of answering rtype) ends.answer) one.leaf other.leaf first second)
 
   -- no walks show a fault
   no_walks : (walks : List Walk) (fault : Fault) → AllByRecursion OfQuery walks → WalksTake walks fault → ZonesShow lists fault → ⊥
@@ -84,8 +92,23 @@ module _ (setting : Setting) (deps : Deps) (most : ℕ) (query : Labels) (straig
   no_walks walks fault are take hold = take
 
 -- the query shows no fault
-pub shows_nothing : (setting : Setting) (deps : Deps) (most : ℕ) (query : Labels) → GoesStraight setting deps most query
+pub shows_nothing : (setting : Setting) (deps : Deps) (most : ℕ) (query : Labels) (ends : StraightEnds) → GoesStraight setting deps most query ends
     → (rtype : RrType) (fault : Fault) → Shows (with_lists setting deps.least deps.greatest) query rtype fault → ⊥
-shows_nothing setting deps most query straight rtype fault shows =
-    no_walks setting deps most query straight rtype shows.walks fault shows.are_walks
+shows_nothing setting deps most query ends straight rtype fault shows =
+    no_walks setting deps most query ends straight rtype shows.walks fault shows.are_walks
     (taken (with_lists setting deps.least deps.greatest) shows.walks fault shows.show) (zones (with_lists setting deps.least deps.greatest) shows.walks fault shows.show)
+
+-- no walk of it ends in a name that is too long
+pub is_bounded : (setting : Setting) (deps : Deps) (most : ℕ) (query : Labels) (ends : StraightEnds) → GoesStraight setting deps most query ends
+    → (rtype : RrType) → IsBoundedWith setting query rtype
+is_bounded setting deps most query ends straight rtype walk place is overlong =
+    true≢false (sym (ends_so setting deps most query ends straight rtype walk (leaves.Overlong place) is overlong).0)
+
+-- and its outcomes are those of the ends
+pub outcomes_are : (setting : Setting) (deps : Deps) (most : ℕ) (query : Labels) (ends : StraightEnds) → GoesStraight setting deps most query ends
+    → (rtype : RrType) (outcome : Option Leaf) → HasOutcome setting query rtype outcome ↔ IsOutcomeOf ends rtype outcome
+outcomes_are setting deps most query ends straight rtype outcome = (
+  λ (walk, is_walk, told).
+      subst (IsOutcomeOf ends rtype) told (end_told ends rtype walk.leaf (goes_by setting deps most query ends straight rtype walk is_walk).ends_so),
+  straight.told rtype outcome,
+)

@@ -1,173 +1,260 @@
 -- The search for the states from which walks go straight.
-use Rattle.std.proofs.Common.{◌≡◌, ℕ, ◌+◌, ◌<◌, ◌≤◌, true, List, [], ◌∷◌, ◌++◌, length, map, take, take_all, get_or, Option, Some, None, IfSome, Bor, refl, sym, ap, ◌∙◌, subst, inl, inr, arith}
+use Rattle.std.proofs.Common.{◌≡◌, ℕ, ◌+◌, ◌<◌, ◌≤◌, Bool, true, false, List, [], ◌∷◌, ◌++◌, length, map, take, take_all, get_or, Option, Some, None, IfSome, Bor, refl, sym, ap, ◌∙◌, subst, inl, inr, arith}
 use Rattle.std.specs.Prelude.{◌⊎◌, Contains}
 use Rattle.std.specs.List.{AllByRecursion}
 use Rattle.std.proofs.lemmas.List.{append-nil, length-append, length-map, map-append, take_more, take-append-le}
+use Rattle.std.proofs.lemmas.List.Elements.{Contains-get_or}
 use Rattle.std.proofs.lemmas.Option.{slice_get_read}
 use Rattle.dns_data.specs.Name.{Labels}
-use Rattle.dns_data.specs.declared.rdata.Rdata.{Rdata}
 use Rattle.dns_data.specs.declared.rr_type.RrType.{RrType}
-use Rattle.dns_data.proofs.Membership.{each_along, from_map}
+use Rattle.dns_data.proofs.Membership.{each_along, from_map, has_first, map_has}
 use Rattle.dns_data.proofs.Names.{all_push, all_so}
 use Rattle.net_model.specs.declared.deps.Deps.{Deps}
-use Rattle.net_model.specs.Lookup.{Deciding, ByCut, ByNothing, ByRecords, ByRedirection, deciding}
-use Rattle.net_model.specs.Shown.{is_authoritative}
-use Rattle.net_model.specs.Step.{Setting, Branch, End, next, start}
+use Rattle.net_model.specs.Step.{Setting, Branch, Go, End, next, start}
 use Rattle.net_model.specs.Zone.{ns_names}
 use Rattle.net_model.specs.declared.config.Config.{Config}
-use Rattle.net_model.specs.declared.config.Zone.{Zone}
+use Rattle.net_model.specs.declared.walk.Hop.{Hop}
 use Rattle.net_model.specs.declared.walk.Leaf.{Leaf}
-use Rattle.net_model.specs.declared.walk.Leaf.TheVariants.{NoData}
+use Rattle.net_model.specs.declared.walk.Leaf.TheVariants.{Outside}
 use Rattle.net_model.specs.declared.walk.State.{State}
+use Rattle.walk_laws.specs.Outcome.{HasOutcome, outcome_of}
 use Rattle.zone_tree.specs.Tree.{ZoneTree, name_of}
-use Rattle.straight_walks.specs.Searching.{AnswersAlike, AreReferrals, Extends, HasPassed, IsFirstAnswer, IsInside, IsNextReferral, IsReply, IsSettingOf, leaf_by, leaf_of, leaf_with, sorted_data, state_at, queued_state, to_servers}
+use Rattle.straight_walks.specs.Answers.{Answering, leaf_of}
+use Rattle.straight_walks.specs.Ends.{IsOutcomeOf}
+use Rattle.straight_walks.specs.Searching.{AnswersSo, AreReferrals, EndsWith, FailsOrGoes, HasPassed, HasWalked, IsComeTo, IsNextReferral, IsPut, IsReply, IsSettingOf, KeepsOutcomes, LeadsOn, Passes, state_at, queued_state, to_servers, unanswered}
 use Rattle.straight_walks.specs.Straight.{EndsInAnswer, EndsUnanswered, GoesStraight, GoesTo, StepsStraight}
+use Rattle.straight_walks.specs.declared.ends.StraightEnds.{StraightEnds}
 use Rattle.straight_walks.specs.declared.queue.Queued.{Queued}
 use Rattle.straight_walks.specs.declared.referring.NextReferral.TheVariants as referring
 use Rattle.straight_walks.specs.declared.server.Reply.TheVariants as reply
+use Rattle.straight_walks.proofs.ComingTo.{comes_first, comes_on, comes_to_end}
 use Rattle.straight_walks.proofs.GoingOn.{goes_still, still_queued}
 use Rattle.straight_walks.proofs.Replies.{outside_ends, refers_to}
+use Rattle.straight_walks.proofs.SameOutcomes.{answers_told, outcome_told}
 
--- from a server walks go straight: to an end, or on to states that are queued then; its zone answers as the first one
--- does, or is the first
-pub record Passes (config : Config) (deps : Deps) (query server : Labels) (before : List Queued) (first_before : Option (Bor ZoneTree)) (after : List Queued) (first_after : Option (Bor ZoneTree)) : Type 0 where
-  pub extends : Extends before after
-  pub inside : IfSome first_before (IsInside query) → IfSome first_after (IsInside query)
-  pub still : (leaf : RrType → Leaf) → IsFirstAnswer query leaf first_after → IsFirstAnswer query leaf first_before
-  pub steps : (setting : Setting) (leaf : RrType → Leaf) (above : ℕ) → IsSettingOf config deps setting → IsFirstAnswer query leaf first_after
-      → StepsStraight setting deps leaf (map (queued_state config query) after) (state_at config query server above)
-
--- what a zone answers it answers with authority
-data_answer : (found : List Rdata) → is_authoritative (leaf_with found) ≡ true
-data_answer [] = refl
-data_answer (first ∷ rest) = refl
-
-answers_by : (zone : Zone) (rtype : RrType) (what : Deciding) → is_authoritative (leaf_by zone rtype what) ≡ true
-answers_by zone rtype (ByRecords owner) = data_answer (sorted_data zone owner rtype)
-answers_by zone rtype (ByCut cut) = refl
-answers_by zone rtype (ByRedirection owner target) = refl
-answers_by zone rtype ByNothing = refl
-
--- the answer of the first zone; where there is none, any leaf does
-abbrev first_answer : Labels → Option (Bor ZoneTree) → RrType → Leaf
-first_answer query None rtype = NoData
-first_answer query (Some tree) rtype = leaf_of query tree.now.zone rtype
-
--- it answers that
-first_is_answer : (query : Labels) (first : Option (Bor ZoneTree)) → IsFirstAnswer query (first_answer query first) first
-first_is_answer query None = tt
-first_is_answer query (Some tree) = λ rtype. refl
+-- nothing is told yet where no zone answers and no walk fails
+none_told : (rtype : RrType) (outcome : Option Leaf) → IsOutcomeOf (unanswered false) rtype outcome → ⊥
+none_told rtype None is = cc
+none_told rtype (Some leaf) is = cc
 
 module _ (config : Config) (deps : Deps) (query : Labels) where
   -- how a branch goes straight
-  abbrev Straight : Setting → Leaf → List Queued → Branch → Type 0
-  Straight setting leaf queue branch =
-      EndsUnanswered setting.config deps branch ⊎ (EndsInAnswer leaf branch ⊎ GoesTo setting.config deps (map (queued_state config query) queue) branch)
+  abbrev Straight : Setting → StraightEnds → RrType → List Queued → Branch → Type 0
+  Straight setting ends rtype queue branch =
+      (IsOutcomeOf ends rtype None × EndsUnanswered setting.config deps branch)
+      ⊎ (EndsInAnswer ends rtype branch ⊎ GoesTo setting.config deps (map (queued_state config query) queue) branch)
 
   -- the states at these servers are among those at the others
   abbrev pub AreAmong : List Queued → List Queued → Type 0
   AreAmong before after = (state : State) → Contains (map (queued_state config query) before) state → Contains (map (queued_state config query) after) state
 
-  -- a branch that goes straight where some states are queued does so where those and others are
-  goes_straight_still : (setting : Setting) (leaf : Leaf) (before after : List Queued) → AreAmong before after → (branch : Branch) → Straight setting leaf before branch
-      → Straight setting leaf after branch
-  goes_straight_still setting leaf before after more branch (inl ends) = inl ends
-  goes_straight_still setting leaf before after more branch (inr (inl alike)) = inr (inl alike)
-  goes_straight_still setting leaf before after more branch (inr (inr goes)) =
-      inr (inr (goes_still setting.config deps (map (queued_state config query) before) (map (queued_state config query) after) more branch goes))
+  module _ (setting : Setting) (before after : List Queued) (more : AreAmong before after) (ends_before ends : StraightEnds) (still : KeepsOutcomes ends_before ends) where
+    -- a branch that goes straight where some states are queued does so where those and others are, and more outcomes are told
+    goes_straight_still : (rtype : RrType) (branch : Branch) → Straight setting ends_before rtype before branch → Straight setting ends rtype after branch
+    goes_straight_still rtype branch (inl (fails, ending)) = inl (still rtype None fails, ending)
+    goes_straight_still rtype branch (inr (inl (leaf, is, told, answers))) = inr (inl (leaf, is, still rtype (Some leaf) told, answers))
+    goes_straight_still rtype branch (inr (inr goes)) =
+        inr (inr (goes_still setting.config deps (map (queued_state config query) before) (map (queued_state config query) after) more branch goes))
 
-  -- walks still go straight from a state when the queued states are among others
-  pub steps_still : (setting : Setting) (leaf : RrType → Leaf) (before after : List Queued) → AreAmong before after → (state : State)
-      → StepsStraight setting deps leaf (map (queued_state config query) before) state → StepsStraight setting deps leaf (map (queued_state config query) after) state
-  steps_still setting leaf before after more state so rtype =
-      all_so (Straight setting (leaf rtype) before) (Straight setting (leaf rtype) after) (next setting rtype state) (goes_straight_still setting (leaf rtype) before after more) (so rtype)
+    -- walks still go straight from a state then
+    steps_still : (state : State)
+        → StepsStraight setting deps ends_before (map (queued_state config query) before) state → StepsStraight setting deps ends (map (queued_state config query) after) state
+    steps_still state so rtype =
+        all_so (Straight setting ends_before rtype before) (Straight setting ends rtype after) (next setting rtype state) (goes_straight_still rtype) (so rtype)
 
   -- ---- one server
 
-  module _ (server : Labels) (queue : List Queued) (first : Option (Bor ZoneTree)) where
+  module _ (server : Labels) (queue : List Queued) (ends : StraightEnds) where
     -- that has no zone for the name
-    pub outside_passes : IsReply config query server reply.Outside → Passes config deps query server queue first queue first
+    pub outside_passes : IsReply config query server reply.Outside → Passes config deps query server queue ends queue (record ends { fails = true })
     outside_passes so =
         record {
           extends = ([], sym (append-nil queue));
-          inside = λ is. is;
-          still = λ leaf is. is;
-          steps = λ setting leaf above of is rtype.
-              subst (AllByRecursion (Straight setting (leaf rtype) queue)) (sym (outside_ends config query server so setting rtype above of.config_is)) (inl (inl refl), tt);
-        }
-
-    -- whose zone answers as the first one does, or is the first
-    pub answer_passes : (tree : Bor ZoneTree) (after : Option (Bor ZoneTree)) → IsReply config query server (reply.Answers tree) → AnswersAlike query first tree.now.zone after
-        → Passes config deps query server queue first queue after
-    answer_passes tree after so same =
-        record {
-          extends = ([], sym (append-nil queue));
-          inside = λ is. same.inside;
-          still = same.still;
-          steps = λ setting leaf above of is rtype.
-              let alike = same.alike leaf is rtype in
-              subst (AllByRecursion (Straight setting (leaf rtype) queue)) (sym (so.1 setting rtype above of.config_is)) (
-                inr (inl (
-                  subst (λ (end : Leaf). is_authoritative end ≡ true) (sym alike) (answers_by tree.now.zone rtype (deciding tree.now.zone query)),
-                  ap (λ (end : Leaf). End None end) (sym alike),
-                )),
-                tt,
-              );
-        }
-
-    -- whose zone refers it
-    pub referral_passes : (tree : Bor ZoneTree) (cut : ℕ) (after : List Queued) → IsReply config query server (reply.Refers tree cut) → Extends queue after
-        → AreReferrals config deps query server tree.now.zone (name_of tree.now cut) (ns_names tree.now.zone (name_of tree.now cut)) after
-        → Passes config deps query server queue first after first
-    referral_passes tree cut after so more on =
-        record {
-          extends = more;
-          inside = λ is. is;
-          still = λ leaf is. is;
-          steps = λ setting leaf above of is rtype.
-              subst (AllByRecursion (Straight setting (leaf rtype) after)) (sym (refers_to config query server tree cut so setting rtype above of.config_is))
-              (all_so (λ branch. EndsUnanswered setting.config deps branch ⊎ GoesTo setting.config deps (map (queued_state config query) after) branch)
-              (Straight setting (leaf rtype) after)
-              (to_servers tree.now.zone (name_of tree.now cut) (ns_names tree.now.zone (name_of tree.now cut)) setting (state_at config query server above))
-              (goes_or_ends setting (leaf rtype)) (on setting above of));
+          still = still;
+          steps = λ setting above of rtype.
+              subst (AllByRecursion (Straight setting (record ends { fails = true }) rtype queue)) (sym (ends_so setting rtype above of)) (inl (refl, inl refl), tt);
+          leads = λ one has. inl has;
+          told = told;
         }
       where
-        goes_or_ends : (setting : Setting) (leaf : Leaf) (branch : Branch) → EndsUnanswered setting.config deps branch ⊎ GoesTo setting.config deps (map (queued_state config query) after) branch
-            → Straight setting leaf after branch
-        goes_or_ends setting leaf branch (inl ends) = inl ends
-        goes_or_ends setting leaf branch (inr goes) = inr (inr goes)
+        ends_so : (setting : Setting) (rtype : RrType) (above : ℕ) → IsSettingOf config deps setting
+            → next setting rtype (state_at config query server above) ≡ End None Outside ∷ []
+        ends_so setting rtype above of = outside_ends config query server so setting rtype above of.config_is
+
+        still : KeepsOutcomes ends (record ends { fails = true })
+        still rtype None is = refl
+        still rtype (Some leaf) is = is
+
+        told : (rtype : RrType) (outcome : Option Leaf) → IsOutcomeOf (record ends { fails = true }) rtype outcome → IsOutcomeOf ends rtype outcome
+            ⊎ ((setting : Setting) (above : ℕ) → IsSettingOf config deps setting → EndsWith setting rtype (state_at config query server above) outcome)
+        told rtype (Some leaf) is = inl is
+        told rtype None is = inr (λ setting above of.
+            (None, Outside, subst (λ (all : List Branch). Contains all (End None Outside)) (sym (ends_so setting rtype above of)) (has_first (End None Outside) []), refl))
+
+    -- whose zone answers as those before, or is the first
+    pub answer_passes : (answering : Answering) (after : StraightEnds) → AnswersSo config query server answering → IsPut ends answering after
+        → Passes config deps query server queue ends queue after
+    answer_passes answering after so put =
+        record {
+          extends = ([], sym (append-nil queue));
+          still = put.still;
+          steps = λ setting above of rtype.
+              subst (AllByRecursion (Straight setting after rtype queue)) (sym (so setting rtype above of.config_is))
+              (inr (inl (leaf_of answering rtype, answers_told answering rtype, put.there rtype, refl)), tt);
+          leads = λ one has. inl has;
+          told = λ rtype outcome is. told rtype outcome (put.only rtype outcome is);
+        }
+      where
+        told : (rtype : RrType) (outcome : Option Leaf) → IsOutcomeOf ends rtype outcome ⊎ (outcome ≡ Some (leaf_of answering rtype)) → IsOutcomeOf ends rtype outcome
+            ⊎ ((setting : Setting) (above : ℕ) → IsSettingOf config deps setting → EndsWith setting rtype (state_at config query server above) outcome)
+        told rtype outcome (inl before) = inl before
+        told rtype outcome (inr same) = inr (λ setting above of.
+            let leaf = leaf_of answering rtype in (
+              None,
+              leaf,
+              subst (λ (all : List Branch). Contains all (End None leaf)) (sym (so setting rtype above of.config_is)) (has_first (End None leaf) []),
+              outcome_told answering rtype ∙ sym same,
+            ))
+
+    -- whose zone refers it
+    pub referral_passes : (tree : Bor ZoneTree) (cut : ℕ) (after : List Queued) (fails : Bool) → IsReply config query server (reply.Refers tree cut)
+        → AreReferrals config deps query server tree.now.zone (name_of tree.now cut) (ns_names tree.now.zone (name_of tree.now cut)) queue ends.fails after fails
+        → Passes config deps query server queue ends after (record ends { fails = fails })
+    referral_passes tree cut after fails so on =
+        record {
+          extends = on.extends;
+          still = still;
+          steps = λ setting above of rtype.
+              subst (AllByRecursion (Straight setting (record ends { fails = fails }) rtype after)) (sym (refers setting rtype above of))
+              (all_so (FailsOrGoes setting.config deps fails (map (queued_state config query) after)) (Straight setting (record ends { fails = fails }) rtype after)
+              (branches setting above) (fails_or_goes setting rtype) (on.each setting above of));
+          leads = λ one has. leads one (on.leads one has);
+          told = told;
+        }
+      where
+        branches : Setting → ℕ → List Branch
+        branches setting above = to_servers tree.now.zone (name_of tree.now cut) (ns_names tree.now.zone (name_of tree.now cut)) setting (state_at config query server above)
+
+        refers : (setting : Setting) (rtype : RrType) (above : ℕ) → IsSettingOf config deps setting → next setting rtype (state_at config query server above) ≡ branches setting above
+        refers setting rtype above of = refers_to config query server tree cut so setting rtype above of.config_is
+
+        still : KeepsOutcomes ends (record ends { fails = fails })
+        still rtype None is = on.still is
+        still rtype (Some leaf) is = is
+
+        fails_or_goes : (setting : Setting) (rtype : RrType) (branch : Branch) → FailsOrGoes setting.config deps fails (map (queued_state config query) after) branch
+            → Straight setting (record ends { fails = fails }) rtype after branch
+        fails_or_goes setting rtype branch (inl ending) = inl ending
+        fails_or_goes setting rtype branch (inr goes) = inr (inr goes)
+
+        leads : (one : Queued) → Contains queue one ⊎ ((setting : Setting) (above : ℕ) → IsSettingOf config deps setting
+            → (hop : Hop) × Contains (branches setting above) (Go hop (queued_state config query one)))
+            → Contains queue one ⊎ ((setting : Setting) (rtype : RrType) (above : ℕ) → IsSettingOf config deps setting
+            → LeadsOn setting rtype (state_at config query server above) (queued_state config query one))
+        leads one (inl before) = inl before
+        leads one (inr goes) = inr (λ setting rtype above of.
+            let (hop, has) = goes setting above of in
+            (hop, subst (λ (all : List Branch). Contains all (Go hop (queued_state config query one))) (sym (refers setting rtype above of)) has))
+
+        told : (rtype : RrType) (outcome : Option Leaf) → IsOutcomeOf (record ends { fails = fails }) rtype outcome → IsOutcomeOf ends rtype outcome
+            ⊎ ((setting : Setting) (above : ℕ) → IsSettingOf config deps setting → EndsWith setting rtype (state_at config query server above) outcome)
+        told rtype (Some leaf) is = inl is
+        told rtype None is = by (on.told is) where
+          by : (ends.fails ≡ true) ⊎ ((setting : Setting) (above : ℕ) → IsSettingOf config deps setting
+              → (hop : Option Hop) × (leaf : Leaf) × Contains (branches setting above) (End hop leaf) × (outcome_of leaf ≡ None))
+              → (ends.fails ≡ true)
+              ⊎ ((setting : Setting) (above : ℕ) → IsSettingOf config deps setting → EndsWith setting rtype (state_at config query server above) None)
+          by (inl before) = inl before
+          by (inr end) = inr (λ setting above of.
+              let (hop, leaf, has, none) = end setting above of in
+              (hop, leaf, subst (λ (all : List Branch). Contains all (End hop leaf)) (sym (refers setting rtype above of)) has, none))
 
   -- ---- those that are passed
 
-  -- walks go straight from one more of the queued states when they do from the next one
-  pub one_passed : (queue after : List Queued) (at : ℕ) (first first_after : Option (Bor ZoneTree)) (item : Queued) → at < length queue → item ≡ get_or queue at item
-      → HasPassed config deps query queue at first → Passes config deps query item.server.now queue first after first_after → HasPassed config deps query after (at + 1) first_after
-  one_passed queue after at first first_after item within is so one =
+  -- a search begins at the top servers
+  pub begins_at_top : (queue : List Queued) → map (queued_state config query) queue ≡ start config query → HasWalked config deps query queue [] (unanswered false)
+  begins_at_top queue is =
       record {
-        within = subst (λ (all : List Queued). at + 1 ≤ length all) (sym one.extends.1) (omega (arith, within, length-append queue one.extends.0));
-        begins = λ state has. still_queued (queued_state config query) queue after one.extends state (so.begins state has);
-        inside = one.inside so.inside;
-        passes = λ setting leaf of answer.
-            subst (AllByRecursion (StepsStraight setting deps leaf (map (queued_state config query) after))) (sym passed_over)
-            (all_push (StepsStraight setting deps leaf (map (queued_state config query) after)) (map (queued_state config query) (take at queue)) (queued_state config query item)
-            (all_so (StepsStraight setting deps leaf (map (queued_state config query) queue)) (StepsStraight setting deps leaf (map (queued_state config query) after))
-            (map (queued_state config query) (take at queue)) (steps_still setting leaf queue after (still_queued (queued_state config query) queue after one.extends)) (so.passes setting leaf of (one.still leaf answer)))
-            (one.steps setting leaf item.cut of answer));
+        begins = λ state has. subst (λ (all : List State). Contains all state) (sym is) has;
+        comes = λ setting rtype of one has.
+            comes_first setting query rtype (queued_state config query one)
+            (subst (λ (c : Config). Contains (start c query) (queued_state config query one)) (sym of.config_is)
+            (subst (λ (all : List State). Contains all (queued_state config query one)) is (map_has (queued_state config query) queue one has)));
+        steps = λ setting of. tt;
+        told = λ setting rtype outcome of is. absurd (none_told rtype outcome is);
+      }
+
+  -- one more of the queued states is passed
+  pub one_walked : (queue after passed : List Queued) (ends_before ends : StraightEnds) (item : Queued) → Contains queue item
+      → HasWalked config deps query queue passed ends_before → Passes config deps query item.server.now queue ends_before after ends
+      → HasWalked config deps query after (passed ++ item ∷ []) ends
+  one_walked queue after passed ends_before ends item among so one =
+      record {
+        begins = λ state has. more state (so.begins state has);
+        comes = λ setting rtype of other has. comes setting rtype of other (one.leads other has);
+        steps = λ setting of.
+            subst (AllByRecursion (StepsStraight setting deps ends (map (queued_state config query) after))) (sym (map-append (queued_state config query) passed (item ∷ [])))
+            (all_push (StepsStraight setting deps ends (map (queued_state config query) after)) (map (queued_state config query) passed) (queued_state config query item)
+            (all_so (StepsStraight setting deps ends_before (map (queued_state config query) queue)) (StepsStraight setting deps ends (map (queued_state config query) after))
+            (map (queued_state config query) passed) (steps_still setting queue after more ends_before ends one.still) (so.steps setting of))
+            (one.steps setting item.cut of));
+        told = λ setting rtype outcome of is. told setting rtype outcome of (one.told rtype outcome is);
       }
     where
-      passed_over : map (queued_state config query) (take (at + 1) after) ≡ map (queued_state config query) (take at queue) ++ queued_state config query item ∷ []
+      more : AreAmong queue after
+      more = still_queued (queued_state config query) queue after one.extends
+
+      comes : (setting : Setting) (rtype : RrType) → IsSettingOf config deps setting → (other : Queued)
+          → Contains queue other ⊎ ((setting : Setting) (rtype : RrType) (above : ℕ) → IsSettingOf config deps setting
+          → LeadsOn setting rtype (state_at config query item.server.now above) (queued_state config query other))
+          → IsComeTo setting query rtype (queued_state config query other)
+      comes setting rtype of other (inl before) = so.comes setting rtype of other before
+      comes setting rtype of other (inr leads) =
+          comes_on setting query rtype (queued_state config query item) (so.comes setting rtype of item among) (queued_state config query other) (leads setting rtype item.cut of)
+
+      told : (setting : Setting) (rtype : RrType) (outcome : Option Leaf) → IsSettingOf config deps setting
+          → IsOutcomeOf ends_before rtype outcome ⊎ ((setting : Setting) (above : ℕ) → IsSettingOf config deps setting
+          → EndsWith setting rtype (state_at config query item.server.now above) outcome)
+          → HasOutcome setting query rtype outcome
+      told setting rtype outcome of (inl before) = so.told setting rtype outcome of before
+      told setting rtype outcome of (inr end) =
+          comes_to_end setting query rtype (queued_state config query item) (so.comes setting rtype of item among) outcome (end setting item.cut of)
+
+  -- a search over the same states in another order
+  pub walked_among : (queue other passed : List Queued) (ends : StraightEnds) → AreAmong queue other → ((one : Queued) → Contains other one → Contains queue one)
+      → HasWalked config deps query queue passed ends → HasWalked config deps query other passed ends
+  walked_among queue other passed ends more back so =
+      record {
+        begins = λ state has. more state (so.begins state has);
+        comes = λ setting rtype of one has. so.comes setting rtype of one (back one has);
+        steps = λ setting of.
+            all_so (StepsStraight setting deps ends (map (queued_state config query) queue)) (StepsStraight setting deps ends (map (queued_state config query) other))
+            (map (queued_state config query) passed) (steps_still setting queue other more ends ends (λ rtype outcome is. is)) (so.steps setting of);
+        told = so.told;
+      }
+
+  -- walks go straight from one more of the queued states when they do from the next one
+  pub one_passed : (queue after : List Queued) (at : ℕ) (ends_before ends : StraightEnds) (item : Queued) → at < length queue → item ≡ get_or queue at item
+      → HasPassed config deps query queue at ends_before → Passes config deps query item.server.now queue ends_before after ends → HasPassed config deps query after (at + 1) ends
+  one_passed queue after at ends_before ends item within is so one =
+      record {
+        within = subst (λ (all : List Queued). at + 1 ≤ length all) (sym one.extends.1) (omega (arith, within, length-append queue one.extends.0));
+        walked =
+            subst (λ (passed : List Queued). HasWalked config deps query after passed ends) (sym passed_over)
+            (one_walked queue after (take at queue) ends_before ends item (subst (Contains queue) (sym is) (Contains-get_or queue at item within)) so.walked one);
+      }
+    where
+      passed_over : take (at + 1) after ≡ take at queue ++ item ∷ []
       passed_over =
-          ap (map (queued_state config query))
-          (ap (take (at + 1)) one.extends.1 ∙ take-append-le (at + 1) queue one.extends.0 (omega (arith, within)) ∙ take_more queue at item within ∙ (λ j. take at queue ++ sym is j ∷ []))
-          ∙ map-append (queued_state config query) (take at queue) (item ∷ [])
+          ap (take (at + 1)) one.extends.1 ∙ take-append-le (at + 1) queue one.extends.0 (omega (arith, within)) ∙ take_more queue at item within ∙ (λ j. take at queue ++ sym is j ∷ [])
 
   -- up to a server that refers the name, and that server
-  pub referral_passed : (queue after : List Queued) (before at : ℕ) (first first_after : Option (Bor ZoneTree)) (tree : Bor ZoneTree) (cut : ℕ) (item : Queued) → item ≡ get_or queue at item
-      → IsNextReferral config query queue before first first_after (referring.Refers at tree cut) → HasPassed config deps query queue before first
-      → Extends queue after × AreReferrals config deps query item.server.now tree.now.zone (name_of tree.now cut) (ns_names tree.now.zone (name_of tree.now cut)) after
-      → HasPassed config deps query after (at + 1) first_after
-  referral_passed queue after before at first first_after tree cut item is meets so on =
-      one_passed queue after at first_after first_after item meets.1 is (meets.3 deps so) (referral_passes item.server.now queue first_after tree cut after refers on.0 on.1)
+  pub referral_passed : (queue after : List Queued) (before at : ℕ) (ends_before ends : StraightEnds) (fails : Bool) (tree : Bor ZoneTree) (cut : ℕ) (item : Queued) → item ≡ get_or queue at item
+      → IsNextReferral config query queue before ends_before ends (referring.Refers at tree cut) → HasPassed config deps query queue before ends_before
+      → AreReferrals config deps query item.server.now tree.now.zone (name_of tree.now cut) (ns_names tree.now.zone (name_of tree.now cut)) queue ends.fails after fails
+      → HasPassed config deps query after (at + 1) (record ends { fails = fails })
+  referral_passed queue after before at ends_before ends fails tree cut item is meets so on =
+      one_passed queue after at ends (record ends { fails = fails }) item meets.1 is (meets.3 deps so) (referral_passes item.server.now queue ends tree cut after fails refers on)
     where
       refers : IsReply config query item.server.now (reply.Refers tree cut)
       refers =
@@ -175,20 +262,20 @@ module _ (config : Config) (deps : Deps) (query : Labels) where
           (slice_get_read queue (length queue) at item refl meets.1 is) meets.2
 
   -- where all are
-  pub all_passed : (queue : List Queued) (at most : ℕ) (first : Option (Bor ZoneTree)) → HasPassed config deps query queue at first → length queue ≤ at → length queue ≤ most
-      → (setting : Setting) → IsSettingOf config deps setting → GoesStraight setting deps most query
-  all_passed queue at most first so all few setting of =
+  pub all_passed : (queue : List Queued) (at most : ℕ) (ends : StraightEnds) → HasPassed config deps query queue at ends → length queue ≤ at → length queue ≤ most
+      → (setting : Setting) → IsSettingOf config deps setting → GoesStraight setting deps most query ends
+  all_passed queue at most ends so all few setting of =
       record {
         states = map (queued_state config query) queue;
         few = subst (λ (n : ℕ). n ≤ most) (sym (length-map queue (queued_state config query))) few;
-        answer = first_answer query first;
-        begins = λ state has. so.begins state (subst (λ (c : Config). Contains (start c query) state) of.config_is has);
+        begins = λ state has. so.walked.begins state (subst (λ (c : Config). Contains (start c query) state) of.config_is has);
         not_rewritten = λ state has.
             let from = from_map (queued_state config query) queue state has in
             subst (λ (s : State). s.last ≡ None) from.2 refl;
         steps = λ state has.
-            each_along (StepsStraight setting deps (first_answer query first) (map (queued_state config query) queue)) (map (queued_state config query) queue)
-            (subst (λ (passed : List Queued). AllByRecursion (StepsStraight setting deps (first_answer query first) (map (queued_state config query) queue)) (map (queued_state config query) passed))
-            (take_all at queue all) (so.passes setting (first_answer query first) of (first_is_answer query first)))
+            each_along (StepsStraight setting deps ends (map (queued_state config query) queue)) (map (queued_state config query) queue)
+            (subst (λ (passed : List Queued). AllByRecursion (StepsStraight setting deps ends (map (queued_state config query) queue)) (map (queued_state config query) passed))
+            (take_all at queue all) (so.walked.steps setting of))
             state has;
+        told = λ rtype outcome is. so.walked.told setting rtype outcome of is;
       }

@@ -1,5 +1,5 @@
 -- The walks of a query whose walks go straight: in which states they stand, by which hops they go and how they end.
-use Rattle.std.proofs.Common.{◌≡◌, ℕ, true, List, [], ◌∷◌, length, refl, sym, subst, inl, inr}
+use Rattle.std.proofs.Common.{◌≡◌, ℕ, true, List, [], ◌∷◌, length, refl, sym, subst, inl, inr, true≢false}
 use Rattle.std.specs.Prelude.{◌⊎◌, ◌==◌, Contains, slice_get, Option, Some, None, option_and_then}
 use Rattle.std.specs.List.{AllByRecursion}
 use Rattle.std.specs.Option.{option_to_list}
@@ -20,53 +20,65 @@ use Rattle.net_model.specs.declared.walk.State.{State}
 use Rattle.net_model.specs.declared.walk.Walk.{Walk}
 use Rattle.net_model.proofs.Leads.{GoesOn, EndsBy, branch_taken}
 use Rattle.net_model.proofs.WalkEnds.{item}
+use Rattle.walk_laws.specs.Outcome.{outcome_of}
 use Rattle.zone_lookup.specs.Sound.{IsSound}
+use Rattle.straight_walks.specs.Ends.{IsOutcomeOf}
 use Rattle.straight_walks.specs.Straight.{EndsInAnswer, EndsUnanswered, GoesStraight, GoesTo}
+use Rattle.straight_walks.specs.declared.ends.StraightEnds.{StraightEnds}
 
 -- the hop is a referral that shows no fault
 abbrev pub IsSoundHop : Config → Deps → Hop → Type 0
 IsSoundHop config deps (Refer cut) = IsSound config deps cut
 IsSoundHop config deps (Rewrite place by_dname to) = ⊥
 
--- nothing is answered there, or this is
-abbrev pub EndsSo : Leaf → Leaf → Type 0
-EndsSo answer Outside = Unit {0}
-EndsSo answer (Unhosted ns) = Unit {0}
-EndsSo answer leaf = (is_authoritative leaf ≡ true) × (leaf ≡ answer)
+-- no zone answers there and walks fail, or one answers what the ends have with the type
+abbrev pub EndsSo : StraightEnds → RrType → Leaf → Type 0
+EndsSo ends rtype Outside = ends.fails ≡ true
+EndsSo ends rtype (Unhosted ns) = ends.fails ≡ true
+EndsSo ends rtype leaf = (is_authoritative leaf ≡ true) × IsOutcomeOf ends rtype (Some leaf)
 
 -- the branch goes on by such a hop to one of the states, or ends so after such a hop or none
-abbrev GoesSo : Config → Deps → Leaf → List State → Branch → Type 0
-GoesSo config deps answer states (Go hop to) = IsSoundHop config deps hop × Contains states to
-GoesSo config deps answer states (End hop leaf) = AllByRecursion (IsSoundHop config deps) (option_to_list hop) × EndsSo answer leaf
+abbrev GoesSo : Config → Deps → StraightEnds → RrType → List State → Branch → Type 0
+GoesSo config deps ends rtype states (Go hop to) = IsSoundHop config deps hop × Contains states to
+GoesSo config deps ends rtype states (End hop leaf) = AllByRecursion (IsSoundHop config deps) (option_to_list hop) × EndsSo ends rtype leaf
 
 -- so the walk goes: it stands in some of the states
-pub record GoesStraightBy (config : Config) (deps : Deps) (answer : Leaf) (states : List State) (walk : Walk) : Type 0 where
+pub record GoesStraightBy (config : Config) (deps : Deps) (ends : StraightEnds) (rtype : RrType) (states : List State) (walk : Walk) : Type 0 where
   pub among : AllByRecursion (Contains states) walk.states
   pub hops : AllByRecursion (IsSoundHop config deps) walk.hops
-  pub ends : EndsSo answer walk.leaf
+  pub ends_so : EndsSo ends rtype walk.leaf
 
 -- an end with this answer
-ends_answered : (leaf : Leaf) → is_authoritative leaf ≡ true → EndsSo leaf leaf
-ends_answered (Answer rdata) is = (is, refl)
-ends_answered NoData is = (is, refl)
-ends_answered NxDomain is = (is, refl)
-ends_answered leaf is = cc
+ends_answered : (ends : StraightEnds) (rtype : RrType) (leaf : Leaf) → is_authoritative leaf ≡ true → IsOutcomeOf ends rtype (Some leaf) → EndsSo ends rtype leaf
+ends_answered ends rtype (Answer rdata) is told = (is, told)
+ends_answered ends rtype NoData is told = (is, told)
+ends_answered ends rtype NxDomain is told = (is, told)
+ends_answered ends rtype leaf is told = cc
 
-module _ (setting : Setting) (deps : Deps) (most : ℕ) (query : Labels) (straight : GoesStraight setting deps most query) (rtype : RrType) where
+-- so each end is one of the outcomes
+pub end_told : (ends : StraightEnds) (rtype : RrType) (leaf : Leaf) → EndsSo ends rtype leaf → IsOutcomeOf ends rtype (outcome_of leaf)
+end_told ends rtype Outside so = so
+end_told ends rtype (Unhosted ns) so = so
+end_told ends rtype (Answer rdata) so = so.1
+end_told ends rtype NoData so = so.1
+end_told ends rtype NxDomain so = so.1
+end_told ends rtype leaf so = absurd (true≢false (sym so.0))
+
+module _ (setting : Setting) (deps : Deps) (most : ℕ) (query : Labels) (ends : StraightEnds) (straight : GoesStraight setting deps most query ends) (rtype : RrType) where
   -- a branch of one of the states
   abbrev BranchSo : Branch → Type 0
-  BranchSo branch = GoesSo setting.config deps (straight.answer rtype) straight.states branch
+  BranchSo branch = GoesSo setting.config deps ends rtype straight.states branch
 
   -- a walk from one of the states
   abbrev So : Walk → Type 0
-  So walk = GoesStraightBy setting.config deps (straight.answer rtype) straight.states walk
+  So walk = GoesStraightBy setting.config deps ends rtype straight.states walk
 
   -- where each branch of a state goes straight it goes so
   branch_so : (branch : Branch)
-      → EndsUnanswered setting.config deps branch ⊎ (EndsInAnswer (straight.answer rtype) branch ⊎ GoesTo setting.config deps straight.states branch) → BranchSo branch
-  branch_so branch (inl (inl ends)) = subst BranchSo (sym ends) (tt, tt)
-  branch_so branch (inl (inr (cut, sound, ends))) = subst BranchSo (sym ends) ((sound, tt), tt)
-  branch_so branch (inr (inl (is, ends))) = subst BranchSo (sym ends) (tt, ends_answered (straight.answer rtype) is)
+      → (IsOutcomeOf ends rtype None × EndsUnanswered setting.config deps branch) ⊎ (EndsInAnswer ends rtype branch ⊎ GoesTo setting.config deps straight.states branch) → BranchSo branch
+  branch_so branch (inl (fails, inl outside)) = subst BranchSo (sym outside) (tt, fails)
+  branch_so branch (inl (fails, inr (cut, sound, unhosted))) = subst BranchSo (sym unhosted) ((sound, tt), fails)
+  branch_so branch (inr (inl (leaf, is, told, answers))) = subst BranchSo (sym answers) (tt, ends_answered ends rtype leaf is told)
   branch_so branch (inr (inr (cut, to, sound, goes, has))) = subst BranchSo (sym goes) (sound, has)
 
   -- each walk from one of the states goes so
@@ -86,10 +98,10 @@ module _ (setting : Setting) (deps : Deps) (most : ℕ) (query : Labels) (straig
       by (inl on) behind =
           let branch = taken (Go on.hop on.to) on.is in
           let so = behind on.to on.later branch.1 on.goes in
-          subst So on.made (record { among = (has, so.among); hops = (branch.0, so.hops); ends = so.ends })
+          subst So on.made (record { among = (has, so.among); hops = (branch.0, so.hops); ends_so = so.ends_so })
       by (inr end) behind =
           let branch = taken (End end.hop end.leaf) end.is in
-          subst So end.made (record { among = (has, tt); hops = branch.0; ends = branch.1 })
+          subst So end.made (record { among = (has, tt); hops = branch.0; ends_so = branch.1 })
 
   -- and so does each walk of the query
   pub goes_by : (walk : Walk) → IsWalk setting query rtype walk → So walk

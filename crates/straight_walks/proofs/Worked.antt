@@ -1,6 +1,6 @@
 -- A worked value: a query whose walks go straight, by a delegation to two name servers that answer alike.
-use Rattle.std.proofs.Common.{◌≡◌, true, List, [], ◌∷◌, refl, inl, inr, arith}
-use Rattle.std.specs.Prelude.{codes, Some, None, Contains}
+use Rattle.std.proofs.Common.{◌≡◌, true, false, List, [], ◌∷◌, refl, subst, inl, inr, arith}
+use Rattle.std.specs.Prelude.{codes, Option, Some, None, Contains}
 use Rattle.dns_data.specs.Name.{Labels}
 use Rattle.dns_data.specs.declared.rdata.Rdata.{Rdata}
 use Rattle.dns_data.specs.declared.rdata.Rdata.TheVariants.{A, Ns}
@@ -11,12 +11,17 @@ use Rattle.net_model.specs.declared.deps.Deps.{Deps}
 use Rattle.net_model.specs.Step.{Setting, following}
 use Rattle.net_model.specs.declared.config.Config.{Config}
 use Rattle.net_model.specs.declared.config.Server.{Server}
+use Rattle.net_model.specs.declared.config.Zone.{Zone}
 use Rattle.net_model.specs.declared.place.Cut.{Cut}
+use Rattle.net_model.specs.declared.walk.Hop.TheVariants.{Refer}
 use Rattle.net_model.specs.declared.walk.Leaf.{Leaf}
 use Rattle.net_model.specs.declared.walk.Leaf.TheVariants.{NxDomain}
 use Rattle.net_model.specs.declared.walk.State.{State}
 use Rattle.zone_lookup.specs.Sound.{IsSound}
+use Rattle.walk_laws.specs.Outcome.{HasOutcome}
+use Rattle.straight_walks.specs.Ends.{IsOutcomeOf}
 use Rattle.straight_walks.specs.Straight.{GoesStraight, StepsStraight}
+use Rattle.straight_walks.specs.declared.ends.StraightEnds.{StraightEnds}
 
 abbrev t : Labels
 t = codes "t" ∷ []
@@ -76,9 +81,13 @@ behind server = record { server = server; name = www; carried = true; cut = 2; u
 abbrev states : List State
 states = first ∷ behind nsa ∷ behind nsb ∷ []
 
--- with each type
-abbrev answer : RrType → Leaf
-answer rtype = NxDomain
+-- the zone that its name servers hold
+abbrev delegated : Zone
+delegated = record { origin = z; rrs = z_servers }
+
+-- they answer that there is no such name, and no walk fails
+abbrev ends : StraightEnds
+ends = record { answer = Some (record { zone = delegated; owner = None }); fails = false }
 
 second : Contains states (behind nsa)
 second = has_later first (behind nsa ∷ behind nsb ∷ []) (behind nsa) (has_first (behind nsa) (behind nsb ∷ []))
@@ -95,23 +104,30 @@ first_sound = record { same_servers = refl; glued = refl; same_addresses = refl;
 second_sound : IsSound setting.config deps (cut nsb)
 second_sound = record { same_servers = refl; glued = refl; same_addresses = refl; independent = refl }
 
-first_goes : StepsStraight setting deps answer states first
+first_goes : StepsStraight setting deps ends states first
 first_goes rtype = (inr (inr (cut nsa, behind nsa, first_sound, refl, second)), (inr (inr (cut nsb, behind nsb, second_sound, refl, third)), tt))
 
 -- where the name doesn't exist
-second_answers : StepsStraight setting deps answer states (behind nsa)
-second_answers rtype = (inr (inl (refl, refl)), tt)
+second_answers : StepsStraight setting deps ends states (behind nsa)
+second_answers rtype = (inr (inl (NxDomain, refl, refl, refl)), tt)
 
-third_answers : StepsStraight setting deps answer states (behind nsb)
-third_answers rtype = (inr (inl (refl, refl)), tt)
+third_answers : StepsStraight setting deps ends states (behind nsb)
+third_answers rtype = (inr (inl (NxDomain, refl, refl, refl)), tt)
 
-www_goes_straight : GoesStraight setting deps 3 www
+-- so ends the walk by the first name server
+www_told : (rtype : RrType) (outcome : Option Leaf) → IsOutcomeOf ends rtype outcome → HasOutcome setting www rtype outcome
+www_told rtype (Some leaf) is =
+    subst (HasOutcome setting www rtype) is
+    (record { states = first ∷ behind nsa ∷ []; hops = Refer (cut nsa) ∷ []; leaf = NxDomain }, (0 ∷ 0 ∷ 0 ∷ [], refl), refl)
+www_told rtype None is = cc
+
+www_goes_straight : GoesStraight setting deps 3 www ends
 www_goes_straight =
     record {
       states = states;
       few = omega arith;
-      answer = answer;
       begins = λ state has. each_along (Contains states) (first ∷ []) (has_first first (behind nsa ∷ behind nsb ∷ []), tt) state has;
       not_rewritten = λ state has. each_along (λ (one : State). one.last ≡ None) states (refl, (refl, (refl, tt))) state has;
-      steps = λ state has. each_along (StepsStraight setting deps answer states) states (first_goes, (second_answers, (third_answers, tt))) state has;
+      steps = λ state has. each_along (StepsStraight setting deps ends states) states (first_goes, (second_answers, (third_answers, tt))) state has;
+      told = www_told;
     }

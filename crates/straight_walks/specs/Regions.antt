@@ -1,22 +1,20 @@
 -- Names by the longest origin of a zone at or above them, for all of which walks are the same as long as no zone answers. A public
 -- clause cites AreRegionsFor alone.
-use Rattle.std.specs.Prelude.{◌≡◌, ◌<◌, ℕ, true, List, [], ◌∷◌, ◌++◌, ◌⊎◌, map, length, None, Contains}
+use Rattle.std.specs.Prelude.{◌≡◌, ◌<◌, true, false, List, [], ◌∷◌, ◌++◌, ◌⊎◌, map, length, None, Contains}
 use Rattle.std.specs.List.{AllByRecursion}
 use Rattle.std.specs.List.Sorted.{IsStrictlySortedBy}
 use Rattle.dns_data.specs.Name.{Labels, is_prefix, name_cmp}
-use Rattle.dns_data.specs.declared.rr_type.RrType.{RrType}
 use Rattle.net_model.specs.declared.deps.Deps.{Deps}
 use Rattle.net_model.specs.Nearest.{held_zone}
-use Rattle.net_model.specs.Step.{Setting}
+use Rattle.net_model.specs.Step.{start}
 use Rattle.net_model.specs.declared.config.Config.{Config}
 use Rattle.net_model.specs.declared.config.Server.{Server}
 use Rattle.net_model.specs.declared.config.Zone.{Zone}
-use Rattle.net_model.specs.declared.walk.Leaf.{Leaf}
-use Rattle.straight_walks.specs.Searching.{Extends, IsSearch, IsSettingOf, state_at, queued_state}
-use Rattle.straight_walks.specs.Straight.{StepsStraight}
+use Rattle.straight_walks.specs.Searching.{Extends, IsSearch, Passes, queued_state, unanswered}
 use Rattle.straight_walks.specs.declared.queue.Queued.{Queued}
 use Rattle.straight_walks.specs.declared.searching.Search.{Search}
 use Rattle.straight_walks.specs.declared.region.Region.{Region}
+use Rattle.straight_walks.specs.declared.region.RegionSearch.{RegionSearch}
 use Rattle.straight_walks.specs.declared.regions.Regions.{Regions}
 
 -- the origin is at or above the name, and no server has a zone whose origin is and has more labels
@@ -36,17 +34,32 @@ HasEachOrigin config origins = (server : Server) → Contains config.servers ser
 abbrev pub IsSearchBelow : Config → Deps → Labels → Search → Type 0
 IsSearchBelow config deps origin searched = (query : Labels) → IsNearestOrigin config origin query → IsSearch config deps query searched
 
--- for each name whose nearest origin this is walks go straight from the server, and it answers none of them
-abbrev pub IsPassed : Config → Deps → Labels → Labels → List Queued → Type 0
-IsPassed config deps origin server queue =
-    (query : Labels) → IsNearestOrigin config origin query → (setting : Setting) (answer : RrType → Leaf) (above : ℕ) → IsSettingOf config deps setting
-    → StepsStraight setting deps answer (map (queued_state config query) queue) (state_at config query server above)
+-- the search begins at the top servers: there its states are, for each name, and no other
+pub record IsRegionStart (config : Config) (search : RegionSearch) : Type 0 where
+  pub queue : (query : Labels) → map (queued_state config query) search.queue.items ≡ start config query
+  pub passed : search.passed.items ≡ []
+  pub answering : search.answering.items ≡ []
+  pub fails : search.fails ≡ false
 
--- one more state is put at the end of those that are passed for each of the names, or of those whose servers answer
-pub record IsLookedAt (config : Config) (deps : Deps) (origin : Labels) (one : Queued) (before passed_before answering_before after passed_after answering_after : List Queued) : Type 0 where
-  pub extends : Extends before after
-  pub put : ((passed_after ≡ passed_before ++ one ∷ []) × (answering_after ≡ answering_before) × IsPassed config deps origin one.server.now after)
-      ⊎ ((passed_after ≡ passed_before) × (answering_after ≡ answering_before ++ one ∷ []))
+-- the state is put at the end of those that are passed: for each name whose nearest origin this is walks go straight from it, and
+-- its server answers none of them
+pub record IsPassedMore (config : Config) (deps : Deps) (origin : Labels) (one : Queued) (before after : RegionSearch) : Type 0 where
+  pub extends : Extends before.queue.items after.queue.items
+  pub passed : after.passed.items ≡ before.passed.items ++ one ∷ []
+  pub answering : after.answering.items ≡ before.answering.items
+  pub passes : (query : Labels) → IsNearestOrigin config origin query
+      → Passes config deps query one.server.now before.queue.items (unanswered before.fails) after.queue.items (unanswered after.fails)
+
+-- the state is put at the end of those whose servers answer
+pub record IsAnsweringMore (one : Queued) (before after : RegionSearch) : Type 0 where
+  pub queue : after.queue.items ≡ before.queue.items
+  pub passed : after.passed.items ≡ before.passed.items
+  pub answering : after.answering.items ≡ before.answering.items ++ one ∷ []
+  pub fails : after.fails ≡ before.fails
+
+-- the state is looked at: it is one of those or one of these
+abbrev pub IsLookedAt : Config → Deps → Labels → Queued → RegionSearch → RegionSearch → Type 0
+IsLookedAt config deps origin one before after = IsPassedMore config deps origin one before after ⊎ IsAnsweringMore one before after
 
 -- ---- regions
 

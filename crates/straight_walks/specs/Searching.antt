@@ -1,26 +1,28 @@
 -- What servers reply, and searches over the states of walks: for the contracts of inner calls alone.
-use Rattle.std.specs.Prelude.{◌≡◌, ◌<◌, ◌≤◌, ℕ, true, List, [], ◌∷◌, ◌++◌, map, take, length, Contains, Option, Some, None, option_map, IfSome, ◌⊎◌}
-use Rattle.std.specs.Borrow.{Bor}
+use Rattle.std.specs.Prelude.{◌≡◌, ◌<◌, ◌≤◌, ℕ, Bool, true, List, [], ◌∷◌, ◌++◌, map, take, length, Contains, Option, Some, None, option_map, IfSome, ◌⊎◌}
 use Rattle.std.specs.List.{AllByRecursion, slice_get}
 use Rattle.dns_data.specs.Name.{Labels, is_prefix}
-use Rattle.dns_data.specs.declared.rdata.Rdata.{Rdata}
 use Rattle.dns_data.specs.declared.rr_type.RrType.{RrType}
 use Rattle.net_model.specs.declared.deps.Deps.{Deps}
-use Rattle.net_model.specs.Lookup.{Deciding, ByCut, ByRecords, deciding}
+use Rattle.net_model.specs.Lookup.{ByCut, deciding}
 use Rattle.net_model.specs.Nearest.{held_zone, nearest_of}
-use Rattle.net_model.specs.Order.{in_order}
 use Rattle.net_model.specs.Step.{Setting, Branch, Go, End, next, referred, start}
-use Rattle.net_model.specs.Zone.{data_at, data_cmp}
+use Rattle.net_model.specs.Walk.{IsWalk, walk_from}
 use Rattle.net_model.specs.declared.config.Config.{Config}
 use Rattle.net_model.specs.declared.config.Zone.{Zone}
 use Rattle.net_model.specs.declared.place.Cut.{Cut}
+use Rattle.net_model.specs.declared.walk.Hop.{Hop}
 use Rattle.net_model.specs.declared.walk.Hop.TheVariants.{Refer}
 use Rattle.net_model.specs.declared.walk.Leaf.{Leaf}
-use Rattle.net_model.specs.declared.walk.Leaf.TheVariants.{Answer, NoData, NxDomain}
 use Rattle.net_model.specs.declared.walk.State.{State}
-use Rattle.zone_tree.specs.Tree.{ZoneTree, IsNode, name_of}
+use Rattle.net_model.specs.declared.walk.Walk.{Walk}
+use Rattle.walk_laws.specs.Outcome.{HasOutcome, outcome_of}
+use Rattle.zone_tree.specs.Tree.{IsNode, name_of}
 use Rattle.zone_lookup.specs.Sound.{IsSound}
+use Rattle.straight_walks.specs.Answers.{Answering, answering_by, leaf_of}
+use Rattle.straight_walks.specs.Ends.{IsOutcomeOf}
 use Rattle.straight_walks.specs.Straight.{EndsUnanswered, FollowsLeast, GoesStraight, GoesTo, StepsStraight}
+use Rattle.straight_walks.specs.declared.ends.StraightEnds.{StraightEnds}
 use Rattle.straight_walks.specs.declared.queue.Queued.{Queued}
 use Rattle.straight_walks.specs.declared.searching.Search.{Search}
 use Rattle.straight_walks.specs.declared.referring.NextReferral.{NextReferral}
@@ -58,39 +60,37 @@ queued_state config query queue = state_at config query queue.server.now queue.c
 abbrev pub Extends : List Queued → List Queued → Type 0
 Extends before after = (more : List Queued) × (after ≡ before ++ more)
 
--- ---- answers
+-- a branch of the state leads on to the other
+abbrev pub LeadsOn : Setting → RrType → State → State → Type 0
+LeadsOn setting rtype from to = (hop : Hop) × Contains (next setting rtype from) (Go hop to)
 
--- the data of a type that an owner has, in the order of their texts
-abbrev pub sorted_data : Zone → Labels → RrType → List Rdata
-sorted_data zone owner rtype = in_order data_cmp (data_at zone owner rtype)
+-- a branch of the state ends with the outcome
+abbrev pub EndsWith : Setting → RrType → State → Option Leaf → Type 0
+EndsWith setting rtype from outcome =
+    (hop : Option Hop) × (leaf : Leaf) × Contains (next setting rtype from) (End hop leaf) × (outcome_of leaf ≡ outcome)
 
--- the answer of these data, or that there are none
-abbrev pub leaf_with : List Rdata → Leaf
-leaf_with [] = NoData
-leaf_with (first ∷ rest) = Answer (first ∷ rest)
+-- walks of the query come to the state: each walk from it is the rest of one
+abbrev pub IsComeTo : Setting → Labels → RrType → State → Type 0
+IsComeTo setting query rtype state =
+    (numbers : List ℕ) (walk : Walk) → walk_from setting rtype numbers state ≡ Some walk
+    → (whole : Walk) × IsWalk setting query rtype whole × (whole.leaf ≡ walk.leaf)
 
--- what a zone answers with a type where an owner's records decide, or nothing does
-abbrev pub leaf_by : Zone → RrType → Deciding → Leaf
-leaf_by zone rtype (ByRecords owner) = leaf_with (sorted_data zone owner rtype)
-leaf_by zone rtype decides = NxDomain
+-- ---- ends
 
--- what a zone answers a query with a type, where an owner's records decide at its name, or nothing does
-abbrev pub leaf_of : Labels → Zone → RrType → Leaf
-leaf_of query zone rtype = leaf_by zone rtype (deciding zone query)
+-- no zone answers, and walks fail or don't
+abbrev pub unanswered : Bool → StraightEnds
+unanswered fails = record { answer = None; fails = fails }
 
--- the zone is at or above the name
-abbrev pub IsInside : Labels → Bor ZoneTree → Type 0
-IsInside query tree = is_prefix tree.now.zone.origin query ≡ true
+-- each outcome of the first is one of the second
+abbrev pub KeepsOutcomes : StraightEnds → StraightEnds → Type 0
+KeepsOutcomes before after = (rtype : RrType) (outcome : Option Leaf) → IsOutcomeOf before rtype outcome → IsOutcomeOf after rtype outcome
 
--- the zone that answered first, if there is one, answers this
-abbrev pub IsFirstAnswer : Labels → (RrType → Leaf) → Option (Bor ZoneTree) → Type 0
-IsFirstAnswer query leaf first = IfSome first (λ tree. (rtype : RrType) → leaf rtype ≡ leaf_of query tree.now.zone rtype)
-
--- a zone answers as the first one does, or is the first
-pub record AnswersAlike (query : Labels) (before : Option (Bor ZoneTree)) (zone : Zone) (after : Option (Bor ZoneTree)) : Type 0 where
-  pub inside : IfSome after (IsInside query)
-  pub still : (leaf : RrType → Leaf) → IsFirstAnswer query leaf after → IsFirstAnswer query leaf before
-  pub alike : (leaf : RrType → Leaf) → IsFirstAnswer query leaf after → (rtype : RrType) → leaf rtype ≡ leaf_of query zone rtype
+-- what a zone answers is put to the ends: it is their answer then, and no other outcome comes to those before
+pub record IsPut (before : StraightEnds) (answering : Answering) (after : StraightEnds) : Type 0 where
+  pub still : KeepsOutcomes before after
+  pub there : (rtype : RrType) → IsOutcomeOf after rtype (Some (leaf_of answering rtype))
+  pub only : (rtype : RrType) (outcome : Option Leaf) → IsOutcomeOf after rtype outcome
+      → IsOutcomeOf before rtype outcome ⊎ (outcome ≡ Some (leaf_of answering rtype))
 
 -- ---- referrals
 
@@ -111,22 +111,37 @@ cut_to server zone cut ns = record { server = server; zone = zone.origin; cut = 
 abbrev pub to_servers : Zone → Labels → List Labels → Setting → State → List Branch
 to_servers zone cut names setting state = map (λ ns. referred setting state (cut_to state.server zone cut ns)) names
 
--- the referrals of a zone cut to these name servers show no fault, and end where no zone answers or go on to queued states
-abbrev pub AreReferrals : Config → Deps → Labels → Labels → Zone → Labels → List Labels → List Queued → Type 0
-AreReferrals config deps query server zone cut names queue =
-    (setting : Setting) (above : ℕ) → IsSettingOf config deps setting
-    → AllByRecursion (λ branch. EndsUnanswered setting.config deps branch ⊎ GoesTo setting.config deps (map (queued_state config query) queue) branch)
-    (to_servers zone cut names setting (state_at config query server above))
+-- the branch ends where no zone answers, and walks fail; or it goes on to one of the states
+abbrev pub FailsOrGoes : Config → Deps → Bool → List State → Branch → Type 0
+FailsOrGoes config deps fails states branch = ((fails ≡ true) × EndsUnanswered config deps branch) ⊎ GoesTo config deps states branch
+
+-- the referrals of a zone cut to these name servers, from the query's state at a server, show no fault, and end where no zone
+-- answers or go on to queued states; no other states come to the queue, and walks fail only where one of them ends
+pub record AreReferrals (config : Config) (deps : Deps) (query server : Labels) (zone : Zone) (cut : Labels) (names : List Labels) (before : List Queued) (fails_before : Bool) (after : List Queued) (fails : Bool) : Type 0 where
+  pub extends : Extends before after
+  pub still : fails_before ≡ true → fails ≡ true
+  pub each : (setting : Setting) (above : ℕ) → IsSettingOf config deps setting
+      → AllByRecursion (FailsOrGoes setting.config deps fails (map (queued_state config query) after)) (to_servers zone cut names setting (state_at config query server above))
+  pub leads : (one : Queued) → Contains after one → Contains before one
+      ⊎ ((setting : Setting) (above : ℕ) → IsSettingOf config deps setting
+      → (hop : Hop) × Contains (to_servers zone cut names setting (state_at config query server above)) (Go hop (queued_state config query one)))
+  pub told : fails ≡ true → (fails_before ≡ true)
+      ⊎ ((setting : Setting) (above : ℕ) → IsSettingOf config deps setting
+      → (hop : Option Hop) × (leaf : Leaf) × Contains (to_servers zone cut names setting (state_at config query server above)) (End hop leaf) × (outcome_of leaf ≡ None))
 
 -- ---- servers
+
+-- with each type the server answers the query so
+abbrev pub AnswersSo : Config → Labels → Labels → Answering → Type 0
+AnswersSo config query server answering =
+    (setting : Setting) (rtype : RrType) (above : ℕ) → setting.config ≡ config
+    → next setting rtype (state_at config query server above) ≡ End None (leaf_of answering rtype) ∷ []
 
 -- what the server replies to the query
 abbrev pub IsReply : Config → Labels → Labels → Reply → Type 0
 IsReply config query server reply.Outside = nearest_of config server query ≡ None
-IsReply config query server (reply.Answers tree) =
-    (is_prefix tree.now.zone.origin query ≡ true)
-    × ((setting : Setting) (rtype : RrType) (above : ℕ) → setting.config ≡ config
-    → next setting rtype (state_at config query server above) ≡ End None (leaf_of query tree.now.zone rtype) ∷ [])
+IsReply config query server (reply.Records tree owner) = IsNode tree.now owner × AnswersSo config query server (answering_by tree.now (Some owner))
+IsReply config query server (reply.Nothing tree) = AnswersSo config query server (answering_by tree.now None)
 IsReply config query server (reply.Refers tree cut) =
     IsNode tree.now cut
     × (is_prefix tree.now.zone.origin (name_of tree.now cut) ≡ true)
@@ -135,30 +150,50 @@ IsReply config query server (reply.Refers tree cut) =
     × (deciding tree.now.zone query ≡ ByCut (name_of tree.now cut))
 IsReply config query server reply.Unclear = Unit {0}
 
+-- from the query's state at a server walks go straight, to an end or on to states that are queued then; no other states come to
+-- the queue, and no other outcomes to the ends
+pub record Passes (config : Config) (deps : Deps) (query server : Labels) (before : List Queued) (ends_before : StraightEnds) (after : List Queued) (ends : StraightEnds) : Type 0 where
+  pub extends : Extends before after
+  pub still : KeepsOutcomes ends_before ends
+  pub steps : (setting : Setting) (above : ℕ) → IsSettingOf config deps setting
+      → StepsStraight setting deps ends (map (queued_state config query) after) (state_at config query server above)
+  pub leads : (one : Queued) → Contains after one → Contains before one
+      ⊎ ((setting : Setting) (rtype : RrType) (above : ℕ) → IsSettingOf config deps setting
+      → LeadsOn setting rtype (state_at config query server above) (queued_state config query one))
+  pub told : (rtype : RrType) (outcome : Option Leaf) → IsOutcomeOf ends rtype outcome → IsOutcomeOf ends_before rtype outcome
+      ⊎ ((setting : Setting) (above : ℕ) → IsSettingOf config deps setting → EndsWith setting rtype (state_at config query server above) outcome)
+
 -- ---- searches
 
--- the search for the name begins at the top servers, walks go straight from the first so many queued states, and where a zone
--- answers there it answers as the first one does
-pub record HasPassed (config : Config) (deps : Deps) (query : Labels) (queue : List Queued) (passed : ℕ) (first : Option (Bor ZoneTree)) : Type 0 where
-  pub within : passed ≤ length queue
+-- the search for the name begins at the top servers, and walks come to each queued state; from those that are passed walks go
+-- straight, and the query has the outcomes of the ends
+pub record HasWalked (config : Config) (deps : Deps) (query : Labels) (queue passed : List Queued) (ends : StraightEnds) : Type 0 where
   pub begins : (state : State) → Contains (start config query) state → Contains (map (queued_state config query) queue) state
-  pub inside : IfSome first (IsInside query)
-  pub passes : (setting : Setting) (leaf : RrType → Leaf) → IsSettingOf config deps setting → IsFirstAnswer query leaf first
-      → AllByRecursion (StepsStraight setting deps leaf (map (queued_state config query) queue)) (map (queued_state config query) (take passed queue))
+  pub comes : (setting : Setting) (rtype : RrType) → IsSettingOf config deps setting → (one : Queued) → Contains queue one
+      → IsComeTo setting query rtype (queued_state config query one)
+  pub steps : (setting : Setting) → IsSettingOf config deps setting
+      → AllByRecursion (StepsStraight setting deps ends (map (queued_state config query) queue)) (map (queued_state config query) passed)
+  pub told : (setting : Setting) (rtype : RrType) (outcome : Option Leaf) → IsSettingOf config deps setting → IsOutcomeOf ends rtype outcome
+      → HasOutcome setting query rtype outcome
+
+-- so many of the queued states are passed
+pub record HasPassed (config : Config) (deps : Deps) (query : Labels) (queue : List Queued) (passed : ℕ) (ends : StraightEnds) : Type 0 where
+  pub within : passed ≤ length queue
+  pub walked : HasWalked config deps query queue (take passed queue) ends
 
 -- the search is one for the name, and no zone has answered yet
 abbrev pub IsSearch : Config → Deps → Labels → Search → Type 0
-IsSearch config deps query searched = HasPassed config deps query searched.queue.items searched.passed None
+IsSearch config deps query searched = HasPassed config deps query searched.queue.items searched.passed (unanswered searched.fails)
 
--- the next referral of a search that has passed so many of the states, with the zone that answered first before and after: where
--- walks end at all of them the query goes straight; where a server refers the query the search has passed all up to that state
-abbrev pub IsNextReferral : Config → Labels → List Queued → ℕ → Option (Bor ZoneTree) → Option (Bor ZoneTree) → NextReferral → Type 0
-IsNextReferral config query queue before first_before first_after referring.Ends =
-    (deps : Deps) → HasPassed config deps query queue before first_before
-    → (most : ℕ) → length queue ≤ most → (setting : Setting) → IsSettingOf config deps setting → GoesStraight setting deps most query
-IsNextReferral config query queue before first_before first_after (referring.Refers passed tree cut) =
+-- the next referral of a search that has passed so many of the states, with what walks end in before and after: where walks end at
+-- all of them the query goes straight; where a server refers the query the search has passed all up to that state
+abbrev pub IsNextReferral : Config → Labels → List Queued → ℕ → StraightEnds → StraightEnds → NextReferral → Type 0
+IsNextReferral config query queue before ends_before ends referring.Ends =
+    (deps : Deps) → HasPassed config deps query queue before ends_before
+    → (most : ℕ) → length queue ≤ most → (setting : Setting) → IsSettingOf config deps setting → GoesStraight setting deps most query ends
+IsNextReferral config query queue before ends_before ends (referring.Refers passed tree cut) =
     (before ≤ passed)
     × (passed < length queue)
     × IfSome (slice_get queue passed) (λ one. IsReply config query one.server.now (reply.Refers tree cut))
-    × ((deps : Deps) → HasPassed config deps query queue before first_before → HasPassed config deps query queue passed first_after)
-IsNextReferral config query queue before first_before first_after referring.Unclear = Unit {0}
+    × ((deps : Deps) → HasPassed config deps query queue before ends_before → HasPassed config deps query queue passed ends)
+IsNextReferral config query queue before ends_before ends referring.Unclear = Unit {0}

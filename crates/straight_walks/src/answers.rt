@@ -1,88 +1,84 @@
 //! What zones answer to a query.
 
-ghost use Rattle.std.specs.Prelude.{◌≡◌, true, IfSome};
-ghost use Rattle.dns_data.specs.Name.{is_prefix};
+ghost use Rattle.std.specs.Prelude.{◌≡◌, true, Some, None, option_map};
 ghost use Rattle.dns_data.specs.declared.rr_type.RrType.{RrType as RrTypeValue};
-ghost use Rattle.zone_tree.specs.Tree.{IsNode, name_of};
-ghost use Rattle.straight_walks.specs.Searching.{AnswersAlike, IsInside, leaf_by, leaf_of, sorted_data};
-ghost use Rattle.net_model.specs.Lookup.{ByNothing, ByRecords, deciding};
+ghost use Rattle.graph_form.specs.FirstPath.{answer_eq};
+ghost use Rattle.straight_walks.specs.Answers.{answering_by, leaf_of, sorted_data};
+ghost use Rattle.zone_tree.specs.Tree.{IsNode};
 
-use dns_data::{Name, Rdata, RrType};
-use zone_tree::{Decider, NodeId, Tree, deciding};
+use dns_data::{Rdata, RrType};
+use std::marker::Model;
+use zone_tree::{NodeId, Tree};
 
-/// Whether a zone that neither refers the query nor rewrites its name answers as the first one does, with each type. Where there
-/// is no first one before, this is it from then on.
-pub(crate) fn answers_alike<'h, 'a>(
-    first: &mut Option<&'h Tree<'a>>,
+/// What a zone answers to a query with each type: the data that an owner has, or, without an owner, that there is no such name.
+/// Contracts see the zone and the owner's name.
+#[derive(Drop)]
+pub struct ZoneAnswer<'h, 'a> {
     tree: &'h Tree<'a>,
-    query: &Name,
-) -> bool
-    requires first { IfSome first.old (IsInside query.now) }
-    requires tree { is_prefix tree.now.zone.origin query.now ≡ true }
-    ensures { result ≡ true → AnswersAlike query.now first.old tree.now.zone first.new }
-{
-    match *first {
-        Some(before) => answer_alike(before, tree, query),
-        None => {
-            *first = Some(tree);
-            true
+    owner: Option<NodeId>,
+}
+
+impl<'h, 'a> Model for ZoneAnswer<'h, 'a> {
+    ghost use Rattle.std.specs.Prelude.{IfSome};
+    ghost use Rattle.straight_walks.specs.Answers.{Answering, answering_by};
+    ghost use Rattle.zone_tree.specs.Tree.{IsNode};
+
+    ghost Value = { Answering };
+
+    ghost view = { λ answer. answering_by answer.tree.now answer.owner };
+
+    ghost invariant = { λ answer. IfSome answer.owner (IsNode answer.tree.now) };
+}
+
+impl<'h, 'a> ZoneAnswer<'h, 'a> {
+    /// That the zone has the data of this owner.
+    pub(crate) fn of_owner(tree: &'h Tree<'a>, owner: NodeId) -> ZoneAnswer<'h, 'a>
+        requires { IsNode tree.now owner }
+        ensures { result ≡ answering_by tree.now (Some owner) }
+    {
+        ZoneAnswer {
+            tree,
+            owner: Some(owner),
         }
     }
-}
 
-/// Whether two zones answer that there is no such name, or the same data of each type.
-fn answer_alike(first: &Tree<'_>, second: &Tree<'_>, query: &Name) -> bool
-    requires first { is_prefix first.now.zone.origin query.now ≡ true }
-    requires second { is_prefix second.now.zone.origin query.now ≡ true }
-    ensures { result ≡ true → (rtype : RrTypeValue) → leaf_of query.now first.now.zone rtype ≡ leaf_of query.now second.now.zone rtype }
-{
-    match deciding(first, query) {
-        Decider::Records(owner) => answers_data(second, query, first, owner),
-        Decider::Nothing => answers_nothing(second, query),
-        _ => false,
+    /// That there is no such name in the zone.
+    pub(crate) fn of_nothing(tree: &'h Tree<'a>) -> ZoneAnswer<'h, 'a>
+        ensures { result ≡ answering_by tree.now None }
+    {
+        ZoneAnswer { tree, owner: None }
     }
-}
 
-/// Whether a zone answers that there is no such name.
-fn answers_nothing(tree: &Tree<'_>, query: &Name) -> bool
-    requires { is_prefix tree.now.zone.origin query.now ≡ true }
-    ensures { result ≡ true → deciding tree.now.zone query.now ≡ ByNothing }
-{
-    match deciding(tree, query) {
-        Decider::Nothing => true,
-        _ => false,
+    /// Whether both zones are seen to answer the same with each type.
+    pub(crate) fn is_same(&self, other: &ZoneAnswer<'_, '_>) -> bool
+        ensures { result ≡ true → (rtype : RrTypeValue) → leaf_of self.now rtype ≡ leaf_of other.now rtype }
+    {
+        for rtype in RrType::ALL.iter() {
+            if !self.is_same_with(other, *rtype) {
+                return false;
+            }
+        }
+        true
     }
-}
 
-/// Whether a zone answers the data that the owner has in another one.
-fn answers_data(tree: &Tree<'_>, query: &Name, other: &Tree<'_>, owner: NodeId) -> bool
-    requires inside { is_prefix tree.now.zone.origin query.now ≡ true }
-    requires owner { IsNode other.now owner }
-    ensures { result ≡ true → (rtype : RrTypeValue) → leaf_by other.now.zone rtype (ByRecords (name_of other.now owner)) ≡ leaf_of query.now tree.now.zone rtype }
-{
-    match deciding(tree, query) {
-        Decider::Records(node) => same_data(other, owner, tree, node),
-        _ => false,
-    }
-}
-
-/// Whether the names of two nodes own the same data of each type.
-fn same_data(tree: &Tree<'_>, owner: NodeId, other: &Tree<'_>, node: NodeId) -> bool
-    requires owner { IsNode tree.now owner }
-    requires node { IsNode other.now node }
-    ensures { result ≡ true → (rtype : RrTypeValue) → sorted_data tree.now.zone (name_of tree.now owner) rtype ≡ sorted_data other.now.zone (name_of other.now node) rtype }
-{
-    for rtype in RrType::ALL.iter() {
-        if !is_same(tree.set(owner, *rtype), other.set(node, *rtype)) {
-            return false;
+    /// Whether both zones answer the same with the type.
+    pub(crate) fn is_same_with(&self, other: &ZoneAnswer<'_, '_>, rtype: RrType) -> bool
+        ensures { result ≡ answer_eq (leaf_of self.now rtype) (leaf_of other.now rtype) }
+    {
+        match (self.data(rtype), other.data(rtype)) {
+            (Some(found), Some(others)) => found == others,
+            (None, None) => true,
+            _ => false,
         }
     }
-    true
-}
 
-/// Whether two lists have the same data in the same order.
-fn is_same(first: &[Rdata], second: &[Rdata]) -> bool
-    ensures { result ≡ true → first.now ≡ second.now }
-{
-    first == second
+    /// The data of the type, or `None` where there is no such name.
+    fn data(&self, rtype: RrType) -> Option<&[Rdata]>
+        ensures { option_map (λ found. found.now) result ≡ option_map (λ owner. sorted_data self.now.zone owner rtype) self.now.owner }
+    {
+        match self.owner {
+            Some(owner) => Some(self.tree.set(owner, rtype)),
+            None => None,
+        }
+    }
 }

@@ -1,10 +1,11 @@
 //! A queue of states.
 
-ghost use Rattle.std.specs.Prelude.{◌≡◌, true, map, Contains, IfOk, OnOk};
+ghost use Rattle.std.specs.Prelude.{◌≡◌, ◌⊎◌, true, map, Contains, IfOk, OnOk};
 ghost use Rattle.dns_data.specs.Name.{Labels};
 ghost use Rattle.net_model.specs.Step.{start};
 ghost use Rattle.net_model.specs.declared.config.Config.{Config};
 ghost use Rattle.straight_walks.specs.Searching.{Extends, state_at, queued_state};
+ghost use Rattle.straight_walks.specs.declared.queue.Queued.{Queued as QueuedValue};
 
 use dns_data::{Name, NoMemory};
 use std::alloc::Global;
@@ -58,6 +59,7 @@ pub(crate) fn enqueue<'a>(
 ) -> Result<(), NoMemory>
     ensures more { OnOk result (Extends queue.old.items queue.new.items) }
     ensures there { OnOk result ((config : Config) (query : Labels) → Contains (map (queued_state config query) queue.new.items) (state_at config query server.now cut)) }
+    ensures only { OnOk result ((one : QueuedValue) → Contains queue.new.items one → Contains queue.old.items one ⊎ ((one.server.now ≡ server.now) × (one.cut ≡ cut))) }
 {
     if !is_queued(queue.as_slice(), server, cut) {
         queue.push(Queued::for_name(hosts, name, server, cut))?;

@@ -5,7 +5,7 @@ ghost use Rattle.dns_data.specs.Name.{is_prefix};
 ghost use Rattle.net_model.specs.Nearest.{held_zone};
 ghost use Rattle.net_model.specs.Zone.{ns_names};
 ghost use Rattle.zone_tree.specs.Tree.{IsNode, name_of};
-ghost use Rattle.straight_walks.specs.Searching.{AreReferrals, Extends, IsReferral};
+ghost use Rattle.straight_walks.specs.Searching.{AreReferrals, IsReferral};
 
 use crate::name_server::{Referral, referral_to_host, referral_to_unhosted};
 use crate::queue::{Queued, enqueue};
@@ -16,7 +16,7 @@ use zone_lookup::{Hosts, LearntSets};
 use zone_tree::{NodeId, Tree};
 
 /// Whether the referrals of a zone cut are seen to show no fault. The states at its name servers that are configured are queued
-/// then.
+/// then; and walks fail that end at one that isn't.
 pub(crate) fn queue_referrals<'a>(
     alloc: Global,
     hosts: &Hosts<'a>,
@@ -26,16 +26,17 @@ pub(crate) fn queue_referrals<'a>(
     tree: &Tree<'a>,
     cut: NodeId,
     queue: &mut Vec<Queued<'a>>,
+    fails: &mut bool,
 ) -> Result<bool, NoMemory>
     requires node { IsNode tree.now cut }
     requires inside { is_prefix tree.now.zone.origin (name_of tree.now cut) ≡ true }
     requires held { held_zone hosts.now server.now tree.now.zone.origin ≡ Some tree.now.zone }
-    ensures { IfOk result (λ straight. straight ≡ true → Extends queue.old.items queue.new.items
-        × AreReferrals hosts.now sets.now query.now server.now tree.now.zone (name_of tree.now cut) (ns_names tree.now.zone (name_of tree.now cut)) queue.new.items) }
+    ensures { IfOk result (λ straight. straight ≡ true
+        → AreReferrals hosts.now sets.now query.now server.now tree.now.zone (name_of tree.now cut) (ns_names tree.now.zone (name_of tree.now cut)) queue.old.items fails.old queue.new.items fails.new) }
 {
     for ns in tree.name_servers(cut) {
         match referral_to(alloc, hosts, sets, query, server, tree, cut, ns)? {
-            Referral::Ends => {}
+            Referral::Ends => *fails = true,
             Referral::GoesOn => enqueue(hosts, query, queue, ns, tree.name(cut).len())?,
             Referral::Unclear => return Ok(false),
         }

@@ -1,9 +1,9 @@
 //! Searches up to a server that refers the query.
 
-ghost use Rattle.std.specs.Prelude.{IfSome};
-ghost use Rattle.straight_walks.specs.Searching.{IsInside, IsNextReferral};
+ghost use Rattle.straight_walks.specs.Searching.{IsNextReferral};
 
-use crate::answers::answers_alike;
+use crate::answers::ZoneAnswer;
+use crate::ends::StraightEnds;
 use crate::queue::Queued;
 use crate::server::{Reply, reply_of};
 use dns_data::Name;
@@ -24,25 +24,29 @@ pub(crate) enum NextReferral<'h, 'a> {
     Unclear,
 }
 
-/// The next referral of the search that has passed so many of the queued states. The zone is the one that answered first, if one
-/// did; else it is the first one that answers from here on. It takes no memory.
+/// The next referral of the search that has passed so many of the queued states. What walks end in at the states on the way is put
+/// to what they ended in before. It takes no memory.
 pub(crate) fn next_referral<'h, 'a>(
     hosts: &'h Hosts<'a>,
     query: &Name,
     queue: &[Queued<'a>],
     passed: usize,
-    first: &mut Option<&'h Tree<'a>>,
+    ends: &mut StraightEnds<'h, 'a>,
 ) -> NextReferral<'h, 'a>
-    requires { IfSome first.old (IsInside query.now) }
-    ensures { IsNextReferral hosts.now query.now queue.now passed first.old first.new result }
+    ensures { IsNextReferral hosts.now query.now queue.now passed ends.old ends.new result }
 {
     let mut passed = passed;
     while passed < queue.len() {
         let one = queue[passed];
         match reply_of(hosts, one.near, query, one.server) {
-            Reply::Outside => {}
-            Reply::Answers(tree) => {
-                if !answers_alike(first, tree, query) {
+            Reply::Outside => ends.fails = true,
+            Reply::Records(tree, owner) => {
+                if !ends.put(ZoneAnswer::of_owner(tree, owner)) {
+                    return NextReferral::Unclear;
+                }
+            }
+            Reply::Nothing(tree) => {
+                if !ends.put(ZoneAnswer::of_nothing(tree)) {
                     return NextReferral::Unclear;
                 }
             }

@@ -1,7 +1,7 @@
 //! The search for all names whose nearest origin is the same.
 
 ghost use Rattle.std.specs.Prelude.{◌≡◌, ◌++◌, true, length, IfOk, IfSome};
-ghost use Rattle.straight_walks.specs.Regions.{IsLookedAt, IsSearchBelow};
+ghost use Rattle.straight_walks.specs.Regions.{IsLookedAt, IsRegionStart, IsSearchBelow};
 
 use crate::queue::{Queued, start_states};
 use crate::referrals::queue_referrals;
@@ -53,80 +53,100 @@ fn search_of_origin<'a>(
 ) -> Result<Option<Search<'a>>, NoMemory>
     ensures { IfOk result (λ searched. IfSome searched (IsSearchBelow hosts.now sets.now origin.now)) }
 {
-    let mut queue = start_states(alloc, hosts, origin)?;
-    let mut passed = Vec::new(alloc);
-    let mut answering = Vec::new(alloc);
+    let mut search = RegionSearch::at_top(alloc, hosts, origin)?;
     let mut at = 0;
-    while at < queue.len() {
-        if queue.len() > MOST as usize {
+    while at < search.queue.len() {
+        if search.queue.len() > MOST as usize {
             return Ok(None);
         }
-        let one = queue[at];
-        if !look_at(
-            alloc,
-            hosts,
-            sets,
-            origin,
-            one,
-            &mut queue,
-            &mut passed,
-            &mut answering,
-        )? {
+        let one = search.queue[at];
+        if !search.look_at(alloc, hosts, sets, origin, one)? {
             return Ok(None);
         }
         at += 1;
     }
-    Ok(Some(passed_then(passed, answering.as_slice())?))
+    Ok(Some(search.found(alloc)?))
 }
 
-/// The search that has passed the first states, and not those whose servers answer.
-fn passed_then<'a>(
+/// A search over the states to which walks for an origin come: the queue of them; those that are passed, and those whose servers
+/// answer, of the ones that were looked at; and whether some walk ends where no zone answers.
+#[derive(Drop)]
+struct RegionSearch<'a> {
+    queue: Vec<Queued<'a>>,
     passed: Vec<Queued<'a>>,
-    answering: &[Queued<'a>],
-) -> Result<Search<'a>, NoMemory>
-    ensures queue { IfOk result (λ searched. searched.queue.items ≡ passed.entry.items ++ answering.now) }
-    ensures passed { IfOk result (λ searched. searched.passed ≡ length passed.entry.items) }
-{
-    let count = passed.len();
-    let mut queue = passed;
-    queue.extend_from_slice(answering)?;
-    Ok(Search {
-        queue,
-        passed: count,
-    })
+    answering: Vec<Queued<'a>>,
+    fails: bool,
 }
 
-/// Whether walks for the origin go straight from the state. It is put at the end of those that are passed, and the states to which
-/// its server refers the query are queued; or, where its server answers, at the end of those whose servers do.
-fn look_at<'a>(
-    alloc: Global,
-    hosts: &Hosts<'a>,
-    sets: &LearntSets,
-    origin: &Name,
-    one: Queued<'a>,
-    queue: &mut Vec<Queued<'a>>,
-    passed: &mut Vec<Queued<'a>>,
-    answering: &mut Vec<Queued<'a>>,
-) -> Result<bool, NoMemory>
-    ensures { IfOk result (λ straight. straight ≡ true
-        → IsLookedAt hosts.now sets.now origin.now one.entry queue.old.items passed.old.items answering.old.items queue.new.items passed.new.items answering.new.items) }
-{
-    match reply_of(hosts, one.near, origin, one.server) {
-        Reply::Outside => {
-            passed.push(one)?;
-            Ok(true)
-        }
-        Reply::Answers(_) => {
-            answering.push(one)?;
-            Ok(true)
-        }
-        Reply::Refers(tree, cut) => {
-            if !queue_referrals(alloc, hosts, sets, origin, one.server, tree, cut, queue)? {
-                return Ok(false);
+impl<'a> RegionSearch<'a> {
+    /// The search that begins at the top servers.
+    fn at_top(alloc: Global, hosts: &Hosts<'a>, origin: &Name) -> Result<RegionSearch<'a>, NoMemory>
+        ensures { IfOk result (IsRegionStart hosts.now) }
+    {
+        let queue = start_states(alloc, hosts, origin)?;
+        Ok(RegionSearch {
+            queue,
+            passed: Vec::new(alloc),
+            answering: Vec::new(alloc),
+            fails: false,
+        })
+    }
+
+    /// Whether walks for the origin go straight from the state. It is put at the end of those that are passed, and the states to
+    /// which its server refers the query are queued; or, where its server answers, at the end of those whose servers do.
+    fn look_at(
+        &mut self,
+        alloc: Global,
+        hosts: &Hosts<'a>,
+        sets: &LearntSets,
+        origin: &Name,
+        one: Queued<'a>,
+    ) -> Result<bool, NoMemory>
+        ensures { IfOk result (λ straight. straight ≡ true → IsLookedAt hosts.now sets.now origin.now one.entry self.old self.new) }
+    {
+        match reply_of(hosts, one.near, origin, one.server) {
+            Reply::Outside => {
+                self.fails = true;
+                self.passed.push(one)?;
+                Ok(true)
             }
-            passed.push(one)?;
-            Ok(true)
+            Reply::Records(..) | Reply::Nothing(..) => {
+                self.answering.push(one)?;
+                Ok(true)
+            }
+            Reply::Refers(tree, cut) => {
+                if !queue_referrals(
+                    alloc,
+                    hosts,
+                    sets,
+                    origin,
+                    one.server,
+                    tree,
+                    cut,
+                    &mut self.queue,
+                    &mut self.fails,
+                )? {
+                    return Ok(false);
+                }
+                self.passed.push(one)?;
+                Ok(true)
+            }
+            Reply::Unclear => Ok(false),
         }
-        Reply::Unclear => Ok(false),
+    }
+
+    /// The search that has passed the states that are passed, and not those whose servers answer.
+    fn found(&self, alloc: Global) -> Result<Search<'a>, NoMemory>
+        ensures queue { IfOk result (λ searched. searched.queue.items ≡ self.now.passed.items ++ self.now.answering.items) }
+        ensures passed { IfOk result (λ searched. searched.passed ≡ length self.now.passed.items) }
+        ensures fails { IfOk result (λ searched. searched.fails ≡ self.now.fails) }
+    {
+        let mut queue = Vec::from_slice(alloc, self.passed.as_slice())?;
+        queue.extend_from_slice(self.answering.as_slice())?;
+        Ok(Search {
+            queue,
+            passed: self.passed.len(),
+            fails: self.fails,
+        })
     }
 }

@@ -10,12 +10,13 @@ use dns_data::{Name, NoMemory};
 use std::alloc::Global;
 use zone_lookup::Hosts;
 
-/// A search over the states to which walks for a name come: the queue of them, and how many of the first ones it has passed.
-/// There no server answers: walks end, or go on to others.
+/// A search over the states to which walks for a name come: the queue of them, how many of the first ones it has passed, and
+/// whether some walk ends there where no zone answers. No server answers there: walks end so, or go on to others.
 #[derive(Drop)]
 pub(crate) struct Search<'a> {
     pub queue: Vec<Queued<'a>>,
     pub passed: usize,
+    pub fails: bool,
 }
 
 impl<'a> Search<'a> {
@@ -25,6 +26,10 @@ impl<'a> Search<'a> {
         ensures { IfOk result (λ searched. (deps : Deps) (query : Labels) → IsSearch hosts.now deps query searched) }
     {
         let queue = start_states(alloc, hosts, name)?;
-        Ok(Search { queue, passed: 0 })
+        Ok(Search {
+            queue,
+            passed: 0,
+            fails: false,
+        })
     }
 }

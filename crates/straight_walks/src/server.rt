@@ -6,12 +6,13 @@ use dns_data::Name;
 use zone_lookup::{Hosts, Near};
 use zone_tree::{Decider, NodeId, Tree, deciding};
 
-/// What a server replies to a query: it holds no zone for the name; it answers from this zone; or it refers the query by a zone
-/// cut of this zone. Of other replies nothing is said.
+/// What a server replies to a query: it holds no zone for the name; this zone answers the data of this owner; it answers that there
+/// is no such name; or it refers the query by this zone cut. Of other replies nothing is said.
 #[derive(Clone, Copy)]
 pub(crate) enum Reply<'h, 'a> {
     Outside,
-    Answers(&'h Tree<'a>),
+    Records(&'h Tree<'a>, NodeId),
+    Nothing(&'h Tree<'a>),
     Refers(&'h Tree<'a>, NodeId),
     Unclear,
 }
@@ -31,8 +32,10 @@ pub(crate) fn reply_of<'h, 'a>(
     match deciding(tree, query) {
         Decider::Cut(cut) => Reply::Refers(tree, cut),
         Decider::Redirection(_) => Reply::Unclear,
-        Decider::Records(owner) if tree.alias(owner).is_some() => Reply::Unclear,
-        Decider::Records(_) => Reply::Answers(tree),
-        Decider::Nothing => Reply::Answers(tree),
+        Decider::Records(owner) => match tree.alias(owner) {
+            Some(_) => Reply::Unclear,
+            None => Reply::Records(tree, owner),
+        },
+        Decider::Nothing => Reply::Nothing(tree),
     }
 }

@@ -1,13 +1,17 @@
-use Rattle.std.proofs.Common.{◌≡◌, ℕ, List, [], ◌∷◌, ◌++◌, length, map, take, take_all, Vec, Global, Bor, sym, ap, ◌∙◌, subst}
-use Rattle.std.specs.Prelude.{Contains}
+use Rattle.std.proofs.Common.{◌≡◌, ℕ, Bool, List, ◌∷◌, [], ◌++◌, length, map, take, take_all, Vec, Global, Bor, sym, ap, ◌∙◌, subst}
+use Rattle.std.specs.Prelude.{Contains, ◌⊎◌}
 use Rattle.dns_data.specs.Name.{Labels}
 use Rattle.net_model.specs.Zone.{ns_names}
 use Rattle.zone_tree.specs.Tree.{name_of}
-use Rattle.straight_walks.specs.Searching.{AreReferrals, Extends, IsReferral, cut_to, state_at, queued_state}
+use Rattle.straight_walks.specs.Searching.{AreReferrals, IsReferral, cut_to, state_at, queued_state}
 use Rattle.straight_walks.specs.declared.queue.Queued.{Queued}
-use Rattle.straight_walks.proofs.GoingOn.{one_name_more, so_far_ends, so_far_goes_on}
+use Rattle.straight_walks.proofs.GoingOn.{no_referrals, one_name_more, one_that_ends, one_to_go_to}
 use Rattle.straight_walks.proofs.referrals.queue_referrals.Goals as goal
 use Rattle.straight_walks.proofs.referrals.queue_referrals.Goals.{in-Ends, in-GoesOn+in_ok-enqueue-in-GoesOn}
+
+pub loop-ns-init : goal.loop-ns-init
+loop-ns-init c =
+    no_referrals c.args.hosts.now c.args.sets.now c.args.query.now c.args.server.now c.args.tree.now.zone (name_of c.args.tree.now c.args.cut) c.args.queue.now.items c.args.fails.now
 
 pub loop-ns-preserved : goal.loop-ns-preserved
 loop-ns-preserved c =
@@ -18,21 +22,27 @@ loop-ns-preserved c =
     let zone = c.args.tree.now.zone in
     let cut = name_of c.args.tree.now c.args.cut in
     let first = c.args.queue.now.items in
+    let fails_first = c.args.fails.now in
     let item = c.ns-item.result in
     let names = map (λ (ns : Bor Labels). ns.now) (take c.loop-ns.ns-index c.name_servers-ns-items.result.now) in
-    subst (λ (all : List Labels). Extends first c.match-branch-2.queue.items × AreReferrals config deps query server zone cut all c.match-branch-2.queue.items)
+    subst (λ (all : List Labels). AreReferrals config deps query server zone cut all first fails_first c.match-branch-2.queue.items c.match-branch-2.fails)
     (sym (one_name_more c.name_servers-ns-items.result.now c.loop-ns.ns-index item c.loop-ns-test.true c.ns-item.is))
     (elim c.match-branch-2.branch [
       | in-Ends w ↦
-          subst (λ (all : Vec Queued Global). Extends first all.items × AreReferrals config deps query server zone cut (names ++ item.now ∷ []) all.items) (sym w.queue-is)
-          (so_far_ends config deps query server zone cut names item.now c.loop-ns.queue.items c.loop-ns.invariant.1 first c.loop-ns.invariant.0
-          (subst (IsReferral config deps query (cut_to server zone cut item.now)) w.in-Ends.is c.in_ok-referral_to.ensures))
+          subst (λ (all : Vec Queued Global). AreReferrals config deps query server zone cut (names ++ item.now ∷ []) first fails_first all.items c.match-branch-2.fails) (sym w.queue-is)
+          (subst (λ (fails : Bool). AreReferrals config deps query server zone cut (names ++ item.now ∷ []) first fails_first c.loop-ns.queue.items fails) (sym w.fails-is)
+          (one_that_ends config deps query server zone cut names item.now first fails_first c.loop-ns.queue.items c.loop-ns.fails c.loop-ns.invariant
+          (subst (IsReferral config deps query (cut_to server zone cut item.now)) w.in-Ends.is c.in_ok-referral_to.ensures)))
       | in-GoesOn+in_ok-enqueue-in-GoesOn w ↦
-          subst (λ (all : Vec Queued Global). Extends first all.items × AreReferrals config deps query server zone cut (names ++ item.now ∷ []) all.items) (sym w.queue-is)
-          (so_far_goes_on config deps query server zone cut names item.now first c.loop-ns.queue.items w.enqueue.new.queue.items c.loop-ns.invariant w.in_ok-enqueue-in-GoesOn.ensures.more
+          subst (λ (all : Vec Queued Global). AreReferrals config deps query server zone cut (names ++ item.now ∷ []) first fails_first all.items c.match-branch-2.fails) (sym w.queue-is)
+          (subst (λ (fails : Bool). AreReferrals config deps query server zone cut (names ++ item.now ∷ []) first fails_first w.enqueue.new.queue.items fails) (sym w.fails-is)
+          (one_to_go_to config deps query server zone cut names item.now first fails_first c.loop-ns.queue.items c.loop-ns.fails c.loop-ns.invariant
+          w.enqueue.new.queue.items w.in_ok-enqueue-in-GoesOn.ensures.more
           (subst (λ (n : ℕ). Contains (map (queued_state config query) w.enqueue.new.queue.items) (state_at config query item.now n))
           (w.len.ensures.value ∙ ap (λ (name : Labels). length name) w.name.ensures) (w.in_ok-enqueue-in-GoesOn.ensures.there config query))
-          (subst (IsReferral config deps query (cut_to server zone cut item.now)) w.in-GoesOn.is c.in_ok-referral_to.ensures))
+          (λ one has. subst (λ (n : ℕ). Contains c.loop-ns.queue.items one ⊎ ((one.server.now ≡ item.now) × (one.cut ≡ n)))
+          (w.len.ensures.value ∙ ap (λ (name : Labels). length name) w.name.ensures) (w.in_ok-enqueue-in-GoesOn.ensures.only one has))
+          (subst (IsReferral config deps query (cut_to server zone cut item.now)) w.in-GoesOn.is c.in_ok-referral_to.ensures)))
     ])
 
 pub returns : goal.returns
@@ -41,7 +51,6 @@ returns c = λ yes.
     let cut = name_of c.args.tree.now c.args.cut in
     let all : map (λ (ns : Bor Labels). ns.now) (take c.loop-ns.ns-index c.name_servers-ns-items.result.now) ≡ ns_names zone cut =
     ap (map (λ (ns : Bor Labels). ns.now)) (take_all c.loop-ns.ns-index c.name_servers-ns-items.result.now c.loop-ns-test.false)
-    ∙ c.name_servers-ns-items.ensures in (
-      c.loop-ns.invariant.0,
-      subst (λ (names : List Labels). AreReferrals c.args.hosts.now c.args.sets.now c.args.query.now c.args.server.now zone cut names c.loop-ns.queue.items) all c.loop-ns.invariant.1,
-    )
+    ∙ c.name_servers-ns-items.ensures in
+    subst (λ (names : List Labels). AreReferrals c.args.hosts.now c.args.sets.now c.args.query.now c.args.server.now zone cut names c.args.queue.now.items c.args.fails.now c.loop-ns.queue.items c.loop-ns.fails)
+    all c.loop-ns.invariant

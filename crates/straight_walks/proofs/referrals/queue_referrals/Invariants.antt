@@ -1,10 +1,10 @@
 use Rattle.std.proofs.Common.{map, take}
 use Rattle.zone_tree.specs.Tree.{name_of}
-use Rattle.straight_walks.specs.Searching.{AreReferrals, Extends}
+use Rattle.straight_walks.specs.Searching.{AreReferrals}
 use Rattle.straight_walks.proofs.referrals.queue_referrals.Given as goal
 
 -- so do the name servers so far
 abbrev pub invariant-loop-ns : goal.invariant-loop-ns
 invariant-loop-ns l =
-    Extends l.fn.queue.items l.queue.items
-    × AreReferrals l.hosts l.sets l.query l.server l.tree.zone (name_of l.tree l.cut) (map (λ server. server.now) (take l.ns-index l.ns-items)) l.queue.items
+    AreReferrals l.hosts l.sets l.query l.server l.tree.zone (name_of l.tree l.cut) (map (λ server. server.now) (take l.ns-index l.ns-items))
+    l.fn.queue.items l.fn.fails l.queue.items l.fails

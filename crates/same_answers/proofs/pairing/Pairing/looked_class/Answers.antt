@@ -5,7 +5,7 @@ use Rattle.same_answers.specs.Looked.{IsLooked, looked_end}
 use Rattle.same_answers.specs.Verdict.{IsPairEnd}
 use Rattle.same_answers.specs.declared.verdict.PairEnd.{PairEnd}
 use Rattle.same_answers.proofs.PairEnds.{end_by_looked}
-use Rattle.same_answers.proofs.pairing.Pairing.judge_class.Goals as goal
+use Rattle.same_answers.proofs.pairing.Pairing.looked_class.Goals as goal
 
 pub returns : goal.returns
 returns g c =

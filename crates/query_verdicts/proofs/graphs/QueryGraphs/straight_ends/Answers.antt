@@ -1,0 +1,21 @@
+use Rattle.std.proofs.Common.{Result, subst}
+use Rattle.std.specs.Prelude.{IfOk, IfSome}
+use Rattle.dns_data.specs.Name.{Labels}
+use Rattle.query_verdicts.specs.Learnt.{IsLearntOf}
+use Rattle.query_verdicts.specs.Queries.{AreStraightEnds, LimitedQueries}
+use Rattle.query_verdicts.specs.declared.learnt.Learnt.{Learnt}
+use Rattle.query_verdicts.proofs.StraightVerdicts.{straight_ends}
+use Rattle.query_verdicts.proofs.graphs.QueryGraphs.straight_ends.Goals as goal
+
+pub straight_ends-requires : goal.straight_ends-requires
+straight_ends-requires c =
+    let queries = c.self.inside.queries in
+    (subst (λ (l : Result Learnt Labels). IsLearntOf queries.trees queries.rewrites queries.states l) c.in-Ok.is c.self.invariant).regions
+
+pub returns-in-Ok : goal.returns-in-Ok
+returns-in-Ok c =
+    let queries = c.self.inside.queries in
+    let learnt = subst (λ (l : Result Learnt Labels). IsLearntOf queries.trees queries.rewrites queries.states l) c.in-Ok.is c.self.invariant in
+    subst (λ (q : LimitedQueries). IfOk c.straight_ends.result (λ found. IfSome found (AreStraightEnds q.config q.rewrites q.states c.args.query.now))) c.self.view_is
+    (straight_ends queries.trees queries.rewrites queries.states c.args.query.now c.in-Ok.learnt.sets learnt.sets c.straight_ends.result
+    c.straight_ends.ensures.few c.straight_ends.ensures.bounded c.straight_ends.ensures.outcomes)

@@ -1,0 +1,21 @@
+use Rattle.std.proofs.Common.{arith}
+use Rattle.std.proofs.Math.Nat.{div-mul-le_self}
+use Rattle.straight_walks.proofs.GivenEnds.{bounded_given, few_given, nothing_given, outcomes_given}
+use Rattle.straight_walks.proofs.straight.straight_ends.Goals as goal
+
+pub returns-clause-few : goal.returns-clause-few
+returns-clause-few c =
+    few_given c.args.hosts.now c.args.sets.now c.min-most.result c.args.query.now c.ends_by_region.result c.args.states
+    (omega (arith, c.min-most.ensures, div-mul-le_self c.args.states 12)) c.ends_by_region.ensures
+
+pub returns-clause-shows_nothing : goal.returns-clause-shows_nothing
+returns-clause-shows_nothing c =
+    nothing_given c.args.hosts.now c.args.sets.now c.min-most.result c.args.query.now c.ends_by_region.result c.ends_by_region.ensures
+
+pub returns-clause-bounded : goal.returns-clause-bounded
+returns-clause-bounded c =
+    bounded_given c.args.hosts.now c.args.sets.now c.min-most.result c.args.query.now c.ends_by_region.result c.ends_by_region.ensures
+
+pub returns-clause-outcomes : goal.returns-clause-outcomes
+returns-clause-outcomes c =
+    outcomes_given c.args.hosts.now c.args.sets.now c.min-most.result c.args.query.now c.ends_by_region.result c.ends_by_region.ensures

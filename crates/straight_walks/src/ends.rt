@@ -1,0 +1,53 @@
+//! What the walks of a query end in that go straight.
+
+ghost use Rattle.std.specs.Prelude.{◌≡◌, true};
+ghost use Rattle.straight_walks.specs.Ends.{answers_alike, ends_alike};
+ghost use Rattle.straight_walks.specs.Searching.{IsPut};
+
+use crate::answers::ZoneAnswer;
+use dns_data::RrType;
+
+/// What walks end in that go straight: each zone that answers answers this, where some walk ends in an answer, and some walks may
+/// end where no zone answers.
+#[derive(Drop)]
+pub struct StraightEnds<'h, 'a> {
+    pub answer: Option<ZoneAnswer<'h, 'a>>,
+    pub fails: bool,
+}
+
+impl<'h, 'a> StraightEnds<'h, 'a> {
+    /// Whether walks with the type have the same outcomes: in both some end in an answer, which is the same, or none does; and in
+    /// both some end where no zone answers, or none does.
+    pub fn are_alike(&self, other: &StraightEnds<'_, '_>, rtype: RrType) -> bool
+        ensures { result ≡ ends_alike self.now other.now rtype }
+    {
+        self.fails == other.fails && answers_alike(&self.answer, &other.answer, rtype)
+    }
+
+    /// Puts what one more zone answers to the others: whether it answers as each one before. Where none answered before, this is
+    /// the answer from then on.
+    pub(crate) fn put(&mut self, answer: ZoneAnswer<'h, 'a>) -> bool
+        ensures { result ≡ true → IsPut self.old answer.entry self.new }
+    {
+        if let Some(before) = &self.answer {
+            return before.is_same(&answer);
+        }
+        self.answer = Some(answer);
+        true
+    }
+}
+
+/// Whether there is the same answer with the type in both, or none in either.
+fn answers_alike(
+    one: &Option<ZoneAnswer<'_, '_>>,
+    other: &Option<ZoneAnswer<'_, '_>>,
+    rtype: RrType,
+) -> bool
+    ensures { result ≡ answers_alike one.now other.now rtype }
+{
+    match (one, other) {
+        (Some(one), Some(other)) => one.is_same_with(other, rtype),
+        (None, None) => true,
+        _ => false,
+    }
+}
