@@ -1,5 +1,5 @@
 -- Zones, rows and the configuration, step by step.
-use Rattle.std.proofs.Common.{◌≡◌, ℕ, ◌+◌, List, ◌∷◌, Result, Ok, Err, IsErrAnd, refl, sym, ap}
+use Rattle.std.proofs.Common.{◌≡◌, ℕ, ◌+◌, List, ◌∷◌, Result, Ok, Err, IsErrAnd, refl, sym, ap, subst, inl, inr}
 use Rattle.dns_data.proofs.Answers.{if_err_answered, if_err_either}
 use Rattle.dns_data.specs.Answers.{AnswersOr, with_fault}
 use Rattle.dns_data.specs.Name.{Labels}
@@ -11,15 +11,17 @@ use Rattle.net_model.specs.declared.config.Config.{Config}
 use Rattle.net_model.specs.declared.config.Server.{Server}
 use Rattle.net_model.specs.declared.config.Zone.{Zone}
 use Rattle.zone_rules.specs.ZoneOf.{zone_of}
-use Rattle.config_load.specs.Conf.{conf, metadata, no_rows, with_row, with_rows, zone_files, zone_read, left_behind}
+use Rattle.config_load.specs.Conf.{conf, loaded, metadata, no_rows, with_row, with_rows, zone_files, zone_read, left_behind}
 use Rattle.config_load.specs.Faults.{of_metadata, of_rule}
-use Rattle.config_load.specs.Follows.{Follows}
-use Rattle.config_load.specs.Reading.{Reading, Reads, ◌>>=◌, unless_refused, file_octets}
+use Rattle.config_load.specs.Follows.{ByTold, Follows}
+use Rattle.config_load.specs.Reading.{Reading, Reads, Refuses, Misses, Unknown, ◌>>=◌, unless_refused, file_octets}
+use Rattle.config_load.specs.RowRead.{with_servers, if_given, row_read}
 use Rattle.config_load.specs.Servers.{given, has_zone}
 use Rattle.config_load.specs.Sources.{ReadsFor, HasAnswered}
 use Rattle.config_load.specs.declared.fault.LoadFault.{LoadFault}
 use Rattle.config_load.specs.declared.fault.LoadFault.TheVariants.{NoMemory}
 use Rattle.config_load.specs.declared.left.Left.{Left}
+use Rattle.config_load.specs.declared.loaded.Loaded.{Loaded}
 use Rattle.config_load.specs.declared.rows.ReadRows.{ReadRows}
 use Rattle.config_load.specs.declared.zone.ReadZone.{ReadZone}
 use Rattle.config_load.specs.declared.zone_files.ZoneFiles.{ZoneFiles}
@@ -41,10 +43,18 @@ HasAnswered-given told counts number name zone servers result answered =
     (if_err_answered IsNoRead NoMemory result (given number name zone servers) answered tt (if_err_either IsNoRead (has_zone name zone.origin servers) _ _ tt tt))
     (Answers-given told number name zone servers result answered)
 
+module _ {T E : Type 0} where
+  -- answers are one where their values are
+  ok_same : {a b : T} → (let one : Result T E = Ok a in one ≡ Ok b) → a ≡ b
+  ok_same e = cc
+
+  err_same : {a b : E} → (let one : Result T E = Err a in one ≡ Err b) → a ≡ b
+  err_same e = cc
+
 -- how the reading of a zone goes on behind its files
 abbrev behind_files : MetaRow → Left → FilesTold → ZoneFiles → Reading ReadZone
 behind_files row left told files =
-    unless_refused (of_rule files.names) (zone_of row.origin files.text.rrs) >>= λ zone. Reads (record { zone = zone; left = left_behind left files.text })
+    unless_refused (of_rule files.names) (zone_of row.origin files.text.rrs) >>= λ zone. Reads (record { zone = zone; names = files.names; left = left_behind left files.text })
 
 module _ (meta : List ℕ) (row : MetaRow) (left : Left) where
   -- a row's files that aren't read
@@ -58,25 +68,25 @@ module _ (meta : List ℕ) (row : MetaRow) (left : Left) where
   HasAnswered-no_zone {told' = told'} {counts' = counts'} read fault result is whole answered =
       let refused : Result Zone LoadFault = Err fault in
       HasAnswered-next (zone_files meta row left) read (behind_files row left) result whole
-      (HasAnswered-passed (λ _. unless_refused (of_rule read.names) (zone_of row.origin read.text.rrs)) (λ _ zone. Reads (record { zone = zone; left = left_behind left read.text })) fault result is
+      (HasAnswered-passed (λ _. unless_refused (of_rule read.names) (zone_of row.origin read.text.rrs)) (λ _ zone. Reads (record { zone = zone; names = read.names; left = left_behind left read.text })) fault result is
       (HasAnswered-told told' counts' (of_rule read.names) (zone_of row.origin read.text.rrs) refused (IsNoRead-of_rule read.names) answered))
 
   -- a zone
-  pub HasAnswered-zone : {told told' : FilesTold} {counts counts' : List ℕ → ℕ} (read : ZoneFiles) (zone : Zone) (behind : Left) → behind ≡ left_behind left read.text → (let answer : Result ZoneFiles LoadFault = Ok read in HasAnswered told told' counts counts' (zone_files meta row left) answer) → (let answer : Result Zone LoadFault = Ok zone in AnswersOr NoMemory answer (with_fault (of_rule read.names) (zone_of row.origin read.text.rrs))) → (let answer : Result ReadZone LoadFault = Ok (record { zone = zone; left = behind }) in HasAnswered told told' counts counts' (zone_read meta row left) answer)
+  pub HasAnswered-zone : {told told' : FilesTold} {counts counts' : List ℕ → ℕ} (read : ZoneFiles) (zone : Zone) (behind : Left) → behind ≡ left_behind left read.text → (let answer : Result ZoneFiles LoadFault = Ok read in HasAnswered told told' counts counts' (zone_files meta row left) answer) → (let answer : Result Zone LoadFault = Ok zone in AnswersOr NoMemory answer (with_fault (of_rule read.names) (zone_of row.origin read.text.rrs))) → (let answer : Result ReadZone LoadFault = Ok (record { zone = zone; names = read.names; left = behind }) in HasAnswered told told' counts counts' (zone_read meta row left) answer)
   unfolding zone_read
   HasAnswered-zone {told' = told'} {counts' = counts'} read zone behind is whole answered =
       let given : Result Zone LoadFault = Ok zone in
-      let answer : Result ReadZone LoadFault = Ok (record { zone = zone; left = behind }) in
+      let answer : Result ReadZone LoadFault = Ok (record { zone = zone; names = read.names; left = behind }) in
       HasAnswered-next (zone_files meta row left) read (behind_files row left) answer whole
-      (HasAnswered-next (λ _. unless_refused (of_rule read.names) (zone_of row.origin read.text.rrs)) zone (λ _ zone. Reads (record { zone = zone; left = left_behind left read.text })) answer
+      (HasAnswered-next (λ _. unless_refused (of_rule read.names) (zone_of row.origin read.text.rrs)) zone (λ _ zone. Reads (record { zone = zone; names = read.names; left = left_behind left read.text })) answer
       (HasAnswered-told told' counts' (of_rule read.names) (zone_of row.origin read.text.rrs) given (IsNoRead-of_rule read.names) answered)
-      (HasAnswered-looked told' counts' (λ _. Reads (record { zone = zone; left = left_behind left read.text })) answer tt
-      (Follows-same told' (λ _. Reads (record { zone = zone; left = left_behind left read.text })) (λ _. Reads (record { zone = zone; left = behind })) (λ other. ap (λ (l : Left). Reads (record { zone = zone; left = l })) (sym is)))))
+      (HasAnswered-looked told' counts' (λ _. Reads (record { zone = zone; names = read.names; left = left_behind left read.text })) answer tt
+      (Follows-same told' (λ _. Reads (record { zone = zone; names = read.names; left = left_behind left read.text })) (λ _. Reads (record { zone = zone; names = read.names; left = behind })) (λ other. ap (λ (l : Left). Reads (record { zone = zone; names = read.names; left = l })) (sym is)))))
 
 -- how the reading of a row goes on behind its zone
 abbrev behind_zone : ℕ → MetaRow → ReadRows → FilesTold → ReadZone → Reading ReadRows
 behind_zone number row rows told read =
-    unless_refused (λ fault. fault) (given number row.server read.zone rows.servers) >>= λ servers. Reads (record { left = read.left; servers = servers })
+    unless_refused (λ fault. fault) (given number row.server read.zone rows.servers) >>= λ servers. Reads (with_servers row.server read rows servers)
 
 module _ (meta : List ℕ) (number : ℕ) (row : MetaRow) (rows : ReadRows) where
   -- a row whose zone isn't read
@@ -96,19 +106,35 @@ module _ (meta : List ℕ) (number : ℕ) (row : MetaRow) (rows : ReadRows) wher
   HasAnswered-not_given {told' = told'} {counts' = counts'} read fault result is whole answered =
       let refused : Result (List Server) LoadFault = Err fault in
       HasAnswered-next (zone_read meta row rows.left) read (behind_zone number row rows) result whole
-      (HasAnswered-passed (λ _. unless_refused (λ fault. fault) (given number row.server read.zone rows.servers)) (λ _ servers. Reads (record { left = read.left; servers = servers })) fault result is
+      (HasAnswered-passed (λ _. unless_refused (λ fault. fault) (given number row.server read.zone rows.servers)) (λ _ servers. Reads (with_servers row.server read rows servers)) fault result is
       (HasAnswered-given told' counts' number row.server read.zone rows.servers refused answered))
 
   -- a row
-  pub HasAnswered-row : {told told' : FilesTold} {counts counts' : List ℕ → ℕ} (read : ReadZone) (servers : List Server) → (let answer : Result ReadZone LoadFault = Ok read in HasAnswered told told' counts counts' (zone_read meta row rows.left) answer) → (let answer : Result (List Server) LoadFault = Ok servers in AnswersOr NoMemory answer (given number row.server read.zone rows.servers)) → (let answer : Result ReadRows LoadFault = Ok (record { left = read.left; servers = servers }) in HasAnswered told told' counts counts' (with_row meta number row rows) answer)
+  pub HasAnswered-row : {told told' : FilesTold} {counts counts' : List ℕ → ℕ} (read : ReadZone) (servers : List Server) → (let answer : Result ReadZone LoadFault = Ok read in HasAnswered told told' counts counts' (zone_read meta row rows.left) answer) → (let answer : Result (List Server) LoadFault = Ok servers in AnswersOr NoMemory answer (given number row.server read.zone rows.servers)) → (let answer : Result ReadRows LoadFault = Ok (with_servers row.server read rows servers) in HasAnswered told told' counts counts' (with_row meta number row rows) answer)
   unfolding with_row
   HasAnswered-row {told' = told'} {counts' = counts'} read servers whole answered =
       let more : Result (List Server) LoadFault = Ok servers in
-      let answer : Result ReadRows LoadFault = Ok (record { left = read.left; servers = servers }) in
+      let answer : Result ReadRows LoadFault = Ok (with_servers row.server read rows servers) in
       HasAnswered-next (zone_read meta row rows.left) read (behind_zone number row rows) answer whole
-      (HasAnswered-next (λ _. unless_refused (λ fault. fault) (given number row.server read.zone rows.servers)) servers (λ _ servers. Reads (record { left = read.left; servers = servers })) answer
+      (HasAnswered-next (λ _. unless_refused (λ fault. fault) (given number row.server read.zone rows.servers)) servers (λ _ servers. Reads (with_servers row.server read rows servers)) answer
       (HasAnswered-given told' counts' number row.server read.zone rows.servers more answered)
-      (reads told' counts' (record { left = read.left; servers = servers })))
+      (reads told' counts' (with_servers row.server read rows servers)))
+
+  -- a row whose zone was read
+  pub HasAnswered-read : {told told' : FilesTold} {counts counts' : List ℕ → ℕ} (read : ReadZone) (result : Result ReadRows LoadFault) → (let answer : Result ReadZone LoadFault = Ok read in HasAnswered told told' counts counts' (zone_read meta row rows.left) answer) → AnswersOr NoMemory result (row_read number row.server read rows) → HasAnswered told told' counts counts' (with_row meta number row rows) result
+  HasAnswered-read {told} {told'} {counts} {counts'} read result whole answered = by (given number row.server read.zone rows.servers) refl result answered where
+    goal_of : Result ReadRows LoadFault → Type 0
+    goal_of r = HasAnswered told told' counts counts' (with_row meta number row rows) r
+
+    by : (said : Result (List Server) LoadFault) → given number row.server read.zone rows.servers ≡ said → (r : Result ReadRows LoadFault)
+        → AnswersOr NoMemory r (if_given row.server read rows said) → goal_of r
+    by (Ok servers) is (Ok all) same =
+        subst (λ (a : ReadRows). goal_of (Ok a)) (ok_same same) (HasAnswered-row read servers whole is)
+    by (Ok servers) is (Err fault) (inl free) = HasAnswered-row_wanting read (Err fault) free whole
+    by (Ok servers) is (Err fault) (inr same) = absurd cc
+    by (Err refused) is (Ok all) same = absurd cc
+    by (Err refused) is (Err fault) (inl free) = HasAnswered-row_wanting read (Err fault) free whole
+    by (Err refused) is (Err fault) (inr same) = HasAnswered-not_given read refused (Err fault) (sym (err_same same)) whole (inr is)
 
 module _ (meta : List ℕ) (number : ℕ) (row : MetaRow) (others : List MetaRow) (rows : ReadRows) where
   -- a row that ends the reading
@@ -127,10 +153,13 @@ module _ (meta : List ℕ) (number : ℕ) (row : MetaRow) (others : List MetaRow
   Follows-first_row told more whole =
       Follows-bind told (with_row meta number row rows) (λ _. Reads more) (λ t rows. with_rows meta (number + 1) others rows t) whole
 
+-- the configuration of metadata and rows, with the rows
+abbrev loaded_of : Metadata → ReadRows → Loaded
+loaded_of found rows = record { config = record { tops = found.tops; servers = rows.servers }; rows = rows.rows }
+
 -- how the reading of a configuration goes on behind the metadata
-abbrev behind_metadata : List ℕ → FilesTold → Metadata → Reading Config
-behind_metadata meta told found =
-    with_rows meta 1 found.rows no_rows told >>= λ rows. Reads (record { tops = found.tops; servers = rows.servers })
+abbrev behind_metadata : List ℕ → FilesTold → Metadata → Reading Loaded
+behind_metadata meta told found = with_rows meta 1 found.rows no_rows told >>= λ rows. Reads (loaded_of found rows)
 
 module _ (meta : List ℕ) where
   -- a metadata file that isn't read
@@ -146,22 +175,54 @@ module _ (meta : List ℕ) where
       (HasAnswered-told told' counts' of_metadata (metadata_of octets) result IsNoRead-of_metadata answered)
 
   -- metadata that don't read
-  pub HasAnswered-no_metadata : {told told' : FilesTold} {counts counts' : List ℕ → ℕ} (fault : LoadFault) (result : Result Config LoadFault) → IsErrAnd result (λ passed. passed ≡ fault) → (let answer : Result Metadata LoadFault = Err fault in HasAnswered told told' counts counts' (metadata meta) answer) → HasAnswered told told' counts counts' (conf meta) result
-  unfolding conf
+  pub HasAnswered-no_metadata : {told told' : FilesTold} {counts counts' : List ℕ → ℕ} (fault : LoadFault) (result : Result Loaded LoadFault) → IsErrAnd result (λ passed. passed ≡ fault) → (let answer : Result Metadata LoadFault = Err fault in HasAnswered told told' counts counts' (metadata meta) answer) → HasAnswered told told' counts counts' (loaded meta) result
+  unfolding loaded
   HasAnswered-no_metadata fault result is read = HasAnswered-passed (metadata meta) (behind_metadata meta) fault result is read
 
   -- rows that don't read
-  pub HasAnswered-no_rows : {before between after : FilesTold} {counts counts' counts'' : List ℕ → ℕ} (found : Metadata) (fault : LoadFault) (result : Result Config LoadFault) → IsErrAnd result (λ passed. passed ≡ fault) → (let answer : Result Metadata LoadFault = Ok found in HasAnswered before between counts counts' (metadata meta) answer) → (let answer : Result ReadRows LoadFault = Err fault in HasAnswered between after counts' counts'' (with_rows meta 1 found.rows no_rows) answer) → HasAnswered before after counts counts'' (conf meta) result
-  unfolding conf
+  pub HasAnswered-no_rows : {before between after : FilesTold} {counts counts' counts'' : List ℕ → ℕ} (found : Metadata) (fault : LoadFault) (result : Result Loaded LoadFault) → IsErrAnd result (λ passed. passed ≡ fault) → (let answer : Result Metadata LoadFault = Ok found in HasAnswered before between counts counts' (metadata meta) answer) → (let answer : Result ReadRows LoadFault = Err fault in HasAnswered between after counts' counts'' (with_rows meta 1 found.rows no_rows) answer) → HasAnswered before after counts counts'' (loaded meta) result
+  unfolding loaded
   HasAnswered-no_rows found fault result is whole read =
       HasAnswered-next (metadata meta) found (behind_metadata meta) result whole
-      (HasAnswered-passed (with_rows meta 1 found.rows no_rows) (λ _ rows. Reads (record { tops = found.tops; servers = rows.servers })) fault result is read)
+      (HasAnswered-passed (with_rows meta 1 found.rows no_rows) (λ _ rows. Reads (loaded_of found rows)) fault result is read)
 
   -- the configuration
-  pub HasAnswered-config : {before between after : FilesTold} {counts counts' counts'' : List ℕ → ℕ} (found : Metadata) (rows : ReadRows) → (let answer : Result Metadata LoadFault = Ok found in HasAnswered before between counts counts' (metadata meta) answer) → (let answer : Result ReadRows LoadFault = Ok rows in HasAnswered between after counts' counts'' (with_rows meta 1 found.rows no_rows) answer) → (let answer : Result Config LoadFault = Ok (record { tops = found.tops; servers = rows.servers }) in HasAnswered before after counts counts'' (conf meta) answer)
-  unfolding conf
-  HasAnswered-config {after = after} {counts'' = counts''} found rows whole all =
-      let answer : Result Config LoadFault = Ok (record { tops = found.tops; servers = rows.servers }) in
+  pub HasAnswered-loaded : {before between after : FilesTold} {counts counts' counts'' : List ℕ → ℕ} (found : Metadata) (rows : ReadRows) → (let answer : Result Metadata LoadFault = Ok found in HasAnswered before between counts counts' (metadata meta) answer) → (let answer : Result ReadRows LoadFault = Ok rows in HasAnswered between after counts' counts'' (with_rows meta 1 found.rows no_rows) answer) → (let answer : Result Loaded LoadFault = Ok (loaded_of found rows) in HasAnswered before after counts counts'' (loaded meta) answer)
+  unfolding loaded
+  HasAnswered-loaded {after = after} {counts'' = counts''} found rows whole all =
+      let answer : Result Loaded LoadFault = Ok (loaded_of found rows) in
       HasAnswered-next (metadata meta) found (behind_metadata meta) answer whole
-      (HasAnswered-next (with_rows meta 1 found.rows no_rows) rows (λ _ rows. Reads (record { tops = found.tops; servers = rows.servers })) answer all
-      (reads after counts'' (record { tops = found.tops; servers = rows.servers })))
+      (HasAnswered-next (with_rows meta 1 found.rows no_rows) rows (λ _ rows. Reads (loaded_of found rows)) answer all
+      (reads after counts'' (loaded_of found rows)))
+
+  -- with the configuration the rows were read
+  pub conf-loaded : (told : FilesTold) → conf meta told ≡ (loaded meta told >>= λ all. Reads all.config)
+  unfolding conf loaded
+  conf-loaded told = by (metadata meta told) where
+    on : (found : Metadata) → (read : Reading ReadRows)
+        → (read >>= λ rows. Reads (record { tops = found.tops; servers = rows.servers })) ≡ ((read >>= λ rows. Reads (loaded_of found rows)) >>= λ all. Reads all.config)
+    on found (Reads rows) = refl
+    on found (Refuses fault) = refl
+    on found (Misses file) = refl
+    on found (Unknown file) = refl
+
+    by : (read : Reading Metadata)
+        → (read >>= λ found. with_rows meta 1 found.rows no_rows told >>= λ rows. Reads (record { tops = found.tops; servers = rows.servers }))
+        ≡ ((read >>= behind_metadata meta told) >>= λ all. Reads all.config)
+    by (Reads found) = on found (with_rows meta 1 found.rows no_rows told)
+    by (Refuses fault) = refl
+    by (Misses file) = refl
+    by (Unknown file) = refl
+
+  -- a configuration that isn't read
+  pub HasAnswered-no_config : {told told' : FilesTold} {counts counts' : List ℕ → ℕ} (fault : LoadFault) (result : Result Config LoadFault) → IsErrAnd result (λ passed. passed ≡ fault) → (let answer : Result Loaded LoadFault = Err fault in HasAnswered told told' counts counts' (loaded meta) answer) → HasAnswered told told' counts counts' (conf meta) result
+  HasAnswered-no_config {told} {told'} {counts} {counts'} fault result is read =
+      subst (λ (reading : ByTold Config). HasAnswered told told' counts counts' reading result) (λ i t. sym (conf-loaded t) i)
+      (HasAnswered-passed (loaded meta) (λ _ all. Reads all.config) fault result is read)
+
+  -- the configuration
+  pub HasAnswered-config : {told told' : FilesTold} {counts counts' : List ℕ → ℕ} (all : Loaded) → (let answer : Result Loaded LoadFault = Ok all in HasAnswered told told' counts counts' (loaded meta) answer) → (let answer : Result Config LoadFault = Ok all.config in HasAnswered told told' counts counts' (conf meta) answer)
+  HasAnswered-config {told} {told'} {counts} {counts'} all read =
+      let answer : Result Config LoadFault = Ok all.config in
+      subst (λ (reading : ByTold Config). HasAnswered told told' counts counts' reading answer) (λ i t. sym (conf-loaded t) i)
+      (HasAnswered-next (loaded meta) all (λ _ all. Reads all.config) answer read (reads told' counts' all.config))

@@ -12,9 +12,9 @@ use Rattle.meta_read.specs.declared.meta.Meta.{Meta as Metadata}
 use Rattle.meta_read.specs.declared.meta.MetaRow.{MetaRow}
 use Rattle.net_model.specs.declared.config.Config.{Config}
 use Rattle.zone_rules.specs.ZoneOf.{zone_of}
-use Rattle.config_load.specs.Conf.{settled, files_behind, zone_files, zone_read, left_behind, with_row, with_rows, no_rows, metadata, conf}
+use Rattle.config_load.specs.Conf.{settled, files_behind, zone_files, zone_read, left_behind, row_files, with_row, with_rows, no_rows, metadata, conf, loaded}
 use Rattle.config_load.specs.Faults.{of_metadata, of_text, of_rule}
-use Rattle.config_load.specs.Follows.{ByTold}
+use Rattle.config_load.specs.Follows.{ByTold, StopsEarly}
 use Rattle.config_load.specs.Joined.{joined}
 use Rattle.config_load.specs.Load.{without, Comes, IsSteady, Gives, OpensNoOther}
 use Rattle.config_load.specs.Reading.{Reading, Reads, Refuses, Misses, Unknown, ◌>>=◌, both, unless_refused, file_octets, told_octets}
@@ -27,21 +27,17 @@ use Rattle.config_load.specs.declared.zone.ReadZone.{ReadZone}
 use Rattle.config_load.specs.declared.zone_files.ZoneFiles.{ZoneFiles}
 use Rattle.config_load.proofs.Answered.{without-here, without-only}
 
--- the reading stopped at a name of which nothing was told, and now something is
-abbrev Stopped : {A : Type 0} → FilesTold → FilesTold → Reading A → Type 0
-Stopped told later reading = (name : List ℕ) × (reading ≡ Unknown name) × (told name ≡ Untold) × (later name ≢ Untold)
-
 -- ---- each reading is steady
 
 -- a file
 pub file_is_steady : (name : List ℕ) → IsSteady (file_octets name)
 file_is_steady name told later stays = by (stays name) where
-  on : told name ≡ Untold → (is : Told) → later name ≡ is → (file_octets name later ≡ file_octets name told) ⊎ Stopped told later (file_octets name told)
+  on : told name ≡ Untold → (is : Told) → later name ≡ is → (file_octets name later ≡ file_octets name told) ⊎ StopsEarly later told (file_octets name told)
   on untold Untold here = inl (ap (told_octets name) (here ∙ sym untold))
   on untold NotHeld here = inr (name, ap (told_octets name) untold, untold, λ gone. let no : NotHeld ≡ Untold = sym here ∙ gone in absurd cc)
   on untold (Holds octets) here = inr (name, ap (told_octets name) untold, untold, λ gone. let no : Holds octets ≡ Untold = sym here ∙ gone in absurd cc)
 
-  by : (told name ≡ Untold) ⊎ (later name ≡ told name) → (file_octets name later ≡ file_octets name told) ⊎ Stopped told later (file_octets name told)
+  by : (told name ≡ Untold) ⊎ (later name ≡ told name) → (file_octets name later ≡ file_octets name told) ⊎ StopsEarly later told (file_octets name told)
   by (inl untold) = on untold (later name) refl
   by (inr same) = inl (ap (told_octets name) same)
 
@@ -54,14 +50,14 @@ module _ {A B : Type 0} where
   -- a step, and the next
   pub bind_is_steady : (first : ByTold A) (next : FilesTold → A → Reading B) → IsSteady first → ((value : A) → IsSteady (λ told. next told value)) → IsSteady (λ told. first told >>= next told)
   bind_is_steady first next steady each told later stays = by (steady told later stays) where
-    on : (read : Reading A) → (read >>= next later ≡ read >>= next told) ⊎ Stopped told later (read >>= next told)
+    on : (read : Reading A) → (read >>= next later ≡ read >>= next told) ⊎ StopsEarly later told (read >>= next told)
     on (Reads value) = each value told later stays
     on (Refuses fault) = inl refl
     on (Misses file) = inl refl
     on (Unknown file) = inl refl
 
-    by : (first later ≡ first told) ⊎ Stopped told later (first told) → (first later >>= next later ≡ first told >>= next told) ⊎ Stopped told later (first told >>= next told)
-    by (inl same) = subst (λ read. (read >>= next later ≡ first told >>= next told) ⊎ Stopped told later (first told >>= next told)) (sym same) (on (first told))
+    by : (first later ≡ first told) ⊎ StopsEarly later told (first told) → (first later >>= next later ≡ first told >>= next told) ⊎ StopsEarly later told (first told >>= next told)
+    by (inl same) = subst (λ read. (read >>= next later ≡ first told >>= next told) ⊎ StopsEarly later told (first told >>= next told)) (sym same) (on (first told))
     by (inr (name, is, untold, some)) = inr (name, ap (λ read. read >>= next told) is, untold, some)
 
 module _ {A B : Type 0} where
@@ -95,14 +91,14 @@ zone_is_steady : (meta : List ℕ) (row : MetaRow) (left : Left) → IsSteady (z
 unfolding zone_read
 zone_is_steady meta row left =
     bind_is_steady (zone_files meta row left)
-    (λ told files. unless_refused (of_rule files.names) (zone_of row.origin files.text.rrs) >>= λ zone. Reads (record { zone = zone; left = left_behind left files.text }))
+    (λ told files. unless_refused (of_rule files.names) (zone_of row.origin files.text.rrs) >>= λ zone. Reads (record { zone = zone; names = files.names; left = left_behind left files.text }))
     (zone_files_are_steady meta row left) (λ files. known_is_steady _)
 
 row_is_steady : (meta : List ℕ) (number : ℕ) (row : MetaRow) (rows : ReadRows) → IsSteady (with_row meta number row rows)
 unfolding with_row
 row_is_steady meta number row rows =
     bind_is_steady (zone_read meta row rows.left)
-    (λ told read. unless_refused (λ fault. fault) (given number row.server read.zone rows.servers) >>= λ servers. Reads (record { left = read.left; servers = servers }))
+    (λ told read. unless_refused (λ fault. fault) (given number row.server read.zone rows.servers) >>= λ servers. Reads (record { left = read.left; servers = servers; rows = rows.rows ++ row_files row.server read ∷ [] }))
     (zone_is_steady meta row rows.left) (λ read. known_is_steady _)
 
 rows_are_steady : (meta : List ℕ) (number : ℕ) (more : List MetaRow) (rows : ReadRows) → IsSteady (with_rows meta number more rows)
@@ -126,6 +122,15 @@ conf_is_steady meta =
     (λ found. bind_is_steady (with_rows meta 1 found.rows no_rows) (λ told rows. Reads (record { tops = found.tops; servers = rows.servers }))
     (rows_are_steady meta 1 found.rows no_rows) (λ rows. known_is_steady _))
 
+-- the same, with the names of files
+pub loaded_is_steady : (meta : List ℕ) → IsSteady (loaded meta)
+unfolding loaded
+loaded_is_steady meta =
+    bind_is_steady (metadata meta) (λ told found. with_rows meta 1 found.rows no_rows told >>= λ rows. Reads (record { config = record { tops = found.tops; servers = rows.servers }; rows = rows.rows }))
+    (metadata_are_steady meta)
+    (λ found. bind_is_steady (with_rows meta 1 found.rows no_rows) (λ told rows. Reads (record { config = record { tops = found.tops; servers = rows.servers }; rows = rows.rows }))
+    (rows_are_steady meta 1 found.rows no_rows) (λ rows. known_is_steady _))
+
 -- ---- by what tells more
 
 -- something is told of no name without which it is told
@@ -144,13 +149,13 @@ module _ {A : Type 0} {reading : ByTold A} (steady : IsSteady reading) where
   -- what was read, or refused, or missed
   pub reads_later : (told later : FilesTold) (value : A) → StaysTold told later → reading told ≡ Reads value → reading later ≡ Reads value
   reads_later told later value stays is = by (steady told later stays) where
-    by : (reading later ≡ reading told) ⊎ Stopped told later (reading told) → reading later ≡ Reads value
+    by : (reading later ≡ reading told) ⊎ StopsEarly later told (reading told) → reading later ≡ Reads value
     by (inl same) = same ∙ is
     by (inr (name, stopped, untold, some)) = let no : Unknown name ≡ Reads value = sym stopped ∙ is in absurd cc
 
   pub refuses_later : (told later : FilesTold) (fault : LoadFault) → StaysTold told later → reading told ≡ Refuses fault → reading later ≡ Refuses fault
   refuses_later told later fault stays is = by (steady told later stays) where
-    by : (reading later ≡ reading told) ⊎ Stopped told later (reading told) → reading later ≡ Refuses fault
+    by : (reading later ≡ reading told) ⊎ StopsEarly later told (reading told) → reading later ≡ Refuses fault
     by (inl same) = same ∙ is
     by (inr (name, stopped, untold, some)) = let no : Unknown name ≡ Refuses fault = sym stopped ∙ is in absurd cc
 
@@ -168,7 +173,7 @@ module _ {A : Type 0} {reading : ByTold A} (steady : IsSteady reading) where
   -- a file to which the reading comes
   pub comes_later : (told later : FilesTold) (file : List ℕ) → StaysTold told later → Comes reading told file → Comes reading later file
   comes_later told later file stays comes = by (steady (without file told) (without file later) (StaysTold-both told later file stays)) where
-    by : (reading (without file later) ≡ reading (without file told)) ⊎ Stopped (without file told) (without file later) (reading (without file told)) → Comes reading later file
+    by : (reading (without file later) ≡ reading (without file told)) ⊎ StopsEarly (without file later) (without file told) (reading (without file told)) → Comes reading later file
     by (inl same) = same ∙ comes
     by (inr (name, stopped, untold, some)) =
         let here : name ≡ file = same_Unknown (sym stopped ∙ comes) in
@@ -180,7 +185,7 @@ module _ {A : Type 0} {reading : ByTold A} (steady : IsSteady reading) where
   -- without a file to which it may come, it gives what it gave, or comes to the file
   gives_without : (told : FilesTold) (file : List ℕ) → (reading (without file told) ≡ reading told) ⊎ Comes reading told file
   gives_without told file = by (steady (without file told) told (StaysTold-without told file)) where
-    by : (reading told ≡ reading (without file told)) ⊎ Stopped (without file told) told (reading (without file told)) → (reading (without file told) ≡ reading told) ⊎ Comes reading told file
+    by : (reading told ≡ reading (without file told)) ⊎ StopsEarly told (without file told) (reading (without file told)) → (reading (without file told) ≡ reading told) ⊎ Comes reading told file
     by (inl same) = inl (sym same)
     by (inr (name, stopped, untold, some)) = inr (stopped ∙ ap Unknown (without-only told file name untold some))
 

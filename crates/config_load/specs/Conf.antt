@@ -15,6 +15,8 @@ use Rattle.config_load.specs.Joined.{joined}
 use Rattle.config_load.specs.Reading.{Reading, Reads, Refuses, Unknown, ◌>>=◌, unless_refused, file_octets}
 use Rattle.config_load.specs.Servers.{given}
 use Rattle.config_load.specs.declared.left.Left.{Left}
+use Rattle.config_load.specs.declared.loaded.Loaded.{Loaded}
+use Rattle.config_load.specs.declared.loaded.RowFiles.{RowFiles}
 use Rattle.config_load.specs.declared.rows.ReadRows.{ReadRows}
 use Rattle.config_load.specs.declared.zone.ReadZone.{ReadZone}
 use Rattle.config_load.specs.declared.zone_files.ZoneFiles.{ZoneFiles}
@@ -52,23 +54,27 @@ zone_files meta row left told = do
   text ← file_octets (joined meta row.file) told
   files_behind meta (unwrap_or row.origin []) left left.includes (joined meta row.file ∷ []) (text ∷ []) told
 
--- the zone of a row's files, and what it leaves
+-- the zone of a row's files, with their names, and what it leaves
 unfoldable pub zone_read : List ℕ → MetaRow → Left → FilesTold → Reading ReadZone
 zone_read meta row left told = do
   files ← zone_files meta row left told
   zone ← unless_refused (of_rule files.names) (zone_of row.origin files.text.rrs)
-  Reads (record { zone = zone; left = left_behind left files.text })
+  Reads (record { zone = zone; names = files.names; left = left_behind left files.text })
 
 -- Rows. Before the first one nothing was read.
 abbrev pub no_rows : ReadRows
-no_rows = record { left = everything_left; servers = [] }
+no_rows = record { left = everything_left; servers = []; rows = [] }
+
+-- what is told of a row whose zone was read
+abbrev pub row_files : Labels → ReadZone → RowFiles
+row_files server read = record { server = server; origin = read.zone.origin; files = read.names }
 
 -- one row more, which has this number: its zone is given to its server
 unfoldable pub with_row : List ℕ → ℕ → MetaRow → ReadRows → FilesTold → Reading ReadRows
 with_row meta number row rows told = do
   read ← zone_read meta row rows.left told
   servers ← unless_refused (λ fault. fault) (given number row.server read.zone rows.servers)
-  Reads (record { left = read.left; servers = servers })
+  Reads (record { left = read.left; servers = servers; rows = rows.rows ++ row_files row.server read ∷ [] })
 
 -- more rows, which are counted from this number on
 unfoldable pub with_rows : List ℕ → ℕ → List MetaRow → ReadRows → FilesTold → Reading ReadRows
@@ -85,3 +91,14 @@ conf meta told = do
   found ← metadata meta told
   rows ← with_rows meta 1 found.rows no_rows told
   Reads (record { tops = found.tops; servers = rows.servers })
+
+-- the same, with what is told of each row: its server, the origin of its zone, and the names of its zone's files
+unfoldable pub loaded : List ℕ → FilesTold → Reading Loaded
+loaded meta told = do
+  found ← metadata meta told
+  rows ← with_rows meta 1 found.rows no_rows told
+  Reads (record { config = record { tops = found.tops; servers = rows.servers }; rows = rows.rows })
+
+-- the configuration of what was read, without the rows
+abbrev pub config_of : Reading Loaded → Reading Config
+config_of reading = reading >>= λ all. Reads all.config

@@ -12,6 +12,7 @@ pub mod Joined
 pub mod Reading
 pub mod Servers
 pub mod Conf
+pub mod RowRead
 pub mod Refusal
 pub mod Load
 pub mod Follows

@@ -1,8 +1,8 @@
 //! What the definitions say of what files give.
 
-ghost use Rattle.std.specs.Prelude.{◌≢◌, ℕ, List};
+ghost use Rattle.std.specs.Prelude.{◌≡◌, ◌≢◌, ℕ, List};
 ghost use Rattle.io_edges.specs.Files.{FilesTold};
-ghost use Rattle.config_load.specs.Conf.{conf};
+ghost use Rattle.config_load.specs.Conf.{conf, config_of, loaded};
 ghost use Rattle.config_load.specs.Load.{IsSteady};
 ghost use Rattle.config_load.specs.Reading.{Refuses, file_octets};
 
@@ -19,4 +19,9 @@ pub fn files_want_nothing()
 pub fn readings_stay()
     ensures conf { (meta : List ℕ) → IsSteady (conf meta) }
     ensures file { (name : List ℕ) → IsSteady (file_octets name) }
+{}
+
+/// What the files give with the names of files is what they give without these.
+pub fn rows_tell_files()
+    ensures config { (meta : List ℕ) (told : FilesTold) → conf meta told ≡ config_of (loaded meta told) }
 {}

@@ -6,7 +6,7 @@ ghost use Rattle.io_edges.specs.Counts.{NoneFell};
 ghost use Rattle.io_edges.specs.Files.{FilesTold, StaysTold, TellsAll};
 ghost use Rattle.meta_read.specs.Metadata.{metadata_of};
 ghost use Rattle.meta_read.specs.Rows.{most_rows};
-ghost use Rattle.config_load.specs.Conf.{conf, metadata};
+ghost use Rattle.config_load.specs.Conf.{conf, loaded, metadata};
 ghost use Rattle.config_load.specs.Faults.{FailedAt, of_metadata};
 ghost use Rattle.config_load.specs.Load.{Gives, FailedWhereItCame, IsReadFault, IsWhole, NoReadFailed, OpensNoOther};
 ghost use Rattle.config_load.specs.Reading.{Misses, Unknown};
@@ -14,6 +14,7 @@ ghost use Rattle.config_load.specs.Sources.{HasAnswered};
 
 use crate::fault::LoadFault;
 use crate::file::read_whole;
+use crate::loaded::Loaded;
 use crate::rows::read_rows;
 use io_edges::Files;
 use meta_read::{Meta, read_metadata};
@@ -50,15 +51,52 @@ pub fn load<F: Files>(alloc: Global, files: &mut F, meta: &str) -> Result<Config
     read_config(alloc, files, meta)
 }
 
-/// What the files give.
+/// What `load` gives, and with it the rows of the metadata, in order, each with the names of its zone's files. No file is read
+/// a second time.
+pub fn load_with_files<F: Files>(
+    alloc: Global,
+    files: &mut F,
+    meta: &str,
+) -> Result<Loaded, LoadFault>
+    // What it answers is what the files give, by what is told of them after the call and by whatever tells more.
+    ensures gives { Gives (loaded meta.now (F.told files.new)) result }
+    ensures later { (later : FilesTold) → StaysTold (F.told files.new) later → Gives (loaded meta.now later) result }
+
+    // A failed read has its cause in a count, and comes before no refusal.
+    ensures cause { FailedAt (F.faults files.old) (F.faults files.new) result }
+    ensures order { FailedWhereItCame (loaded meta.now) (F.told files.new) result }
+    ensures misses { (file : List ℕ) → loaded meta.now (F.told files.new) ≡ Misses file → IsReadFault result }
+    ensures unknown { (file : List ℕ) → loaded meta.now (F.told files.new) ≡ Unknown file → IsReadFault result }
+
+    // What the call does to the source. One that told all from the start tells the same after the call.
+    ensures stays { StaysTold (F.told files.old) (F.told files.new) }
+    ensures from_the_start { TellsAll (F.told files.old) → F.told files.new ≡ F.told files.old }
+    ensures opens { OpensNoOther (loaded meta.now) (F.told files.old) (F.told files.new) }
+    ensures never_fall { NoneFell (F.faults files.old) (F.faults files.new) }
+{
+    read_loaded(alloc, files, meta)
+}
+
+/// The configuration that the files give.
 fn read_config<F: Files>(alloc: Global, files: &mut F, meta: &str) -> Result<Config, LoadFault>
     ensures { HasAnswered (F.told files.old) (F.told files.new) (F.faults files.old) (F.faults files.new) (conf meta.now) result }
 {
+    let all = read_loaded(alloc, files, meta)?;
+    Ok(all.config)
+}
+
+/// What the files give.
+fn read_loaded<F: Files>(alloc: Global, files: &mut F, meta: &str) -> Result<Loaded, LoadFault>
+    ensures { HasAnswered (F.told files.old) (F.told files.new) (F.faults files.old) (F.faults files.new) (loaded meta.now) result }
+{
     let found = read_meta(alloc, files, meta)?;
     let rows = read_rows(alloc, files, meta, found.rows.items())?;
-    Ok(Config {
-        tops: found.tops,
-        servers: rows.servers.into_list(),
+    Ok(Loaded {
+        config: Config {
+            tops: found.tops,
+            servers: rows.servers.into_list(),
+        },
+        rows: rows.rows,
     })
 }
 

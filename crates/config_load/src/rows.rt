@@ -1,25 +1,31 @@
 //! Rows of the metadata.
 
 ghost use Rattle.std.specs.Prelude.{◌≤◌, length};
+ghost use Rattle.dns_data.specs.Answers.{AnswersOr};
 ghost use Rattle.meta_read.specs.Rows.{most_rows};
 ghost use Rattle.config_load.specs.Conf.{no_rows, with_row, with_rows};
+ghost use Rattle.config_load.specs.RowRead.{row_read};
 ghost use Rattle.config_load.specs.Sources.{HasAnswered};
 
 use crate::fault::LoadFault;
 use crate::left::Left;
+use crate::loaded::RowFiles;
 use crate::servers::Servers;
-use crate::zone::read_zone;
+use crate::zone::{ReadZone, read_zone};
+use dns_data::{List, Name};
 use io_edges::Files;
 use meta_read::MetaRow;
 use std::alloc::Global;
 
-/// The servers of the rows so far, and what reading these left.
+/// The rows so far, their servers, and what reading these left.
 #[derive(Drop)]
 pub(crate) struct ReadRows {
     /// What they left.
     pub left: Left,
     /// The servers in the order of their first rows, each with its zones in the order of rows.
     pub servers: Servers,
+    /// The rows, in order.
+    pub rows: List<RowFiles>,
 }
 
 /// What all rows give, in order.
@@ -35,6 +41,7 @@ pub(crate) fn read_rows<F: Files>(
     let mut rows = ReadRows {
         left: Left::everything(),
         servers: Servers::new(alloc),
+        rows: List::new(alloc),
     };
     for (i, row) in all.iter().enumerate() {
         rows = read_row(alloc, files, meta, i as u32 + 1, row, rows)?;
@@ -54,10 +61,32 @@ fn read_row<F: Files>(
     ensures { HasAnswered (F.told files.old) (F.told files.new) (F.faults files.old) (F.faults files.new) (with_row meta.now number row.now rows) result }
 {
     let read = read_zone(alloc, files, meta, row, rows.left)?;
-    let server = row.server.copy(alloc)?;
-    let servers = rows.servers.with_zone(alloc, number, server, read.zone)?;
+    with_read(alloc, number, &row.server, read, rows)
+}
+
+/// The rows so far with one more, which has this number and whose zone was read.
+fn with_read(
+    alloc: Global,
+    number: u32,
+    server: &Name,
+    read: ReadZone,
+    rows: ReadRows,
+) -> Result<ReadRows, LoadFault>
+    ensures { AnswersOr LoadFault.NoMemory result (row_read number server.now read rows) }
+{
+    let row = RowFiles {
+        server: server.copy(alloc)?,
+        origin: read.zone.origin.copy(alloc)?,
+        files: read.names,
+    };
+    let mut all = rows.rows;
+    all.push(row)?;
+    let servers = rows
+        .servers
+        .with_zone(alloc, number, server.copy(alloc)?, read.zone)?;
     Ok(ReadRows {
         left: read.left,
         servers,
+        rows: all,
     })
 }

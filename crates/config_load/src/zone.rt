@@ -1,26 +1,29 @@
 //! The zone of a row.
 
+ghost use Rattle.std.specs.Prelude.{◌≡◌, ◌⊎◌, IfOk};
 ghost use Rattle.std.specs.Option.{option_map};
 ghost use Rattle.dns_data.specs.Answers.{AnswersOr, with_fault};
 ghost use Rattle.zone_rules.specs.ZoneOf.{zone_of};
 ghost use Rattle.config_load.specs.Conf.{zone_read};
-ghost use Rattle.config_load.specs.Faults.{of_rule};
+ghost use Rattle.config_load.specs.Faults.{name_numbered, of_rule};
 ghost use Rattle.config_load.specs.Sources.{HasAnswered};
+ghost use Rattle.zone_rules.specs.declared.fault.RuleFault.TheVariants.{At};
 
 use crate::fault::LoadFault;
 use crate::left::Left;
-use crate::zone_files::{name_numbered, read_zone_files};
-use dns_data::{List, Name, Rr, Text};
+use crate::zone_files::read_zone_files;
+use dns_data::{List, Name, NoMemory, Rr, Text};
 use io_edges::Files;
 use meta_read::MetaRow;
 use net_model::Zone;
 use std::alloc::Global;
-use zone_rules::{RuleFault, check_zone};
+use zone_rules::{RuleCause, RuleFault, check_zone};
 
-/// A zone, and what reading it left.
+/// A zone, the names of its files in the order in which they were opened, and what reading it left.
 #[derive(Drop)]
 pub(crate) struct ReadZone {
     pub zone: Zone,
+    pub names: List<Text>,
     pub left: Left,
 }
 
@@ -36,27 +39,44 @@ pub(crate) fn read_zone<F: Files>(
 {
     let read = read_zone_files(alloc, files, meta, row, left)?;
     let left = left.behind(read.text.seen, read.text.included);
-    let zone = checked(alloc, read.names, row.origin.as_ref(), read.text.rrs)?;
-    Ok(ReadZone { zone, left })
+    let names = read.names;
+    let zone = checked(alloc, &names, row.origin.as_ref(), read.text.rrs)?;
+    Ok(ReadZone { zone, names, left })
 }
 
 /// The zone of the records of files with these names.
 fn checked(
     alloc: Global,
-    names: List<Text>,
+    names: &List<Text>,
     origin: Option<&Name>,
     rrs: List<Rr>,
 ) -> Result<Zone, LoadFault>
     ensures { AnswersOr LoadFault.NoMemory result
-        (with_fault (of_rule names) (zone_of (option_map (λ name. name.now) origin.entry) rrs)) }
+        (with_fault (of_rule names.now) (zone_of (option_map (λ name. name.now) origin.entry) rrs)) }
 {
     match check_zone(alloc, origin, rrs) {
         Ok(zone) => Ok(zone),
-        Err(RuleFault::At { file, line, cause }) => Err(LoadFault::Rule {
-            file: name_numbered(alloc, names, file),
-            line,
-            cause,
-        }),
+        Err(RuleFault::At { file, line, cause }) => Err(broken(alloc, names, file, line, cause)),
         Err(RuleFault::NoMemory) => Err(LoadFault::NoMemory),
+    }
+}
+
+/// The fault of a rule that a record of the file of this number breaks, told with the file's name.
+fn broken(alloc: Global, names: &List<Text>, file: u32, line: u32, cause: RuleCause) -> LoadFault
+    ensures { (result ≡ of_rule names.now (At file line cause)) ⊎ (result ≡ LoadFault.NoMemory) }
+{
+    match copied_name(alloc, names, file) {
+        Ok(file) => LoadFault::Rule { file, line, cause },
+        Err(NoMemory) => LoadFault::NoMemory,
+    }
+}
+
+/// The name of the file of this number.
+fn copied_name(alloc: Global, names: &List<Text>, number: u32) -> Result<Text, NoMemory>
+    ensures { IfOk result (λ name. name ≡ name_numbered names.now number) }
+{
+    match names.items().get(number as usize) {
+        Some(name) => name.copy(alloc),
+        None => Ok(Text::from_string(String::new(alloc))),
     }
 }

@@ -106,7 +106,7 @@ fn told(
 }
 
 /// The name of the file of this number.
-pub(crate) fn name_numbered(alloc: Global, names: List<Text>, number: u32) -> Text
+fn name_numbered(alloc: Global, names: List<Text>, number: u32) -> Text
     ensures { result ≡ name_numbered names number }
 {
     let mut names = names.into_vec();

@@ -22,6 +22,7 @@ use Rattle.config_load.specs.Reading.{Reading, Reads, Refuses, Unknown, ◌>>=�
 use Rattle.config_load.specs.Servers.{given}
 use Rattle.config_load.specs.declared.fault.LoadFault.{LoadFault}
 use Rattle.config_load.specs.declared.fault.LoadFault.TheVariants.{TooLong}
+use Rattle.config_load.specs.declared.loaded.RowFiles.{RowFiles}
 use Rattle.zone_maker.specs.Drill.{zone_numbers, meta_text, root_text, made_zone_text, zone_file}
 use Rattle.zone_maker.specs.Source.{drill_told}
 use Rattle.drill_laws.proofs.Rows.{rows_rrs, text_of_rows}
@@ -97,21 +98,27 @@ module _ (told : FilesTold) (file : List ℕ) (records : ZoneText) (zone : Zone)
       ∙ one_file told left.includes (file ∷ []) (is.octets ∷ []) records left is.gives
 
   zone_is_read : Each everything_left (λ left. IsRead told left.records left.includes file records zone
-      → zone_read meta row left told ≡ Reads (record { zone = zone; left = left_behind left records }))
+      → zone_read meta row left told ≡ Reads (record { zone = zone; names = file ∷ []; left = left_behind left records }))
   unfolding zone_read
   zone_is_read left is =
       goes_on (zone_files meta row left told) (record { names = file ∷ []; text = records })
-      (λ files. unless_refused (of_rule files.names) (zone_of None files.text.rrs) >>= (λ found. Reads (record { zone = found; left = left_behind left files.text }))) (files_read left is)
-      ∙ not_refused (of_rule (file ∷ [])) (zone_of None records.rrs) zone (λ found. Reads (record { zone = found; left = left_behind left records })) is.keeps
+      (λ files. unless_refused (of_rule files.names) (zone_of None files.text.rrs) >>= (λ found. Reads (record { zone = found; names = files.names; left = left_behind left files.text }))) (files_read left is)
+      ∙ not_refused (of_rule (file ∷ [])) (zone_of None records.rrs) zone (λ found. Reads (record { zone = found; names = file ∷ []; left = left_behind left records })) is.keeps
 
-  row_read : (number : ℕ) (servers : List Server) → IsNewServer server servers → Each everything_left (λ left. IsRead told left.records left.includes file records zone
-      → with_row meta number row (record { left = left; servers = servers }) told ≡ Reads (record { left = left_behind left records; servers = with_server server zone servers }))
+  -- what is told of the row
+  abbrev files_of : RowFiles
+  files_of = record { server = server; origin = zone.origin; files = file ∷ [] }
+
+  row_read : (number : ℕ) (servers : List Server) (done : List RowFiles) → IsNewServer server servers → Each everything_left (λ left. IsRead told left.records left.includes file records zone
+      → with_row meta number row (record { left = left; servers = servers; rows = done }) told
+      ≡ Reads (record { left = left_behind left records; servers = with_server server zone servers; rows = done ++ files_of ∷ [] }))
   unfolding with_row
-  row_read number servers new left is =
-      goes_on (zone_read meta row left told) (record { zone = zone; left = left_behind left records })
-      (λ read. unless_refused (λ fault. fault) (given number server read.zone servers) >>= (λ all. Reads (record { left = read.left; servers = all }))) (zone_is_read left is)
+  row_read number servers done new left is =
+      goes_on (zone_read meta row left told) (record { zone = zone; names = file ∷ []; left = left_behind left records })
+      (λ read. unless_refused (λ fault. fault) (given number server read.zone servers)
+      >>= (λ all. Reads (record { left = read.left; servers = all; rows = done ++ (record { server = server; origin = read.zone.origin; files = read.names }) ∷ [] }))) (zone_is_read left is)
       ∙ not_refused (λ fault. fault) (given number server zone servers) (with_server server zone servers)
-      (λ all. Reads (record { left = left_behind left records; servers = all })) (given_new number server zone servers new)
+      (λ all. Reads (record { left = left_behind left records; servers = all; rows = done ++ files_of ∷ [] })) (given_new number server zone servers new)
 
 -- ---- the rows of the zones
 
@@ -137,11 +144,11 @@ module _ (n : ℕ) (few : n ≤ 5000) where
     keeps = made_zone n i;
   }
 
-  rows_read : (a k number : ℕ) (servers : List Server) → a + k ≡ n → AllByRecursion (IsEarlier a) servers → Each everything_left (λ left. 6 * k ≤ left.records
-      → GivesSome (with_rows meta number (map zone_row (range_with_len a k)) (record { left = left; servers = servers }) (drill_told n)))
+  rows_read : (a k number : ℕ) (servers : List Server) (done : List RowFiles) → a + k ≡ n → AllByRecursion (IsEarlier a) servers → Each everything_left (λ left. 6 * k ≤ left.records
+      → GivesSome (with_rows meta number (map zone_row (range_with_len a k)) (record { left = left; servers = servers; rows = done }) (drill_told n)))
   unfolding with_rows
-  rows_read a zero number servers all earlier left fits = (record { left = left; servers = servers }, refl)
-  rows_read a (suc k) number servers all earlier left fits =
+  rows_read a zero number servers done all earlier left fits = (record { left = left; servers = servers; rows = done }, refl)
+  rows_read a (suc k) number servers done all earlier left fits =
       let within : a < n = omega arith in
       let name : Labels = host_name (codes "ns") (decimal a) in
       let server : Server = record { name = name; zones = zone_of_records a ∷ [] } in
@@ -153,11 +160,12 @@ module _ (n : ℕ) (few : n ≤ 5000) where
       let room : 6 * k ≤ left.records - length (zone_rows n a) = omega (arith, fits, zone_rows_few n a) in
       let some : 6 ≤ left.records = omega (arith, fits) in
       let left_now = left_behind left (zone_records a) in
-      gives_behind (with_row meta number (zone_row a) (record { left = left; servers = servers }) (drill_told n))
-      (record { left = left_now; servers = servers ++ server ∷ [] })
+      let done_now : List RowFiles = done ++ files_of (drill_told n) (zone_file a) (zone_records a) (zone_of_records a) name ∷ [] in
+      gives_behind (with_row meta number (zone_row a) (record { left = left; servers = servers; rows = done }) (drill_told n))
+      (record { left = left_now; servers = servers ++ server ∷ []; rows = done_now })
       (λ rows. with_rows meta (number + 1) (map zone_row (range_with_len (a + 1) k)) rows (drill_told n))
-      (row_read (drill_told n) (zone_file a) (zone_records a) (zone_of_records a) name number servers new left (zone_is a left.records left.includes within some))
-      (rows_read (a + 1) k (number + 1) (servers ++ server ∷ []) (omega arith) (all_push (IsEarlier (a + 1)) servers server before here) left_now room)
+      (row_read (drill_told n) (zone_file a) (zone_records a) (zone_of_records a) name number servers done new left (zone_is a left.records left.includes within some))
+      (rows_read (a + 1) k (number + 1) (servers ++ server ∷ []) done_now (omega arith) (all_push (IsEarlier (a + 1)) servers server before here) left_now room)
 
   -- ---- the metadata, and the row of the root zone
 
@@ -191,11 +199,12 @@ module _ (n : ℕ) (few : n ≤ 5000) where
   all_rows =
       let room : 6 * n ≤ 1000000 - length (root_rows n) = omega (arith, root_rows_count n) in
       let left_now = left_behind everything_left root_records in
+      let done : List RowFiles = files_of (drill_told n) (codes "root.zone") root_records root_of_records top ∷ [] in
       gives_behind (with_row meta 1 root_row no_rows (drill_told n))
-      (record { left = left_now; servers = root_server ∷ [] })
+      (record { left = left_now; servers = root_server ∷ []; rows = done })
       (λ rows. with_rows meta 2 (map zone_row (zone_numbers n)) rows (drill_told n))
-      (row_read (drill_told n) (codes "root.zone") root_records root_of_records top 1 [] tt everything_left root_is)
-      (rows_read 0 n 2 (root_server ∷ []) (omega arith) (λ j above below. refl, tt) left_now room)
+      (row_read (drill_told n) (codes "root.zone") root_records root_of_records top 1 [] [] tt everything_left root_is)
+      (rows_read 0 n 2 (root_server ∷ []) done (omega arith) (λ j above below. refl, tt) left_now room)
 
   -- the configuration
   configuration : GivesSome (conf meta (drill_told n))

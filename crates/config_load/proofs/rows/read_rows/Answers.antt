@@ -17,8 +17,8 @@ loop-i-init g c =
     let meta = c.args.meta.now in
     let all = c.args.all.now in
     let told = g.F.Files.told c.args.files.now in
-    let first : ReadRows = record { left = c.everything.result; servers = c.new.result } in
-    let same : no_rows ≡ first = λ i. record { left = sym c.everything.ensures i; servers = sym c.new.ensures i } in
+    let first : ReadRows = record { left = c.everything.result; servers = c.new.result; rows = c.new-2.result } in
+    let same : no_rows ≡ first = λ i. record { left = sym c.everything.ensures i; servers = sym c.new.ensures i; rows = sym c.new-2.ensures i } in
     record {
       so_far = Follows-same told (with_rows meta 1 all no_rows) (with_rows meta 1 all first) (λ other. ap (λ (rows : ReadRows). with_rows meta 1 all rows other) same);
       source = ReadsFor-none told (g.F.Files.faults c.args.files.now) (with_rows meta 1 all no_rows);

@@ -1,0 +1,16 @@
+use Rattle.std.proofs.Common.{◌++◌, ap, sym, ◌∙◌, append_assoc, take, drop, arith}
+use Rattle.std.proofs.KnownBytes.{Appends-trans}
+use Rattle.std.proofs.lemmas.List.{take-append-drop}
+use Rattle.run_endings.proofs.output.write_all.Goals as goal
+
+pub loop-rest-preserved : goal.loop-rest-preserved
+loop-rest-preserved g c =
+    let front = c.loop-rest.invariant.front in
+    let rest = c.loop-rest.rest.now in
+    let count = c.in_ok-count.count in
+    record {
+      front = front ++ take count rest;
+      splits = c.loop-rest.invariant.splits ∙ (ap (λ r. front ++ r) (sym (take-append-drop count rest)) ∙ (sym (append_assoc front (take count rest) (drop count rest)) ∙ ap (λ r. (front ++ take count rest) ++ r) (sym c.split_at.ensures.back)));
+      taken = Appends-trans _ _ _ _ _ c.loop-rest.invariant.taken c.in_ok-count.ensures.appends;
+      never_falls = omega (arith, c.in_ok-count.ensures.never_falls);
+    }

@@ -1,0 +1,190 @@
+//! How a run ends, before anything is written.
+
+ghost use Rattle.std.specs.Prelude.{◌≡◌, ◌⊎◌, ◌++◌, ℕ, List, codes, decimal, IfOk};
+ghost use Rattle.dns_data.specs.Spelling.{name_text};
+ghost use Rattle.config_load.specs.Refusal.{fields_line};
+ghost use Rattle.run_endings.specs.Endings as endings;
+ghost use Rattle.run_endings.specs.Ends.{IsNotLoaded};
+
+use crate::line::Line;
+use crate::status::Status;
+use config_load::LoadFault;
+use dns_data::{Name, NoMemory, Octets, Text};
+use itoa::Buffer;
+use std::alloc::Global;
+
+/// How a run ends: its status, the text for out, and the line for err.
+#[derive(Debug, Drop)]
+pub struct Ending {
+    pub status: Status,
+    pub out: Octets,
+    pub err: Line,
+}
+
+impl Ending {
+    /// A text for out and no line, unless memory ran out for the text.
+    pub fn written(status: Status, text: Result<Octets, NoMemory>) -> Ending
+        ensures { (said : List ℕ) → IfOk text (λ out. out ≡ said) → (result ≡ endings.with_output status said) ⊎ (result ≡ endings.no_memory) }
+    {
+        match text {
+            Ok(out) => Ending {
+                status,
+                out,
+                err: Line::fixed(""),
+            },
+            Err(NoMemory) => Ending::no_memory(),
+        }
+    }
+
+    /// The words ask for nothing that the program does. The line says what it does.
+    pub fn usage(line: &'static str) -> Ending
+        ensures { result ≡ endings.without_output Status.Usage line.now }
+    {
+        without_output(Status::Usage, Line::fixed(line))
+    }
+
+    /// Memory ran out.
+    pub fn no_memory() -> Ending
+        ensures { result ≡ endings.no_memory }
+    {
+        without_output(Status::NoMemory, Line::fixed("no memory\n"))
+    }
+
+    /// A run over the files of this metadata file that aren't loaded.
+    pub fn not_loaded(alloc: Global, meta: &str, fault: LoadFault) -> Ending
+        ensures { IsNotLoaded meta.now fault result ⊎ (result ≡ endings.no_memory) }
+    {
+        match fault {
+            LoadFault::Read { file } => read_failed(alloc, file),
+            LoadFault::NoMemory => Ending::no_memory(),
+            fault => refused(alloc, meta, &fault),
+        }
+    }
+
+    /// The class tree has more names than this limit.
+    pub fn too_many_names(alloc: Global, limit: u32) -> Ending
+        ensures { (result ≡ endings.too_many_names limit) ⊎ (result ≡ endings.no_memory) }
+    {
+        match more_than(alloc, limit) {
+            Ok(line) => without_output(Status::Classes, line),
+            Err(NoMemory) => Ending::no_memory(),
+        }
+    }
+
+    /// The query reaches more pairs of state and type than this limit.
+    pub fn too_many_states(alloc: Global, limit: u32, query: &Name) -> Ending
+        ensures { (result ≡ endings.too_many_states limit query.now) ⊎ (result ≡ endings.no_memory) }
+    {
+        match more_than_for(alloc, limit, query) {
+            Ok(line) => without_output(Status::States, line),
+            Err(NoMemory) => Ending::no_memory(),
+        }
+    }
+}
+
+impl From<NoMemory> for Ending {
+    ghost from_gives = { λ _ ending. ending ≡ endings.no_memory };
+
+    fn from(_fault: NoMemory) -> Ending {
+        Ending::no_memory()
+    }
+}
+
+/// An ending with nothing for out.
+fn without_output(status: Status, err: Line) -> Ending
+    ensures { result ≡ endings.without_output status err }
+{
+    Ending {
+        status,
+        out: Octets::new(),
+        err,
+    }
+}
+
+/// A file could not be read.
+fn read_failed(alloc: Global, file: Text) -> Ending
+    ensures { (result ≡ endings.read_failed file) ⊎ (result ≡ endings.no_memory) }
+{
+    match Line::of_pieces(alloc, &[file.as_str().as_bytes(), b": read failed\n"]) {
+        Ok(line) => without_output(Status::ReadFault(file), line),
+        Err(NoMemory) => Ending::no_memory(),
+    }
+}
+
+/// The files of this metadata file are refused.
+fn refused(alloc: Global, meta: &str, fault: &LoadFault) -> Ending
+    ensures { (result ≡ endings.refused meta.now fault.now) ⊎ (result ≡ endings.no_memory) }
+{
+    match refusal_line(alloc, fault.file(meta), fault.line(), fault.code()) {
+        Ok(line) => without_output(Status::Refused, line),
+        Err(NoMemory) => Ending::no_memory(),
+    }
+}
+
+/// The line of more names than a limit.
+fn more_than(alloc: Global, limit: u32) -> Result<Line, NoMemory>
+    ensures { IfOk result (λ line. line ≡ codes "classes: more than " ++ (decimal limit ++ codes "\n")) }
+{
+    let mut digits = Buffer::new();
+    Line::of_pieces(
+        alloc,
+        &[
+            b"classes: more than ",
+            digits.format(limit).as_bytes(),
+            b"\n",
+        ],
+    )
+}
+
+/// The line of more pairs of state and type than a limit, which the query of this name reaches.
+fn more_than_for(alloc: Global, limit: u32, name: &Name) -> Result<Line, NoMemory>
+    ensures { IfOk result (λ line. line ≡ codes "states: more than " ++ (decimal limit ++ (codes " for " ++ (name_text name.now ++ codes "\n")))) }
+{
+    let mut digits = Buffer::new();
+    let name = name.to_text(alloc)?;
+    Line::of_pieces(
+        alloc,
+        &[
+            b"states: more than ",
+            digits.format(limit).as_bytes(),
+            b" for ",
+            name.as_str().as_bytes(),
+            b"\n",
+        ],
+    )
+}
+
+/// The line of a refusal.
+fn refusal_line<'a>(
+    alloc: Global,
+    file: &'a str,
+    line: u32,
+    code: &'a str,
+) -> Result<Line, NoMemory>
+    ensures { IfOk result (λ told. told ≡ fields_line file.now (decimal line) code.now) }
+{
+    let mut digits = Buffer::new();
+    fields_line_of(alloc, file, digits.format(line), code)
+}
+
+/// A file, a line in it and a code, as a refusal's line.
+fn fields_line_of<'a>(
+    alloc: Global,
+    file: &'a str,
+    line: &'a str,
+    code: &'a str,
+) -> Result<Line, NoMemory>
+    ensures { IfOk result (λ told. told ≡ fields_line file.now line.now code.now) }
+{
+    Line::of_pieces(
+        alloc,
+        &[
+            file.as_bytes(),
+            b":",
+            line.as_bytes(),
+            b": ",
+            code.as_bytes(),
+            b"\n",
+        ],
+    )
+}

@@ -1,0 +1,15 @@
+//! How a run of a program ends: its status, its text for out and its line for err, and the writing of both.
+//!
+//! The layer above may rest on this: an ending is the one that its definition says, or that of want of memory; a text is
+//! written whole, or the sink's count of failures rose and a front of it was written.
+#![tactic(auto)]
+
+mod ending;
+mod line;
+mod output;
+mod status;
+
+pub use ending::Ending;
+pub use line::Line;
+pub use output::{tell, write_all};
+pub use status::Status;

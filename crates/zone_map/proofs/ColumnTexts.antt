@@ -1,0 +1,35 @@
+-- Columns that are put one behind the other.
+use Rattle.std.proofs.Common.{◌≡◌, ℕ, ◌<◌, List, [], ◌∷◌, ◌++◌, length, append_assoc, append-nil, Result, Ok, Err, ap, sym, ◌∙◌, arith}
+use Rattle.std.specs.Prelude.{OnOk}
+use Rattle.dns_data.specs.DataText.{separated}
+use Rattle.dns_data.proofs.Pieces.{separated-push}
+use Rattle.zone_map.specs.Columns.{tab}
+
+-- what follows of an answer
+pub on_ok : {T E P Q : Type 0} (result : Result T E) → (P → Q) → OnOk result P → OnOk result Q
+on_ok (Ok value) follows holds = follows holds
+on_ok (Err fault) follows holds = tt
+
+-- one column more, behind a tab
+more : (t x : List ℕ) (columns : List (List ℕ)) → 0 < length columns → (s : List ℕ) → s ≡ t ++ separated tab columns
+    → (s ++ tab) ++ x ≡ t ++ separated tab (columns ++ x ∷ [])
+more t x columns some s is =
+    ap (λ r. (r ++ tab) ++ x) is
+    ∙ ap (λ r. r ++ x) (append_assoc t (separated tab columns) tab)
+    ∙ append_assoc t (separated tab columns ++ tab) x
+    ∙ ap (λ r. t ++ r) (sym (separated-push tab columns x some))
+
+-- seven columns, of which the fifth and the sixth are put together
+pub seven_columns : (t a b c d e f g : List ℕ)
+    → ((((((((((t ++ a) ++ tab) ++ b) ++ tab) ++ c) ++ tab) ++ d) ++ tab) ++ (e ++ (tab ++ f))) ++ tab) ++ g
+    ≡ t ++ separated tab (a ∷ b ∷ c ∷ d ∷ e ∷ f ∷ g ∷ [])
+seven_columns t a b c d e f g =
+    let one : t ++ a ≡ t ++ separated tab (a ∷ []) = ap (λ r. t ++ r) (sym (append-nil a)) in
+    let two = more t b (a ∷ []) (omega arith) (t ++ a) one in
+    let three = more t c (a ∷ b ∷ []) (omega arith) _ two in
+    let four = more t d (a ∷ b ∷ c ∷ []) (omega arith) _ three in
+    let five = more t e (a ∷ b ∷ c ∷ d ∷ []) (omega arith) _ four in
+    let six = more t f (a ∷ b ∷ c ∷ d ∷ e ∷ []) (omega arith) _ five in
+    let seven = more t g (a ∷ b ∷ c ∷ d ∷ e ∷ f ∷ []) (omega arith) _ six in
+    let x : List ℕ = (((((((t ++ a) ++ tab) ++ b) ++ tab) ++ c) ++ tab) ++ d) ++ tab in
+    ap (λ r. (r ++ tab) ++ g) (sym (append_assoc x e (tab ++ f)) ∙ sym (append_assoc (x ++ e) tab f)) ∙ seven

@@ -1,0 +1,141 @@
+-- How the run of a job ends is how the run of its words ends.
+use Rattle.std.proofs.Common.{◌≡◌, ◌≢◌, ℕ, List, [], Option, Some, None, Result, Ok, Err, sym, subst, inl, inr, refl}
+use Rattle.std.specs.Prelude.{◌⊎◌, IsTrue}
+use Rattle.io_edges.specs.Counts.{Rose}
+use Rattle.io_edges.specs.Files.{FilesTold}
+use Rattle.config_load.specs.Conf.{loaded}
+use Rattle.config_load.specs.Faults.{FailedAt}
+use Rattle.config_load.specs.Load.{FailedWhereItCame, Gives}
+use Rattle.config_load.specs.Reading.{Reading, Reads, Refuses, Misses, Unknown}
+use Rattle.config_load.specs.declared.fault.LoadFault.{LoadFault}
+use Rattle.config_load.specs.declared.fault.LoadFault.TheVariants as load_faults
+use Rattle.config_load.specs.declared.loaded.Loaded.{Loaded}
+use Rattle.run_endings.specs.Ends.{EndsWithout, IsNotLoaded}
+use Rattle.run_endings.specs.Endings.{OfReading, with_output, no_memory, writes_nothing}
+use Rattle.run_endings.specs.declared.ending.Ending.{Ending}
+use Rattle.run_endings.specs.declared.status.Status.{Status}
+use Rattle.run_endings.specs.declared.status.Status.TheVariants.{Clean, Faults, ReadFault, WriteFault}
+use Rattle.zone_map.specs.JobEnds.{JobEnds}
+use Rattle.zone_map.specs.Outcome.{Tells, Outcome, IsEnding, JobComesTo, NoJobReadFailed}
+use Rattle.zone_map.specs.Records.{records_text}
+use Rattle.zone_map.specs.declared.words.Asked.{Asked}
+use Rattle.zone_map.specs.declared.words.Asked.TheVariants.{Records}
+use Rattle.zone_map.specs.declared.words.Job.{Job}
+
+-- ---- by what the files give
+
+module _ (told : FilesTold) (before after : List ℕ → ℕ) where
+  -- a fault of loading says how the run ends
+  not_loaded : (meta : List ℕ) (fault : LoadFault) (ending : Ending)
+      → Gives {T = Loaded} (loaded meta told) (Err fault) → FailedWhereItCame {T = Loaded} (loaded meta) told (Err fault) → FailedAt {T = Loaded} before after (Err fault)
+      → IsNotLoaded meta fault ending ⊎ (ending ≡ no_memory) → EndsWithout meta (loaded meta) told before after ending
+  not_loaded meta fault ending gives came failed (inr ran_out) = inr (inr ran_out)
+  not_loaded meta (load_faults.Read file) ending gives came failed (inl is) = inr (inl (file, is, came, failed))
+  not_loaded meta load_faults.NoMemory ending gives came failed (inl is) = inr (inr is)
+  not_loaded meta fault ending gives came failed (inl is) = inl (fault, gives, is)
+
+  module _ (asked : Asked) (own meta : List ℕ) (same : own ≡ meta) (ending : Ending) where
+    abbrev Ends : List ℕ → Type 0
+    Ends file = JobEnds told (Some (record { asked = asked; meta = file })) before after ending
+
+    -- with what was read
+    pub over_loaded : (all : Loaded) → loaded own told ≡ Reads all → Tells asked all ending ⊎ (ending ≡ no_memory) → Ends meta
+    over_loaded all reads tells = subst Ends same (by tells) where
+      by : Tells asked all ending ⊎ (ending ≡ no_memory) → Ends own
+      by (inl is) = inl (subst (λ (read : Reading Loaded). OfReading own (Tells asked) read ending) (sym reads) is)
+      by (inr ran_out) = inr (inr ran_out)
+
+    -- with nothing that was read
+    pub over_none : (fault : LoadFault)
+        → Gives {T = Loaded} (loaded own told) (Err fault) → FailedWhereItCame {T = Loaded} (loaded own) told (Err fault) → FailedAt {T = Loaded} before after (Err fault)
+        → IsNotLoaded own fault ending ⊎ (ending ≡ no_memory) → Ends meta
+    over_none fault gives came failed is = subst Ends same (by (not_loaded own fault ending gives came failed is)) where
+      by : EndsWithout own (loaded own) told before after ending → Ends own
+      by (inl (refusal, refuses, so)) = inl (subst (λ (read : Reading Loaded). OfReading own (Tells asked) read ending) (sym refuses) so)
+      by (inr failed) = inr failed
+
+-- ---- the clauses
+
+module _ (told : FilesTold) (said : Option Job) (before after : List ℕ → ℕ) where
+  -- What the status of a run says, and whether out gets something: a failed read is of a file to which the job comes and
+  -- whose count rose, and no output has failed.
+  abbrev Says : Status → List ℕ → Type 0
+  Says Clean out = Unit {0}
+  Says Faults out = Unit {0}
+  Says (ReadFault file) out = (JobComesTo told said file × Rose (before file) (after file)) × (out ≡ [])
+  Says WriteFault out = ⊥
+  Says other out = out ≡ []
+
+  abbrev SaysSo : Ending → Type 0
+  SaysSo ending = Says ending.status ending.out
+
+  of_asked : (asked : Asked) (all : Loaded) (ending : Ending) → Tells asked all ending → SaysSo ending
+  of_asked Records all ending is = subst SaysSo (sym is) tt
+
+  of_reading : (meta : List ℕ) (asked : Asked) (ending : Ending) (reading : Reading Loaded) → OfReading meta (Tells asked) reading ending → SaysSo ending
+  of_reading meta asked ending (Reads all) tells = of_asked asked all ending tells
+  of_reading meta asked ending (Refuses fault) is = subst SaysSo (sym is) refl
+  of_reading meta asked ending (Misses file) never = absurd never
+  of_reading meta asked ending (Unknown file) never = absurd never
+
+  of_outcome : (job : Option Job) (ending : Ending) → Outcome told job ending → SaysSo ending
+  of_outcome None ending is = subst SaysSo (sym is) refl
+  of_outcome (Some job) ending gives = of_reading job.meta job.asked ending (loaded job.meta told) gives
+
+  module _ (job : Job) (is_job : said ≡ Some job) (ending : Ending) (ended : JobEnds told (Some job) before after ending) where
+    ends : JobEnds told said before after ending
+    ends = subst (λ (other : Option Job). JobEnds told other before after ending) (sym is_job) ended
+
+    says : SaysSo ending
+    says = by ends where
+      by : JobEnds told said before after ending → SaysSo ending
+      by (inl outcome) = of_outcome said ending outcome
+      by (inr (inl (file, is, comes, rose))) = subst SaysSo (sym is) ((comes, rose), refl)
+      by (inr (inr is)) = subst SaysSo (sym is) refl
+
+    -- where no read of a job's files failed, its run has the job's outcome, or ends for want of memory
+    pub complete : NoJobReadFailed told said before after → Outcome told said ending ⊎ (ending ≡ no_memory)
+    complete none = by ends where
+      by : JobEnds told said before after ending → Outcome told said ending ⊎ (ending ≡ no_memory)
+      by (inl outcome) = inl outcome
+      by (inr (inl (file, is, comes, rose))) = absurd (none file comes rose)
+      by (inr (inr is)) = inr is
+
+    -- a job's run has the job's outcome, or ends for an unread file or want of memory
+    pub cause : IsEnding told said ending
+    cause = by ends where
+      by : JobEnds told said before after ending → IsEnding told said ending
+      by (inl outcome) = inl outcome
+      by (inr (inl (file, is, comes, rose))) = inr (inl (file, is))
+      by (inr (inr is)) = inr (inr is)
+
+    -- where a job's run ends for a file that couldn't be read, the job comes to it, and a read of it failed meanwhile
+    pub read_fault : (file : List ℕ) → ending.status ≡ ReadFault file → JobComesTo told said file × Rose (before file) (after file)
+    read_fault file is = (subst (λ (status : Status). Says status ending.out) is says).0
+
+    -- no job's run ends since something couldn't be written
+    pub no_write_fault : ending.status ≢ WriteFault
+    no_write_fault is = subst (λ (status : Status). Says status ending.out) is says
+
+    -- where a job's run ends with a status that writes nothing, it prints nothing
+    pub silent : IsTrue (writes_nothing ending.status) → ending.out ≡ []
+    silent = by ending.status says where
+      by : (status : Status) → Says status ending.out → IsTrue (writes_nothing status) → ending.out ≡ []
+      by Clean said nothing = absurd (cc)
+      by Faults said nothing = absurd (cc)
+      by (ReadFault file) said nothing = said.1
+      by WriteFault said nothing = absurd said
+      by other said nothing = said
+
+-- ---- what is told of what was read
+
+-- a run whose job's outcome is this, of what was read, tells it
+pub told_of_read : (told : FilesTold) (said : Option Job) (job : Job) (all : Loaded) (ending : Ending) → said ≡ Some job → loaded job.meta told ≡ Reads all
+    → Outcome told said ending → Tells job.asked all ending
+told_of_read told said job all ending is reads outcome =
+    subst (λ (read : Reading Loaded). OfReading job.meta (Tells job.asked) read ending) reads
+    (subst (λ (other : Option Job). Outcome told other ending) is outcome)
+
+-- each thing that may be asked for is told so
+pub tells_records : (asked : Asked) (all : Loaded) (ending : Ending) → ending ≡ with_output Clean (records_text all) → Tells asked all ending
+tells_records Records all ending is = is

@@ -1,0 +1,3 @@
+pub mod ColumnTexts
+pub mod Endings
+mod Worked

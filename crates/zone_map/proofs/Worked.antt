@@ -1,0 +1,79 @@
+-- Values of the definitions that were worked out by hand.
+use Rattle.std.proofs.Common.{◌≡◌, ℕ, List, [], ◌∷◌, ◌++◌, codes, Some, None, refl}
+use Rattle.std.specs.Fmt.{digits}
+use Rattle.dns_data.specs.Name.{Labels}
+use Rattle.dns_data.specs.declared.rdata.Rdata.TheVariants.{A, Mx, Other}
+use Rattle.dns_data.specs.declared.rdata.Rr.{Rr}
+use Rattle.net_model.specs.declared.config.Config.{Config}
+use Rattle.config_load.specs.declared.loaded.Loaded.{Loaded}
+use Rattle.config_load.specs.declared.loaded.RowFiles.{RowFiles}
+use Rattle.zone_map.specs.Columns.{file_text, line_of, written}
+use Rattle.zone_map.specs.Records.{records_text, told_data, type_text}
+use Rattle.zone_map.specs.Words.{job_of}
+use Rattle.zone_map.specs.declared.words.Asked.TheVariants.{Records}
+
+-- Tabs, line feeds and backslashes of a file's name are escaped.
+
+escapes : file_text (97 ∷ 9 ∷ 10 ∷ 92 ∷ 98 ∷ []) ≡ codes "a\\t\\n\\\\b"
+escapes = refl
+
+columns : line_of (codes "a" ∷ codes "b" ∷ []) ≡ 97 ∷ 9 ∷ 98 ∷ 10 ∷ []
+columns = refl
+
+-- A token of another type stands as it was written, a space and an octet that isn't printable in three digits.
+
+token : written (92 ∷ 35 ∷ 7 ∷ []) ≡ codes "\\#\\007"
+token = refl
+
+other_type : type_text (Other (codes "DS") (codes "1" ∷ codes "x y" ∷ [])) ≡ codes "DS"
+other_type = refl
+
+other_data : told_data (Other (codes "DS") (codes "1" ∷ codes "x y" ∷ [])) ≡ codes "1 x\\032y"
+other_data = refl
+
+-- The records of two rows, one of which has an included file.
+
+t : Labels
+t = codes "t" ∷ []
+
+s : Labels
+s = codes "s" ∷ []
+
+mail : Rr
+mail = record { owner = t; ttl = 60; rdata = Mx 5 (codes "t" ∷ codes "m" ∷ []); file = 1; line = 12 }
+
+host : Rr
+host = record { owner = s; ttl = 60; rdata = A (10 ∷ 0 ∷ 0 ∷ 1 ∷ []); file = 0; line = 3 }
+
+config : Config
+config = record {
+  tops = s ∷ [];
+  servers = record { name = s; zones = record { origin = t; rrs = mail ∷ [] } ∷ record { origin = []; rrs = host ∷ [] } ∷ [] } ∷ [];
+}
+
+rows : List RowFiles
+rows = record { server = s; origin = []; files = codes "root.zone" ∷ [] }
+    ∷ record { server = s; origin = t; files = codes "t.zone" ∷ codes "mail.inc" ∷ [] } ∷ []
+
+-- the first row's record, and that of the second
+lines : List ℕ
+lines = codes "s." ++ 9 ∷ codes "." ++ 9 ∷ codes "s." ++ 9 ∷ codes "A" ++ 9 ∷ codes "root.zone" ++ 9 ∷ codes "3" ++ 9 ∷ codes "10.0.0.1" ++ 10
+    ∷ codes "s." ++ 9 ∷ codes "t." ++ 9 ∷ codes "t." ++ 9 ∷ codes "MX" ++ 9 ∷ codes "mail.inc" ++ 9 ∷ codes "12" ++ 9 ∷ codes "5 m.t." ++ 10 ∷ []
+
+both_rows : records_text (record { config = config; rows = rows }) ≡ lines
+unfolding digits t s mail host config rows lines
+both_rows = refl
+
+-- Words.
+
+asked : job_of (codes "records" ∷ codes "m.json" ∷ []) ≡ Some (record { asked = Records; meta = codes "m.json" })
+asked = refl
+
+not_asked : job_of (codes "Records" ∷ codes "m.json" ∷ []) ≡ None
+not_asked = refl
+
+no_option : job_of (codes "records" ∷ codes "--help" ∷ []) ≡ None
+no_option = refl
+
+no_name : job_of (codes "records" ∷ [] ∷ []) ≡ None
+no_name = refl

@@ -1,0 +1,8 @@
+-- So far the text has the lines of the first rows.
+use Rattle.std.proofs.Common.{◌≡◌, take}
+use Rattle.std.specs.List.{flat_map}
+use Rattle.zone_map.specs.Records.{row_text}
+use Rattle.zone_map.proofs.records.rows_text.Given as goal
+
+abbrev pub invariant-loop-row : goal.invariant-loop-row
+invariant-loop-row l = l.text ≡ flat_map (row_text l.config) (take l.row-index l.rows)

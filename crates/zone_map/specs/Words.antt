@@ -1,0 +1,36 @@
+-- What the words of the command line ask for.
+use Rattle.std.specs.Prelude.{ℕ, nat_eq, Bool, ◌&&◌, not, List, [], ◌∷◌, codes, length, if◌then◌else◌, ◌==◌, Option, Some, None, option_map}
+use Rattle.std.specs.List.{find, starts_with}
+use Rattle.dns_data.specs.Rdata.{octets_eq}
+use Rattle.zone_map.specs.declared.words.Asked.{Asked}
+use Rattle.zone_map.specs.declared.words.Asked.TheVariants.{Records}
+use Rattle.zone_map.specs.declared.words.Job.{Job}
+
+-- the word of what may be asked for
+abbrev pub asked_word : Asked → List ℕ
+asked_word Records = codes "records"
+
+-- what may be asked for
+abbrev pub all_asked : List Asked
+all_asked = Records ∷ []
+
+-- what a word asks for, which is compared as written
+abbrev pub asked_by : List ℕ → Option Asked
+asked_by word = find (λ asked. octets_eq word (asked_word asked)) all_asked
+
+-- the word names a metadata file: it isn't empty and doesn't begin with a dash
+abbrev pub is_file : List ℕ → Bool
+is_file word = not (length word == 0) && not (starts_with nat_eq word (codes "-"))
+
+-- the job of a word over this metadata file
+abbrev pub job_over : List ℕ → Option Asked → Option Job
+job_over meta asked = option_map (λ asked. record { asked = asked; meta = meta }) asked
+
+-- the job that the words ask for
+abbrev pub job_of : List (List ℕ) → Option Job
+job_of (word ∷ meta ∷ []) = if is_file meta then job_over meta (asked_by word) else None
+job_of words = None
+
+-- the line on err where the words are no job
+abbrev pub usage_line : List ℕ
+usage_line = codes "usage: groot-map records META\n"

@@ -1,0 +1,16 @@
+//! What stands beside a report: where each record of a configuration was read.
+//!
+//! The layer above may rest on this: for files that read, `groot_map` writes exactly the records of their configuration, in
+//! the order of the metadata's rows, each with the file and the line from which it was read; every other ending has its cause
+//! in the words, in what the files give or in a count of failures that rose, or memory ran out.
+//!
+//! Costs: each file is read once. A row's zone is looked for among its server's zones.
+#![tactic(auto)]
+
+mod columns;
+mod records;
+mod run;
+mod words;
+
+pub use run::{groot_map, run_words};
+pub use words::{Asked, Job, read_words};

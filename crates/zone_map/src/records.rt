@@ -1,0 +1,195 @@
+//! The lines of records.
+
+ghost use Rattle.std.specs.Prelude.{◌≡◌, ◌++◌, [], decimal, codes, map, IfOk, OnOk};
+ghost use Rattle.std.specs.List.{flat_map};
+ghost use Rattle.std.specs.Option.{option_map};
+ghost use Rattle.dns_data.specs.DataText.{separated};
+ghost use Rattle.net_model.specs.Nearest.{held_zone, server_named, zone_with_origin};
+ghost use Rattle.config_load.specs.Faults.{name_numbered};
+ghost use Rattle.zone_map.specs.Columns.{file_text, line_of, tab, written};
+ghost use Rattle.zone_map.specs.Records.{other_tokens, other_word, record_columns, records_text, row_text, told_data, type_text};
+
+use crate::columns::{put_file, put_name, put_number, put_tab, put_written};
+use config_load::{Loaded, RowFiles};
+use dns_data::{Name, NoMemory, Octets, Rdata, Rr, Text, rdata_text};
+use net_model::{Config, Server, Zone};
+use std::alloc::Global;
+
+/// The lines of all records, in the order of rows.
+pub(crate) fn records_text(alloc: Global, all: &Loaded) -> Result<Octets, NoMemory>
+    ensures { IfOk result (λ text. text ≡ records_text all.now) }
+{
+    rows_text(alloc, &all.config, all.rows.items())
+}
+
+/// The lines of the records of rows, in order.
+fn rows_text(alloc: Global, config: &Config, rows: &[RowFiles]) -> Result<Octets, NoMemory>
+    ensures { IfOk result (λ text. text ≡ flat_map (row_text config.now) rows.now) }
+{
+    let mut text = Octets::new();
+    for row in rows {
+        put_row(alloc, &mut text, config, row)?;
+    }
+    Ok(text)
+}
+
+/// Puts the lines of a row's records at the end.
+fn put_row(
+    alloc: Global,
+    text: &mut Octets,
+    config: &Config,
+    row: &RowFiles,
+) -> Result<(), NoMemory>
+    ensures { OnOk result (text.new ≡ text.old ++ row_text config.now row.now) }
+{
+    match held_zone(config, &row.server, &row.origin) {
+        Some(zone) => put_records(alloc, text, row, zone.rrs.items()),
+        None => Ok(()),
+    }
+}
+
+/// Puts the lines of records at the end.
+fn put_records(alloc: Global, text: &mut Octets, row: &RowFiles, rrs: &[Rr]) -> Result<(), NoMemory>
+    ensures { OnOk result (text.new ≡ text.old ++ flat_map (λ rr. line_of (record_columns row.now rr)) rrs.now) }
+{
+    for rr in rrs {
+        put_record(alloc, text, row, rr)?;
+    }
+    Ok(())
+}
+
+/// Puts the line of a record at the end.
+fn put_record(alloc: Global, text: &mut Octets, row: &RowFiles, rr: &Rr) -> Result<(), NoMemory>
+    ensures { OnOk result (text.new ≡ text.old ++ line_of (record_columns row.now rr.now)) }
+{
+    put_columns(alloc, text, row, rr)?;
+    text.push(alloc, b'\n')
+}
+
+/// Puts the columns of a record at the end.
+pub(crate) fn put_columns(
+    alloc: Global,
+    text: &mut Octets,
+    row: &RowFiles,
+    rr: &Rr,
+) -> Result<(), NoMemory>
+    ensures { OnOk result (text.new ≡ text.old ++ separated tab (record_columns row.now rr.now)) }
+{
+    put_name(alloc, text, &row.server)?;
+    put_tab(alloc, text)?;
+    put_name(alloc, text, &row.origin)?;
+    put_tab(alloc, text)?;
+    put_name(alloc, text, &rr.owner)?;
+    put_tab(alloc, text)?;
+    put_type(alloc, text, &rr.rdata)?;
+    put_tab(alloc, text)?;
+    put_place(alloc, text, row.files.items(), rr)?;
+    put_tab(alloc, text)?;
+    put_data(alloc, text, &rr.rdata)
+}
+
+/// Puts the file and the line from which a record was read at the end.
+fn put_place(alloc: Global, text: &mut Octets, files: &[Text], rr: &Rr) -> Result<(), NoMemory>
+    ensures { OnOk result (text.new ≡ text.old ++ (file_text (name_numbered files.now rr.now.file) ++ (tab ++ decimal rr.now.line))) }
+{
+    put_file(alloc, text, file_numbered(files, rr.file))?;
+    put_tab(alloc, text)?;
+    put_number(alloc, text, rr.line)
+}
+
+/// The name of the file of this number.
+fn file_numbered(files: &[Text], number: u32) -> &str
+    ensures { result.now ≡ name_numbered files.now number }
+{
+    match files.get(number as usize) {
+        Some(file) => file.as_str(),
+        None => "",
+    }
+}
+
+/// Puts the word of the data's type at the end.
+fn put_type(alloc: Global, text: &mut Octets, rdata: &Rdata) -> Result<(), NoMemory>
+    ensures { OnOk result (text.new ≡ text.old ++ type_text rdata.now) }
+{
+    match rdata.rtype() {
+        Some(rtype) => text.extend_from_slice(alloc, rtype.word().as_bytes()),
+        None => put_other_word(alloc, text, rdata),
+    }
+}
+
+/// Puts the word of a type beyond the twelve at the end.
+fn put_other_word(alloc: Global, text: &mut Octets, rdata: &Rdata) -> Result<(), NoMemory>
+    ensures { OnOk result (text.new ≡ text.old ++ other_word rdata.now) }
+{
+    match rdata {
+        Rdata::Other { word, .. } => put_written(alloc, text, word.items()),
+        _ => Ok(()),
+    }
+}
+
+/// Puts a record's data at the end.
+fn put_data(alloc: Global, text: &mut Octets, rdata: &Rdata) -> Result<(), NoMemory>
+    ensures { OnOk result (text.new ≡ text.old ++ told_data rdata.now) }
+{
+    if rdata.rtype().is_some() {
+        let data = rdata_text(alloc, rdata)?;
+        return text.extend_from_slice(alloc, data.as_str().as_bytes());
+    }
+    put_other_tokens(alloc, text, rdata)
+}
+
+/// Puts the tokens of data of a type beyond the twelve at the end.
+fn put_other_tokens(alloc: Global, text: &mut Octets, rdata: &Rdata) -> Result<(), NoMemory>
+    ensures { OnOk result (text.new ≡ text.old ++ other_tokens rdata.now) }
+{
+    match rdata {
+        Rdata::Other { tokens, .. } => {
+            let tokens = tokens_text(alloc, tokens.items())?;
+            text.extend_from_slice(alloc, tokens.items())
+        }
+        _ => Ok(()),
+    }
+}
+
+/// Tokens as they were written, with a space between.
+fn tokens_text(alloc: Global, tokens: &[Octets]) -> Result<Octets, NoMemory>
+    ensures { IfOk result (λ text. text ≡ separated (codes " ") (map written tokens.now)) }
+{
+    let mut text = Octets::new();
+    for (i, token) in tokens.iter().enumerate() {
+        if i > 0 {
+            text.push(alloc, b' ')?;
+        }
+        put_written(alloc, &mut text, token.items())?;
+    }
+    Ok(text)
+}
+
+/// The zone with this origin that the server of this name holds.
+fn held_zone<'a>(config: &'a Config, server: &Name, origin: &Name) -> Option<&'a Zone>
+    ensures { option_map (λ zone. zone.now) result ≡ held_zone config.now server.now origin.now }
+{
+    zone_with_origin(server_named(config, server)?, origin)
+}
+
+/// The configured server of this name.
+fn server_named<'a>(config: &'a Config, name: &Name) -> Option<&'a Server>
+    ensures { option_map (λ server. server.now) result ≡ server_named config.now name.now }
+{
+    config
+        .servers
+        .items()
+        .iter()
+        .find(|server| server.name == *name)
+}
+
+/// The server's zone with this origin.
+fn zone_with_origin<'a>(server: &'a Server, origin: &Name) -> Option<&'a Zone>
+    ensures { option_map (λ zone. zone.now) result ≡ zone_with_origin server.now origin.now }
+{
+    server
+        .zones
+        .items()
+        .iter()
+        .find(|zone| zone.origin == *origin)
+}

@@ -1,0 +1,85 @@
+//! What the words of the command line ask for.
+
+ghost use Rattle.std.specs.Prelude.{◌≡◌, map, IfOk};
+ghost use Rattle.zone_map.specs.Words.{asked_by, asked_word, is_file, job_of, job_over, usage_line};
+
+use dns_data::{NoMemory, Text};
+use std::alloc::Global;
+
+/// What is asked for.
+#[derive(Clone, Copy, Debug, PartialEq, Eq)]
+pub enum Asked {
+    /// Each record, and where it was read.
+    Records,
+}
+
+/// What is asked for, over which metadata file.
+#[derive(Debug, Drop)]
+pub struct Job {
+    pub asked: Asked,
+    pub meta: Text,
+}
+
+impl Asked {
+    /// What may be asked for.
+    const ALL: [Asked; 1] = [Asked::Records];
+
+    /// Its word.
+    fn word(&self) -> &'static str
+        ensures { result.now ≡ asked_word self.now }
+    {
+        match self {
+            Asked::Records => "records",
+        }
+    }
+
+    /// What a word asks for. It is compared as written.
+    fn by_word(word: &[u8]) -> Option<Asked>
+        ensures { result ≡ asked_by word.now }
+    {
+        Asked::ALL
+            .iter()
+            .copied()
+            .find(|asked| word == asked.word().as_bytes())
+    }
+}
+
+/// The job that the words ask for, or none.
+pub fn read_words(alloc: Global, words: &[&str]) -> Result<Option<Job>, NoMemory>
+    ensures { IfOk result (λ job. job ≡ job_of (map (λ word. word.now) words.now)) }
+{
+    let [word, meta] = words else {
+        return Ok(None);
+    };
+    if !is_file(meta) {
+        return Ok(None);
+    }
+    job_over(alloc, meta, Asked::by_word(word.as_bytes()))
+}
+
+/// Whether the word names a metadata file.
+fn is_file(word: &str) -> bool
+    ensures { result ≡ is_file word.now }
+{
+    !word.is_empty() && !word.as_bytes().starts_with(b"-")
+}
+
+/// The job of what is asked for over a metadata file.
+fn job_over(alloc: Global, meta: &str, asked: Option<Asked>) -> Result<Option<Job>, NoMemory>
+    ensures { IfOk result (λ job. job ≡ job_over meta.now asked) }
+{
+    match asked {
+        Some(asked) => Ok(Some(Job {
+            asked,
+            meta: Text::from_str(alloc, meta)?,
+        })),
+        None => Ok(None),
+    }
+}
+
+/// The line on err where the words are no job, with its line feed.
+pub(crate) fn usage_line() -> &'static str
+    ensures { result.now ≡ usage_line }
+{
+    "usage: groot-map records META\n"
+}
