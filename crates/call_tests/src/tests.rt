@@ -2,7 +2,6 @@
 
 mod addresses;
 mod classes;
-mod comparisons;
 mod configs;
 mod entries;
 mod open_tails;
@@ -10,7 +9,6 @@ mod outputs;
 mod pool_machine;
 mod reports;
 mod runs;
-mod scopes;
 mod site_runs;
 mod sites;
 mod texts;

@@ -11,7 +11,7 @@ use Rattle.groot_line.specs.Command.{has_option}
 use Rattle.groot_line.specs.Line.{command_line, operands_rule, option_rule}
 use Rattle.groot_line.specs.LineOption.{option_name}
 use Rattle.groot_line.specs.declared.command.Command.{Command}
-use Rattle.groot_line.specs.declared.command.Command.TheVariants.{Check, Ask, Classes, Drill, Site, Recheck}
+use Rattle.groot_line.specs.declared.command.Command.TheVariants.{Check, Ask, Classes, Drill, Site, Recheck, Same, Scope}
 use Rattle.groot_line.specs.declared.line_option.LineOption.{LineOption}
 use Rattle.groot_line.specs.declared.line_option.LineOption.TheVariants as options
 
@@ -29,6 +29,8 @@ rules Classes = option_built options.Classes ∷ operands_built ∷ []
 rules Drill = option_built options.Workers ∷ operands_built ∷ []
 rules Site = operands_built ∷ []
 rules Recheck = operands_built ∷ []
+rules Same = operands_built ∷ []
+rules Scope = operands_built ∷ []
 
 -- what else `clap` has built
 abbrev pub line_shape : List Rule → Shape
@@ -42,6 +44,8 @@ is_free Classes = refl
 is_free Drill = refl
 is_free Site = refl
 is_free Recheck = refl
+is_free Same = refl
+is_free Scope = refl
 
 -- the command line of each command is simple, in `clap`'s sense: its definitions give the matches
 pub is_plain : (command : Command) → is_simple (command_line command) ≡ true
@@ -51,6 +55,8 @@ is_plain Classes = refl
 is_plain Drill = refl
 is_plain Site = refl
 is_plain Recheck = refl
+is_plain Same = refl
+is_plain Scope = refl
 
 -- the option with this name
 pub by_long : (command : Command) (name : Text) → arg_by_long (rules command) name ≡ option_map option_built (option_named command name)
@@ -74,6 +80,8 @@ by_long Drill name = go (bytes_eq (codes "workers") name) where
   go false = refl
 by_long Site name = refl
 by_long Recheck name = refl
+by_long Same name = refl
+by_long Scope name = refl
 
 -- an option that the command has is found under its name
 pub by_option : (command : Command) (o : LineOption) → has_option command o ≡ true → arg_by_id (rules command) (option_name o) ≡ Some (option_built o)
@@ -89,6 +97,8 @@ by_option Drill options.Classes has = absurd (true≢false (sym has))
 by_option Drill options.Rewrites has = absurd (true≢false (sym has))
 by_option Site o has = absurd (true≢false (sym has))
 by_option Recheck o has = absurd (true≢false (sym has))
+by_option Same o has = absurd (true≢false (sym has))
+by_option Scope o has = absurd (true≢false (sym has))
 
 -- the operands are found under their name
 pub by_operands : (command : Command) → arg_by_id (rules command) (codes "operands") ≡ Some operands_built
@@ -98,6 +108,8 @@ by_operands Classes = refl
 by_operands Drill = refl
 by_operands Site = refl
 by_operands Recheck = refl
+by_operands Same = refl
+by_operands Scope = refl
 
 -- the first operand's argument is that of all operands
 pub by_index : (command : Command) → arg_by_index (rules command) 1 ≡ Some operands_built
@@ -107,6 +119,8 @@ by_index Classes = refl
 by_index Drill = refl
 by_index Site = refl
 by_index Recheck = refl
+by_index Same = refl
+by_index Scope = refl
 
 -- the option that a name gives is one of the command
 pub named_has : (command : Command) (name : Text) (o : LineOption) → option_named command name ≡ Some o → has_option command o ≡ true
@@ -122,6 +136,8 @@ named_has Drill name o e = go (bytes_eq (codes "workers") name) e where
   go false same = cc
 named_has Site name o e = cc
 named_has Recheck name o e = cc
+named_has Same name o e = cc
+named_has Scope name o e = cc
 
 -- ---- after the words
 
@@ -148,6 +164,8 @@ rows_end Classes rows = no_operand _ ∙ no_default rows options.Classes
 rows_end Drill rows = no_operand _ ∙ no_default rows options.Workers
 rows_end Site rows = no_operand rows
 rows_end Recheck rows = no_operand rows
+rows_end Same rows = no_operand rows
+rows_end Scope rows = no_operand rows
 
 option_passes : (rows : List Row) (o : LineOption) → default_fault rows (option_built o) ≡ []
 option_passes rows o = ap (λ b. cond b [] (given_default_fault (option_built o) (option_built o).defaults)) (or_true (has_row (option_name o) rows))
@@ -168,6 +186,8 @@ defaults_pass Classes rows = past _ _ (option_passes rows options.Classes) ∙ p
 defaults_pass Drill rows = past _ _ (option_passes rows options.Workers) ∙ past _ _ (operands_pass (with_default rows (option_built options.Workers)))
 defaults_pass Site rows = past _ _ (operands_pass rows)
 defaults_pass Recheck rows = past _ _ (operands_pass rows)
+defaults_pass Same rows = past _ _ (operands_pass rows)
+defaults_pass Scope rows = past _ _ (operands_pass rows)
 
 -- no argument is required at the end
 pub nothing_required : (command : Command) (rows : List Row) → check_fault (line_shape (rules command)) rows false ≡ []
@@ -177,3 +197,5 @@ nothing_required Classes rows = refl
 nothing_required Drill rows = refl
 nothing_required Site rows = refl
 nothing_required Recheck rows = refl
+nothing_required Same rows = refl
+nothing_required Scope rows = refl

@@ -23,7 +23,7 @@ use Rattle.groot_line.specs.Line.{command_line}
 use Rattle.groot_line.specs.LineOption.{option_name}
 use Rattle.groot_line.specs.Matches.{refusal_by, is_in_form, operands_in, arguments_in}
 use Rattle.groot_line.specs.declared.command.Command.{Command}
-use Rattle.groot_line.specs.declared.command.Command.TheVariants.{Check, Ask, Classes, Drill, Site, Recheck}
+use Rattle.groot_line.specs.declared.command.Command.TheVariants.{Check, Ask, Classes, Drill, Site, Recheck, Same, Scope}
 use Rattle.groot_line.specs.declared.fault.LineFault.{LineFault}
 use Rattle.groot_line.specs.declared.fault.LineFault.TheVariants.{Usage, NoMemory}
 use Rattle.groot_line.specs.declared.line_option.LineOption.{LineOption}
@@ -292,6 +292,8 @@ fault_is command words = at_line command ∙ at_level where
   at_line Drill = leaf_fault (built (command_line Drill)) nothing_held words refl
   at_line Site = leaf_fault (built (command_line Site)) nothing_held words refl
   at_line Recheck = leaf_fault (built (command_line Recheck)) nothing_held words refl
+  at_line Same = leaf_fault (built (command_line Same)) nothing_held words refl
+  at_line Scope = leaf_fault (built (command_line Scope)) nothing_held words refl
 
   end : Held
   end = end_of c (walk_at [] None idle) words
@@ -310,6 +312,8 @@ rows_are command words = at_line command ∙ rows_end command _ where
   at_line Drill = refl
   at_line Site = refl
   at_line Recheck = refl
+  at_line Same = refl
+  at_line Scope = refl
 
 -- ---- what matches say
 

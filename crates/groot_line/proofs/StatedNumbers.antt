@@ -8,7 +8,7 @@ use Rattle.dns_data.specs.Number.{is_digits, number_up_to}
 use Rattle.dns_data.specs.Octet.{digits_after}
 use Rattle.groot_line.specs.Arguments.{Arguments, arguments_of}
 use Rattle.groot_line.specs.Command.{command_of}
-use Rattle.groot_line.specs.Job.{asked, job_by, job_of, InRange, AreInRange}
+use Rattle.groot_line.specs.Job.{asked, asked_scope, job_by, job_of, InRange, AreInRange}
 use Rattle.groot_line.specs.LineOption.{most_of}
 use Rattle.groot_line.specs.Number.{unless_zero, number_to, number_by}
 use Rattle.groot_line.specs.Operands.{asked_file, only_meta, two_files, asked_name, asked_type, most_zones, drill_number}
@@ -72,6 +72,12 @@ asked_in (meta ∷ name ∷ []) = tt
 asked_in (meta ∷ name ∷ rtype ∷ []) = through AreInRange (asked_file meta) _ (λ m. through AreInRange (asked_name name) _ (λ n. through AreInRange (asked_type rtype) _ (λ t. tt)))
 asked_in (meta ∷ name ∷ rtype ∷ other ∷ rest) = tt
 
+asked_scope_in : (operands : List (List ℕ)) → IfOk (asked_scope operands) AreInRange
+asked_scope_in [] = tt
+asked_scope_in (meta ∷ []) = tt
+asked_scope_in (meta ∷ name ∷ []) = through AreInRange (asked_file meta) _ (λ m. through AreInRange (asked_name name) _ (λ n. tt))
+asked_scope_in (meta ∷ name ∷ other ∷ rest) = tt
+
 drill_in : (operands : List (List ℕ)) → IfOk (drill_number operands) (InRange most_zones)
 drill_in [] = tt
 drill_in (word ∷ []) = if_ok_or (InRange most_zones) (number_to most_zones word) Usage (number_in_range most_zones word)
@@ -93,6 +99,8 @@ job_by_in commands.Drill arguments =
     (λ n within. if_ok_then (InRange (most_of options.Workers)) AreInRange (number_by options.Workers arguments.workers) _ (option_in options.Workers arguments.workers) (λ workers second. (within, second)))
 job_by_in commands.Site arguments = through AreInRange (only_meta arguments.operands) _ (λ meta. tt)
 job_by_in commands.Recheck arguments = through AreInRange (two_files arguments.operands) _ (λ files. tt)
+job_by_in commands.Same arguments = through AreInRange (two_files arguments.operands) _ (λ files. tt)
+job_by_in commands.Scope arguments = asked_scope_in arguments.operands
 
 -- the numbers of the job that words ask for are in their ranges
 in_range : (words : List (List ℕ)) → IfOk (job_of words) AreInRange

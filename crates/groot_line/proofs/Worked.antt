@@ -5,7 +5,7 @@ use Rattle.groot_line.specs.Job.{job_of}
 use Rattle.groot_line.specs.declared.fault.LineFault.{LineFault}
 use Rattle.groot_line.specs.declared.fault.LineFault.TheVariants.{Usage}
 use Rattle.groot_line.specs.declared.job.Job.{Job}
-use Rattle.groot_line.specs.declared.job.Job.TheVariants.{Check, Ask, Classes, Drill, Site, Recheck}
+use Rattle.groot_line.specs.declared.job.Job.TheVariants.{Check, Ask, Classes, Drill, Site, Recheck, Same, Scope}
 
 -- the job of a command and the words behind it
 abbrev said : List ℕ → List (List ℕ) → Result Job LineFault
@@ -141,6 +141,47 @@ two_reports = refl
 
 rewrites_of_a_recheck : said (codes "recheck") (codes "m.json" ∷ codes "r.json" ∷ codes "--rewrites=12" ∷ []) ≡ Err Usage
 rewrites_of_a_recheck = refl
+
+-- two configurations are compared by their metadata files, in order; neither word is empty
+plain_same : said (codes "same") (codes "m.json" ∷ codes "m2.json" ∷ []) ≡ Ok (Same (codes "m.json") (codes "m2.json"))
+plain_same = refl
+
+same_as_itself : said (codes "same") (codes "m.json" ∷ codes "m.json" ∷ []) ≡ Ok (Same (codes "m.json") (codes "m.json"))
+same_as_itself = refl
+
+same_of_one : said (codes "same") (codes "m.json" ∷ []) ≡ Err Usage
+same_of_one = refl
+
+same_of_three : said (codes "same") (codes "m.json" ∷ codes "m2.json" ∷ codes "m3.json" ∷ []) ≡ Err Usage
+same_of_three = refl
+
+same_without_first : said (codes "same") ([] ∷ codes "m2.json" ∷ []) ≡ Err Usage
+same_without_first = refl
+
+same_without_second : said (codes "same") (codes "m.json" ∷ [] ∷ []) ≡ Err Usage
+same_without_second = refl
+
+workers_of_a_comparison : said (codes "same") (codes "m.json" ∷ codes "m2.json" ∷ codes "--workers=2" ∷ []) ≡ Err Usage
+workers_of_a_comparison = refl
+
+-- a scope has a metadata file and a name, which is read as that of a query
+plain_scope : said (codes "scope") (codes "m.json" ∷ codes "b.T." ∷ []) ≡ Ok (Scope (codes "m.json") (codes "t" ∷ codes "b" ∷ []))
+plain_scope = refl
+
+scope_of_the_root : said (codes "scope") (codes "m.json" ∷ codes "." ∷ []) ≡ Ok (Scope (codes "m.json") [])
+scope_of_the_root = refl
+
+scope_without_name : said (codes "scope") (codes "m.json" ∷ []) ≡ Err Usage
+scope_without_name = refl
+
+scope_of_no_name : said (codes "scope") (codes "m.json" ∷ codes "a.." ∷ []) ≡ Err Usage
+scope_of_no_name = refl
+
+scope_with_a_type : said (codes "scope") (codes "m.json" ∷ codes "a." ∷ codes "A" ∷ []) ≡ Err Usage
+scope_with_a_type = refl
+
+classes_of_a_scope : said (codes "scope") (codes "m.json" ∷ codes "." ∷ codes "--classes=5" ∷ []) ≡ Err Usage
+classes_of_a_scope = refl
 
 -- a command in another case
 upper_case : said (codes "CHECK") (codes "m.json" ∷ []) ≡ Err Usage

@@ -3,7 +3,7 @@ use Rattle.std.specs.Prelude.{ℕ, Bool, true, false, List, [], ◌∷◌, codes
 use Rattle.std.specs.List.{find}
 use Rattle.dns_data.specs.Rdata.{octets_eq}
 use Rattle.groot_line.specs.declared.command.Command.{Command}
-use Rattle.groot_line.specs.declared.command.Command.TheVariants.{Check, Ask, Classes, Drill, Site, Recheck}
+use Rattle.groot_line.specs.declared.command.Command.TheVariants.{Check, Ask, Classes, Drill, Site, Recheck, Same, Scope}
 use Rattle.groot_line.specs.declared.line_option.LineOption.{LineOption}
 use Rattle.groot_line.specs.declared.line_option.LineOption.TheVariants as options
 
@@ -15,10 +15,12 @@ command_word Classes = codes "classes"
 command_word Drill = codes "drill"
 command_word Site = codes "site"
 command_word Recheck = codes "recheck"
+command_word Same = codes "same"
+command_word Scope = codes "scope"
 
 -- the commands that the program has
 abbrev pub commands : List Command
-commands = Check ∷ Ask ∷ Classes ∷ Drill ∷ Site ∷ Recheck ∷ []
+commands = Check ∷ Ask ∷ Classes ∷ Drill ∷ Site ∷ Recheck ∷ Same ∷ Scope ∷ []
 
 -- the command of a word, which is compared as written
 abbrev pub command_of : List ℕ → Option Command
@@ -34,3 +36,5 @@ has_option Drill options.Workers = true
 has_option Drill option = false
 has_option Site option = false
 has_option Recheck option = false
+has_option Same option = false
+has_option Scope option = false

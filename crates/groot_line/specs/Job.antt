@@ -11,7 +11,7 @@ use Rattle.groot_line.specs.declared.command.Command.TheVariants as commands
 use Rattle.groot_line.specs.declared.fault.LineFault.{LineFault}
 use Rattle.groot_line.specs.declared.fault.LineFault.TheVariants.{Usage}
 use Rattle.groot_line.specs.declared.job.Job.{Job}
-use Rattle.groot_line.specs.declared.job.Job.TheVariants.{Check, Ask, Classes, Drill, Site, Recheck}
+use Rattle.groot_line.specs.declared.job.Job.TheVariants.{Check, Ask, Classes, Drill, Site, Recheck, Same, Scope}
 use Rattle.groot_line.specs.declared.line_option.LineOption.TheVariants as options
 
 -- the query that operands ask
@@ -22,6 +22,14 @@ asked (meta_word ∷ name_word ∷ type_word ∷ []) = do
   rtype ← asked_type type_word
   Ok (Ask meta name rtype)
 asked operands = Err Usage
+
+-- the scope that operands name
+abbrev pub asked_scope : List (List ℕ) → Result Job LineFault
+asked_scope (meta_word ∷ name_word ∷ []) = do
+  meta ← asked_file meta_word
+  name ← asked_name name_word
+  Ok (Scope meta name)
+asked_scope operands = Err Usage
 
 -- the job of a command and the words behind it
 abbrev pub job_by : Command → Arguments → Result Job LineFault
@@ -46,6 +54,10 @@ job_by commands.Site arguments = do
 job_by commands.Recheck arguments = do
   files ← two_files arguments.operands
   Ok (Recheck files.0 files.1)
+job_by commands.Same arguments = do
+  files ← two_files arguments.operands
+  Ok (Same files.0 files.1)
+job_by commands.Scope arguments = asked_scope arguments.operands
 
 -- the job that the words ask for
 abbrev pub job_of : List (List ℕ) → Result Job LineFault
@@ -68,3 +80,5 @@ AreInRange (Classes meta classes) = InRange (most_of options.Classes) classes
 AreInRange (Drill n workers) = InRange most_zones n × InRange (most_of options.Workers) workers
 AreInRange (Site meta) = Unit {0}
 AreInRange (Recheck meta report) = Unit {0}
+AreInRange (Same first second) = Unit {0}
+AreInRange (Scope meta name) = Unit {0}

@@ -20,17 +20,23 @@ pub(crate) enum Command {
     Site,
     /// Whether the entries of a report are right.
     Recheck,
+    /// Whether two configurations give the same answers.
+    Same,
+    /// The report on the queries at or below a name.
+    Scope,
 }
 
 impl Command {
     /// The commands that the program has.
-    const ALL: [Command; 6] = [
+    const ALL: [Command; 8] = [
         Command::Check,
         Command::Ask,
         Command::Classes,
         Command::Drill,
         Command::Site,
         Command::Recheck,
+        Command::Same,
+        Command::Scope,
     ];
 
     /// The command's word.
@@ -44,6 +50,8 @@ impl Command {
             Command::Drill => "drill",
             Command::Site => "site",
             Command::Recheck => "recheck",
+            Command::Same => "same",
+            Command::Scope => "scope",
         }
     }
 

@@ -3,7 +3,7 @@
 ghost use Rattle.std.specs.Prelude.{map};
 ghost use Rattle.dns_data.specs.Answers.{AnswersOr};
 ghost use Rattle.groot_line.specs.Matches.{arguments_in};
-ghost use Rattle.groot_line.specs.Job.{job_of, job_by, asked};
+ghost use Rattle.groot_line.specs.Job.{job_of, job_by, asked, asked_scope};
 
 use crate::arguments::{number, read_arguments};
 use crate::command::Command;
@@ -49,6 +49,16 @@ pub enum Job {
         meta: Text,
         report: Text,
     },
+    /// Whether the configurations that two metadata files give have the same answers.
+    Same {
+        first: Text,
+        second: Text,
+    },
+    /// The report on the queries at or below a name, and what the checks of sites find in their classes.
+    Scope {
+        meta: Text,
+        name: Name,
+    },
 }
 
 /// The job that the words ask for. It is `Usage` exactly for the words that the format doesn't have.
@@ -93,6 +103,11 @@ fn job_by(alloc: Global, command: Command, matches: &ArgMatches<'_>) -> Result<J
             let (meta, report) = two_files(alloc, operands)?;
             Ok(Job::Recheck { meta, report })
         }
+        Command::Same => {
+            let (first, second) = two_files(alloc, operands)?;
+            Ok(Job::Same { first, second })
+        }
+        Command::Scope => asked_scope(alloc, operands),
     }
 }
 
@@ -107,4 +122,16 @@ fn asked(alloc: Global, operands: &[&str]) -> Result<Job, LineFault>
     let name = asked_name(alloc, name)?;
     let rtype = asked_type(rtype)?;
     Ok(Job::Ask { meta, name, rtype })
+}
+
+/// The scope that operands name.
+fn asked_scope(alloc: Global, operands: &[&str]) -> Result<Job, LineFault>
+    ensures { AnswersOr LineFault.NoMemory result (asked_scope (map (λ word. word.now) operands.now)) }
+{
+    let [meta, name] = operands else {
+        return Err(LineFault::Usage);
+    };
+    let meta = asked_file(alloc, meta)?;
+    let name = asked_name(alloc, name)?;
+    Ok(Job::Scope { meta, name })
 }

@@ -18,5 +18,5 @@ mod usage;
 
 pub use fault::LineFault;
 pub use job::{Job, read_words};
-pub use line_option::{USUAL_NAMES, USUAL_REWRITES};
+pub use line_option::{USUAL_NAMES, USUAL_REWRITES, USUAL_WORKERS};
 pub use usage::usage_line;

@@ -3,6 +3,9 @@
 ghost use Rattle.std.specs.Prelude.{◌≡◌};
 ghost use Rattle.groot_line.specs.LineOption.{option_name, most_of, default_of};
 
+/// How many workers judge, where the words say no other number.
+pub const USUAL_WORKERS: u32 = 4;
+
 /// How many names the class tree may have, where the words say no other number.
 pub const USUAL_NAMES: u32 = 100_000;
 
@@ -48,7 +51,7 @@ impl LineOption {
         ensures { result ≡ default_of self.now }
     {
         match self {
-            LineOption::Workers => 4,
+            LineOption::Workers => USUAL_WORKERS,
             LineOption::Classes => USUAL_NAMES,
             LineOption::Rewrites => USUAL_REWRITES,
         }

@@ -7,5 +7,5 @@ ghost use Rattle.groot_line.specs.Usage.{usage_line};
 pub fn usage_line() -> &'static str
     ensures { result.now ≡ usage_line }
 {
-    "usage: groot check META [--workers N] [--classes N] [--rewrites K] | ask META NAME TYPE | classes META [--classes N] | drill N [--workers N] | site META | recheck META REPORT\n"
+    "usage: groot check META [--workers N] [--classes N] [--rewrites K] | ask META NAME TYPE | classes META [--classes N] | drill N [--workers N] | site META | recheck META REPORT | same META META | scope META NAME\n"
 }

@@ -20,12 +20,15 @@ use Rattle.report_check.specs.declared.answer.Checked.{Checked}
 use Rattle.report_check.specs.declared.answer.Checked.TheVariants as checks
 use Rattle.report_check.specs.declared.answer.CheckFault.{CheckFault}
 use Rattle.report_check.specs.declared.answer.CheckFault.TheVariants as check_faults
+use Rattle.same_answers.specs.Compared.{Compared}
+use Rattle.same_answers.specs.declared.sameness.Sameness.{Sameness}
+use Rattle.same_answers.specs.declared.sameness.Sameness.TheVariants.{Same, Apart}
 use Rattle.zone_maker.specs.Source.{drill_told}
 use Rattle.groot_run.specs.declared.ending.Ending.{Ending}
 use Rattle.groot_run.specs.declared.status.Status.{Status}
 use Rattle.groot_run.specs.declared.status.Status.TheVariants.{Clean, Faults, ReadFault, WriteFault}
 use Rattle.groot_run.specs.JobEnds.{JobEnds, EndsOver, EndsWithout, IsNotLoaded}
-use Rattle.groot_run.specs.Outcome.{status_of, WithinNames, WithinStates, IsReported, Checks, ListsClasses, IsAnswerWith, Asks, IsDrilled, Drills, drill_names, drill_rewrites, AreTold, ShowsClasses, site_names, site_rewrites, answered_to, IsRechecked, Rechecks, OfReading, Outcome, IsEnding, JobComesTo, NoJobReadFailed, writes_nothing, no_memory}
+use Rattle.groot_run.specs.Outcome.{status_of, WithinNames, WithinStates, IsReported, Checks, ListsClasses, IsAnswerWith, Asks, IsDrilled, Drills, drill_names, drill_rewrites, AreTold, ShowsClasses, site_names, site_rewrites, answered_to, IsRechecked, Rechecks, OfReading, Outcome, IsEnding, JobComesTo, NoJobReadFailed, writes_nothing, no_memory, Compares, ComparesWith, compared_of, told_same, IsScoped, Scopes, WithinScope}
 
 -- ---- by what the files give
 
@@ -85,6 +88,19 @@ module _ (told : FilesTold) (said : Result Job LineFault) (sites : List Site) (b
   within config limit rewrites P ending of (inr (few, inl (query, first, is))) = subst Tells (sym is) refl
   within config limit rewrites P ending of (inr (few, inr (none, ends))) = of ends
 
+  within_scope : (config : Config) (name : List (List ℕ)) (P : Type 0) (ending : Ending) → (P → Tells ending) → WithinScope config name P ending → Tells ending
+  within_scope config name P ending of (inl (more, is)) = subst Tells (sym is) refl
+  within_scope config name P ending of (inr (few, inl (query, refused, is))) = subst Tells (sym is) refl
+  within_scope config name P ending of (inr (few, inr (none, ends))) = of ends
+
+  a_comparison : (two : Compared) (ending : Ending) → Compares two ending → Tells ending
+  a_comparison two ending (inl (more, is)) = subst Tells (sym is) refl
+  a_comparison two ending (inr (few, inl (query, first, is))) = subst Tells (sym is) refl
+  a_comparison two ending (inr (few, inr (none, is))) = by is.sameness is.as_line where
+    by : (sameness : Sameness) → ending ≡ told_same sameness → Tells ending
+    by (Same classes names) line = subst Tells (sym line) tt
+    by (Apart query rtype) line = subst Tells (sym line) tt
+
   a_list : (limit : ℕ) (config : Config) (ending : Ending) → ListsClasses limit config ending → Tells ending
   a_list limit config ending (inl (more, is)) = subst Tells (sym is) refl
   a_list limit config ending (inr (few, is)) = subst Tells (sym is.as_text) tt
@@ -132,6 +148,14 @@ module _ (told : FilesTold) (said : Result Job LineFault) (sites : List Site) (b
   of_outcome files (Ok (jobs.Recheck meta report)) ending =
       of_reading meta (Rechecks files report) ending
       (λ config. of_reading report (IsRechecked report config) ending (λ octets. the_answer report config octets ending) (file_octets report files))
+      (conf meta files)
+  of_outcome files (Ok (jobs.Same first second)) ending =
+      of_reading first (ComparesWith files second) ending
+      (λ config. of_reading second (λ other. Compares (compared_of config other)) ending (λ other. a_comparison (compared_of config other) ending) (conf second files))
+      (conf first files)
+  of_outcome files (Ok (jobs.Scope meta name)) ending =
+      of_reading meta (Scopes name sites) ending
+      (λ config. within_scope config name (IsScoped config name sites ending) ending (λ is. subst Tells (sym is.as_text) (of_entries is.report.entries _)))
       (conf meta files)
   of_outcome files (Err fault) ending = λ is. subst Tells (sym is) refl
 

@@ -1,7 +1,9 @@
 pub mod Budgets
 pub mod ClassLaws
 pub mod ClassLists
+pub mod ComparedTrees
 pub mod Endings
+pub mod JudgedScopes
 pub mod HandedChecks
 pub mod JudgedTrees
 pub mod OneAnswer
@@ -14,3 +16,4 @@ pub mod Places
 pub mod Rechecked
 pub mod ShownClasses
 pub mod SiteViews
+pub mod TwoReadings

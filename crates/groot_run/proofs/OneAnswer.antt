@@ -15,23 +15,9 @@ use Rattle.dns_data.proofs.Membership.{has_first, has_later}
 use Rattle.dns_data.proofs.OrderedLists.{same_rising}
 use Rattle.net_model.proofs.LearntSets.{one_after_rounds}
 use Rattle.net_model.proofs.WalkLists.{one_walks}
+use Rattle.query_verdicts.proofs.OnePassed.{first_of_kind}
 
 -- ---- the server with too many walks
-
--- the first item of a kind is one
-first_of_kind : {X : Type 0} (P : X → Type 0) (before behind others rest : List X) (x y : X) → before ++ x ∷ behind ≡ others ++ y ∷ rest
-    → ((z : X) → Contains before z → P z → ⊥) → ((z : X) → Contains others z → P z → ⊥) → P x → P y → x ≡ y
-first_of_kind P [] behind [] rest x y e none also one other = cc
-first_of_kind P [] behind (z ∷ others) rest x y e none also one other =
-    let same : x ≡ z = cc in
-    absurd (also z (has_first z others) (subst P same one))
-first_of_kind P (z ∷ before) behind [] rest x y e none also one other =
-    let same : y ≡ z = cc in
-    absurd (none z (has_first z before) (subst P same other))
-first_of_kind P (z ∷ before) behind (w ∷ others) rest x y e none also one other =
-    let later : before ++ x ∷ behind ≡ others ++ y ∷ rest = cc in
-    first_of_kind P before behind others rest x y later
-    (λ v has. none v (has_later z before v has)) (λ v has. also v (has_later w others v has)) one other
 
 module _ (config : Config) (rewrites most : ℕ) (begin : List Labels) where
   -- the server is among those of the configuration

@@ -17,10 +17,14 @@ use Rattle.groot_line.specs.declared.fault.LineFault.{LineFault}
 use Rattle.groot_line.specs.declared.job.Job.{Job}
 use Rattle.groot_line.specs.declared.job.Job.TheVariants as jobs
 use Rattle.groot_run.specs.declared.ending.Ending.{Ending}
-use Rattle.groot_run.specs.Outcome.{reported, listed, WithinNames, WithinStates, IsReported, most_states, too_many_states, Checks, IsClassList, ListsClasses, ask_rewrites, most_learning_walks, IsAnswerWith, Asks, walks_written, too_many_to_learn, OfReading, Outcome, Drills, IsDrilled, drilled, drill_names, drill_rewrites, answered_to, IsRechecked, Rechecks, AreTold, ShowsClasses, told_of_views, site_names, site_rewrites}
+use Rattle.groot_run.specs.Outcome.{reported, listed, WithinNames, WithinStates, IsReported, most_states, too_many_states, Checks, IsClassList, ListsClasses, ask_rewrites, most_learning_walks, IsAnswerWith, Asks, walks_written, too_many_to_learn, OfReading, Outcome, Drills, IsDrilled, drilled, drill_names, drill_rewrites, answered_to, IsRechecked, Rechecks, AreTold, ShowsClasses, told_of_views, site_names, site_rewrites, Compares, ComparesWith, compared_of, told_same, IsScoped, Scopes, WithinScope, scope_of, scope_written}
 use Rattle.report_check.proofs.OneAnswer.{only_answer}
+use Rattle.same_answers.specs.Compared.{Compared}
+use Rattle.same_answers.proofs.OneSameness.{one_sameness, one_passed as one_passed_in_one}
+use Rattle.graph_form.specs.declared.report.Report.{Report}
+use Rattle.job_scope.proofs.OneRefusal.{one_refusal, none_refused}
 use Rattle.groot_run.proofs.OneReport.{one_report}
-use Rattle.groot_run.proofs.Budgets.{one_passed}
+use Rattle.query_verdicts.proofs.OnePassed.{one_passed}
 use Rattle.groot_run.proofs.OneClassList.{one_class_list}
 use Rattle.net_model.proofs.WalkLists.{one_walks}
 use Rattle.groot_run.proofs.OneAnswer.{one_first, none_is_first}
@@ -60,6 +64,41 @@ one_told sites config a b =
     one_within config site_names (WithinStates config site_rewrites (AreTold config sites a) a) (WithinStates config site_rewrites (AreTold config sites b) b) a b
     (one_within_states config site_rewrites (AreTold config sites a) (AreTold config sites b) a b
     (λ p q. p.as_text ∙ ap (told_of_views sites) (one_list_of_views (whole config site_rewrites) p.views q.views p.are_views q.are_views) ∙ sym q.as_text))
+
+-- two configurations that are compared give one thing
+one_comparison : (two : Compared) (a b : Ending) → Compares two a → Compares two b → a ≡ b
+one_comparison two a b (inl p) (inl q) = p.1 ∙ sym q.1
+one_comparison two a b (inl p) (inr q) = absurd (q.0 p.0)
+one_comparison two a b (inr p) (inl q) = absurd (p.0 q.0)
+one_comparison two a b (inr (few, inl (query, first, is))) (inr (none, inl (other, also, was))) =
+    is ∙ ap too_many_states (one_passed_in_one two query other first also) ∙ sym was
+one_comparison two a b (inr (few, inl (query, first, is))) (inr (also, inr (clear, q))) = absurd (clear (first.class, query, first.passes))
+one_comparison two a b (inr (few, inr (clear, p))) (inr (also, inl (query, first, is))) = absurd (clear (first.class, query, first.passes))
+one_comparison two a b (inr (few, inr (clear, p))) (inr (also, inr (none, q))) =
+    p.as_line ∙ ap told_same (one_sameness two p.sameness q.sameness p.is_sameness q.is_sameness) ∙ sym q.as_line
+
+-- a scope gives one thing by how many names it has and by what passes
+one_within_scope : (config : Config) (name : Labels) (P Q : Type 0) (a b : Ending) → (P → Q → a ≡ b)
+    → WithinScope config name P a → WithinScope config name Q b → a ≡ b
+one_within_scope config name P Q a b same (inl p) (inl q) = p.1 ∙ sym q.1
+one_within_scope config name P Q a b same (inl p) (inr q) = absurd (q.0 p.0)
+one_within_scope config name P Q a b same (inr p) (inl q) = absurd (p.0 q.0)
+one_within_scope config name P Q a b same (inr (few, inl (query, refused, is))) (inr (none, inl (other, also, was))) =
+    is ∙ ap too_many_states (one_refusal (scope_of config name) most_states query other refused also) ∙ sym was
+one_within_scope config name P Q a b same (inr (few, inl (query, refused, is))) (inr (also, inr (clear, q))) =
+    absurd (none_refused (scope_of config name) most_states query clear refused)
+one_within_scope config name P Q a b same (inr (few, inr (clear, p))) (inr (also, inl (query, refused, is))) =
+    absurd (none_refused (scope_of config name) most_states query clear refused)
+one_within_scope config name P Q a b same (inr (few, inr (clear, p))) (inr (also, inr (none, q))) = same p q
+
+one_scope : (name : Labels) (sites : List Site) (config : Config) (a b : Ending) → Scopes name sites config a → Scopes name sites config b → a ≡ b
+one_scope name sites config a b =
+    one_within_scope config name (IsScoped config name sites a) (IsScoped config name sites b) a b
+    (λ p q.
+    p.as_text
+    ∙ ap (λ (report : Report). scope_written report name sites p.views) (one_report (scope_of config name) p.report q.report p.is_report q.is_report)
+    ∙ ap (scope_written q.report name sites) (one_list_of_views (scope_of config name) p.views q.views p.are_views q.are_views)
+    ∙ sym q.as_text)
 
 one_list : (limit : ℕ) (config : Config) (a b : Ending) → ListsClasses limit config a → ListsClasses limit config b → a ≡ b
 one_list limit config a b =
@@ -104,6 +143,10 @@ one_recheck told file config a b =
     (λ octets one other p q. p.as_line ∙ ap (answered_to file) (only_answer config octets p.answer q.answer p.is_checked q.is_checked p.is_answered q.is_answered) ∙ sym q.as_line)
     (file_octets file told) a b
 
+one_same : (told : FilesTold) (second : List ℕ) (config : Config) (a b : Ending) → ComparesWith told second config a → ComparesWith told second config b → a ≡ b
+one_same told second config a b =
+    one_by_reading second (λ other. Compares (compared_of config other)) (λ other. one_comparison (compared_of config other)) (conf second told) a b
+
 -- two outcomes of a job, by what is told of the files, are one
 pub one_outcome : (told : FilesTold) (job : Result Job LineFault) (sites : List Site) (a b : Ending) → Outcome told job sites a → Outcome told job sites b → a ≡ b
 one_outcome told (Ok (jobs.Check meta workers classes rewrites)) sites a b =
@@ -118,4 +161,8 @@ one_outcome told (Ok (jobs.Site meta)) sites a b =
     one_by_reading meta (ShowsClasses sites) (one_told sites) (conf meta told) a b
 one_outcome told (Ok (jobs.Recheck meta report)) sites a b =
     one_by_reading meta (Rechecks told report) (one_recheck told report) (conf meta told) a b
+one_outcome told (Ok (jobs.Same first second)) sites a b =
+    one_by_reading first (ComparesWith told second) (one_same told second) (conf first told) a b
+one_outcome told (Ok (jobs.Scope meta name)) sites a b =
+    one_by_reading meta (Scopes name sites) (one_scope name sites) (conf meta told) a b
 one_outcome told (Err fault) sites a b = λ p q. p ∙ sym q

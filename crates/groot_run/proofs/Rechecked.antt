@@ -1,22 +1,18 @@
 -- A report that is read behind a configuration.
 use Rattle.std.proofs.Common.{◌≡◌, ◌≢◌, ℕ, ◌⊎◌, List, Result, Ok, Err, sym, subst, inl, inr}
-use Rattle.config_load.proofs.Sources.{rose_then}
-use Rattle.config_load.proofs.Steady.{conf_is_steady, reads_later, comes_first, comes_second}
-use Rattle.config_load.specs.Conf.{conf}
 use Rattle.config_load.specs.Faults.{FailedAt}
 use Rattle.config_load.specs.Load.{Comes, FailedWhereItCame, Gives}
-use Rattle.config_load.specs.Reading.{Reading, Reads, Refuses, both, file_octets}
+use Rattle.config_load.specs.Reading.{Reading, Reads, file_octets}
 use Rattle.config_load.specs.declared.fault.LoadFault.{LoadFault}
 use Rattle.config_load.specs.declared.fault.LoadFault.TheVariants as load_faults
-use Rattle.io_edges.specs.Counts.{NoneFell}
-use Rattle.io_edges.specs.Files.{FilesTold, StaysTold}
+use Rattle.io_edges.specs.Files.{FilesTold}
 use Rattle.net_model.specs.declared.config.Config.{Config}
 use Rattle.report_check.specs.Checked.{IsChecked}
 use Rattle.report_check.specs.declared.answer.Checked.{Checked}
 use Rattle.report_check.specs.declared.answer.CheckFault.{CheckFault}
 use Rattle.report_check.specs.declared.answer.CheckFault.TheVariants as check_faults
-use Rattle.groot_run.specs.JobEnds.{EndsOrFails, EndsWithout, IsNotLoaded}
-use Rattle.groot_run.specs.Outcome.{answered_to, IsRechecked, OfReading, Rechecks, no_memory}
+use Rattle.groot_run.specs.JobEnds.{EndsOrFails, IsNotLoaded}
+use Rattle.groot_run.specs.Outcome.{answered_to, IsRechecked, OfReading, no_memory}
 use Rattle.groot_run.specs.declared.ending.Ending.{Ending}
 
 -- what is said of entries is no want of memory
@@ -48,26 +44,3 @@ over_no_file told before after name of_octets (load_faults.Read file) ending giv
 over_no_file told before after name of_octets load_faults.NoMemory ending gives came failed (inl is) = inr (inr is)
 over_no_file told before after name of_octets fault ending gives came failed (inl is) =
     inl (subst (λ (read : Reading (List ℕ)). OfReading name of_octets read ending) (sym gives) is)
-
-module _ (meta report : List ℕ) (ending : Ending) where
-  -- the report is read behind the configuration
-  pub over_both : (between told : FilesTold) (before middle after : List ℕ → ℕ) (config : Config) → conf meta between ≡ Reads config → StaysTold between told → NoneFell before middle
-      → EndsOrFails (Rechecks told report config ending) (Comes (file_octets report) told) middle after ending
-      → EndsOrFails (OfReading meta (Rechecks told report) (conf meta told) ending) (Comes (both (conf meta) (file_octets report)) told) before after ending
-  over_both between told before middle after config reads stays none ends = by ends where
-    later : conf meta told ≡ Reads config
-    later = reads_later (conf_is_steady meta) between told config stays reads
-
-    by : EndsOrFails (Rechecks told report config ending) (Comes (file_octets report) told) middle after ending
-        → EndsOrFails (OfReading meta (Rechecks told report) (conf meta told) ending) (Comes (both (conf meta) (file_octets report)) told) before after ending
-    by (inl outcome) = inl (subst (λ (read : Reading Config). OfReading meta (Rechecks told report) read ending) (sym later) outcome)
-    by (inr (inl (file, is, comes, rose))) =
-        inr (inl (file, is, comes_second (conf meta) (file_octets report) (conf_is_steady meta) told config file later comes, rose_then (before file) (middle file) (after file) (none file) rose))
-    by (inr (inr ran_out)) = inr (inr ran_out)
-
-  -- there is no configuration, so the report isn't read
-  pub over_neither : (told : FilesTold) (before after : List ℕ → ℕ) → EndsWithout meta told before after ending
-      → EndsOrFails (OfReading meta (Rechecks told report) (conf meta told) ending) (Comes (both (conf meta) (file_octets report)) told) before after ending
-  over_neither told before after (inl (fault, refuses, is)) = inl (subst (λ (read : Reading Config). OfReading meta (Rechecks told report) read ending) (sym refuses) is)
-  over_neither told before after (inr (inl (file, is, comes, rose))) = inr (inl (file, is, comes_first (conf meta) (file_octets report) told file comes, rose))
-  over_neither told before after (inr (inr ran_out)) = inr (inr ran_out)

@@ -33,6 +33,11 @@ pub use Rattle.report_check.specs.Checked
 pub use Rattle.groot_line.specs.LineOption
 pub use Rattle.groot_line.specs.Usage
 pub use Rattle.site_checks.specs.Views
+pub use Rattle.job_scope.specs.Scoped
+pub use Rattle.same_answers.specs.Alike
+pub use Rattle.same_answers.specs.Compared
+pub use Rattle.same_answers.specs.Passed as PairsPassed
+pub use Rattle.same_answers.specs.Sameness
 pub use Rattle.zone_maker.specs.Drill
 pub use Rattle.zone_maker.specs.Source
 pub mod ClassList
@@ -45,3 +50,4 @@ pub mod Judged
 pub mod ClassRows
 pub mod JobEnds
 pub mod ShownClasses
+pub mod ScopeJudged

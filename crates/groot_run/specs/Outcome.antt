@@ -4,6 +4,7 @@ use Rattle.io_edges.specs.Counts.{last_count, Rose}
 use Rattle.io_edges.specs.Files.{FilesTold}
 use Rattle.dns_data.specs.Name.{Labels}
 use Rattle.dns_data.specs.Spelling.{name_text}
+use Rattle.dns_data.specs.RrType.{word_of}
 use Rattle.dns_data.specs.declared.rr_type.RrType.{RrType}
 use Rattle.net_model.specs.declared.config.Config.{Config}
 use Rattle.net_model.specs.declared.walk.Walk.{Walk}
@@ -12,13 +13,13 @@ use Rattle.net_model.specs.Step.{following}
 use Rattle.net_model.specs.Walk.{AreWalks}
 use Rattle.net_model.specs.Reading.{ground_of}
 use Rattle.query_verdicts.specs.Carried.{whole}
-use Rattle.query_verdicts.specs.Passed.{SomeClassPasses, IsFirstPassed}
+use Rattle.query_verdicts.specs.Passed.{SomeClassPasses, IsFirstPassed, IsRefusedFor, NonePasses}
 use Rattle.config_load.specs.Conf.{conf}
 use Rattle.config_load.specs.Load.{Comes, ReadingComesTo}
 use Rattle.config_load.specs.Reading.{Reading, Reads, Refuses, Misses, Unknown, both, file_octets}
 use Rattle.config_load.specs.Refusal.{fields_line, refusal_line}
 use Rattle.config_load.specs.declared.fault.LoadFault.{LoadFault}
-use Rattle.graph_form.specs.Report.{IsReport}
+use Rattle.graph_form.specs.Report.{Subject, IsReport}
 use Rattle.graph_form.specs.declared.report.Report.{Report}
 use Rattle.graph_form.specs.declared.report.ReportEntry.{ReportEntry}
 use Rattle.plain_resolver.specs.Passed.{HasMoreWalks, NoneInRounds, IsFirstWithTooMany}
@@ -37,10 +38,16 @@ use Rattle.groot_line.specs.declared.job.Job.TheVariants as jobs
 use Rattle.groot_run.specs.declared.ending.Ending.{Ending}
 use Rattle.groot_run.specs.declared.status.Status.{Status}
 use Rattle.groot_run.specs.declared.status.Status.TheVariants.{Clean, Faults, Usage, Refused, Classes, States, Walks, ReadFault, WriteFault, NoMemory}
-use Rattle.net_model.specs.Tree.{HasMoreThan}
+use Rattle.job_scope.specs.Scoped.{scoped, widened}
+use Rattle.same_answers.specs.Compared.{Compared, joint}
+use Rattle.same_answers.specs.Passed.{IsFirstPassedInOne, SomeClassPassesInOne}
+use Rattle.same_answers.specs.Sameness.{IsSameness}
+use Rattle.same_answers.specs.declared.sameness.Sameness.{Sameness}
+use Rattle.same_answers.specs.declared.sameness.Sameness.TheVariants.{Same, Apart}
+use Rattle.net_model.specs.Tree.{HasMoreThan, IsInPart}
 use Rattle.query_classes.specs.Children.{IsInTree}
 use Rattle.zone_maker.specs.Source.{drill_told}
-use Rattle.report_json.specs.Sites.{sites_text}
+use Rattle.report_json.specs.Sites.{sites_text, scope_text}
 use Rattle.site_checks.specs.Views.{AreViews, Site, told_by}
 use Rattle.site_checks.specs.declared.views.View.{View}
 use Rattle.groot_run.specs.DrillLine.{drill_line, records_of}
@@ -136,6 +143,10 @@ too_many_to_learn server =
 -- what checks tell that were shown these views
 abbrev pub told_of_views : List Site → List View → Ending
 told_of_views sites views = with_output Clean (sites_text (map (told_by views) sites))
+
+-- the report of the scope of a name, with what checks tell that were shown these views
+abbrev pub scope_written : Report → Labels → List Site → List View → Ending
+scope_written report name sites views = with_output (status_of report.entries) (scope_text report name (map (told_by views) sites))
 
 -- ---- the outcome of a job
 
@@ -298,6 +309,103 @@ pub record IsRechecked (file : List ℕ) (config : Config) (octets : List ℕ) (
 abbrev pub Rechecks : FilesTold → List ℕ → Config → Ending → Type 0
 Rechecks told file config ending = OfReading file (IsRechecked file config) (file_octets file told) ending
 
+-- ---- two configurations that are compared
+
+-- how many names the class tree of both may have
+abbrev pub same_names : ℕ
+same_names = usual_names
+
+-- how many rewrites a query may use in each of them
+abbrev pub same_rewrites : ℕ
+same_rewrites = usual_rewrites
+
+-- the two configurations, with the limits of `same`
+abbrev pub compared_of : Config → Config → Compared
+compared_of first second = record { first = first; second = second; rewrites = same_rewrites; states = most_states }
+
+-- no query tells them apart: so many classes, of so many names, were looked at
+abbrev pub all_same : ℕ → ℕ → Ending
+all_same classes names = with_output Clean (codes "same: classes " ++ decimal classes ++ codes ", names " ++ decimal names ++ codes "\n")
+
+-- the query tells them apart, with the type
+abbrev pub one_differs : Labels → RrType → Ending
+one_differs query rtype = with_output Faults (codes "differ: " ++ name_text query ++ codes " " ++ word_of rtype ++ codes "\n")
+
+-- how a run ends by what is told of two configurations
+abbrev pub told_same : Sameness → Ending
+told_same (Same classes names) = all_same classes names
+told_same (Apart query rtype) = one_differs query rtype
+
+-- the class tree of both has more names than the limit
+abbrev pub HasMoreNamesInBoth : Compared → ℕ → Type 0
+HasMoreNamesInBoth two limit = HasMoreThan (IsInTree (joint two)) limit
+
+-- What `same` gives of two configurations: where their class tree has no more names than it may, and no representative reaches
+-- more pairs of state and type than it may in one of them, the run ends so. Of those that do the first in class order is named.
+abbrev pub WithinBoth : Compared → Type 0 → Ending → Type 0
+WithinBoth two EndsSo ending =
+    (HasMoreNamesInBoth two same_names × (ending ≡ too_many_names same_names))
+    ⊎ ((HasMoreNamesInBoth two same_names → ⊥)
+    × (((query : Labels) × IsFirstPassedInOne two query × (ending ≡ too_many_states query))
+    ⊎ ((SomeClassPassesInOne two → ⊥) × EndsSo)))
+
+-- the run ends with what is told of the two: that each query of at most 255 octets that both bound has the same outcomes in both
+-- with each type, or the first one that hasn't
+pub record IsCompared (two : Compared) (ending : Ending) : Type 0 where
+  pub sameness : Sameness
+  pub is_sameness : IsSameness two sameness
+  pub as_line : ending ≡ told_same sameness
+
+-- what `same` gives of two configurations: what is told of them, unless too many names are there, or a query reaches too many
+-- pairs of state and type
+abbrev pub Compares : Compared → Ending → Type 0
+Compares two ending = WithinBoth two (IsCompared two ending) ending
+
+-- what it gives of the first one: what is told of it and of the one that the second metadata file gives
+abbrev pub ComparesWith : FilesTold → List ℕ → Config → Ending → Type 0
+ComparesWith told second first ending = OfReading second (λ config. Compares (compared_of first config)) (conf second told) ending
+
+-- ---- a scope
+
+-- how many names a scope may have
+abbrev pub scope_names : ℕ
+scope_names = usual_names
+
+-- how many rewrites a query of a scope may use
+abbrev pub scope_rewrites : ℕ
+scope_rewrites = usual_rewrites
+
+-- the scope of a name in a configuration: the subject of its report
+abbrev pub scope_of : Config → Labels → Subject
+scope_of config name = scoped config scope_rewrites name
+
+-- the class tree has more names at or below this one than the limit, where the prefixes of this one are told apart besides
+abbrev pub HasMoreNamesBelow : Config → Labels → ℕ → Type 0
+HasMoreNamesBelow config name limit = HasMoreThan (IsInPart (widened config name) name) limit
+
+-- What `scope` gives: where the scope has no more names than it may, and neither a representative in it nor the name of a
+-- server reaches more pairs of state and type than it may, the run ends so. Of those that do the first representative in class
+-- order is named, or else the first server.
+abbrev pub WithinScope : Config → Labels → Type 0 → Ending → Type 0
+WithinScope config name EndsSo ending =
+    (HasMoreNamesBelow config name scope_names × (ending ≡ too_many_names scope_names))
+    ⊎ ((HasMoreNamesBelow config name scope_names → ⊥)
+    × (((refused : Labels) × IsRefusedFor (scope_of config name) most_states refused × (ending ≡ too_many_states refused))
+    ⊎ (NonePasses (scope_of config name) most_states × EndsSo)))
+
+-- the run ends with the report of the scope, and with what the checks tell that were shown the views of all its classes
+pub record IsScoped (config : Config) (name : Labels) (sites : List Site) (ending : Ending) : Type 0 where
+  pub report : Report
+  pub views : List View
+  pub is_report : IsReport (scope_of config name) report
+  pub are_views : AreViews (scope_of config name) views
+  pub as_text : ending ≡ scope_written report name sites views
+
+-- what `scope` gives of a configuration: the report and the findings on the queries at or below a name, unless too many names
+-- are there, or a query there or a server's name reaches too many pairs of state and type
+abbrev pub Scopes : Labels → List Site → Config → Ending → Type 0
+Scopes name sites config ending = WithinScope config name (IsScoped config name sites ending) ending
+
 -- what the words' job gives, by what is told of the files, and by the checks that the operator brings; a drill reads its own
 -- files
 abbrev pub Outcome : FilesTold → Result Job LineFault → List Site → Ending → Type 0
@@ -307,6 +415,8 @@ Outcome told (Ok (jobs.Ask meta name rtype)) sites ending = OfReading meta (Asks
 Outcome told (Ok (jobs.Drill zones workers)) sites ending = OfReading (codes "meta.json") (Drills zones) (conf (codes "meta.json") (drill_told zones)) ending
 Outcome told (Ok (jobs.Site meta)) sites ending = OfReading meta (ShowsClasses sites) (conf meta told) ending
 Outcome told (Ok (jobs.Recheck meta report)) sites ending = OfReading meta (Rechecks told report) (conf meta told) ending
+Outcome told (Ok (jobs.Same first second)) sites ending = OfReading first (ComparesWith told second) (conf first told) ending
+Outcome told (Ok (jobs.Scope meta name)) sites ending = OfReading meta (Scopes name sites) (conf meta told) ending
 Outcome told job sites ending = ending ≡ usage
 
 -- a run ends in the outcome of its job, in a failed read or for want of memory
@@ -324,6 +434,8 @@ JobComesTo told (Ok (jobs.Classes meta classes)) file = ReadingComesTo meta told
 JobComesTo told (Ok (jobs.Ask meta name rtype)) file = ReadingComesTo meta told file
 JobComesTo told (Ok (jobs.Site meta)) file = ReadingComesTo meta told file
 JobComesTo told (Ok (jobs.Recheck meta report)) file = Comes (both (conf meta) (file_octets report)) told file
+JobComesTo told (Ok (jobs.Same first second)) file = Comes (both (conf first) (conf second)) told file
+JobComesTo told (Ok (jobs.Scope meta name)) file = ReadingComesTo meta told file
 JobComesTo told job file = ⊥
 
 -- no other file is opened than those to which the job comes: of any other name the same is told as before

@@ -14,6 +14,8 @@ use crate::ending::Ending;
 use crate::judging::CheckLimits;
 use crate::load::configuration;
 use crate::recheck::recheck;
+use crate::same::same;
+use crate::scope::scope;
 use crate::site::site;
 use groot_line::Job;
 use io_edges::{Files, Gate};
@@ -23,7 +25,7 @@ use std::sync::Wait;
 use std::thread::Threads;
 
 /// What a job gives. Each but a drill begins with the configuration of its metadata file. The gate is asked where workers judge,
-/// and the checks that the operator brings are shown the classes of `site`.
+/// and the checks that the operator brings are shown the classes of `site` and of `scope`.
 pub(crate) fn of_job<F: Files, G: Gate + Sync, R: Threads + Wait + Sync>(
     rt: &R,
     alloc: Global,
@@ -69,5 +71,17 @@ pub(crate) fn of_job<F: Files, G: Gate + Sync, R: Threads + Wait + Sync>(
             Err(ending) => ending,
         },
         Job::Recheck { meta, report } => recheck(alloc, files, meta.as_str(), report.as_str()),
+        Job::Same { first, second } => same(
+            rt,
+            alloc,
+            files,
+            first.as_str(),
+            second.as_str(),
+            gate,
+        ),
+        Job::Scope { meta, name } => match configuration(alloc, files, meta.as_str()) {
+            Ok(config) => scope(rt, alloc, &config, name, gate, sites),
+            Err(ending) => ending,
+        },
     }
 }

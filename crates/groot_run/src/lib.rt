@@ -18,6 +18,8 @@ mod load;
 mod output;
 mod recheck;
 mod run;
+mod same;
+mod scope;
 mod shown;
 mod site;
 mod status;

@@ -1,9 +1,10 @@
 -- The scope of a name: the queries at or below it, told apart by the configuration's own base names and the prefixes of the name.
-use Rattle.std.specs.Prelude.{ℕ, List, [], ◌∷◌}
+use Rattle.std.specs.Prelude.{◌≡◌, ℕ, List, [], ◌∷◌}
 use Rattle.dns_data.specs.Name.{Labels, IsName}
 use Rattle.graph_form.specs.Report.{Subject}
 use Rattle.net_model.specs.declared.config.Config.{Config}
 use Rattle.net_model.specs.Reading.{Ground, joined_ground}
+use Rattle.query_verdicts.specs.Queries.{LimitedQueries, limited_to}
 use Rattle.query_verdicts.specs.Values.{AreValues}
 use Rattle.query_verdicts.specs.declared.verdict.NameVerdict.{NameVerdict}
 
@@ -19,7 +20,9 @@ at_or_below config rewrites ground name = record { config = config; rewrites = r
 abbrev pub scoped : Config → ℕ → Labels → Subject
 scoped config rewrites name = at_or_below config rewrites (widened config name) name
 
--- the values are those of the scope of a name of at most 255 octets
-pub record AreScopeValues (config : Config) (rewrites states : ℕ) (name : Labels) (children_of : Labels → List Labels) (verdict_of : Labels → NameVerdict) : Type 0 where
+-- a judge of these queries judges the scope of a name of at most 255 octets: they are the configuration's within the limits, and
+-- the values are those of the scope
+pub record JudgesScope (queries : LimitedQueries) (config : Config) (rewrites states : ℕ) (name : Labels) (children_of : Labels → List Labels) (verdict_of : Labels → NameVerdict) : Type 0 where
+  pub queries_are : queries ≡ limited_to config rewrites states
   pub is_name : IsName name
   pub values : AreValues (scoped config rewrites name) states children_of verdict_of

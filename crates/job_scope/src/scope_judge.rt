@@ -4,8 +4,10 @@ ghost use Rattle.std.specs.Prelude.{◌≡◌, ◌<◌, ◌^◌, length, IfOk, I
 ghost use Rattle.dns_data.proofs.Names.{same_names};
 ghost use Rattle.dns_data.specs.Name.{name_cmp};
 ghost use Rattle.graph_form.specs.Report.{IsReport};
-ghost use Rattle.job_scope.specs.Scoped.{scoped};
+ghost use Rattle.job_scope.specs.Scoped.{scoped, widened};
+ghost use Rattle.label_graph.specs.Pairs.{AreSame};
 ghost use Rattle.query_verdicts.specs.Passed.{NonePasses, IsReportFault};
+ghost use Rattle.query_verdicts.specs.Queries.{limited_to};
 ghost use Rattle.query_verdicts.specs.Values.{AreValues};
 ghost use Rattle.verdict_book.specs.Lists.{IsWholeTree};
 
@@ -31,13 +33,13 @@ pub struct ScopeJudge<'a, N: ScopeNaming> {
 
 impl<'a, N: ScopeNaming> Model for ScopeJudge<'a, N> {
     ghost use Rattle.net_model.specs.declared.config.Config.{Config};
-    ghost use Rattle.job_scope.specs.Scoped.{AreScopeValues};
+    ghost use Rattle.job_scope.specs.Scoped.{JudgesScope};
 
     ghost Value = { Config };
 
     ghost view = { λ judge. judge.names.config };
 
-    ghost invariant = { λ judge. AreScopeValues N.config N.rewrites N.states N.scope N.children_of N.verdict_of };
+    ghost invariant = { λ judge. JudgesScope judge.names N.config N.rewrites N.states N.scope N.children_of N.verdict_of };
 }
 
 impl<'a, N: ScopeNaming + Send> Work for ScopeJudge<'a, N> {
@@ -109,6 +111,22 @@ impl<'a, N: ScopeNaming> ScopeJudge<'a, N> {
         let graphs = QueryGraphs::prepare(alloc, config, rewrites, states)?;
         let names = NameJudge::new(alloc, graphs, names, Some(own), first);
         Ok(ScopeJudge { names })
+    }
+}
+
+impl<'a, N: ScopeNaming> ScopeJudge<'a, N> {
+    /// The queries of the configuration, with what is learnt of it: for whoever shows their graphs beside the report.
+    pub fn queries(&self) -> &QueryGraphs<'a>
+        ensures { result.now ≡ limited_to N.config N.rewrites N.states }
+    {
+        self.names.queries()
+    }
+
+    /// The graph of the names that the scope tells apart.
+    pub fn base_names(&self) -> &LabelGraph
+        ensures { AreSame result.now (widened N.config N.scope) }
+    {
+        self.names.base_names()
     }
 }
 

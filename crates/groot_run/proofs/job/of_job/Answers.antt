@@ -1,4 +1,4 @@
-use Rattle.groot_run.specs.Outcome.{Checks, ListsClasses, Asks, ShowsClasses}
+use Rattle.groot_run.specs.Outcome.{Checks, ListsClasses, Asks, ShowsClasses, Scopes}
 use Rattle.groot_run.proofs.Endings.{over_config, over_none}
 use Rattle.groot_run.proofs.HandedChecks.{of_the_job}
 use Rattle.groot_run.proofs.job.of_job.Goals as goal
@@ -46,3 +46,21 @@ returns-in-Err-configuration-3-clause-cause g c =
     of_the_job told _ _ _ before after c.in-Err-configuration-3.ending c.in-Site.is
     (over_none told before after (ShowsClasses _) c.as_str-in-Site.result.now c.in-Site.meta c.as_str-in-Site.ensures c.in-Err-configuration-3.ending
     c.in-Err-configuration-3.ensures.err)
+
+pub returns-in-Err-configuration-4-clause-cause : goal.returns-in-Err-configuration-4-clause-cause
+returns-in-Err-configuration-4-clause-cause g c =
+    let told = g.F.Files.told c.configuration-in-Scope.new.files in
+    let before = g.F.Files.faults c.args.files.now in
+    let after = g.F.Files.faults c.configuration-in-Scope.new.files in
+    of_the_job told _ _ _ before after c.in-Err-configuration-4.ending c.in-Scope.is
+    (over_none told before after (Scopes c.in-Scope.name _) c.as_str-in-Scope.result.now c.in-Scope.meta c.as_str-in-Scope.ensures c.in-Err-configuration-4.ending
+    c.in-Err-configuration-4.ensures.err)
+
+pub returns-in-Ok-configuration-4-clause-cause : goal.returns-in-Ok-configuration-4-clause-cause
+returns-in-Ok-configuration-4-clause-cause g c =
+    let told = g.F.Files.told c.configuration-in-Scope.new.files in
+    let before = g.F.Files.faults c.args.files.now in
+    let after = g.F.Files.faults c.configuration-in-Scope.new.files in
+    of_the_job told _ _ _ before after c.scope.result c.in-Scope.is
+    (over_config told before after (Scopes c.in-Scope.name _) c.as_str-in-Scope.result.now c.in-Scope.meta c.as_str-in-Scope.ensures c.scope.result
+    c.in-Ok-configuration-4.config c.in-Ok-configuration-4.ensures.ok c.scope.ensures)

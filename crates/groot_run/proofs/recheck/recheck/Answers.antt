@@ -2,12 +2,13 @@ use Rattle.std.proofs.Common.{◌∙◌}
 use Rattle.config_load.proofs.Steady.{conf_is_steady, opens_both, opens_first}
 use Rattle.config_load.specs.Conf.{conf}
 use Rattle.config_load.specs.Reading.{file_octets}
-use Rattle.groot_run.proofs.Rechecked.{over_both, over_neither}
+use Rattle.groot_run.specs.Outcome.{Rechecks}
+use Rattle.groot_run.proofs.TwoReadings.{over_both, over_neither}
 use Rattle.groot_run.proofs.recheck.recheck.Goals as goal
 
 pub returns-in-Ok-clause-cause : goal.returns-in-Ok-clause-cause
 returns-in-Ok-clause-cause g c =
-    over_both c.args.meta.now c.args.report.now c.of_config.result (g.F.Files.told c.configuration.new.files) (g.F.Files.told c.of_config.new.files)
+    over_both c.args.meta.now (file_octets c.args.report.now) (Rechecks (g.F.Files.told c.of_config.new.files) c.args.report.now) c.of_config.result (g.F.Files.told c.configuration.new.files) (g.F.Files.told c.of_config.new.files)
     (g.F.Files.faults c.args.files.now) (g.F.Files.faults c.configuration.new.files) (g.F.Files.faults c.of_config.new.files) c.in-Ok.config c.in-Ok.ensures.ok
     c.of_config.ensures.stays c.configuration.ensures.never_fall c.of_config.ensures.cause
 
@@ -18,7 +19,7 @@ returns-in-Ok-clause-opens g c =
 
 pub returns-in-Err-clause-cause : goal.returns-in-Err-clause-cause
 returns-in-Err-clause-cause g c =
-    over_neither c.args.meta.now c.args.report.now c.in-Err.ending (g.F.Files.told c.configuration.new.files) (g.F.Files.faults c.args.files.now) (g.F.Files.faults c.configuration.new.files)
+    over_neither c.args.meta.now (file_octets c.args.report.now) (Rechecks (g.F.Files.told c.configuration.new.files) c.args.report.now) c.in-Err.ending (g.F.Files.told c.configuration.new.files) (g.F.Files.faults c.args.files.now) (g.F.Files.faults c.configuration.new.files)
     c.in-Err.ensures.err
 
 pub returns-in-Err-clause-opens : goal.returns-in-Err-clause-opens

@@ -1,0 +1,6 @@
+use Rattle.job_scope.proofs.Scopes.{values}
+use Rattle.groot_run.specs.Outcome.{most_states, scope_rewrites}
+use Rattle.groot_run.proofs.scope.scope.Goals as goal
+
+pub judged-requires-clause-values : goal.judged-requires-clause-values
+judged-requires-clause-values g c κs within = values c.args.config.now scope_rewrites most_states c.args.scope.now
