@@ -7,7 +7,8 @@ With WORDs, the cases alone whose path has one of them. A folder of cases whose 
 line that says so; with --need-all that is a failure. A case is a file of parts:
 
   == args WORDS       the words of the command line, as a shell reads them
-  == file PATH        a file of the case; @HERE@ stands for the folder of the case, here and below
+  == file PATH        a file of the case; @HERE@ stands for the folder of the case, here and below; programs in bin/ come first
+                      on the path
   == run              lines for a shell, which make other files before
   == out              the standard output, which is empty if this part is missing
   == err              the standard error, in which a line of three dots stands for any lines
@@ -25,9 +26,12 @@ import tempfile
 
 TOOLS = os.path.dirname(os.path.abspath(__file__))
 CASES = os.path.join(TOOLS, "cases")
-BIND, NSD, KNOT = ["named-checkconf", "named-compilezone"], ["nsd-checkconf"], ["knotc"]
-NEEDED = {"bind": BIND, "nsd": NSD, "knot": KNOT, "several": BIND + NSD + KNOT, "printed": []}
-PACKAGES = {"named-checkconf": "bind9-utils", "named-compilezone": "bind9-utils", "nsd-checkconf": "nsd", "knotc": "knot"}
+BIND, NSD, KNOT, MAP = ["named-checkconf", "named-compilezone"], ["nsd-checkconf"], ["knotc"], "groot-map"
+NEEDED = {"bind": BIND, "nsd": NSD, "knot": KNOT, "several": BIND + NSD + KNOT, "printed": [], "above": [],
+          "mapped": [f"{MAP} records"], "reached": [f"{MAP} reached"]}
+SOURCES = {"named-checkconf": "Debian: bind9-utils", "named-compilezone": "Debian: bind9-utils", "nsd-checkconf": "Debian: nsd",
+           "knotc": "Debian: knot", f"{MAP} records": "a program of this repository",
+           f"{MAP} reached": "a program of this repository"}
 
 
 def main():
@@ -38,10 +42,10 @@ def main():
     os.environ["PATH"] += ":/usr/sbin:/sbin"
     failed = False
     for folder in sorted(os.listdir(CASES)):
-        missing = [tool for tool in NEEDED[folder] if not shutil.which(tool)]
+        missing = [tool for tool in NEEDED[folder] if not is_there(*tool.split())]
         if missing:
-            packages = ", ".join(sorted({PACKAGES[tool] for tool in missing}))
-            print(f"tools/cases/{folder}: passed over, {', '.join(missing)} not installed (Debian: {packages})")
+            sources = "; ".join(sorted({SOURCES[tool] for tool in missing}))
+            print(f"tools/cases/{folder}: not run, not on the path: {', '.join(missing)} ({sources})")
             failed |= line.need_all
             continue
         paths = [os.path.join(folder, name) for name in sorted(os.listdir(os.path.join(CASES, folder)))]
@@ -52,6 +56,13 @@ def main():
     sys.exit(int(failed))
 
 
+def is_there(tool, word=""):
+    """Whether a tool is on the path, and its usage line has the word."""
+    if not shutil.which(tool):
+        return False
+    return not word or word in subprocess.run([tool], capture_output=True, text=True, check=False).stderr.split()
+
+
 def differences(path):
     """Runs one case, and gives a line for each thing in which it isn't as it has to be."""
     with tempfile.TemporaryDirectory() as here:
@@ -60,7 +71,9 @@ def differences(path):
             parts = parts_of(file.read().replace("@HERE@", here))
         prepare(here, parts)
         words = shlex.split(next(rest for title, rest, _ in parts if title == "args"))
-        run = subprocess.run([os.path.join(TOOLS, "metadata"), *words], cwd=here, capture_output=True, text=True, check=False)
+        environment = {**os.environ, "PATH": path_of(os.path.dirname(path), here)}
+        run = subprocess.run([sys.executable, os.path.join(TOOLS, "metadata"), *words], cwd=here, env=environment,
+                             capture_output=True, text=True, check=False)
         told = {title: text for title, _, text in parts}
         status = next((int(rest) for title, rest, _ in parts if title == "status"), 0)
         if run.returncode != status:
@@ -69,9 +82,19 @@ def differences(path):
             yield f"{path}: the output is\n{run.stdout}"
         if not fits(run.stderr, told.get("err", "")):
             yield f"{path}: the standard error is\n{run.stderr.replace(here, '@HERE@')}"
+        if any(name.startswith(".") for name in os.listdir(here)):
+            yield f"{path}: a file that was made for a while is left"
         for title, name, text in parts:
             if title == "written" and by_words(os.path.join(here, name)) != [line.split() for line in text.splitlines()]:
                 yield f"{path}: {name} differs, or isn't there"
+
+
+def path_of(folder, here):
+    """The path on which a case finds programs: without groot-map, unless its folder is for that or the case brings one."""
+    found = os.environ["PATH"].split(":")
+    if not any(tool.startswith(MAP) for tool in NEEDED[folder]):
+        found = [place for place in found if not os.path.exists(os.path.join(place, MAP))]
+    return ":".join([os.path.join(here, "bin"), *found])
 
 
 def parts_of(text):

@@ -1,8 +1,10 @@
 # A report as JUnit XML, a failed test for each place at fault: jq -rf views/junit.jq report.json
 include "report" {search: "./"};
 
+# A file and a line as attributes.
+def at: if .file then " file=\"\(.file | file_name | marked)\" line=\"\(.line)\"" else "" end;
 def case($cause): "\(.kind) \(.subject) on \(.locations | map(.server) | distinct | join(", "))" as $name
-  | "<testcase classname=\"\(.first | zone | marked)\" name=\"\($name | marked)\">",
+  | "<testcase classname=\"\(.first | zone | marked)\" name=\"\($name | marked)\"\(.locations[0] | at)>",
     "<failure type=\"\(.kind | marked)\" message=\"\($cause.headline | marked)\">",
     ("\(.subject)\(details)", "mend: \($cause.mend)", "query: \(.first.query) \(.first.type), entry \(.first.entry)" | marked),
     (.first | told | to_entries[] | (select(.key > 0) | "or"), (.value | shortened[] | "-> \(.who): \(.says)") | marked),

@@ -88,6 +88,8 @@ def wildcards: upwards[1:] | map("*." + ltrimstr("."));
 def by_place($lines): (reduce (entries[] | .. | strings) as $text ({}; .[$text] = true)) as $texts
   | [$lines // "" | split("\n")[] | split("\t") | select(.[2] | . and ($texts[.] or startswith("*.")))] | group_by(.[:4])
   | map({key: (.[0][:4] | join("\t")), value: map({file: .[4], line: (.[5] | tonumber), data: .[6]})}) | from_entries;
+# The name of a file without the escapes of a list of records.
+def file_name: gsub("\\\\(?<octet>[0-9]{3}|.)"; .octet | {t: "\t", n: "\n"}[.] // if length == 3 then [tonumber] | implode else . end);
 # The records of a server's zone with one of the types, of the first owner that has any; else, aside, its SOA record.
 def located($records; $owners; $types; $ns): {server, zone} as $at
   | def of($owner; $types): [$types[] as $type | $records[[$at.server, $at.zone, $owner, $type] | join("\t")] // [] | .[]

@@ -2,8 +2,9 @@
 """Runs the views on their cases: run.py [CASE ..]
 
 A case is a folder of cases/: report.json, what each view must make of it (VIEW.out, or VIEW-NAME.out with the words of
-VIEW-NAME.args), records.tsv if the views get records, and old.json for new.jq. Of html.jq the body is compared, and of
-sarif.jq the results. Besides, what each view makes of each case is read back: HTML, XML and SARIF must hold what the
+VIEW-NAME.args), records.tsv if the views get records, and old.json for new.jq. A file `example` has the name of an example,
+whose report is taken; then records.tsv has what `groot-map records` prints of its metadata, which is compared if that program
+is there. Of html.jq the body is compared, and of sarif.jq the results. Besides, what each view makes of each case is read back: HTML, XML and SARIF must hold what the
 report says, and DOT is drawn if `dot` is there, and pages are loaded if `chromium` is there. It ends with status 1 if
 a case is wrong, and with 2 if there is no jq.
 """
@@ -19,6 +20,7 @@ import tempfile
 import xml.etree.ElementTree
 
 HERE = os.path.dirname(os.path.abspath(__file__))
+TOP = os.path.dirname(HERE)
 CASES = os.path.join(HERE, "cases")
 KINDS = ["answers-differ", "blackhole", "cyclic-dependency", "delegation-differs", "glue-differs", "lame-delegation", "missing-glue",
          "no-address", "overlong", "rewrite-limit"]
@@ -32,6 +34,18 @@ def contents(*path):
         return file.read()
 
 
+def report_of(folder):
+    """The path of the report of a case."""
+    example = example_of(folder)
+    return os.path.join(TOP, "examples", example, "report.json") if example else os.path.join(folder, "report.json")
+
+
+def example_of(folder):
+    """The example that a case is of, or None."""
+    path = os.path.join(folder, "example")
+    return contents(path).strip() if os.path.exists(path) else None
+
+
 def view(name, folder, words=()):
     """Status, output and error of a view over the report of a case."""
     words = [*words]
@@ -39,7 +53,7 @@ def view(name, folder, words=()):
         words += ["--rawfile", "records", "records.tsv"]
     if name == "new" and os.path.exists(os.path.join(folder, "old.json")):
         words += ["--slurpfile", "old", "old.json"]
-    ended = subprocess.run(["jq", "-cf" if name == "new" else "-rf", os.path.join(HERE, f"{name}.jq"), *words, "report.json"],
+    ended = subprocess.run(["jq", "-cf" if name == "new" else "-rf", os.path.join(HERE, f"{name}.jq"), *words, report_of(folder)],
                            cwd=folder, stdin=subprocess.DEVNULL, capture_output=True)
     return ended.returncode, ended.stdout.decode(), ended.stderr.decode()
 
@@ -198,13 +212,29 @@ def faults_of_loaded_page(text):
         yield "the browser reads another page"
 
 
+def faults_of_records(text, example):
+    """A list of records has lines of the files of an example on which a record of their type stands; and it is what groot-map
+    prints, if that is there."""
+    for record in text.splitlines():
+        _, _, _, rtype, file, number, _ = record.split("\t")
+        line = contents(TOP, file).splitlines()[int(number) - 1]
+        if not file.startswith(f"examples/{example}/") or rtype not in line.split():
+            yield f"records.tsv: no {rtype} at {file}:{number}"
+    if shutil.which("groot-map"):
+        words = ["groot-map", "records", f"examples/{example}/metadata.json"]
+        printed = subprocess.run(words, cwd=TOP, stdin=subprocess.DEVNULL, capture_output=True).stdout.decode()
+        yield from (f"records.tsv: {line}" for line in differences(printed, text))
+
+
 def ways_it_is_wrong(case):
     """A line for each way in which a view goes another way on a case than the case says."""
     folder = os.path.join(CASES, case)
-    report = json.loads(contents(folder, "report.json"))
+    report = json.loads(contents(report_of(folder)))
     outs = [file[:-4] for file in sorted(os.listdir(folder)) if file.endswith(".out")]
     if not outs:
         yield "it says nothing of what it expects"
+    if example_of(folder):
+        yield from faults_of_records(contents(folder, "records.tsv"), example_of(folder))
     for out in outs:
         name = out.partition("-")[0]
         words = contents(folder, out + ".args").splitlines() if os.path.exists(os.path.join(folder, out + ".args")) else []
@@ -243,7 +273,7 @@ def refusals():
 
 def main(words):
     if not shutil.which("jq"):
-        print('views/run.py: needs jq on the path (README.md, "What you need")', file=sys.stderr)
+        print('views/run.py: needs jq on the path (README.md, "Install")', file=sys.stderr)
         return 2
     cases = [case for case in sorted(os.listdir(CASES)) if not words or case in words]
     wrong = 0
@@ -253,7 +283,7 @@ def main(words):
             wrong += 1
             print(f"WRONG {case}")
             print("".join(f"    {line}\n" for line in lines), end="")
-    for tool, what in (("dot", "no graph was drawn"), ("chromium", "no page was loaded")):
+    for tool, what in (("dot", "no graph was drawn"), ("chromium", "no page was loaded"), ("groot-map", "no list of records was compared")):
         if not shutil.which(tool):
             print(f"{what}: {tool} isn't there")
     print(f"views: {len(cases) + 1 - wrong} right, {wrong} wrong")

@@ -1,9 +1,8 @@
 # A report for tools of code review, in SARIF 2.1.0: jq -f views/sarif.jq --rawfile records records.tsv report.json >report.sarif
 include "report" {search: "./"};
 
-# The file of a record as a URI: its name without the escapes of a list of records.
-def uri: gsub("\\\\(?<octet>[0-9]{3}|.)"; .octet | {t: "\t", n: "\n"}[.] // if length == 3 then [tonumber] | implode else . end)
-  | (if startswith("/") then "file://" else "" end) + (split("/") | map(@uri) | join("/"));
+# The file of a record as a URI.
+def uri: file_name | (if startswith("/") then "file://" else "" end) + (split("/") | map(@uri) | join("/"));
 def location: {logicalLocations: [{name: .server, fullyQualifiedName: "\(.server) \(.zone)"}]}
   + if .file then {physicalLocation: {artifactLocation: {uri: (.file | uri)}, region: {startLine: .line}}} else {} end;
 def rule: . as $kind | kinds[$kind] | {id: $kind, shortDescription: {text: .what}, help: {text: "\(.what); to mend it, \(.mend)"},
