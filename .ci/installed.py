@@ -5,6 +5,7 @@ What it installs runs and reads, and a removal leaves no file. With dpkg and dpk
 removed in a scratch root; with mandoc the manual page is looked through; what isn't there is said. The status is 0 if all
 holds.
 """
+import os
 import pathlib
 import shutil
 import subprocess
@@ -46,9 +47,23 @@ def runs(prefix):
     """Whether what is installed under a prefix runs and reads."""
     return (
         wanted("the program gives its usage", [prefix / "bin/groot"], 2)
+        + (wanted("groot-map gives its usage", [prefix / "bin/groot-map"], 2) if (prefix / "bin/groot-map").exists() else [])
         + wanted("groot-metadata gives its help", [prefix / "bin/groot-metadata", "--help"])
+        + wanted("groot-gate gives its help", [prefix / "bin/groot-gate", "--help"])
         + wanted("bash reads the completion", [BASH, "-n", prefix / "share/bash-completion/completions/groot"])
     )
+
+
+def checks(prefix):
+    """Whether the installed gate finds the installed programs and views, where jq is there."""
+    if not shutil.which("jq"):
+        print("groot-gate: not run, jq isn't installed")
+        return []
+    example = TOP / "examples/blackhole/metadata.json"
+    path = f"PATH={prefix / 'bin'}:{os.environ['PATH']}"
+    with tempfile.TemporaryDirectory() as into:
+        gate = ["env", path, prefix / "bin/groot-gate", "--into", into, example]
+        return wanted("groot-gate finds the fault of an example", gate, 1)
 
 
 def leaves_nothing(folder):
@@ -61,7 +76,7 @@ def plain(program, prefix):
     """An install, a second one over it, and a removal."""
     install = [TOP / "install", prefix, "--program", program]
     faults = wanted("an install", install) + wanted("an install over another", install)
-    faults += runs(prefix) + wanted("a removal", [TOP / "install", "--remove", prefix])
+    faults += runs(prefix) + checks(prefix) + wanted("a removal", [TOP / "install", "--remove", prefix])
     return faults + leaves_nothing(prefix)
 
 

@@ -168,9 +168,9 @@ class Sources:
             yield from (other for other in self.by_name[name] if other.home in homes)
 
     def reached(self):
-        """What `main` reaches, and what the tests name."""
+        """What the `main` of each program reaches, and what the tests name."""
         reached = {other for test in self.functions if "tests" in test.file.words for other in self.named_by(test)}
-        met, left = set(), [function for function in self.by_name["main"] if function.file.crate == "groot"]
+        met, left = set(), [function for function in self.by_name["main"] if function.file.crate in ("groot", "groot_map")]
         while left:
             function = left.pop()
             if function not in met:

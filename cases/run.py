@@ -1,7 +1,7 @@
 #!/usr/bin/env python3
-"""Runs groot on all cases and examples: run.py [--program GROOT] [WORD ..]
+"""Runs groot and groot-map on all cases and examples: run.py [--program GROOT] [--map GROOT-MAP] [WORD ..]
 
-It builds the program once, with `rt run` in crates/groot, unless one is given. With words it runs those cases and
+It builds each program once, with `rt run` in its crate, unless it is given. With words it runs those cases and
 examples alone whose subject is one of them, or whose name has one in it. For each that goes another way than it says, it prints a line and a diff,
 and at last the counts. It ends with status 1 where one is wrong, or where none was found. cases/README.md says how a
 case is written.
@@ -17,7 +17,6 @@ import tempfile
 
 HERE = os.path.dirname(os.path.abspath(__file__))
 TOP = os.path.dirname(HERE)
-BUILT = os.path.join(TOP, "crates", "groot", "out", "groot")
 SECONDS = 60
 
 
@@ -29,7 +28,7 @@ def contents(*path):
 
 HEAD = contents("cases", "head.zone")
 METADATA = contents("cases", "metadata.json")
-USAGE = contents("cases", "usage.txt")
+USAGE = {"groot": contents("cases", "usage.txt"), "groot_map": contents("cases", "usage-map.txt")}
 
 
 class Case:
@@ -37,6 +36,7 @@ class Case:
 
     def __init__(self, name):
         self.name = name
+        self.program = "groot"
         self.words = ["check", "metadata.json"]
         self.files = {"metadata.json": METADATA, "t.zone": HEAD}
         self.folder = None
@@ -89,10 +89,12 @@ def put(case, key, name, text):
         case.cuts = (name, text)
     elif key == "args":
         case.words = shlex.split(name)
+    elif key == "map":
+        case.program, case.words = "groot_map", shlex.split(name)
     elif key == "output":
         case.output = name
     elif key == "usage":
-        case.want("err", USAGE)
+        case.want("err", USAGE[case.program])
         case.want("status", 2)
     elif key == "status":
         case.want("status", int(name))
@@ -248,28 +250,32 @@ def check_the_checker():
         raise SystemExit("run.py: it doesn't tell a wrong case")
 
 
-def build():
-    """Proves and builds the program, and gives its path. Run without words it prints the usage line."""
-    ended = subprocess.run(["rt", "run"], cwd=os.path.join(TOP, "crates", "groot"), stdin=subprocess.DEVNULL, capture_output=True)
-    if USAGE not in ended.stderr or not os.access(BUILT, os.X_OK):
+def build(name):
+    """Proves and builds a program, and gives its path. Run without words it prints its usage line."""
+    crate = os.path.join(TOP, "crates", name)
+    built = os.path.join(crate, "out", name)
+    ended = subprocess.run(["rt", "run"], cwd=crate, stdin=subprocess.DEVNULL, capture_output=True)
+    if USAGE[name] not in ended.stderr or not os.access(built, os.X_OK):
         sys.stdout.write((ended.stdout + ended.stderr).decode(errors="replace")[-3000:])
-        raise SystemExit("run.py: the program isn't built")
-    return BUILT
+        raise SystemExit(f"run.py: {name} isn't built")
+    return built
 
 
 def main(words):
     check_the_checker()
-    program = None
-    if words[:1] == ["--program"] and len(words) > 1:
-        program, words = os.path.abspath(words[1]), words[2:]
+    programs = {}
+    while words[:1] in (["--program"], ["--map"]) and len(words) > 1:
+        programs[{"--program": "groot", "--map": "groot_map"}[words[0]]] = os.path.abspath(words[1])
+        words = words[2:]
     cases = [case for case in all_cases() if is_asked_for(case, words)]
-    program = program or build()
+    for name in sorted({case.program for case in cases} - set(programs)):
+        programs[name] = build(name)
     names = [case.name for case in cases]
     wrong = len(names) - len(set(names))
     if wrong:
         print(f"two cases have one name: {sorted(name for name in set(names) if names.count(name) > 1)}")
     for case in cases:
-        lines = ways_it_is_wrong(program, case)
+        lines = ways_it_is_wrong(programs[case.program], case)
         if lines:
             wrong += 1
             print(f"WRONG {case.name}: {shlex.join(os.fsdecode(word) for word in case.words)}")
