@@ -66,9 +66,9 @@ def apart(groot, count, folder):
 
 
 INPUTS = [
-    ("registry of 100,000 delegations", registry, 100_000),
-    ("400 hosted zones of 100 records", hosted, 400),
-    ("400 zones, a configuration each", apart, 400),
+    ("registry of {:,} delegations", registry, 100_000),
+    ("{:,} hosted zones of 100 records", hosted, 400),
+    ("{:,} zones of 100 records, a configuration each", apart, 400),
 ]
 
 
@@ -130,7 +130,8 @@ def main():
     print("|---|---|---|---|---|---|---|---|---|")
     for title, make, size in INPUTS:
         with tempfile.TemporaryDirectory() as folder:
-            job = make(groot, size // 10 if said.tenth else size, folder)
+            count = size // 10 if said.tenth else size
+            job = make(groot, count, folder)
             one = ask = many = None
             if job.whole:
                 check = [groot, "check", job.whole, "--classes", "1000000", "--workers"]
@@ -140,7 +141,7 @@ def main():
             beside = best(lambda: under_parallel(job, said.jobs), said.runs)
             processor = lambda taken: taken.processor
             numbers = [told(one), told(many), told(turn), told(beside), f"{turn.processor / len(job.parts):.3f}", told(one, processor), told(ask, processor)]
-            print(f"| {title} | {len(job.parts)} | {' | '.join(numbers)} |", flush=True)
+            print(f"| {title.format(count)} | {len(job.parts)} | {' | '.join(numbers)} |", flush=True)
 
 
 if __name__ == "__main__":
