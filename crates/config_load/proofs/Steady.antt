@@ -1,6 +1,6 @@
 -- What a reading gives by what is told it gives by whatever tells more; and what follows for two readings, one after the
 -- other.
-use Rattle.std.proofs.Common.{◌≡◌, ◌≢◌, ℕ, zero, suc, ◌+◌, ◌⊎◌, List, [], ◌∷◌, ◌++◌, Result, Ok, Err, if◌then◌else◌, refl, sym, ap, ◌∙◌, subst, inl, inr, Bool, true, false, nat_eq}
+use Rattle.std.proofs.Common.{◌≡◌, ◌≢◌, ℕ, zero, suc, ◌+◌, ◌⊎◌, List, [], ◌∷◌, ◌++◌, Result, Ok, Err, if◌then◌else◌, refl, sym, ap, ◌∙◌, subst, inl, inr, true, false, nat_eq}
 use Rattle.std.specs.Prelude.{unwrap_or}
 use lib.Pointwise.{pointwise}
 use Rattle.dns_data.specs.Name.{Labels}
@@ -8,12 +8,10 @@ use Rattle.io_edges.specs.Files.{FilesTold, Told, Untold, NotHeld, Holds, StaysT
 use Rattle.master_read.specs.ZoneText.{Unread, Faulty, Asks, zone_text}
 use Rattle.master_read.specs.declared.zone_text.ZoneText.{ZoneText}
 use Rattle.meta_read.specs.Metadata.{metadata_of}
-use Rattle.meta_read.specs.declared.meta.Meta.{Meta as Metadata}
 use Rattle.meta_read.specs.declared.meta.MetaRow.{MetaRow}
-use Rattle.net_model.specs.declared.config.Config.{Config}
 use Rattle.zone_rules.specs.ZoneOf.{zone_of}
 use Rattle.config_load.specs.Conf.{settled, files_behind, zone_files, zone_read, left_behind, row_files, with_row, with_rows, no_rows, metadata, conf, loaded}
-use Rattle.config_load.specs.Faults.{of_metadata, of_text, of_rule}
+use Rattle.config_load.specs.Faults.{of_metadata, of_rule}
 use Rattle.config_load.specs.Follows.{ByTold, StopsEarly}
 use Rattle.config_load.specs.Joined.{joined}
 use Rattle.config_load.specs.Load.{without, Comes, IsSteady, Gives, OpensNoOther}
@@ -23,7 +21,6 @@ use Rattle.config_load.specs.declared.fault.LoadFault.{LoadFault}
 use Rattle.config_load.specs.declared.fault.LoadFault.TheVariants as faults
 use Rattle.config_load.specs.declared.left.Left.{Left}
 use Rattle.config_load.specs.declared.rows.ReadRows.{ReadRows}
-use Rattle.config_load.specs.declared.zone.ReadZone.{ReadZone}
 use Rattle.config_load.specs.declared.zone_files.ZoneFiles.{ZoneFiles}
 use Rattle.config_load.proofs.Answered.{without-here, without-only}
 

@@ -1,5 +1,5 @@
 -- What the pool and the judge tell of a scope, and what checks tell that were shown its classes, is what a scope gives.
-use Rattle.std.proofs.Common.{◌≡◌, ◌∙◌, ℕ, ◌<◌, ◌≤◌, List, length, map, Ok, Err, inl, inr, refl, sym, ap, subst, arith}
+use Rattle.std.proofs.Common.{◌≡◌, ◌∙◌, ℕ, ◌<◌, ◌≤◌, List, length, map, Ok, Err, inl, inr, sym, ap, subst, arith}
 use Rattle.std.specs.Prelude.{◌⊎◌, ◌↔◌, ◌^◌}
 use Rattle.std.specs.declared.cmp.Ordering.{Ordering}
 use Rattle.std.proofs.lemmas.List.{length-map}

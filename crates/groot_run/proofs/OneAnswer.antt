@@ -1,20 +1,13 @@
 -- A query has one answer: the servers that may be followed are one list, and so are its walks.
-use Rattle.std.proofs.Common.{◌≡◌, ℕ, ◌<◌, List, [], ◌∷◌, ◌++◌, map, Contains, sym, ap, ◌∙◌, subst, inl, inr, arith}
-use Rattle.std.proofs.lemmas.Cmp.{nat_list_cmp_total}
+use Rattle.std.proofs.Common.{◌≡◌, ℕ, ◌<◌, List, [], ◌∷◌, ◌++◌, Contains, sym, ◌∙◌, subst, inl, inr, arith}
 use Rattle.std.proofs.lemmas.Bool.{cases_lt}
 use Rattle.dns_data.specs.Name.{Labels}
-use Rattle.dns_data.specs.declared.rr_type.RrType.{RrType}
 use Rattle.net_model.specs.declared.config.Config.{Config}
-use Rattle.net_model.specs.declared.walk.Walk.{Walk}
 use Rattle.net_model.specs.Learnt.{AfterRounds}
 use Rattle.net_model.specs.Nearest.{server_names}
-use Rattle.net_model.specs.Step.{Setting}
-use Rattle.net_model.specs.Walk.{path_cmp, walk_along, AreWalks}
 use Rattle.plain_resolver.specs.Passed.{HasTooMany, NoneInRounds, IsFirstWithTooMany}
 use Rattle.dns_data.proofs.Membership.{has_first, has_later}
-use Rattle.dns_data.proofs.OrderedLists.{same_rising}
 use Rattle.net_model.proofs.LearntSets.{one_after_rounds}
-use Rattle.net_model.proofs.WalkLists.{one_walks}
 use Rattle.query_verdicts.proofs.OnePassed.{first_of_kind}
 
 -- ---- the server with too many walks

@@ -47,8 +47,9 @@ fn has_glue(config: &Config, cut: &Cut) -> bool
         }
 }
 
-/// The zone with this origin that the server of this name holds.
-fn held_zone<'a>(config: &'a Config, server: &Name, origin: &Name) -> Option<&'a Zone>
+/// The zone with this origin that the server of this name holds, or `None` where there is no such server or zone. It
+/// passes once over the servers and over the zones of one (RFC 1034 section 4.3.2, step 2).
+pub fn held_zone<'a>(config: &'a Config, server: &Name, origin: &Name) -> Option<&'a Zone>
     ensures { option_map (λ zone. zone.now) result ≡ held_zone config.now server.now origin.now }
 {
     zone_with_origin(server_named(config, server)?, origin)

@@ -2,17 +2,15 @@
 
 ghost use Rattle.std.specs.Prelude.{◌≡◌, ◌++◌, [], decimal, codes, map, IfOk, OnOk};
 ghost use Rattle.std.specs.List.{flat_map};
-ghost use Rattle.std.specs.Option.{option_map};
 ghost use Rattle.dns_data.specs.DataText.{separated};
-ghost use Rattle.net_model.specs.Nearest.{held_zone, server_named, zone_with_origin};
 ghost use Rattle.config_load.specs.Faults.{name_numbered};
 ghost use Rattle.zone_map.specs.Columns.{file_text, line_of, tab, written};
 ghost use Rattle.zone_map.specs.Records.{other_tokens, other_word, record_columns, records_text, row_text, told_data, type_text};
 
 use crate::columns::{put_file, put_name, put_number, put_tab, put_written};
 use config_load::{Loaded, RowFiles};
-use dns_data::{Name, NoMemory, Octets, Rdata, Rr, Text, rdata_text};
-use net_model::{Config, Server, Zone};
+use dns_data::{NoMemory, Octets, Rdata, Rr, Text, rdata_text};
+use net_model::{Config, held_zone};
 use std::alloc::Global;
 
 /// The lines of all records, in the order of rows.
@@ -163,33 +161,4 @@ fn tokens_text(alloc: Global, tokens: &[Octets]) -> Result<Octets, NoMemory>
         put_written(alloc, &mut text, token.items())?;
     }
     Ok(text)
-}
-
-/// The zone with this origin that the server of this name holds.
-fn held_zone<'a>(config: &'a Config, server: &Name, origin: &Name) -> Option<&'a Zone>
-    ensures { option_map (λ zone. zone.now) result ≡ held_zone config.now server.now origin.now }
-{
-    zone_with_origin(server_named(config, server)?, origin)
-}
-
-/// The configured server of this name.
-fn server_named<'a>(config: &'a Config, name: &Name) -> Option<&'a Server>
-    ensures { option_map (λ server. server.now) result ≡ server_named config.now name.now }
-{
-    config
-        .servers
-        .items()
-        .iter()
-        .find(|server| server.name == *name)
-}
-
-/// The server's zone with this origin.
-fn zone_with_origin<'a>(server: &'a Server, origin: &Name) -> Option<&'a Zone>
-    ensures { option_map (λ zone. zone.now) result ≡ zone_with_origin server.now origin.now }
-{
-    server
-        .zones
-        .items()
-        .iter()
-        .find(|zone| zone.origin == *origin)
 }

@@ -3,9 +3,11 @@ mod DecidersAbove
 mod Descents
 mod Existing
 mod FrontDeciders
+mod InPlace
 mod LastUpTo
 mod Merged
 mod NameData
+mod NameTexts
 mod NamesBelow
 mod NextDeciders
 mod Owned

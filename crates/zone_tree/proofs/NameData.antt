@@ -1,13 +1,13 @@
 -- What a name owns in a zone is told by all its data.
-use Rattle.std.proofs.Common.{◌≡◌, Bool, true, false, cond, ◌&&◌, ◌||◌, List, [], ◌∷◌, map, filter, refl, ap}
-use Rattle.std.specs.List.{list_any}
+use Rattle.std.proofs.Common.{◌≡◌, Bool, true, false, cond, ◌&&◌, ◌||◌, List, [], ◌∷◌, map, filter, Option, Some, refl, ap}
+use Rattle.std.specs.List.{list_any, cons_option}
 use Rattle.dns_data.specs.Name.{Labels, name_eq}
 use Rattle.dns_data.specs.Rdata.{has_type}
 use Rattle.dns_data.specs.declared.rdata.Rdata.{Rdata}
 use Rattle.dns_data.specs.declared.rdata.Rr.{Rr}
 use Rattle.dns_data.specs.declared.rr_type.RrType.{RrType}
-use Rattle.net_model.specs.Zone.{is_of}
-use Rattle.zone_tree.specs.Records.{data_of}
+use Rattle.net_model.specs.Zone.{is_of, target_of}
+use Rattle.zone_tree.specs.Records.{data_of, targets_of}
 
 module _ (name : Labels) (rtype : RrType) where
   -- a record of the name and the type is one of the type among the name's data
@@ -30,3 +30,8 @@ module _ (name : Labels) (rtype : RrType) where
     by true true e rest = rw e (ap (λ (xs : List Rdata). rr.rdata ∷ xs) rest)
     by true false e rest = rw e rest
     by false t e rest = rest
+
+-- the target of the first data of a type is the first target
+pub target_first : (rtype : RrType) (rdata : Rdata) (rest : List Rdata) (target : Labels) → has_type rtype rdata ≡ true → target_of rdata ≡ Some target
+    → targets_of (rdata ∷ rest) rtype ≡ target ∷ targets_of rest rtype
+target_first rtype rdata rest target is has = rw is (ap (λ (o : Option Labels). cons_option o (targets_of rest rtype)) has)

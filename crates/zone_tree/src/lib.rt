@@ -7,11 +7,14 @@
 //!
 //! Costs: a tree sorts references to the records of its zone by their owners once, and then passes over them once. It
 //! keeps each name, and of a single record of a type a reference; only data of several records of one name and type are
-//! copied. For each name it keeps one number more: the place of the first name from the origin down to it that decides at
-//! those below it. A name is found among the existing ones in as many comparisons of names as the logarithm of their number,
-//! and in a few where it stands right behind a node's; one tells that no name stands below a node's. What decides at a name
-//! takes one such search, however many labels the name has, and a second one for the asterisk label of an encloser that has
-//! names below it. A closest encloser takes one, or a second one where the name before in order isn't the encloser itself.
+//! copied. The name servers of a name, and its several targets of one type, are put in their places one by one where it
+//! owns up to 16 records; no texts are made of targets whose last labels tell their order. Other data of several records
+//! are put in order by texts that are made of each once. For each name it keeps one number more: the place of the first
+//! name from the origin down to it that decides at those below it. A name is found among the existing ones in as many
+//! comparisons of names as the logarithm of their number, and in a few where it stands right behind a node's; one tells
+//! that no name stands below a node's. What decides at a name takes one such search, however many labels the name has,
+//! and a second one for the asterisk label of an encloser that has names below it. A closest encloser takes one, or a
+//! second one where the name before in order isn't the encloser itself.
 #![tactic(auto)]
 
 mod answers;
@@ -25,6 +28,7 @@ mod order;
 mod owners;
 mod places;
 mod records;
+mod texts;
 mod tree;
 
 pub use answers::{at_name, referral};

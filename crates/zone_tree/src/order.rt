@@ -1,6 +1,6 @@
 //! Data and name servers in their order, each once.
 
-ghost use Rattle.std.specs.Prelude.{◌≡◌, map, [], IfOk, OnOk};
+ghost use Rattle.std.specs.Prelude.{◌≡◌, ◌≤◌, map, [], length, IfOk, OnOk, IfSome};
 ghost use Rattle.std.specs.List.{filter, AllByRecursion};
 ghost use Rattle.dns_data.specs.DataText.{data_text};
 ghost use Rattle.dns_data.specs.Name.{name_cmp};
@@ -8,14 +8,19 @@ ghost use Rattle.dns_data.specs.Rdata.{has_type};
 ghost use Rattle.dns_data.specs.declared.rr_type.RrType.TheVariants as types;
 ghost use Rattle.net_model.specs.Order.{in_order, put_in_order};
 ghost use Rattle.net_model.specs.Zone.{data_cmp};
-ghost use Rattle.zone_tree.specs.Merged.{put_each};
+ghost use Rattle.zone_tree.specs.Merged.{put_each, placed};
 ghost use Rattle.zone_tree.specs.Records.{targets_of};
 
 use crate::few::Few;
 use crate::records::{first_of_type, is_of_type, target_of};
-use dns_data::{List, Name, NoMemory, Octets, Rdata, Rr, RrType, rdata_text};
+use crate::texts::{data_order, text_of};
+use dns_data::{List, Name, NoMemory, Octets, Rdata, Rr, RrType};
 use std::alloc::Global;
+use std::cmp::Ordering;
 use std::collections::{BTreeMap, BTreeSet};
+
+/// How many records a name has at most whose data are put in their places one by one; of more a tree is made.
+const MOST_PLACED: usize = 16;
 
 /// The names of the name servers in the order of names.
 pub(crate) fn servers_of<'a>(alloc: Global, own: &[&'a Rr]) -> Result<Few<&'a Name>, NoMemory>
@@ -37,10 +42,57 @@ pub(crate) fn servers_of<'a>(alloc: Global, own: &[&'a Rr]) -> Result<Few<&'a Na
 fn servers_in_order<'a>(alloc: Global, own: &[&'a Rr]) -> Result<Few<&'a Name>, NoMemory>
     ensures { IfOk result (λ servers. map (λ server. server.now) servers ≡ in_order name_cmp (targets_of (map (λ rr. rr.now.rdata) own.now) types.Ns)) }
 {
+    if own.len() <= MOST_PLACED {
+        return Ok(Few::from_vec(placed_servers(alloc, own)?));
+    }
     let set = server_set(alloc, own)?;
     let mut servers: Vec<&'a Name> = set.into_iter().collect(alloc)?;
     servers.shrink_to_fit();
     Ok(Few::from_vec(servers))
+}
+
+/// The names of the name servers, each put in its place. The last records are looked at first.
+fn placed_servers<'a>(alloc: Global, own: &[&'a Rr]) -> Result<Vec<&'a Name>, NoMemory>
+    ensures { IfOk result (λ servers. map (λ server. server.now) servers.items ≡ in_order name_cmp (targets_of (map (λ rr. rr.now.rdata) own.now) types.Ns)) }
+{
+    let mut servers = Vec::with_capacity(alloc, 2)?;
+    let mut left = own.len();
+    while left > 0 {
+        left -= 1;
+        let rr = own[left];
+        if is_of_type(&rr.rdata, RrType::Ns) {
+            if let Some(server) = target_of(&rr.rdata) {
+                put_server(&mut servers, server)?;
+            }
+        }
+    }
+    servers.shrink_to_fit();
+    Ok(servers)
+}
+
+/// Puts a name in its place among names in order, unless it is there.
+fn put_server<'a>(servers: &mut Vec<&'a Name>, server: &'a Name) -> Result<(), NoMemory>
+    ensures { OnOk result (map (λ server. server.now) servers.new.items ≡ put_in_order name_cmp server.now (map (λ server. server.now) servers.old.items)) }
+{
+    if let Some(place) = place_of_server(servers.as_slice(), server) {
+        servers.insert(place, server)?;
+    }
+    Ok(())
+}
+
+/// The place of a name among names in order, or `None` where it is there.
+fn place_of_server(servers: &[&Name], server: &Name) -> Option<usize>
+    ensures within { IfSome result (λ place. place ≤ length servers.now) }
+    ensures puts { put_in_order name_cmp server.now (map (λ server. server.now) servers.now) ≡ placed server.now (map (λ server. server.now) servers.now) result }
+{
+    for (place, other) in servers.iter().enumerate() {
+        match server.compare(*other) {
+            Ordering::Less => return Some(place),
+            Ordering::Equal => return None,
+            Ordering::Greater => {}
+        }
+    }
+    Some(servers.len())
 }
 
 /// The names of the name servers. The last records are looked at first.
@@ -69,10 +121,61 @@ pub(crate) fn set_in_order(
 ) -> Result<List<Rdata>, NoMemory>
     ensures { IfOk result (λ set. set ≡ in_order data_cmp (filter (has_type rtype) (map (λ rr. rr.now.rdata) own.now))) }
 {
+    if own.len() <= MOST_PLACED && has_targets(rtype) {
+        return Ok(List::from_vec(placed_data(alloc, own, rtype)?));
+    }
     let set = text_map(alloc, own, rtype)?;
     let mut data: Vec<Rdata> = set.into_values().collect(alloc)?;
     data.shrink_to_fit();
     Ok(List::from_vec(data))
+}
+
+/// Whether the data of a type are a name, of whose text the last label mostly tells the order.
+fn has_targets(rtype: RrType) -> bool {
+    matches!(rtype, RrType::Ns | RrType::Cname | RrType::Dname)
+}
+
+/// The data of a type, each put in its place. The last data are looked at first.
+fn placed_data(alloc: Global, own: &[&Rr], rtype: RrType) -> Result<Vec<Rdata>, NoMemory>
+    ensures { IfOk result (λ set. set.items ≡ in_order data_cmp (filter (has_type rtype) (map (λ rr. rr.now.rdata) own.now))) }
+{
+    let mut set = Vec::with_capacity(alloc, 2)?;
+    let mut left = own.len();
+    while left > 0 {
+        left -= 1;
+        let rr = own[left];
+        if is_of_type(&rr.rdata, rtype) {
+            put_data(alloc, &mut set, &rr.rdata)?;
+        }
+    }
+    set.shrink_to_fit();
+    Ok(set)
+}
+
+/// Puts equal data in their place among data in order, unless others there have their text.
+fn put_data(alloc: Global, set: &mut Vec<Rdata>, rdata: &Rdata) -> Result<(), NoMemory>
+    ensures { OnOk result (set.new.items ≡ put_in_order data_cmp rdata.now set.old.items) }
+{
+    if let Some(place) = place_of_data(alloc, set.as_slice(), rdata)? {
+        let copy = rdata.copy(alloc)?;
+        set.insert(place, copy)?;
+    }
+    Ok(())
+}
+
+/// The place of data among data in order, or `None` where others there have their text.
+fn place_of_data(alloc: Global, set: &[Rdata], rdata: &Rdata) -> Result<Option<usize>, NoMemory>
+    ensures within { IfOk result (λ found. IfSome found (λ place. place ≤ length set.now)) }
+    ensures puts { IfOk result (λ found. put_in_order data_cmp rdata.now set.now ≡ placed rdata.now set.now found) }
+{
+    for (place, other) in set.iter().enumerate() {
+        match data_order(alloc, rdata, other)? {
+            Ordering::Less => return Ok(Some(place)),
+            Ordering::Equal => return Ok(None),
+            Ordering::Greater => {}
+        }
+    }
+    Ok(Some(set.len()))
 }
 
 /// The data of a type by their texts. The last data are looked at first, and stay where others have their text.
@@ -109,19 +212,6 @@ fn put_by_text(
         set.insert(text, copy)?;
     }
     Ok(())
-}
-
-/// The octets of the text of data, or none where the data are of no type that has texts.
-fn text_of(alloc: Global, rdata: &Rdata) -> Result<Octets, NoMemory>
-    ensures { IfOk result (λ text. text ≡ data_text rdata.now) }
-{
-    match rdata.rtype() {
-        Some(_) => {
-            let text = rdata_text(alloc, rdata)?;
-            Octets::from_octets(alloc, text.as_bytes())
-        }
-        None => Ok(Octets::new()),
-    }
 }
 
 /// The data of both sets, which are in the order of their texts, in that order, each once.

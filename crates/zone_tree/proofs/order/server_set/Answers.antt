@@ -1,21 +1,14 @@
-use Rattle.std.proofs.Common.{◌≡◌, ℕ, ◌+◌, ◌-◌, ◌<◌, true, List, ◌∷◌, map, drop, length, Option, Some, Bor, sym, ap, ◌∙◌, arith}
-use Rattle.std.specs.List.{cons_option}
+use Rattle.std.proofs.Common.{◌≡◌, ℕ, ◌+◌, ◌-◌, ◌<◌, List, ◌∷◌, map, drop, length, Bor, sym, ap, ◌∙◌, arith}
 use Rattle.std.proofs.lemmas.List.{drop_more}
-use Rattle.dns_data.specs.Name.{Labels, name_cmp}
-use Rattle.dns_data.specs.Rdata.{has_type}
+use Rattle.dns_data.specs.Name.{name_cmp}
 use Rattle.dns_data.specs.declared.rdata.Rdata.{Rdata}
 use Rattle.dns_data.specs.declared.rdata.Rr.{Rr}
-use Rattle.dns_data.specs.declared.rr_type.RrType.{RrType}
 use Rattle.dns_data.specs.declared.rr_type.RrType.TheVariants as types
 use Rattle.net_model.specs.Order.{in_order, put_in_order}
-use Rattle.net_model.specs.Zone.{target_of}
 use Rattle.zone_tree.specs.Records.{targets_of}
 use Rattle.zone_tree.proofs.ByText.{put_name, now_of}
+use Rattle.zone_tree.proofs.NameData.{target_first}
 use Rattle.zone_tree.proofs.order.server_set.Goals as goal
-
-target_first : (rtype : RrType) (rdata : Rdata) (rest : List Rdata) (target : Labels) → has_type rtype rdata ≡ true → target_of rdata ≡ Some target
-    → targets_of (rdata ∷ rest) rtype ≡ target ∷ targets_of rest rtype
-target_first rtype rdata rest target is has = rw is (ap (λ (o : Option Labels). cons_option o (targets_of rest rtype)) has)
 
 pub loop-left-preserved-in_ok-insert : goal.loop-left-preserved-in_ok-insert
 loop-left-preserved-in_ok-insert c =
