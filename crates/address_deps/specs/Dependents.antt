@@ -1,5 +1,5 @@
--- Who waits for the address of a name server, and the servers that wait for another look. The contracts of inner calls alone
--- cite it.
+-- Who waits for the address of a name server, and the servers that wait for another look. The contracts of inner calls
+-- alone cite it.
 use Rattle.std.specs.Prelude.{◌≡◌, ◌⊎◌, ◌↔◌, ℕ, ◌<◌, List, [], ◌∷◌, length, Some, Contains, slice_get, unwrap_or, if◌then◌else◌}
 use Rattle.std.specs.BTreeMap as map
 use Rattle.std.specs.List.{flat_map}

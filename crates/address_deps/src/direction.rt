@@ -45,8 +45,8 @@ impl Direction {
     }
 }
 
-/// The servers that are left when none more is to be added or dropped. Each server is looked at once, and again when one was
-/// added or dropped for whose address it waits.
+/// The servers that are left when none more is to be added or dropped. Each server is looked at once, and again when
+/// one was added or dropped for whose address it waits.
 pub(crate) fn settled(
     alloc: Global,
     hosts: &Hosts<'_>,

@@ -12,7 +12,7 @@ use Rattle.query_verdicts.proofs.ClassesJudged.{some_name}
 use Rattle.query_verdicts.proofs.PassingNames.{class_passes}
 use Rattle.class_judge.specs.Refused.{IsRefusalOf}
 
--- a refusal of a whole configuration's report names its first representative that passes, or is for want of memory
+-- a refusal of a whole configuration's report names its first representative that passes, or says that memory ran out
 pub refused : (config : Config) (rewrites states : ℕ) (fault : ReportFault) → IsReportFault (whole config rewrites) states fault
     → IsRefusalOf config rewrites states fault
 refused config rewrites states (StatesPassed query) (inl first) = first

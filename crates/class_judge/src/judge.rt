@@ -83,9 +83,9 @@ impl<'a, N: Naming + Send> Work for Judge<'a, N> {
 }
 
 impl<'a, N: Naming> Judge<'a, N> {
-    /// The judge of the class tree of a configuration, whose queries may use so many rewrites, and of each of which no more
-    /// pairs of state and type are looked at than so many. The trees of all zones, the graph of each server's name and the
-    /// regions of names are made here, once.
+    /// The judge of the class tree of a configuration, whose queries may use this many rewrites, and of each of which
+    /// no more pairs of state and type are looked at than the limit. The trees of all zones, the graph of each server's
+    /// name and the regions of names are made here, once.
     pub fn prepare(
         alloc: Global,
         config: &'a Config,
@@ -106,9 +106,9 @@ impl<'a, N: Naming> Judge<'a, N> {
 }
 
 impl<'a, N: Naming + Send> Judge<'a, N> {
-    /// The report of the configuration, from the verdicts of all names of its class tree: the faults that some query shows,
-    /// each with its first query and type, and the first walk or pair of walks. Where the representative of some class reaches
-    /// more pairs of state and type than are looked at, it is `StatesPassed` with the first such one.
+    /// The report of the configuration, from the verdicts of all names of its class tree: the faults that some query
+    /// shows, each with its first query and type, and the first walk or pair of walks. Where the representative of some
+    /// class reaches more pairs of state and type than are looked at, it is `StatesPassed` with the first such one.
     pub fn report(&self, filed: List<Filed<Judge<'a, N>>>) -> Result<Report, ReportFault>
         requires whole { IsWholeTree name_cmp [] N.children_of N.verdict_of filed }
         requires few { length filed < 2 ^ 31 }

@@ -19,8 +19,8 @@ pub fn carrying()
     ensures { (config : Config) (rewrites : ℕ) (fault : Fault) → IsShown (whole config rewrites) fault ↔ SomeClassShows (whole config rewrites) fault }
 {}
 
-/// Each name is in one class of a configuration, for which a name of it stands that is no longer than any other; and of a named
-/// name all prefixes are named.
+/// Each name is in one class of a configuration, for which a name of it stands that is no longer than any other; and of
+/// a named name all prefixes are named.
 pub fn classes_are_told()
     ensures one { (config : Config) (query : Labels) → IsName query → IsInOneClass (ground_of config) query }
     ensures prefixes { (config : Config) (above below : Labels) → IsNamed (ground_of config) (above ++ below) → IsNamed (ground_of config) above }
@@ -32,7 +32,7 @@ pub fn values_exist()
         × AreValues (whole config rewrites) states children_of verdict_of }
 {}
 
-/// More than so many items are reached from the root exactly where the class tree has more names.
+/// More items than the limit are reached from the root exactly where the class tree has more names.
 pub fn tree_is_reached()
     ensures { (config : Config) (children_of : Labels → List Labels) → ((name : Labels) → AreChildren (ground_of config) name (children_of name))
         → (limit : ℕ) → ReachesMore [] children_of limit ↔ HasMoreThan (IsInTree (ground_of config)) limit }

@@ -13,9 +13,9 @@ ghost use Rattle.verdict_book.specs.Items.{ParentsApart};
 use query_verdicts::OnSubject;
 use std::marker::{Brand, PhantomData};
 
-/// The name under which a judge goes: its configuration, how many rewrites a query may use and how many pairs of state and
-/// type it may reach, and the children and the verdict of each name, as the configuration gives them. The meanings of a work
-/// belong to its type, so whoever makes a judge picks a name for the values in hand.
+/// The name under which a judge goes: its configuration, how many rewrites a query may use and how many pairs of state
+/// and type it may reach, and the children and the verdict of each name, as the configuration gives them. The meanings
+/// of a work belong to its type, so whoever makes a judge picks a name for the values in hand.
 pub trait Naming {
     ghost config: { Config };
 

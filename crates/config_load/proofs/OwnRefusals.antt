@@ -1,4 +1,4 @@
--- Files are refused for what they say, never for a failed read or for want of memory.
+-- Files are refused for what they say, never for a failed read or because memory ran out.
 use Rattle.std.proofs.Common.{◌≢◌, ℕ, zero, suc, ◌+◌, Bool, true, false, cond, nat_le, List, [], ◌∷◌, ◌++◌, length, unwrap_or, Result, Ok, Err, refl, subst}
 use Rattle.std.specs.Result.{IfErr}
 use Rattle.dns_data.proofs.Answers.{if_err_either}
@@ -142,7 +142,7 @@ conf_own meta told =
     own_then (metadata meta told) _ (metadata_read_own meta told)
     (λ found. own_then (with_rows meta 1 found.rows no_rows told) _ (rows_own meta 1 found.rows no_rows told) (λ rows. tt))
 
--- a refusal that says something of the files is no failed read, nor want of memory
+-- a refusal that says something of the files is no failed read, nor `NoMemory`
 pub not-refused : {A : Type 0} (reading : Reading A) (fault : LoadFault) → RefusesOwn reading → (IsOwn fault → ⊥) → reading ≢ Refuses fault
 not-refused {A} reading fault own never e =
     let refuses : Reading A → Type 0 = RefusesOwn in

@@ -94,7 +94,7 @@ module _ (meta : List ℕ) (number : ℕ) (row : MetaRow) (rows : ReadRows) wher
   unfolding with_row
   HasAnswered-no_row fault result is read = HasAnswered-passed (zone_read meta row rows.left) (behind_zone number row rows) fault result is read
 
-  -- want of memory behind its zone
+  -- `NoMemory` behind its zone
   pub HasAnswered-row_wanting : {told told' : FilesTold} {counts counts' : List ℕ → ℕ} (read : ReadZone) (result : Result ReadRows LoadFault) → IsErrAnd result (λ fault. fault ≡ NoMemory) → (let answer : Result ReadZone LoadFault = Ok read in HasAnswered told told' counts counts' (zone_read meta row rows.left) answer) → HasAnswered told told' counts counts' (with_row meta number row rows) result
   unfolding with_row
   HasAnswered-row_wanting read result wants whole =

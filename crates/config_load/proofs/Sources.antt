@@ -130,7 +130,7 @@ module _ {A : Type 0} where
     source = ReadsFor-none told counts reading;
   }
 
-  -- want of memory answers any reading
+  -- `NoMemory` answers any reading
   pub HasAnswered-wanting : {told told' : FilesTold} {counts counts' : List ℕ → ℕ} {reading : ByTold A} (result : Result A LoadFault) → ReadsFor told told' counts counts' reading → IsErrAnd result (λ fault. fault ≡ NoMemory) → HasAnswered told told' counts counts' reading result
   HasAnswered-wanting {told' = told'} {counts = counts} {counts' = counts'} {reading = reading} result source wants = record {
     answers = Answers-wanting told' reading result wants;
@@ -139,7 +139,7 @@ module _ {A : Type 0} where
   }
 
 module _ {T E : Type 0} where
-  -- what a definition says is answered, or want of memory
+  -- what a definition says is answered, or `NoMemory`
   pub HasAnswered-told : (told : FilesTold) (counts : List ℕ → ℕ) (of : E → LoadFault) (said : Result T E) (result : Result T LoadFault) → ((fault : E) → IsNoRead (of fault)) → AnswersOr NoMemory result (with_fault of said) → HasAnswered told told counts counts (λ _. unless_refused of said) result
   HasAnswered-told told counts of said result never answered =
       HasAnswered-looked told counts (λ _. unless_refused of said) result
@@ -217,7 +217,7 @@ module _ {T : Type 0} where
   FailsToRead-again told name fault (Ok value) fails is = absurd is
   FailsToRead-again told name fault (Err passed) fails is = subst (FailsToRead told name) (sym is) fails
 
-  -- want of memory may stand for any failure
+  -- `NoMemory` may stand for any failure
   pub FailsToRead-wanting : (told : FilesTold) (name : List ℕ) (result : Result T LoadFault) → IsErrAnd result (λ fault. fault ≡ NoMemory) → IfErr result (FailsToRead told name)
   FailsToRead-wanting told name (Ok value) wants = absurd wants
   FailsToRead-wanting told name (Err fault) wants = Answers-free told (file_octets name) fault wants

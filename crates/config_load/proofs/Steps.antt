@@ -53,24 +53,24 @@ module _ {A : Type 0} where
   Answers-refused told reading (Rule file line cause) never a = a
   Answers-refused told reading (ZoneTwice row) never a = a
 
-  -- want of memory answers any reading
+  -- `NoMemory` answers any reading
   pub Answers-free : (told : FilesTold) (reading : ByTold A) (fault : LoadFault) → fault ≡ NoMemory → (let answer : Result A LoadFault = Err fault in Answers told reading answer)
   Answers-free told reading fault free = subst (λ f. let answer : Result A LoadFault = Err f in Answers told reading answer) (sym free) tt
 
 module _ {A : Type 0} where
-  -- a call's want of memory that is passed on answers any reading
+  -- a call's `NoMemory` that is passed on answers any reading
   pub Answers-wanting : (told : FilesTold) (reading : ByTold A) (result : Result A LoadFault) → IsErrAnd result (λ fault. fault ≡ NoMemory) → Answers told reading result
   Answers-wanting told reading (Ok value) wants = absurd wants
   Answers-wanting told reading (Err fault) wants = Answers-free told reading fault wants
 
--- want of memory fails at no file
+-- `NoMemory` fails at no file
 pub FailedAt-wanting : {A : Type 0} (before after : List ℕ → ℕ) (result : Result A LoadFault) → IsErrAnd result (λ fault. fault ≡ NoMemory) → FailedAt before after result
 FailedAt-wanting before after (Ok value) wants = tt
 FailedAt-wanting {A} before after (Err fault) wants =
     subst (λ f. let answer : Result A LoadFault = Err f in FailedAt before after answer) (sym wants) tt
 
 module _ {T E : Type 0} where
-  -- what a definition says is answered, or want of memory
+  -- what a definition says is answered, or `NoMemory`
   pub Answers-told : (told : FilesTold) (of : E → LoadFault) (said : Result T E) (result : Result T LoadFault) → ((fault : E) → IsNoRead (of fault)) → AnswersOr NoMemory result (with_fault of said) → Answers told (λ _. unless_refused of said) result
   Answers-told told of (Ok value) (Ok other) no_read answered =
       let same : value ≡ other = cc in

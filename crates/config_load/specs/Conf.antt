@@ -29,8 +29,8 @@ everything_left = record { records = 1000000; includes = 1000 }
 abbrev pub left_behind : Left → ZoneText → Left
 left_behind left text = record { records = left.records - text.seen; includes = left.includes - text.included }
 
--- Zone files. What the texts of files with these names give: their records, their first fault, or what follows with
--- the file that they ask for.
+-- what the texts of a zone's files with these names give: their records, their first fault, or what follows with the
+-- file that they ask for
 abbrev pub settled : List (List ℕ) → (List ℕ → Reading ZoneFiles) → Result ZoneText Unread → Reading ZoneFiles
 settled names next (Ok text) = Reads (record { names = names; text = text })
 settled names next (Err (Faulty fault)) = Refuses (of_text names fault)
@@ -61,7 +61,7 @@ zone_read meta row left told = do
   zone ← unless_refused (of_rule files.names) (zone_of row.origin files.text.rrs)
   Reads (record { zone = zone; names = files.names; left = left_behind left files.text })
 
--- Rows. Before the first one nothing was read.
+-- the rows before the first one was read: none
 abbrev pub no_rows : ReadRows
 no_rows = record { left = everything_left; servers = []; rows = [] }
 
@@ -69,19 +69,19 @@ no_rows = record { left = everything_left; servers = []; rows = [] }
 abbrev pub row_files : Labels → ReadZone → RowFiles
 row_files server read = record { server = server; origin = read.zone.origin; files = read.names }
 
--- one row more, which has this number: its zone is given to its server
+-- the rows so far with one row more, which has this number: its zone is given to its server
 unfoldable pub with_row : List ℕ → ℕ → MetaRow → ReadRows → FilesTold → Reading ReadRows
 with_row meta number row rows told = do
   read ← zone_read meta row rows.left told
   servers ← unless_refused (λ fault. fault) (given number row.server read.zone rows.servers)
   Reads (record { left = read.left; servers = servers; rows = rows.rows ++ row_files row.server read ∷ [] })
 
--- more rows, which are counted from this number on
+-- the rows so far with more rows, which are counted from this number on
 unfoldable pub with_rows : List ℕ → ℕ → List MetaRow → ReadRows → FilesTold → Reading ReadRows
 with_rows meta number [] rows told = Reads rows
 with_rows meta number (row ∷ more) rows told = with_row meta number row rows told >>= λ rows. with_rows meta (number + 1) more rows told
 
--- The metadata.
+-- the metadata that the octets of the metadata file give, or the refusal
 unfoldable pub metadata : List ℕ → FilesTold → Reading Metadata
 metadata meta told = file_octets meta told >>= λ octets. unless_refused of_metadata (metadata_of octets)
 
@@ -92,7 +92,7 @@ conf meta told = do
   rows ← with_rows meta 1 found.rows no_rows told
   Reads (record { tops = found.tops; servers = rows.servers })
 
--- the same, with what is told of each row: its server, the origin of its zone, and the names of its zone's files
+-- what the files give for a metadata file's name, with each row's server, origin and names of files
 unfoldable pub loaded : List ℕ → FilesTold → Reading Loaded
 loaded meta told = do
   found ← metadata meta told

@@ -10,7 +10,7 @@ use Rattle.zone_rules.specs.declared.fault.RuleFault.TheVariants as rule_faults
 use Rattle.config_load.specs.declared.fault.LoadFault.{LoadFault}
 use Rattle.config_load.specs.declared.fault.LoadFault.TheVariants.{Read, TooLong, Meta, Text, Rule, NoMemory}
 
--- A fault of the metadata. No metadata are refused for want of memory: that answer is a call's alone, here and below.
+-- A fault of the metadata. No metadata are refused because memory ran out: that answer is a call's alone, here and below.
 abbrev pub of_metadata : MetaFault → LoadFault
 of_metadata meta_faults.NoMemory = NoMemory
 of_metadata fault = Meta fault
@@ -29,13 +29,13 @@ abbrev pub of_rule : List (List ℕ) → RuleFault → LoadFault
 of_rule names (rule_faults.At number line cause) = Rule (name_numbered names number) line cause
 of_rule names rule_faults.NoMemory = NoMemory
 
--- a failed read of the file, or want of memory
+-- a failed read of the file, or `NoMemory`
 abbrev pub IsReadOf : List ℕ → LoadFault → Type 0
 IsReadOf name (Read file) = file ≡ name
 IsReadOf name NoMemory = Unit {0}
 IsReadOf name fault = ⊥
 
--- the file is too long, or want of memory
+-- the file is too long, or `NoMemory`
 abbrev pub IsTooLongOf : List ℕ → LoadFault → Type 0
 IsTooLongOf name (TooLong file) = file ≡ name
 IsTooLongOf name NoMemory = Unit {0}

@@ -8,7 +8,7 @@ use Rattle.config_load.specs.Reading.{Reading, Reads, Refuses, Misses, Unknown}
 use Rattle.config_load.specs.declared.fault.LoadFault.{LoadFault}
 use Rattle.config_load.specs.declared.fault.LoadFault.TheVariants.{Read, NoMemory}
 
--- what is told, but of this file nothing
+-- what is told, but for this file, of which nothing is told
 abbrev pub without : List ℕ → FilesTold → List ℕ → Told
 without file told name = if pointwise nat_eq name file then Untold else told name
 
@@ -25,7 +25,7 @@ ReadingComesTo meta told file = Comes (conf meta) told file
 abbrev pub NoReadFailed : List ℕ → FilesTold → (List ℕ → ℕ) → (List ℕ → ℕ) → Type 0
 NoReadFailed meta told before after = (file : List ℕ) → ReadingComesTo meta told file → Rose (before file) (after file) → ⊥
 
--- an answer is what the reading gives: what was read, or the refusal; a failed read and want of memory are free
+-- an answer is what the reading gives: what was read, or the refusal; a failed read and `NoMemory` are free
 abbrev pub Gives : {T : Type 0} → Reading T → Result T LoadFault → Type 0
 Gives reading (Ok value) = reading ≡ Reads value
 Gives reading (Err (Read file)) = Unit {0}
@@ -47,14 +47,14 @@ IsSteady reading =
     (told later : FilesTold) → StaysTold told later
     → (reading later ≡ reading told) ⊎ ((name : List ℕ) × (reading told ≡ Unknown name) × (told name ≡ Untold) × (later name ≢ Untold))
 
--- a failed read, or want of memory
+-- a failed read, or `NoMemory`
 abbrev pub IsReadFault : {T : Type 0} → Result T LoadFault → Type 0
 IsReadFault (Ok value) = ⊥
 IsReadFault (Err (Read file)) = Unit {0}
 IsReadFault (Err NoMemory) = Unit {0}
 IsReadFault (Err fault) = ⊥
 
--- where no read failed, the answer to a reading, or want of memory
+-- where no read failed, the answer to a reading, or `NoMemory`
 abbrev pub IsWhole : {T : Type 0} → Reading T → Result T LoadFault → Type 0
 IsWhole (Reads value) result = (result ≡ Ok value) ⊎ (result ≡ Err NoMemory)
 IsWhole (Refuses fault) result = (result ≡ Err fault) ⊎ (result ≡ Err NoMemory)

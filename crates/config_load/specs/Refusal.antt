@@ -1,4 +1,4 @@
--- Refusals: the file, the line in it (or 0), and the code. Of a failed read and of want of memory nothing is said here:
+-- Refusals: the file, the line in it (or 0), and the code. Of a failed read and of `NoMemory` nothing is said here:
 -- they are no refusals, and what stands below for them is never printed.
 use Rattle.std.specs.Prelude.{ℕ, List, ◌++◌, codes, decimal}
 use Rattle.master_read.specs.Codes.{text_code}

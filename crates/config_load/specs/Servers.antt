@@ -12,7 +12,7 @@ abbrev pub has_zone : Labels → Labels → List Server → Bool
 has_zone name origin servers =
     list_any (λ server. name_eq name server.name && list_any (λ zone. name_eq origin zone.origin) server.zones) servers
 
--- one zone more: behind the other zones of the server of this name, or at a server behind the others
+-- the servers with one zone more: behind the other zones of the server of this name, or at a server behind the others
 abbrev pub with_zone : Labels → Zone → List Server → List Server
 with_zone name zone [] = record { name = name; zones = zone ∷ [] } ∷ []
 with_zone name zone (server ∷ servers) =

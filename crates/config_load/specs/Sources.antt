@@ -6,7 +6,8 @@ use Rattle.config_load.specs.Faults.{FailedAt}
 use Rattle.config_load.specs.Follows.{ByTold, OpensWhereItComes, Answers}
 use Rattle.config_load.specs.declared.fault.LoadFault.{LoadFault}
 
--- this file alone was read: what was told stays told, of every other name the same is told, and no count fell
+-- only the file of this name was read: what was told stays told, what is told of every other name is the same, and no
+-- count fell
 pub record ReadsOnly (name : List ℕ) (told told' : FilesTold) (counts counts' : List ℕ → ℕ) : Type 0 where
   pub stays : StaysTold told told'
   pub others : SameElsewhere name told told'

@@ -21,8 +21,8 @@ const MOST_OCTETS: usize = 16_777_216;
 /// How many octets a read asks for.
 const PIECE: usize = 4_096;
 
-/// The octets of the file of this name, which is opened as it stands and read to its end. It is `TooLong` where the file has
-/// more than 16,777,216 octets.
+/// The octets of the file of this name, which is opened as it stands and read to its end. It is `TooLong` where the
+/// file has more than 16,777,216 octets.
 pub fn read_file<F: Files>(alloc: Global, files: &mut F, name: &str) -> Result<List<u8>, LoadFault>
     // What it answers is what the file gives, by what is told of it after the call and by whatever tells more.
     ensures gives { Gives (file_octets name.now (F.told files.new)) result }

@@ -8,7 +8,8 @@ ghost use Rattle.config_load.specs.Reading.{Refuses, file_octets};
 
 use crate::fault::LoadFault;
 
-/// Files are refused for what they say, never for a failed read or for want of memory: those answers are a call's alone.
+/// Files are refused for what they say, never for a failed read or because memory ran out: those answers are a call's
+/// alone.
 pub fn files_want_nothing()
     ensures read { (meta : List ℕ) (told : FilesTold) (file : List ℕ) → conf meta told ≢ Refuses (LoadFault.Read file) }
     ensures memory { (meta : List ℕ) (told : FilesTold) → conf meta told ≢ Refuses LoadFault.NoMemory }

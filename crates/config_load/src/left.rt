@@ -21,7 +21,7 @@ impl Left {
         }
     }
 
-    /// What a zone leaves with so many record entries and included files.
+    /// What a zone leaves with this many record entries and included files.
     pub fn behind(self, seen: u32, included: u32) -> Left
         ensures { result ≡ record { records = self.records - seen; includes = self.includes - included } }
     {

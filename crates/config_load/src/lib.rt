@@ -5,9 +5,9 @@
 //! after the call. A configuration, and each refusal with its file, line and code, is the one that the files give; a
 //! failed read is of a file whose count of failures rose, and the reading comes to that file before any refusal. No
 //! other file is opened than those to which the reading comes. What a source tells from the start is the same before
-//! and after, so of such a source the same holds of what it told before. What was answered holds by whatever is told later
-//! (`readings_stay`): so readings may follow one another. `load_with_files` gives the names of files beside a configuration,
-//! which is the one that `load` gives (`rows_tell_files`).
+//! and after, so of such a source the same holds of what it told before. What was answered holds by whatever is told
+//! later (`readings_stay`): so readings may follow one another. `load_with_files` gives the names of files beside a
+//! configuration, which is the one that `load` gives (`rows_tell_files`).
 //!
 //! Costs: each file is read once for each row or `$INCLUDE` that names it, in pieces of 4,096 octets, and a zone file
 //! without `$INCLUDE` is never held whole. No record is copied. A row's server is found, and a zone that its server

@@ -51,8 +51,8 @@ pub fn load<F: Files>(alloc: Global, files: &mut F, meta: &str) -> Result<Config
     read_config(alloc, files, meta)
 }
 
-/// What `load` gives, and with it the rows of the metadata, in order, each with the names of its zone's files. No file is read
-/// a second time.
+/// What `load` gives, and with it the rows of the metadata, in order, each with the names of its zone's files. No file
+/// is read a second time.
 pub fn load_with_files<F: Files>(
     alloc: Global,
     files: &mut F,

@@ -20,7 +20,7 @@ use Rattle.delegation_checks.specs.declared.referrals.Met.{Met}
 abbrev pub is_met : Met → (Cut × Option Leaf) × RrType
 is_met met = ((met.cut.now, option_copied met.end), met.rtype)
 
--- their order: by the name server of the cut, then by the type
+-- the order of referrals that are met: by the name server of the cut, then by the type
 abbrev pub met_cmp : Met → Met → Ordering
 met_cmp a b = ordering_then (cut_cmp a.cut.now b.cut.now) (nat_cmp (number_of a.rtype) (number_of b.rtype))
 

@@ -1,4 +1,4 @@
--- No text's name is refused for want of memory.
+-- No text's name is refused because memory ran out.
 use Rattle.std.proofs.Common.{◌≡◌, ℕ, List, [], ◌∷◌, ◌++◌, length, reverse, cond, eqb, leb, nat_eq, codes, Result, Ok, Err}
 use Rattle.std.specs.Result.{IfErr}
 use lib.Pointwise.{pointwise}

@@ -9,6 +9,6 @@ distinct_behind eq before (item ∷ items) =
     if list_any (eq item) before then distinct_behind eq (before ++ item ∷ []) items
     else item ∷ distinct_behind eq (before ++ item ∷ []) items
 
--- of equal items the first
+-- the list without the items that equal an earlier one
 abbrev pub distinct : {A : Type 0} → (A → A → Bool) → List A → List A
 distinct eq items = distinct_behind eq [] items

@@ -9,7 +9,7 @@ unfoldable pub encoded : Labels → List ℕ
 encoded [] = []
 encoded (label ∷ labels) = length label ∷ (label ++ encoded labels)
 
--- so many labels of the octets
+-- the first labels, at most this many, that the octets spell
 unfoldable pub labels_in : ℕ → List ℕ → Labels
 labels_in zero octets = []
 labels_in (suc n) [] = []

@@ -2,13 +2,13 @@
 use Rattle.std.specs.Prelude.{Bool, not, List, [], ◌∷◌, ◌++◌, if◌then◌else◌}
 use Rattle.std.specs.List.{list_any}
 
--- of each item whether none equals it of those that came before
+-- for each item, whether it equals none of the given items and none before it
 abbrev pub are_first_behind : {A : Type 0} → (A → A → Bool) → List A → List A → List Bool
 are_first_behind eq before [] = []
 are_first_behind eq before (item ∷ items) =
     not (list_any (eq item) before) ∷ are_first_behind eq (before ++ item ∷ []) items
 
--- of each item whether none before it equals it
+-- for each item, whether it equals none before it
 abbrev pub are_first : {A : Type 0} → (A → A → Bool) → List A → List Bool
 are_first eq items = are_first_behind eq [] items
 

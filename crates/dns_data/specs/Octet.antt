@@ -2,15 +2,15 @@
 use Rattle.std.specs.Prelude.{ℕ, ◌+◌, ◌-◌, ◌*◌, ◌/◌, ◌%◌, Bool, ◌&&◌, nat_eq, nat_le, List, [], ◌∷◌, map, if◌then◌else◌}
 use lib.Pointwise.{pointwise}
 
--- A to Z
+-- the octet is a letter A to Z
 abbrev pub is_upper : ℕ → Bool
 is_upper octet = nat_le 65 octet && nat_le octet 90
 
--- a to z
+-- the octet is a letter a to z
 abbrev pub is_lower : ℕ → Bool
 is_lower octet = nat_le 97 octet && nat_le octet 122
 
--- 0 to 9
+-- the octet is a digit 0 to 9
 abbrev pub is_digit : ℕ → Bool
 is_digit octet = nat_le 48 octet && nat_le octet 57
 

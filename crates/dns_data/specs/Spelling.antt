@@ -29,6 +29,7 @@ abbrev mutual
   second_digit a [] = Broken ∷ []
   second_digit a (b ∷ cs) = third_digit a b cs
 
+  -- after a backslash and two digits: a third digit, with which they make a number up to 255, or nothing is spelt
   pub third_digit : ℕ → ℕ → List ℕ → List Sign
   third_digit a b [] = Broken ∷ []
   third_digit a b (c ∷ cs) =

@@ -29,7 +29,7 @@ pub(crate) fn common_octets(left: &[u8], right: &[u8]) -> usize
     last + common_of_eight(left, right, last)
 }
 
-/// How many octets both begin with, of which the shorter has so many.
+/// How many octets both begin with, of which the shorter has this many.
 fn common_of_few(left: &[u8], right: &[u8], both: usize) -> usize
     requires { both ≡ min (length left.now) (length right.now) }
     ensures { result ≡ common_prefix_len nat_eq left.now right.now }

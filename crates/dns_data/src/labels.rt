@@ -44,7 +44,7 @@ impl<'a> Labels<'a> {
         self.octets
     }
 
-    /// The same labels. It takes no memory.
+    /// A copy of the labels. It takes no memory.
     pub fn copy(&self) -> Labels<'a>
         ensures { result ≡ self.now }
     {
@@ -98,7 +98,7 @@ impl<'a> Labels<'a> {
         Some((label, rest))
     }
 
-    /// The first so many labels, or all where there are fewer.
+    /// The first labels, as many as asked for, or all if there are fewer.
     pub fn front(&self, count: usize) -> Labels<'a>
         ensures { result ≡ take count self.now }
     {

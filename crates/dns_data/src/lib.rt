@@ -1,5 +1,5 @@
 //! Domain names, record types and record data, and the small types that stand for a list, a text
-//! and want of memory in the plain values of every crate above.
+//! and `NoMemory` in the plain values of every crate above.
 #![tactic(auto)]
 
 mod common;

@@ -12,7 +12,7 @@ use std::cmp::Ordering;
 use std::marker::Model;
 use std::slice;
 
-/// Items in order.
+/// Items in order. Contracts see it as a list.
 #[derive(Debug, Drop)]
 pub struct List<T> {
     items: Vec<T>,

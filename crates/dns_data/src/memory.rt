@@ -1,4 +1,4 @@
-//! Want of memory.
+//! `NoMemory`.
 
 use std::alloc::{AllocError, AllocFailed};
 use thiserror::Error;

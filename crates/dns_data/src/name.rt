@@ -56,7 +56,7 @@ impl Name {
         Labels::of(self.octets.items())
     }
 
-    /// The first so many labels, or all where there are fewer.
+    /// The first labels, as many as asked for, or all if there are fewer.
     pub fn front(&self, count: usize) -> Labels<'_>
         ensures { result ≡ take count self.now }
     {

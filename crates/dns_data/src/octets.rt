@@ -48,7 +48,7 @@ impl Octets {
         }
     }
 
-    /// No octets, with room for at least so many.
+    /// No octets, with room for at least this many.
     pub fn with_capacity(alloc: Global, capacity: usize) -> Result<Octets, NoMemory>
         ensures { IfOk result (λ octets. octets ≡ []) }
     {
@@ -60,7 +60,7 @@ impl Octets {
         })
     }
 
-    /// These octets.
+    /// A copy of the octets.
     pub fn from_octets(alloc: Global, octets: &[u8]) -> Result<Octets, NoMemory>
         ensures { IfOk result (λ copy. copy ≡ octets.now) }
     {
@@ -181,7 +181,7 @@ impl Octets {
         Ok(both)
     }
 
-    /// Keeps the first octets, at most so many.
+    /// Keeps the first octets, at most this many.
     pub fn truncate(&mut self, len: usize)
         ensures { self.new ≡ take len self.old }
     {

@@ -61,7 +61,7 @@ impl Short {
         self.count = end as u8;
     }
 
-    /// Keeps the first octets, at most so many.
+    /// Keeps the first octets, at most this many.
     pub(crate) fn truncate(&mut self, len: usize)
         ensures { self.new ≡ take len self.old }
     {

@@ -19,6 +19,7 @@ use Rattle.drill_laws.proofs.Parts.{IsPart, number_of, number_part, both_parts}
 abbrev pub address_text : ℕ → ℕ → ℕ → List ℕ
 address_text network high low = codes "10." ++ decimal network ++ codes "." ++ decimal high ++ codes "." ++ decimal low
 
+-- the four octets of an address whose first octet is 10
 abbrev pub address_of : ℕ → ℕ → ℕ → List ℕ
 address_of network high low = 10 ∷ network ∷ high ∷ low ∷ []
 

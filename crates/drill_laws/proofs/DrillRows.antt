@@ -18,6 +18,7 @@ use Rattle.drill_laws.proofs.Addresses.{address_text, address_of, address_reads,
 
 -- ---- the rows
 
+-- the NS record of a zone, at its own name
 abbrev pub delegation_row : List ℕ → Row
 delegation_row number = record {
   owner_text = zone_name_text number;
@@ -39,6 +40,7 @@ address_row host network i = record {
   rdata = A (address_of network (i / 256) (i % 256));
 }
 
+-- the SOA record of a zone
 abbrev pub soa_row : List ℕ → Row
 soa_row number = record {
   owner_text = zone_name_text number;
@@ -60,6 +62,7 @@ alias_row host number target other = record {
   rdata = Cname (host_name target other);
 }
 
+-- the SOA record of the root zone
 abbrev pub root_soa : Row
 root_soa = record {
   owner_text = codes ".";
@@ -70,6 +73,7 @@ root_soa = record {
   rdata = Soa (codes "top" ∷ codes "a" ∷ []) (codes "top" ∷ codes "h" ∷ []) 1 2 3 4 5;
 }
 
+-- the NS record of the root zone
 abbrev pub root_ns : Row
 root_ns = record {
   owner_text = codes ".";
@@ -84,6 +88,7 @@ root_ns = record {
 abbrev pub referral_rows : ℕ → List Row
 referral_rows i = delegation_row (decimal i) ∷ address_row (codes "ns") 0 i ∷ []
 
+-- the records of the root zone of a drill with so many zones
 abbrev pub root_rows : ℕ → List Row
 root_rows n = root_soa ∷ root_ns ∷ flat_map referral_rows (zone_numbers n)
 

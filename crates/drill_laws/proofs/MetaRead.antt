@@ -25,9 +25,11 @@ use Rattle.drill_laws.proofs.MetaValue.{server_text, row_value, root_value, row_
 abbrev pub zone_row : ℕ → MetaRow
 zone_row i = record { file = zone_file i; server = host_name (codes "ns") (decimal i); origin = None }
 
+-- the name of the top server, a.top.
 abbrev pub top : Labels
 top = codes "top" ∷ codes "a" ∷ []
 
+-- the metadata's row of the root zone
 abbrev pub root_row : MetaRow
 root_row = record { file = codes "root.zone"; server = top; origin = None }
 

@@ -27,12 +27,15 @@ use Rattle.drill_laws.proofs.Parts.{number_of}
 abbrev pub server_text : ℕ → List ℕ
 server_text i = codes "ns.z" ++ decimal i ++ codes "."
 
+-- the JSON value of a zone's row
 abbrev pub row_value : ℕ → Data
 row_value i = object (member (codes "FileName") (string (zone_file i)) (member (codes "NameServer") (string (server_text i)) no_members))
 
+-- the JSON value of the root zone's row
 abbrev pub root_value : Data
 root_value = object (member (codes "FileName") (string (codes "root.zone")) (member (codes "NameServer") (string (codes "a.top.")) no_members))
 
+-- the JSON values of the rows of these zones
 abbrev pub row_items : List ℕ → Items
 row_items [] = no_items
 row_items (i ∷ numbers) = item (row_value i) (row_items numbers)
@@ -40,6 +43,7 @@ row_items (i ∷ numbers) = item (row_value i) (row_items numbers)
 abbrev tops_value : Data
 tops_value = array (item (string (codes "a.top.")) no_items)
 
+-- the JSON value of the metadata of a drill with so many zones
 abbrev pub meta_value : ℕ → Data
 meta_value n = object (member (codes "TopNameServers") tops_value (member (codes "ZoneFiles") (array (item root_value (row_items (zone_numbers n)))) no_members))
 

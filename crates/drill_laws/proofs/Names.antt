@@ -13,17 +13,19 @@ use Rattle.drill_laws.proofs.Parts.{IsNumber, IsPart, digits_text, digits_of_lab
 abbrev pub zone_label : List ℕ → List ℕ
 zone_label number = 122 ∷ number
 
--- the zone's name, and that of a host in it
+-- the name of the zone with this number
 abbrev pub zone_name : List ℕ → Labels
 zone_name number = zone_label number ∷ []
 
+-- the name of a host in the zone with this number
 abbrev pub host_name : List ℕ → List ℕ → Labels
 host_name host number = zone_label number ∷ host ∷ []
 
--- their texts
+-- the text of the zone's name
 abbrev pub zone_name_text : List ℕ → List ℕ
 zone_name_text number = 122 ∷ (number ++ 46 ∷ [])
 
+-- the text of the name of a host
 abbrev pub host_name_text : List ℕ → List ℕ → List ℕ
 host_name_text host number = host ++ 46 ∷ zone_name_text number
 

@@ -15,7 +15,7 @@ module _ {T : Type 0} (fault_of : T → Fault) (rank : T → T → Ordering) whe
     pub fault_is : fault_of by ≡ fault_of item
     pub not_later : rank item by ≢ Less
 
-  -- of each fault of a list the first item, in fault order
+  -- the first item of each fault in a list, in fault order
   pub record AreFirsts (all first : List T) : Type 0 where
     pub ordered : AllPairs (λ a b. fault_cmp (fault_of a) (fault_of b) ≡ Less) first
     pub from : (item : T) → Contains first item → Contains all item

@@ -176,7 +176,7 @@ AreBarren shows graph rtype met =
 
 -- ---- its walk
 
--- it is the walk of the first path
+-- the walk is that of the first path
 abbrev pub IsFirstWalk : (State → Branch → Bool) → PlainGraph → RrType → Walk → Type 0
 IsFirstWalk shows graph rtype walk =
     (numbers : List ℕ) × IsFirstAlong shows graph rtype numbers × (path_along graph rtype numbers ≡ Some walk)

@@ -37,12 +37,12 @@ pub record Subject : Type 0 where
 abbrev pub is_same_place : State → State → Bool
 is_same_place a b = name_eq a.server b.server && name_eq a.name b.name
 
--- two of the states are
+-- two of the states are at one server with one name
 abbrev pub repeats : List State → Bool
 repeats [] = false
 repeats (state ∷ states) = list_any (is_same_place state) states || repeats states
 
--- it is a class of the tree, at or below the name: of a name that is named
+-- the class is one of the subject's part of the class tree: it goes by a named name at or below the subject's name
 abbrev pub IsClass : Subject → Class → Type 0
 IsClass subject class = IsInPart subject.ground subject.below (class_name class)
 
@@ -93,7 +93,7 @@ pub record IsTreeSize (ground : Ground) (above : Labels) (names classes : ℕ) :
   pub counts_names : names ≡ length part
   pub counts_classes : classes ≡ length part + length below
 
--- it is the report
+-- the report is that of the subject
 pub record IsReport (subject : Subject) (report : Report) : Type 0 where
   pub size : IsTreeSize subject.ground subject.below report.names report.classes
   pub limit : report.rewrites ≡ subject.rewrites

@@ -39,7 +39,7 @@ ZonesShow setting (faults.Cyclic cut) = DependsOnItself setting cut
 ZonesShow setting (faults.NoAddress cut) = setting.in_greatest cut.ns → ⊥
 ZonesShow setting fault = Unit {0}
 
--- these paths of the graph are the walks, and show the fault by themselves
+-- the walks are those along these paths of the graph, and show by themselves what the fault takes of walks
 pub record PathsTake (graph : PlainGraph) (rtype : RrType) (fault : Fault) (paths : List (List ℕ)) (walks : List Walk) : Type 0 where
   pub are_paths : map (path_along graph rtype) paths ≡ map Some walks
   pub take : WalksTake walks fault

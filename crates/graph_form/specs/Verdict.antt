@@ -25,7 +25,7 @@ pub record IsCovered (shown : List Seen) (seen : Seen) : Type 0 where
   pub fault_is : by.fault ≡ seen.fault
   pub not_later : number_of by.rtype ≤ number_of seen.rtype
 
--- of each fault of a list the first type, in fault order
+-- the first type of each fault in a list, in fault order
 pub record AreFirstTypes (all first : List Seen) : Type 0 where
   pub ordered : AllPairs (λ a b. fault_cmp a.fault b.fault ≡ Less) first
   pub from : (seen : Seen) → Contains first seen → Contains all seen

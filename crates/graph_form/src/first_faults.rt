@@ -29,7 +29,7 @@ pub trait OfFault {
     ghost total: { IsTotalOrder rank };
 }
 
-/// Of each fault the first item, in fault order. The list is sorted and then passed over once.
+/// The first item of each fault, in fault order. The list is sorted and then passed over once.
 pub fn first_of_each<T: OfFault + Drop>(alloc: Global, items: List<T>) -> Result<List<T>, NoMemory>
     ensures { IfOk result (AreFirsts T.fault_of T.rank items) }
 {

@@ -30,8 +30,8 @@ pub fn walks_and_zones_show()
         → WalksShow (with_lists setting least greatest) walks fault ↔ (WalksTake walks fault × ZonesShow (with_lists setting least greatest) fault) }
 {}
 
-/// Where all configured servers are followed, and each pair of a graph is reached, the pairs of a graph of a query are those
-/// that the query reaches, each once.
+/// Where all configured servers are followed, and each pair of a graph is reached, the pairs of a graph of a query are
+/// those that the query reaches, each once.
 pub fn pairs_are_reached()
     ensures { (config : Config) (rewrites : ℕ) (query : Labels) (graph : PlainGraph)
         → IsGraphOf (following config rewrites (server_names config)) query graph → IsExact config rewrites query graph

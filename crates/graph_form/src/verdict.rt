@@ -29,7 +29,7 @@ impl OfFault for Seen {
     ghost total = { on_total (λ seen. number_of seen.rtype) nat_cmp_total };
 }
 
-/// Of each fault the first type with which it is seen, in fault order.
+/// The first type with which each fault is seen, in fault order.
 pub fn first_types(alloc: Global, seen: List<Seen>) -> Result<List<Seen>, NoMemory>
     ensures { IfOk result (AreFirstTypes seen) }
 {

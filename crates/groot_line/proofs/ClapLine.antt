@@ -19,9 +19,11 @@ use Rattle.groot_line.specs.declared.line_option.LineOption.TheVariants as optio
 abbrev pub option_built : LineOption → Rule
 option_built o = filled (option_rule o)
 
+-- the rule of the operands, as clap builds it
 abbrev pub operands_built : Rule
 operands_built = with_index 1 (filled operands_rule)
 
+-- the rules of a command's options and operands, in the order in which they are built
 abbrev pub rules : Command → List Rule
 rules Check = option_built options.Workers ∷ option_built options.Classes ∷ option_built options.Rewrites ∷ operands_built ∷ []
 rules Ask = operands_built ∷ []

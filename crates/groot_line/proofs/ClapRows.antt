@@ -69,6 +69,7 @@ without_absent id (r ∷ rows) e = by (without_absent id rows) (bytes_eq r.id id
 
 -- ---- what rows say of arguments
 
+-- the rows have the value of each option of the arguments that has one, and their operands
 pub record Says (rows : List Row) (a : Arguments) : Type 0 where
   pub of_option : (o : LineOption) → all_of (option_name o) rows ≡ option_map (λ v. v ∷ []) (value_given o a)
   pub of_operands : unwrap_or (all_of (codes "operands") rows) [] ≡ a.operands

@@ -19,6 +19,7 @@ use Rattle.groot_line.proofs.ClapLine.{by_index, by_option, line_shape, operands
 abbrev pub held_at : List Row → Option (Text × List Text) → Held
 held_at rows pending = record { rows = rows; pending = pending; skip = 0 }
 
+-- the walk between two words, with these rows and the pending values
 abbrev pub walk_at : List Row → Option (Text × List Text) → Waiting → Walk
 walk_at rows pending waiting = record { held = held_at rows pending; waiting = waiting; position = 1; is_trailing = false; stopped = None }
 

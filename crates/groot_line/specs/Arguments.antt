@@ -30,22 +30,22 @@ value_given Workers arguments = arguments.workers
 value_given Classes arguments = arguments.classes
 value_given Rewrites arguments = arguments.rewrites
 
--- with a value for an option, which is no longer awaited
+-- the arguments with a value for an option, which is no longer awaited
 abbrev pub with_option_value : LineOption → List ℕ → Arguments → Arguments
 with_option_value Workers value arguments = record arguments { workers = Some value; awaited = None }
 with_option_value Classes value arguments = record arguments { classes = Some value; awaited = None }
 with_option_value Rewrites value arguments = record arguments { rewrites = Some value; awaited = None }
 
--- with a value for an option, which stands at most once
+-- the arguments with a value for an option, unless it has one already
 abbrev pub with_value : LineOption → List ℕ → Arguments → Result Arguments LineFault
 with_value option value arguments =
     if is_some (value_given option arguments) then Err Usage else Ok (with_option_value option value arguments)
 
--- with an option whose value the next word is
+-- the arguments with an option whose value the next word is
 abbrev pub awaiting : LineOption → Arguments → Arguments
 awaiting option arguments = record arguments { awaited = Some option }
 
--- with an operand more
+-- the arguments with an operand more
 abbrev pub with_operand : List ℕ → Arguments → Arguments
 with_operand word arguments = record arguments { operands = arguments.operands ++ word ∷ [] }
 

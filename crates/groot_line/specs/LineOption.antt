@@ -33,6 +33,6 @@ default_of Workers = 4
 default_of Classes = usual_names
 default_of Rewrites = usual_rewrites
 
--- the options
+-- the options of the command line
 abbrev pub line_options : List LineOption
 line_options = Workers ∷ Classes ∷ Rewrites ∷ []

@@ -13,7 +13,7 @@ use Rattle.groot_line.specs.declared.fault.LineFault.TheVariants.{Usage, NoMemor
 abbrev pub is_in_form : List ℕ → Bool
 is_in_form word = not (is_dashed word) || is_some (long_of word)
 
--- every refusal but want of memory is that of the words
+-- every refusal but `NoMemory` is that of the words
 abbrev pub refusal_by : ErrorKind → LineFault
 refusal_by OutOfMemory = NoMemory
 refusal_by kind = Usage

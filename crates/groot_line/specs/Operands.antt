@@ -38,7 +38,7 @@ asked_type word = ok_or (type_of_word word) Usage
 abbrev pub most_zones : ℕ
 most_zones = 5000
 
--- of how many zones a drill makes files, if the word for it is the only operand
+-- the number of zones of a drill, if the word for it is the only operand
 abbrev pub drill_number : List (List ℕ) → Result ℕ LineFault
 drill_number (word ∷ []) = ok_or (number_to most_zones word) Usage
 drill_number operands = Err Usage

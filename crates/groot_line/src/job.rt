@@ -35,7 +35,7 @@ pub enum Job {
         meta: Text,
         classes: u32,
     },
-    /// The report of so many zones that are made for it.
+    /// The report of this many zones that are made for it.
     Drill {
         n: u32,
         workers: u32,

@@ -3,8 +3,8 @@
 //! The layer above may rest on this: what `read_words` answers is what the definition `job_of` says of the words: the
 //! job that they ask for, and `Usage` for all words that the format doesn't have.
 //!
-//! Costs: `clap` is told the command and its options in each call, and goes over the words once; what a job keeps of them is
-//! copied.
+//! Costs: `clap` is told the command and its options in each call, and goes over the words once; what a job keeps of
+//! them is copied.
 #![tactic(auto)]
 
 mod arguments;

@@ -65,7 +65,7 @@ pub(crate) fn asked_type(word: &str) -> Result<RrType, LineFault>
     }
 }
 
-/// Of how many zones a drill makes files, if the word for it is the only operand.
+/// The number of zones of a drill, if the word for it is the only operand.
 pub(crate) fn drill_number(operands: &[&str]) -> Result<u32, LineFault>
     ensures { result ≡ drill_number (map (λ word. word.now) operands.now) }
 {

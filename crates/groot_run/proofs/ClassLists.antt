@@ -38,12 +38,15 @@ lists_classes config limit rows viewed ending is are few lists =
 -- ---- the class tree of a graph with the configuration's ground
 
 module _ (config : Config) (graph : Ground) (same : AreSame graph (ground_of config)) where
+  -- classes that are listed for the graph are listed for the configuration's ground
   pub are_listed : (rows : List ClassRow) → AreListed graph [] (classes_of_rows rows) → AreListed (ground_of config) [] (classes_of_rows rows)
   are_listed rows are = listed_same graph (ground_of config) same [] (classes_of_rows rows) are
 
+  -- if the graph's tree has more names than the limit, the configuration's has more
   pub has_more : (limit : ℕ) → HasMoreThan (IsInPart graph []) limit → HasMoreNames config limit
   has_more limit more = (more_in_whole (ground_of config) limit).0 (more_same graph (ground_of config) same [] limit more)
 
+  -- if the graph's tree has no more names than the limit, the configuration's has no more
   pub has_no_more : (limit : ℕ) → (HasMoreThan (IsInPart graph []) limit → ⊥) → HasMoreNames config limit → ⊥
   has_no_more limit few more =
       few (more_same (ground_of config) graph (same_back graph (ground_of config) same) [] limit ((more_in_whole (ground_of config) limit).1 more))

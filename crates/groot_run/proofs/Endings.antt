@@ -170,7 +170,7 @@ module _ (told : FilesTold) (said : Result Job LineFault) (sites : List Site) (b
       by (inr (inl (file, is, comes, rose))) = subst Tells (sym is) ((comes, rose), refl)
       by (inr (inr is)) = subst Tells (sym is) refl
 
-    -- where no read of a job's files failed, its run has the job's outcome, or ends for want of memory
+    -- where no read of a job's files failed, its run has the job's outcome, or ends because memory ran out
     pub complete : NoJobReadFailed told said before after → Outcome told said sites ending ⊎ (ending ≡ no_memory)
     complete none = by ends where
       by : JobEnds told said sites before after ending → Outcome told said sites ending ⊎ (ending ≡ no_memory)
@@ -178,7 +178,7 @@ module _ (told : FilesTold) (said : Result Job LineFault) (sites : List Site) (b
       by (inr (inl (file, is, comes, rose))) = absurd (none file comes rose)
       by (inr (inr is)) = inr is
 
-    -- where no read failed, the check of a configuration that was read ends as such checks do, or for want of memory
+    -- where no read failed, the check of a configuration that was read ends as such checks do, or because memory ran out
     pub headline : (meta : List ℕ) (workers classes rewrites : ℕ) (config : Config)
         → said ≡ Ok (jobs.Check meta workers classes rewrites) → conf meta told ≡ Reads config → NoReadFailed meta told before after
         → Checks classes rewrites config ending ⊎ (ending ≡ no_memory)
@@ -190,7 +190,7 @@ module _ (told : FilesTold) (said : Result Job LineFault) (sites : List Site) (b
               (subst (λ (other : Result Job LineFault). Outcome told other sites ending) is outcome))
           by (inr ran_out) = inr ran_out
 
-    -- a job's run has the job's outcome, or ends for an unread file or want of memory
+    -- a job's run has the job's outcome, or ends for an unread file or `NoMemory`
     pub cause : IsEnding told said sites ending
     cause = by ends where
       by : JobEnds told said sites before after ending → IsEnding told said sites ending

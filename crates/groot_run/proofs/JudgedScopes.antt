@@ -115,7 +115,7 @@ module _ (config : Config) (name : Labels) (rewrites states : ℕ) (rewrites_are
       queries_are ∙ ap (λ (k : ℕ). limited_to config k states) (sym rewrites_are) ∙ ap (λ (n : ℕ). limited_to config scope_rewrites n) (sym states_are) in
       subst (λ (q : LimitedQueries). P q (classes_of_rows listed)) same (subst (λ (rs : List ClassRow). P queries (classes_of_rows rs)) rows_are is)
 
-  -- no run ends among the classes but for want of memory
+  -- no run ends among the classes unless memory ran out
   pub ran_out_among : (ending : Ending) → EndsAmong queries (classes_of_rows rows) ending → ending ≡ no_memory
   ran_out_among ending ends = by (of_listed (λ q classes. EndsAmong q classes ending) ends) where
     by : EndsAmong (queries_of (scope_of config name) most_states) (classes_of_rows listed) ending → ending ≡ no_memory
@@ -127,6 +127,7 @@ module _ (config : Config) (name : Labels) (rewrites states : ℕ) (rewrites_are
   -- checks that were shown the classes tell what they mean of them
   module _ {B : Type 0} (site_name : B → List ℕ) (held : B → List (List ℕ)) (step : B → List (List ℕ) → View → List (List ℕ)) (before after asked : List B)
       (asked_are : asked ≡ after) where
+    -- the ending with the report and what the checks then hold is that of the scope, or memory ran out
     pub is_scoped : AreShown site_name held step queries (classes_of_rows rows) before after
         → (report : Report) → IsReport (scope_of config name) report → (ending : Ending)
         → (ending ≡ with_told report name (map (λ b. record { title = site_name b; findings = held b }) asked)) ⊎ (ending ≡ no_memory)

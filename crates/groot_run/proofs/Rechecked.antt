@@ -15,7 +15,7 @@ use Rattle.groot_run.specs.JobEnds.{EndsOrFails, IsNotLoaded}
 use Rattle.groot_run.specs.Outcome.{answered_to, IsRechecked, OfReading, no_memory}
 use Rattle.groot_run.specs.declared.ending.Ending.{Ending}
 
--- what is said of entries is no want of memory
+-- what is said of entries is no `NoMemory`
 pub answers : (checked : Checked) → (let answer : Result Checked CheckFault = Ok checked in answer ≢ Err check_faults.NoMemory)
 answers checked e = cc
 

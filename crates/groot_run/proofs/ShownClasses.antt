@@ -25,10 +25,12 @@ use Rattle.groot_run.specs.ShownClasses.{Passes, ServerPasses, NonePasses, exact
 
 -- ---- what follows of an answer
 
+-- what follows from a property of a value follows from that property of an answer
 pub on_ok : {T E P Q : Type 0} (result : Result T E) → (P → Q) → OnOk result P → OnOk result Q
 on_ok (Ok value) follows holds = follows holds
 on_ok (Err fault) follows holds = tt
 
+-- what follows from a property of a fault follows from that property of an answer
 pub if_err : {T E : Type 0} {P Q : E → Type 0} (result : Result T E) → ((fault : E) → P fault → Q fault) → IfErr result P → IfErr result Q
 if_err (Ok value) follows holds = tt
 if_err (Err fault) follows holds = follows fault holds
@@ -149,6 +151,7 @@ module _ (queries : LimitedQueries) where
   pub ends_exact : (row : ClassRow) (ending : Ending) → EndsAmong queries (exact_class row.name ∷ []) ending → EndsAmong queries (classes_of_row row) ending
   ends_exact row ending ends = ends_before (exact_class row.name ∷ []) (class_below row.name row.below) ending ends
 
+  -- an ending among the class below the row's name, if none passes before, is one among the row's classes
   pub ends_below : (row : ClassRow) (representative : Labels) (ending : Ending) → row.below ≡ Some representative
       → NonePasses queries (exact_class row.name ∷ []) → EndsAmong queries (below_class row.name representative ∷ []) ending
       → EndsAmong queries (classes_of_row row) ending
@@ -225,10 +228,12 @@ module _ (queries : LimitedQueries) where
 
     -- ---- of the classes of a row
 
+    -- with its class of one name the whole row was shown, if nothing is below that name
     pub shown_alone : (row : ClassRow) (a b : List B) → row.below ≡ None → AreShown name held step queries (exact_class row.name ∷ []) a b
         → AreShown name held step queries (classes_of_row row) a b
     shown_alone row a b alone shown = subst (λ (below : Option Labels). AreShown name held step queries (exact_class row.name ∷ class_below row.name below) a b) (sym alone) shown
 
+    -- with its class of one name, and then the class below, the whole row was shown
     pub shown_both : (row : ClassRow) (representative : Labels) (a b c : List B) → row.below ≡ Some representative
         → AreShown name held step queries (exact_class row.name ∷ []) a b → AreShown name held step queries (below_class row.name representative ∷ []) b c
         → AreShown name held step queries (classes_of_row row) a c
@@ -238,6 +243,7 @@ module _ (queries : LimitedQueries) where
 
     -- ---- of the classes of rows
 
+    -- once the next row was shown too, the classes of one row more were shown
     pub shown_row : (rows : List ClassRow) (i : ℕ) (row : ClassRow) (a b c : List B) → i < length rows → row ≡ get_or rows i row
         → AreShown name held step queries (classes_of_rows (take i rows)) a b → AreShown name held step queries (classes_of_row row) b c
         → AreShown name held step queries (classes_of_rows (take (i + 1) rows)) a c
@@ -245,6 +251,7 @@ module _ (queries : LimitedQueries) where
         subst (λ (classes : List ListedClass). AreShown name held step queries classes a c) (sym (classes_more rows i row there is))
         (shown_more (classes_of_rows (take i rows)) (classes_of_row row) a b c first next)
 
+    -- once as many rows as there are were shown, the classes of all rows were shown
     pub shown_all : (rows : List ClassRow) (i : ℕ) (a b : List B) → length rows ≤ i → AreShown name held step queries (classes_of_rows (take i rows)) a b
         → AreShown name held step queries (classes_of_rows rows) a b
     shown_all rows i a b past shown = subst (λ (some : List ClassRow). AreShown name held step queries (classes_of_rows some) a b) (take_all i rows past) shown

@@ -73,6 +73,7 @@ module _ (subject : Subject) (states : ℕ) (classes : List ListedClass) (are : 
   pub no_class_passes : NonePasses (queries_of subject states) classes → SomeClassPasses subject states → ⊥
   no_class_passes none (class, query, it) = none (record { class = class; representative = query }) (is_listed class query it) it.passes
 
+  -- the first of the listed classes that passes is the first class of the subject that does
   pub is_first_passed : (query : Labels) → IsFirstOf (queries_of subject states) classes query → IsFirstPassed subject states query
   is_first_passed query found = record { class = found.listed.class; passes = it; first = first } where
     there : Contains classes found.listed
@@ -142,7 +143,7 @@ module _ (queries : LimitedQueries) (same : queries ≡ limited_to queries.confi
         },
       )
 
-  -- at the first representative that passes, or for want of memory
+  -- at the first representative that passes, or because memory ran out
   pub ended : (P : Type 0) (ending : Ending) → EndsAmong queries classes ending → WithinStates queries.config site_rewrites P ending ⊎ (ending ≡ no_memory)
   ended P ending (inl (query, first, is)) =
       inl (inl (query, is_first_passed subject most_states classes are query (limited (λ q. IsFirstOf q classes query) first), is))

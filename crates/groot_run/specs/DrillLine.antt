@@ -12,8 +12,8 @@ zone_records zones = sum_by (λ zone. length zone.rrs) zones
 abbrev pub records_of : List Server → ℕ
 records_of servers = sum_by (λ server. zone_records server.zones) servers
 
--- the line: how many zones were asked for, how many zone files and records there are, how many names the class tree has, and
--- how many faults there are
+-- the line: how many zones were asked for, how many zone files and records there are, how many names the class tree
+-- has, and how many faults there are
 abbrev pub drill_line : ℕ → ℕ → ℕ → ℕ → List ℕ
 drill_line zones records names faults =
     codes "drill " ++ decimal zones ++ codes ": files " ++ decimal (zones + 1) ++ codes ", records " ++ decimal records

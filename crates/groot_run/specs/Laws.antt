@@ -11,8 +11,8 @@ use Rattle.net_model.specs.Tails.{AreTails, WalksAs}
 use Rattle.net_model.specs.Tree.{IsReached, HasMoreThan}
 use Rattle.query_classes.specs.Members.{IsInOneClass}
 
--- With the other tail in its place a query walks as it does with its own, whatever servers are followed, up to the labels of
--- the tails; and it reaches no fewer pairs of state and type.
+-- With the other tail in its place a query walks as it does with its own, whatever servers are followed, up to the
+-- labels of the tails; and it reaches no fewer pairs of state and type.
 pub record WalkAlike (config : Config) (rewrites : ℕ) (above own other : Labels) : Type 0 where
   pub walks : (followed : List Labels) (rtype : RrType) → WalksAs (following config rewrites followed) rtype above own other
   pub reached : (most : ℕ) → HasMoreThan (IsReached config rewrites (above ++ own)) most → HasMoreThan (IsReached config rewrites (above ++ other)) most

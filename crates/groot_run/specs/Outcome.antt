@@ -98,7 +98,7 @@ too_many_names limit = without_output Classes (codes "classes: more than " ++ (d
 abbrev pub most_states : ℕ
 most_states = 100000
 
--- the query reaches more pairs of state and type than are looked at
+-- the ending if the query reaches more pairs of state and type than are looked at
 abbrev pub too_many_states : Labels → Ending
 too_many_states query =
     without_output States (codes "states: more than " ++ (decimal most_states ++ (codes " for " ++ (name_text query ++ codes "\n"))))
@@ -111,7 +111,7 @@ read_failed file = without_output (ReadFault file) (file ++ codes ": read failed
 abbrev pub no_memory : Ending
 no_memory = without_output NoMemory (codes "no memory\n")
 
--- a report
+-- the ending with this report: its text for standard output, and a status that says whether it has a fault
 abbrev pub reported : Report → Ending
 reported report = with_output (status_of report.entries) (report_text report)
 
@@ -159,8 +159,8 @@ abbrev pub WithinNames : Config → ℕ → Type 0 → Ending → Type 0
 WithinNames config limit EndsSo ending =
     (HasMoreNames config limit × (ending ≡ too_many_names limit)) ⊎ ((HasMoreNames config limit → ⊥) × EndsSo)
 
--- What a command gives that judges the classes: where no representative reaches more pairs of state and type than it may, the
--- run ends so. Of those that do the first in class order is named.
+-- What a command gives that judges the classes: where no representative reaches more pairs of state and type than it
+-- may, the run ends so. Of those that do the first in class order is named.
 abbrev pub WithinStates : Config → ℕ → Type 0 → Ending → Type 0
 WithinStates config rewrites EndsSo ending =
     ((query : Labels) × IsFirstPassed (whole config rewrites) most_states query × (ending ≡ too_many_states query))
@@ -340,8 +340,9 @@ told_same (Apart query rtype) = one_differs query rtype
 abbrev pub HasMoreNamesInBoth : Compared → ℕ → Type 0
 HasMoreNamesInBoth two limit = HasMoreThan (IsInTree (joint two)) limit
 
--- What `same` gives of two configurations: where their class tree has no more names than it may, and no representative reaches
--- more pairs of state and type than it may in one of them, the run ends so. Of those that do the first in class order is named.
+-- What `same` gives of two configurations: where their class tree has no more names than it may, and no representative
+-- reaches more pairs of state and type than it may in one of them, the run ends so. Of those that do the first in class
+-- order is named.
 abbrev pub WithinBoth : Compared → Type 0 → Ending → Type 0
 WithinBoth two EndsSo ending =
     (HasMoreNamesInBoth two same_names × (ending ≡ too_many_names same_names))
@@ -349,15 +350,15 @@ WithinBoth two EndsSo ending =
     × (((query : Labels) × IsFirstPassedInOne two query × (ending ≡ too_many_states query))
     ⊎ ((SomeClassPassesInOne two → ⊥) × EndsSo)))
 
--- the run ends with what is told of the two: that each query of at most 255 octets that both bound has the same outcomes in both
--- with each type, or the first one that hasn't
+-- the run ends with what is told of the two: that each query of at most 255 octets that both bound has the same
+-- outcomes in both with each type, or the first one that hasn't
 pub record IsCompared (two : Compared) (ending : Ending) : Type 0 where
   pub sameness : Sameness
   pub is_sameness : IsSameness two sameness
   pub as_line : ending ≡ told_same sameness
 
--- what `same` gives of two configurations: what is told of them, unless too many names are there, or a query reaches too many
--- pairs of state and type
+-- what `same` gives of two configurations: what is told of them, unless too many names are there, or a query reaches
+-- too many pairs of state and type
 abbrev pub Compares : Compared → Ending → Type 0
 Compares two ending = WithinBoth two (IsCompared two ending) ending
 
@@ -383,9 +384,9 @@ scope_of config name = scoped config scope_rewrites name
 abbrev pub HasMoreNamesBelow : Config → Labels → ℕ → Type 0
 HasMoreNamesBelow config name limit = HasMoreThan (IsInPart (widened config name) name) limit
 
--- What `scope` gives: where the scope has no more names than it may, and neither a representative in it nor the name of a
--- server reaches more pairs of state and type than it may, the run ends so. Of those that do the first representative in class
--- order is named, or else the first server.
+-- What `scope` gives: where the scope has no more names than it may, and neither a representative in it nor the name of
+-- a server reaches more pairs of state and type than it may, the run ends so. Of those that do the first representative
+-- in class order is named, or else the first server.
 abbrev pub WithinScope : Config → Labels → Type 0 → Ending → Type 0
 WithinScope config name EndsSo ending =
     (HasMoreNamesBelow config name scope_names × (ending ≡ too_many_names scope_names))
@@ -401,13 +402,13 @@ pub record IsScoped (config : Config) (name : Labels) (sites : List Site) (endin
   pub are_views : AreViews (scope_of config name) views
   pub as_text : ending ≡ scope_written report name sites views
 
--- what `scope` gives of a configuration: the report and the findings on the queries at or below a name, unless too many names
--- are there, or a query there or a server's name reaches too many pairs of state and type
+-- what `scope` gives of a configuration: the report and the findings on the queries at or below a name, unless too many
+-- names are there, or a query there or a server's name reaches too many pairs of state and type
 abbrev pub Scopes : Labels → List Site → Config → Ending → Type 0
 Scopes name sites config ending = WithinScope config name (IsScoped config name sites ending) ending
 
--- what the words' job gives, by what is told of the files, and by the checks that the operator brings; a drill reads its own
--- files
+-- what the words' job gives, by what is told of the files, and by the checks that the operator brings; a drill reads
+-- its own files
 abbrev pub Outcome : FilesTold → Result Job LineFault → List Site → Ending → Type 0
 Outcome told (Ok (jobs.Check meta workers classes rewrites)) sites ending = OfReading meta (Checks classes rewrites) (conf meta told) ending
 Outcome told (Ok (jobs.Classes meta classes)) sites ending = OfReading meta (ListsClasses classes) (conf meta told) ending
@@ -419,7 +420,7 @@ Outcome told (Ok (jobs.Same first second)) sites ending = OfReading first (Compa
 Outcome told (Ok (jobs.Scope meta name)) sites ending = OfReading meta (Scopes name sites) (conf meta told) ending
 Outcome told job sites ending = ending ≡ usage
 
--- a run ends in the outcome of its job, in a failed read or for want of memory
+-- a run ends in the outcome of its job, in a failed read or because memory ran out
 abbrev pub IsEnding : FilesTold → Result Job LineFault → List Site → Ending → Type 0
 IsEnding told job sites ending =
     Outcome told job sites ending ⊎ ((file : List ℕ) × (ending ≡ read_failed file)) ⊎ (ending ≡ no_memory)

@@ -56,14 +56,14 @@ pub record HaveSeen {B : Type 0} (name : B → List ℕ) (held : B → List (Lis
   pub are_views : AreViewsOf queries classes views
   pub seen : AllZip (HasSeen name held step views) before after
 
--- None of these classes' representatives passes; and where no server's name does, checks were shown the views of all of them,
--- in order.
+-- None of these classes' representatives passes; and where no server's name does, checks were shown the views of all of
+-- them, in order.
 pub record AreShown {B : Type 0} (name : B → List ℕ) (held : B → List (List ℕ)) (step : B → List (List ℕ) → View → List (List ℕ)) (queries : LimitedQueries)
     (classes : List ListedClass) (before after : List B) : Type 0 where
   pub none_passes : NonePasses queries classes
   pub shown : (ServerPasses queries → ⊥) → HaveSeen name held step queries classes before after
 
--- it is the first of these classes' representatives that passes
+-- the query is the first representative of these classes that passes
 pub record IsFirstOf (queries : LimitedQueries) (classes : List ListedClass) (query : Labels) : Type 0 where
   pub before : List ListedClass
   pub listed : ListedClass
@@ -73,7 +73,7 @@ pub record IsFirstOf (queries : LimitedQueries) (classes : List ListedClass) (qu
   pub represents : query ≡ listed.representative
   pub passes : Passes queries query
 
--- a run ends among these classes: at the first whose representative passes, or for want of memory
+-- a run ends among these classes: at the first whose representative passes, or because memory ran out
 abbrev pub EndsAmong : LimitedQueries → List ListedClass → Ending → Type 0
 EndsAmong queries classes ending =
     ((query : Labels) × IsFirstOf queries classes query × (ending ≡ too_many_states query)) ⊎ (ending ≡ no_memory)

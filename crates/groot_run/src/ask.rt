@@ -29,8 +29,8 @@ pub(crate) fn ask(alloc: Global, config: &Config, name: &Name, rtype: RrType) ->
     }
 }
 
-/// All walks of the query in a configuration whose zones' trees are built, unless there are too many; or the first server whose
-/// name has too many to learn its address.
+/// All walks of the query in a configuration whose zones' trees are built, unless there are too many; or the first
+/// server whose name has too many to learn its address.
 fn ask_at(alloc: Global, hosts: &Hosts<'_>, name: &Name, rtype: RrType) -> Ending
     ensures { Asks name.now rtype hosts.now result ⊎ (result ≡ no_memory) }
 {

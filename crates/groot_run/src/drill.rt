@@ -22,8 +22,8 @@ use std::sync::Wait;
 use std::thread::Threads;
 use zone_maker::DrillFiles;
 
-/// A drill of so many zones: its files are made and read as any others, and the line tells what the check of them counts. Its
-/// limits are those of a check whose words say none.
+/// A drill of this many zones: its files are made and read as any others, and the line tells what the check of them
+/// counts. Its limits are those of a check whose words say none.
 pub(crate) fn drill<G: Gate + Sync, R: Threads + Wait + Sync>(
     rt: &R,
     alloc: Global,

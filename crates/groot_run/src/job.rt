@@ -24,8 +24,8 @@ use std::alloc::Global;
 use std::sync::Wait;
 use std::thread::Threads;
 
-/// What a job gives. Each but a drill begins with the configuration of its metadata file. The gate is asked where workers judge,
-/// and the checks that the operator brings are shown the classes of `site` and of `scope`.
+/// What a job gives. Each but a drill begins with the configuration of its metadata file. The gate is asked where
+/// workers judge, and the checks that the operator brings are shown the classes of `site` and of `scope`.
 pub(crate) fn of_job<F: Files, G: Gate + Sync, R: Threads + Wait + Sync>(
     rt: &R,
     alloc: Global,

@@ -33,8 +33,8 @@ pub fn one_outcome()
         → Outcome told job sites a → Outcome told job sites b → a ≡ b }
 {}
 
-/// The files of a drill of 1 to 5,000 zones are never refused: they give a configuration, and an outcome of the drill is what
-/// a drill gives of it.
+/// The files of a drill of 1 to 5,000 zones are never refused: they give a configuration, and an outcome of the drill
+/// is what a drill gives of it.
 pub fn drills_read()
     ensures { (zones workers : ℕ) → 1 ≤ zones → zones ≤ 5000
         → (config : Config) × ((told : FilesTold) (sites : List Site) (ending : Ending)

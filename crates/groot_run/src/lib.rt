@@ -1,7 +1,7 @@
 //! The top call: what the program does with its words, its files and its two outputs, and the clauses that say so. For
-//! files that read, the text for out is exactly the report of the configuration that their octets give, for every number of
-//! workers and every schedule; every other ending has its cause in the words, in what the files give or in a count of failures
-//! that rose, or memory ran out.
+//! files that read, the text for out is exactly the report of the configuration that their octets give, for every
+//! number of workers and every schedule; every other ending has its cause in the words, in what the files give or in a
+//! count of failures that rose, or memory ran out.
 #![tactic(auto)]
 
 mod ask;

@@ -19,8 +19,8 @@ use net_model::Config;
 use report_check::{CheckFault, Checked, check_report};
 use std::alloc::Global;
 
-/// Whether the entries of the report in a file are right, by the walks of the configuration of a metadata file. The report is
-/// read behind the configuration.
+/// Whether the entries of the report in a file are right, by the walks of the configuration of a metadata file. The
+/// report is read behind the configuration.
 pub(crate) fn recheck<F: Files>(alloc: Global, files: &mut F, meta: &str, report: &str) -> Ending
     ensures cause { EndsOrFails (OfReading meta.now (Rechecks (F.told files.new) report.now) (conf meta.now (F.told files.new)) result)
         (Comes (both (conf meta.now) (file_octets report.now)) (F.told files.new)) (F.faults files.old) (F.faults files.new) result }
@@ -63,7 +63,7 @@ fn of_octets(alloc: Global, config: &Config, report: &str, octets: &[u8]) -> End
     }
 }
 
-/// The line that says that so many entries are right.
+/// The line that says that this many entries are right.
 fn right_line(alloc: Global, entries: u64) -> Result<Octets, NoMemory>
     ensures { IfOk result (λ line. line ≡ codes "recheck: entries " ++ (decimal entries ++ codes ", right\n")) }
 {

@@ -62,7 +62,8 @@ pub fn groot_with_sites<F: Files, O: Sink, E: Sink, G: Gate + Sync, R: Threads +
         × (result ≡ ending.status) × Appends (O.taken out.old) (O.taken out.new) ending.out)
         ⊎ (result ≡ Status.NoMemory) }
 
-    // However it ends: as its job does, in a failed read or for want of memory, unless out fails; and err took its line.
+    // However it ends: as its job does, in a failed read or because memory ran out, unless out fails; and err took its
+    // line.
     ensures cause { (ending left : Ended)
         × IsEnding (F.told files.new) (job_of (map (λ word. word.now) words.now)) (map (λ b. record { name = name b; held = held b; step = step b }) sites.items) ending
         × IsLeft ending (O.taken out.old) (O.taken out.new) (O.faults out.old) (O.faults out.new) left
@@ -92,7 +93,7 @@ pub fn groot_with_sites<F: Files, O: Sink, E: Sink, G: Gate + Sync, R: Threads +
     }
 }
 
-/// The same as `groot_with_sites` for an operator who brings no check.
+/// Does what `groot_with_sites` does for an operator who brings no check.
 pub fn groot<F: Files, O: Sink, E: Sink, G: Gate + Sync, R: Threads + Wait + Sync>(
     rt: &R,
     alloc: Global,
@@ -122,7 +123,8 @@ pub fn groot<F: Files, O: Sink, E: Sink, G: Gate + Sync, R: Threads + Wait + Syn
         × (result ≡ ending.status) × Appends (O.taken out.old) (O.taken out.new) ending.out)
         ⊎ (result ≡ Status.NoMemory) }
 
-    // However it ends: as its job does, in a failed read or for want of memory, unless out fails; and err took its line.
+    // However it ends: as its job does, in a failed read or because memory ran out, unless out fails; and err took its
+    // line.
     ensures cause { (ending left : Ended)
         × IsEnding (F.told files.new) (job_of (map (λ word. word.now) words.now)) [] ending
         × IsLeft ending (O.taken out.old) (O.taken out.new) (O.faults out.old) (O.faults out.new) left
@@ -164,7 +166,7 @@ pub fn run_words<F: Files, G: Gate + Sync, R: Threads + Wait + Sync>(
         Outcome (F.told files.new) (job_of (map (λ word. word.now) words.now)) (map (λ b. record { name = name b; held = held b; step = step b }) sites.items) result
         ⊎ (result ≡ no_memory) }
 
-    // However it ends: as its job does, in a failed read or for want of memory. A failed read comes before no refusal.
+    // However it ends: as its job does, in a failed read or because memory ran out. A failed read comes before no refusal.
     ensures cause { IsEnding (F.told files.new) (job_of (map (λ word. word.now) words.now)) (map (λ b. record { name = name b; held = held b; step = step b }) sites.items) result }
     ensures read_fault { (file : List ℕ) → result.status ≡ Status.ReadFault file →
         JobComesTo (F.told files.new) (job_of (map (λ word. word.now) words.now)) file

@@ -27,7 +27,8 @@ use std::sync::Wait;
 use std::thread::Threads;
 use steal_pool::{PoolFault, run_tree};
 
-/// Whether some query tells the configurations of two metadata files apart. The first one is read whole, and then the second.
+/// Whether some query tells the configurations of two metadata files apart. The first one is read whole, and then the
+/// second.
 pub(crate) fn same<F: Files, G: Gate + Sync, R: Threads + Wait + Sync>(
     rt: &R,
     alloc: Global,
@@ -68,9 +69,10 @@ fn with_second<F: Files, G: Gate + Sync, R: Threads + Wait + Sync>(
     }
 }
 
-/// Whether some query that both configurations bound has other outcomes in the one than in the other: the first such one, or how
-/// many classes and names were looked at; unless the class tree of both has too many names, or else a representative reaches too
-/// many pairs of state and type in one of them. It is the same for every number of workers and every schedule.
+/// Whether some query that both configurations bound has other outcomes in the one than in the other: the first such
+/// one, or how many classes and names were looked at; unless the class tree of both has too many names, or else a
+/// representative reaches too many pairs of state and type in one of them. It is the same for every number of workers
+/// and every schedule.
 fn compared<G: Gate + Sync, R: Threads + Wait + Sync>(
     rt: &R,
     alloc: Global,
@@ -146,7 +148,7 @@ fn told(alloc: Global, sameness: &Sameness) -> Ending
     }
 }
 
-/// The line that says that none of so many classes, of so many names, tells the configurations apart.
+/// The line that says that none of this many classes, of this many names, tells the configurations apart.
 fn same_line(alloc: Global, classes: u32, names: u32) -> Result<Octets, NoMemory>
     ensures { IfOk result (λ line. line ≡ codes "same: classes " ++ decimal classes ++ codes ", names " ++ decimal names ++ codes "\n") }
 {

@@ -29,9 +29,9 @@ use std::sync::Wait;
 use std::thread::Threads;
 use steal_pool::{PoolFault, run_tree};
 
-/// The scope of a name in a configuration: the report on the queries at or below the name, and what the checks find in their
-/// classes; unless the scope has too many names, or else a representative in it or the name of a server reaches too many pairs
-/// of state and type.
+/// The scope of a name in a configuration: the report on the queries at or below the name, and what the checks find in
+/// their classes; unless the scope has too many names, or else a representative in it or the name of a server reaches
+/// too many pairs of state and type.
 pub(crate) fn scope<G: Gate + Sync, R: Threads + Wait + Sync>(
     rt: &R,
     alloc: Global,

@@ -23,8 +23,8 @@ use report_json::sites_text;
 use site_checks::{SiteCheck, tell, view};
 use std::alloc::Global;
 
-/// What the checks find in the classes of the configuration, unless its class tree has too many names or else a representative
-/// reaches too many pairs of state and type. Each check is shown the view of each class, in class order.
+/// What the checks find in the classes of the configuration, unless its class tree has too many names or else a
+/// representative reaches too many pairs of state and type. Each check is shown the view of each class, in class order.
 pub(crate) fn site(alloc: Global, config: &Config, sites: &mut Vec<Box<dyn SiteCheck>>) -> Ending
     ensures { ShowsClasses (map (λ b. record { name = name b; held = held b; step = step b }) sites.old.items) config.now result
         ⊎ (result ≡ no_memory) }
@@ -35,8 +35,8 @@ pub(crate) fn site(alloc: Global, config: &Config, sites: &mut Vec<Box<dyn SiteC
     }
 }
 
-/// What the checks find in the classes of the rows, which are those of the configuration, unless a representative reaches too
-/// many pairs of state and type.
+/// What the checks find in the classes of the rows, which are those of the configuration, unless a representative
+/// reaches too many pairs of state and type.
 fn find(
     alloc: Global,
     config: &Config,
@@ -150,8 +150,8 @@ fn show_below(
     show_class(alloc, graphs, &class, representative, sites)
 }
 
-/// Shows the view of a class for which the query stands to all checks. Where the name of some server reaches too many pairs of
-/// state and type, there is none to be shown: some representative reaches too many then.
+/// Shows the view of a class for which the query stands to all checks. Where the name of some server reaches too many
+/// pairs of state and type, there is none to be shown: some representative reaches too many then.
 fn show_class(
     alloc: Global,
     graphs: &QueryGraphs<'_>,

@@ -35,7 +35,7 @@ StandsForOthers config name (Some label) =
     (setting : Setting) (own : Labels) (rtype : RrType) → setting.config ≡ config → IsUnnamedTail config name.known own
     → wire_octets (whole name) ≤ wire_octets (name.known ++ own) → WalksAs setting rtype name.known own (label ∷ [])
 
--- and the other one reaches no more pairs of state and type
+-- the name reaches more pairs of state and type than the limit if some name for which its tail stands does
 abbrev pub ReachesMost : Config → ℕ → SymName → ℕ → Option (List ℕ) → Type 0
 ReachesMost config rewrites name most None = Unit {0}
 ReachesMost config rewrites name most (Some label) =

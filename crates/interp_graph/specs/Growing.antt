@@ -87,7 +87,7 @@ pub record Advances (before after : GrowingGraph) : Type 0 where
 abbrev pub ComesTo : Setting → List State → List Bool → State → Type 0
 ComesTo setting begin set state = (rtype : RrType) → has_bit set rtype ≡ true → Comes setting begin rtype state
 
--- so does each state to which one of the steps goes on
+-- each state to which one of the steps goes on comes from where the query begins, with each of these types
 abbrev pub ComeOn : Setting → List State → List Bool → List step.Branch → Type 0
 ComeOn setting begin set steps = (hop : Hop) (to : State) → Contains steps (step.Go hop to) → ComesTo setting begin set to
 

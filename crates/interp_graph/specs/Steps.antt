@@ -27,7 +27,7 @@ pub record AreSplit (types : List Bool) (forks : List Fork) : Type 0 where
   pub each : (rtype : RrType) → has_bit types rtype ≡ true
       → (fork : Fork) × Contains forks fork × (has_bit fork.types rtype ≡ true)
 
--- and they tell the state's steps
+-- the forks are apart in their types, have together the given types, and tell the state's steps
 pub record AreForks (setting : Setting) (state : State) (types : List Bool) (forks : List Fork) : Type 0 where
   pub split : AreSplit types forks
   pub tell : (fork : Fork) → Contains forks fork → IsFork setting state fork

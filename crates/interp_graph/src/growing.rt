@@ -17,8 +17,8 @@ use indexmap::IndexSet;
 use net_model::State;
 use std::alloc::Global;
 
-/// A graph in the making: the states of its nodes, by which they are numbered, the nodes' types, the nodes to which types came
-/// since they were followed, and how many pairs of state and type there are, of how many that are allowed.
+/// A graph in the making: the states of its nodes, by which they are numbered, the nodes' types, the nodes to which
+/// types came since they were followed, and how many pairs of state and type there are, of how many that are allowed.
 #[derive(Drop)]
 pub(crate) struct GrowingGraph {
     pub states: IndexSet<Key>,
@@ -29,7 +29,7 @@ pub(crate) struct GrowingGraph {
 }
 
 impl GrowingGraph {
-    /// A graph without a node, which may have so many pairs.
+    /// A graph without a node, which may have this many pairs.
     pub fn new(alloc: Global, limit: u32) -> GrowingGraph
         ensures sound { IsSoundSoFar result }
         ensures drafts { drafts_in result ≡ [] }

@@ -25,7 +25,7 @@ StaysTold before after = (name : List ℕ) → (before name ≡ Untold) ⊎ (aft
 abbrev pub TellsAll : FilesTold → Type 0
 TellsAll told = (name : List ℕ) → told name ≢ Untold
 
--- of every other name the same is told
+-- what is told of every other name is the same
 abbrev pub SameElsewhere : List ℕ → FilesTold → FilesTold → Type 0
 SameElsewhere name before after = (other : List ℕ) → other ≢ name → after other ≡ before other
 

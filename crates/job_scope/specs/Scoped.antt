@@ -1,4 +1,5 @@
--- The scope of a name: the queries at or below it, told apart by the configuration's own base names and the prefixes of the name.
+-- The scope of a name: the queries at or below it, told apart by the configuration's own base names and the prefixes of
+-- the name.
 use Rattle.std.specs.Prelude.{◌≡◌, ℕ, List, [], ◌∷◌}
 use Rattle.dns_data.specs.Name.{Labels, IsName}
 use Rattle.graph_form.specs.Report.{Subject}
@@ -20,8 +21,8 @@ at_or_below config rewrites ground name = record { config = config; rewrites = r
 abbrev pub scoped : Config → ℕ → Labels → Subject
 scoped config rewrites name = at_or_below config rewrites (widened config name) name
 
--- a judge of these queries judges the scope of a name of at most 255 octets: they are the configuration's within the limits, and
--- the values are those of the scope
+-- a judge of these queries judges the scope of a name of at most 255 octets: they are the configuration's within the
+-- limits, and the values are those of the scope
 pub record JudgesScope (queries : LimitedQueries) (config : Config) (rewrites states : ℕ) (name : Labels) (children_of : Labels → List Labels) (verdict_of : Labels → NameVerdict) : Type 0 where
   pub queries_are : queries ≡ limited_to config rewrites states
   pub is_name : IsName name

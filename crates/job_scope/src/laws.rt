@@ -1,5 +1,5 @@
-//! What the representatives of a scope's classes tell of all queries at or below a name, which refusal its report has, and what
-//! the children and the verdicts of its names are.
+//! What the representatives of a scope's classes tell of all queries at or below a name, which refusal its report has,
+//! and what the children and the verdicts of its names are.
 
 ghost use Rattle.std.specs.Prelude.{◌≡◌, ◌↔◌, ℕ, List};
 ghost use Rattle.job_scope.specs.Scoped.{scoped, widened};
@@ -36,7 +36,7 @@ pub fn values_exist()
         × AreValues (scoped config rewrites name) states children_of verdict_of }
 {}
 
-/// More than so many items are reached from a name if and only if its scope has more names.
+/// More items than the limit are reached from a name if and only if its scope has more names.
 pub fn scope_is_reached()
     ensures { (config : Config) (name : Labels) (children_of : Labels → List Labels) → IsName name
         → ((above : Labels) → AreChildren (widened config name) above (children_of above))

@@ -1,13 +1,14 @@
 //! The scope of a name: which faults some query at or below it shows, also where no record names it.
 //!
-//! The layer above may rest on this: some query of at most 255 octets at or below a name shows a fault if and only if the
-//! representative of some class of the name's scope does (`laws::scope_law`), so the report that `ScopeJudge` makes of the
-//! representatives is one of all these queries; and a `ScopeJudge` is a work whose items are the names of the scope. The names of
-//! a scope are told apart by the configuration's own base names and all prefixes of the scope's name. The class at the place of
-//! differing answers stays that of the configuration's own base names, and so does the representative of an overlong rewrite.
+//! The layer above may rest on this: some query of at most 255 octets at or below a name shows a fault if and only if
+//! the representative of some class of the name's scope does (`laws::scope_law`), so the report that `ScopeJudge` makes
+//! of the representatives is one of all these queries; and a `ScopeJudge` is a work whose items are the names of the
+//! scope. The names of a scope are told apart by the configuration's own base names and all prefixes of the scope's
+//! name. The class at the place of differing answers stays that of the configuration's own base names, and so does the
+//! representative of an overlong rewrite.
 //!
-//! Costs: `prepare` makes what query_verdicts prepares of the whole configuration, and two graphs of base names, once. What is
-//! judged is the names of the scope alone. What a verdict and a report cost is said in query_verdicts.
+//! Costs: `prepare` makes what query_verdicts prepares of the whole configuration, and two graphs of base names, once.
+//! What is judged is the names of the scope alone. What a verdict and a report cost is said in query_verdicts.
 #![tactic(auto)]
 
 pub mod laws;

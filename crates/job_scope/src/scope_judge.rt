@@ -24,8 +24,8 @@ use std::alloc::Global;
 use std::marker::Model;
 use verdict_book::{Filed, JudgeShare, Work};
 
-/// A judge of the scope of a name in a configuration: of the names at or below it that the configuration's base names and the
-/// prefixes of the name tell apart. Contracts see the configuration.
+/// A judge of the scope of a name in a configuration: of the names at or below it that the configuration's base names
+/// and the prefixes of the name tell apart. Contracts see the configuration.
 #[derive(Drop)]
 pub struct ScopeJudge<'a, N: ScopeNaming> {
     names: NameJudge<'a, OfScope<N>>,
@@ -86,9 +86,10 @@ impl<'a, N: ScopeNaming + Send> Work for ScopeJudge<'a, N> {
 }
 
 impl<'a, N: ScopeNaming> ScopeJudge<'a, N> {
-    /// The judge of the scope of a name in a configuration, whose queries may use so many rewrites, and of each of which no more
-    /// pairs of state and type are looked at than so many. The name may be one that no record names. The trees of all zones, the
-    /// graph of each server's name, the regions of names and the graphs of base names are made here, once.
+    /// The judge of the scope of a name in a configuration, whose queries may use this many rewrites, and of each of
+    /// which no more pairs of state and type are looked at than the limit. The name may be one that no record names. The
+    /// trees of all zones, the graph of each server's name, the regions of names and the graphs of base names are made
+    /// here, once.
     pub fn prepare(
         alloc: Global,
         config: &'a Config,
@@ -131,10 +132,11 @@ impl<'a, N: ScopeNaming> ScopeJudge<'a, N> {
 }
 
 impl<'a, N: ScopeNaming + Send> ScopeJudge<'a, N> {
-    /// The report of the scope, from the verdicts of all its names: the faults that some query at or below the scope's name
-    /// shows, each with its first query and type, and the first walk or pair of walks. If the representative of some class at or
-    /// below that name reaches more pairs of state and type than are looked at, it is `StatesPassed` with the first such one; if
-    /// none does, but the name of some configured server, with the first such server's name.
+    /// The report of the scope, from the verdicts of all its names: the faults that some query at or below the scope's
+    /// name shows, each with its first query and type, and the first walk or pair of walks. If the representative of
+    /// some class at or below that name reaches more pairs of state and type than are looked at, it is `StatesPassed`
+    /// with the first such one; if none does, but the name of some configured server, with the first such server's
+    /// name.
     pub fn report(&self, filed: List<Filed<ScopeJudge<'a, N>>>) -> Result<Report, ScopeFault>
         requires whole { IsWholeTree name_cmp N.scope N.children_of N.verdict_of filed }
         requires few { length filed < 2 ^ 31 }

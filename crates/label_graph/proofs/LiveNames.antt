@@ -26,6 +26,7 @@ module _ (ground : Ground) (K : Labels → Labels → Type 0) where
   ReachedFrom P [] base = P base
   ReachedFrom P (label ∷ rest) base = ReachedFrom (Stepped (Closed P) label) rest base
 
+  -- the base name is the root
   abbrev pub IsRoot : Labels → Type 0
   IsRoot base = base ≡ []
 

@@ -17,7 +17,7 @@ IsInZone name zone = IsPrefixFrom 0 zone.origin name ⊎ SomeItem (λ rr. IsPref
 abbrev pub IsInServer : Labels → Server → Type 0
 IsInServer name server = SomeItem (IsInZone name) server.zones
 
--- of one of the configuration's zones
+-- the name is a front of the origin, or of the owner of a record, of one of the configuration's zones
 abbrev pub IsInConfig : Labels → Config → Type 0
 IsInConfig name config = SomeItem (IsInServer name) config.servers
 

@@ -25,7 +25,7 @@ HasChild names label place = Contains names (name_at names place ++ label ∷ []
 abbrev pub IsStep : List Labels → List ℕ → ℕ → ℕ → Type 0
 IsStep names label other place = (other < length names) × (name_at names other ≡ name_at names place ++ label ∷ [])
 
--- the other place is the first, or one of those that its targets read on to
+-- the name at the other place is that at the first, or one on to which its targets read
 abbrev pub IsFrom : Targets → List (List ℕ) → ℕ → ℕ → Type 0
 IsFrom targets reads other place =
     (place ≡ other) ⊎ SomeItem (λ front. RowHas reads front other) (slice_index_or targets.links.fronts place [])

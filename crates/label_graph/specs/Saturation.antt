@@ -20,7 +20,7 @@ pub record IsTrueLink (targets : Targets) (one : Link) : Type 0 where
   pub base : one.base < length targets.names
   pub reads : ReadsOnTo (ground_in targets).redirections (name_at targets.fronts one.front) (name_at targets.names one.base)
 
--- the other link goes on by a label from this one
+-- the second link goes on from the first by a label
 pub record IsNextLink (targets : Targets) (one next : Link) : Type 0 where
   pub front : next.front < length targets.fronts
   pub base : next.base < length targets.names

@@ -1,10 +1,10 @@
 //! The label graph of base names and DNAME redirections (RFC 6672 section 2.2): the live set of a name, which has the
 //! base names to which the name reads on, found label by label. A name is named where its live set isn't empty.
 //!
-//! The layer above may rest on this: `of_config` makes the graph of a configuration, `of_names` that of several and of some
-//! names more, `start` and `advance` give the live set of a name in a graph, `has_next` tells whether a label makes a named
-//! name below a name with that live set, and `next_names` gives all labels that do, with the live sets of the names that they
-//! make.
+//! The layer above may rest on this: `of_config` makes the graph of a configuration, `of_names` that of several and of
+//! some names more, `start` and `advance` give the live set of a name in a graph, `has_next` tells whether a label
+//! makes a named name below a name with that live set, and `next_names` gives all labels that do, with the live sets of
+//! the names that they make.
 //!
 //! Costs: the base names of configurations are made once for the records with one owner in a row. Those of each zone
 //! are put in order before the next, zone after zone in the order of their origins: so the sort of all names finds

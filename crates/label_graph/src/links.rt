@@ -34,7 +34,7 @@ impl Model for Links {
 }
 
 impl Links {
-    /// No links, of so many fronts and so many base names.
+    /// No links, of this many fronts and this many base names.
     pub fn new(alloc: Global, fronts: usize, bases: usize) -> Links
         ensures none { result.list ≡ [] }
         ensures fronts { length result.bases ≡ fronts }

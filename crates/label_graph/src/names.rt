@@ -134,7 +134,7 @@ fn behind(name: &Name) -> usize
     name.encoding().len() + 1
 }
 
-/// The octets of the name at a place, without the first so many.
+/// The octets of the name at a place, without the first ones, as many as said.
 fn octets_at(names: &[Name], place: usize, from: usize) -> &[u8]
     ensures { result.now ≡ octets_from names.now from place }
 {
@@ -147,7 +147,8 @@ fn octets_at(names: &[Name], place: usize, from: usize) -> &[u8]
     }
 }
 
-/// The place, of those in a row, at which these octets stand behind the first so many, or `None` where there is none.
+/// The place, of those in a row, at which these octets stand behind the first ones, as many as said, or `None` where
+/// there is none.
 fn place_with(names: &[Name], row: &[usize], from: usize, octets: &[u8]) -> Option<usize>
     requires { AllPairs (λ a b. label_cmp (octets_from names.now from a) (octets_from names.now from b) ≡ Less) row.now }
     ensures { MatchOption result ((place : ℕ) → Contains row.now place → octets_from names.now from place ≡ octets.now → ⊥)

@@ -8,7 +8,7 @@ ghost use Rattle.label_graph.specs.Targets.{IsPrefixFrom};
 use dns_data::{JoinFault, Name, NoMemory};
 use std::alloc::Global;
 
-/// The name with the first so many labels of this one, or all where there are fewer.
+/// The name with the first labels of this one, as many as asked for, or all if there are fewer.
 pub(crate) fn front_of(alloc: Global, name: &Name, count: usize) -> Result<Name, NoMemory>
     ensures { IfOk result (λ front. front ≡ take count name.now) }
 {
@@ -46,7 +46,7 @@ fn known_fronts(names: &[Name], name: &Name) -> usize
     }
 }
 
-/// Puts all fronts of the name that have at least so many labels at the end.
+/// Puts all fronts of the name that have at least this many labels at the end.
 pub(crate) fn put_fronts(
     alloc: Global,
     names: &mut Vec<Name>,

@@ -7,7 +7,7 @@ use dns_data::{List, NoMemory};
 use std::alloc::Global;
 use std::marker::Model;
 
-/// A list of places for each of so many places. Those behind the last that has something take no memory.
+/// A list of places for each of this many places. Those behind the last that has something take no memory.
 #[derive(Drop)]
 pub(crate) struct Rows {
     count: usize,
@@ -26,7 +26,7 @@ impl Model for Rows {
 }
 
 impl Rows {
-    /// So many rows, with nothing in them. They take no memory.
+    /// Empty rows, as many as asked for. They take no memory.
     pub fn new(alloc: Global, count: usize) -> Rows
         ensures { result ≡ replicate count [] }
     {

@@ -13,6 +13,7 @@ use Rattle.master_lex.specs.Contents.{EntrySoFar, fails, contents_from}
 
 -- ---- the pieces of a text by what its first octet means
 
+-- the pieces of a text whose first octet is of this kind
 abbrev pub by_kind : OctetKind → ℕ → List ℕ → List Piece
 by_kind Blank octet text = Skipped octet ∷ pieces text
 by_kind LineFeed octet text = LineEnd ∷ pieces text

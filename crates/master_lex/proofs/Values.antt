@@ -41,6 +41,7 @@ more_by [] None h = cc
 more_by [] (Some fault) h = cc
 more_by (e ∷ rest) fault h = cc
 
+-- the lexical fault of this kind in this line
 abbrev pub made_fault : ℕ → LexKind → LexFault
 made_fault line kind = record { line = line; kind = kind }
 

@@ -24,23 +24,23 @@ pub record Contents : Type 0 where
   pub last : List Entry
   pub fault : Option LexFault
 
--- a space or a tab stands in front
+-- a space or a tab stands in front of the pieces
 abbrev pub begins_blank : List Piece → Bool
 begins_blank (Skipped octet ∷ rest) = octet == 32 || octet == 9
 begins_blank _ = false
 
--- no entry yet, in this line, whose pieces these are
+-- the start of an entry in this line, before these pieces: it has no token yet
 abbrev pub entry_start : ℕ → List Piece → EntrySoFar
 entry_start line rest = record { line = line; blank_start = begins_blank rest; depth = 0; opened = 0; first = 0; tokens = [] }
 
--- a token more
+-- the entry so far with one token more
 abbrev pub with_token : EntrySoFar → Bool → List ℕ → EntrySoFar
 with_token place quoted octets = record place {
   first = (if is_empty place.tokens then place.line else place.first);
   tokens = place.tokens ++ record { raw = octets; quoted = quoted } ∷ [];
 }
 
--- a parenthesis more
+-- the entry so far with one open parenthesis more
 abbrev pub with_parenthesis : EntrySoFar → EntrySoFar
 with_parenthesis place = record place { depth = place.depth + 1; opened = (if place.depth == 0 then place.line else place.opened) }
 
@@ -48,11 +48,11 @@ with_parenthesis place = record place { depth = place.depth + 1; opened = (if pl
 abbrev pub entry_at : EntrySoFar → List Entry
 entry_at place = if is_empty place.tokens then [] else record { line = place.first; blank_start = place.blank_start; tokens = place.tokens } ∷ []
 
--- a fault, reported at this line
+-- the contents of a text that ends in a fault, reported at this line
 abbrev pub fails : ℕ → LexKind → Contents
 fails line kind = record { whole = []; last = []; fault = Some (record { line = line; kind = kind }) }
 
--- these entries, and behind them what follows
+-- the contents with these entries in front
 abbrev pub behind : List Entry → Contents → Contents
 behind entries rest = record rest { whole = entries ++ rest.whole }
 

@@ -44,12 +44,12 @@ abbrev mutual
       else (if octet == 92 then after_backslash false text
       else before false (octet ∷ []) (pieces text)))))))
 
-  -- in a comment, up to the line's end
+  -- the pieces of a text in a comment: up to the line's end nothing counts
   pub comment : List ℕ → List Piece
   comment [] = []
   comment (octet ∷ text) = if octet == 10 then LineEnd ∷ pieces text else Skipped octet ∷ comment text
 
-  -- in a token in quotes, up to the next quote
+  -- the pieces of a text in a token in quotes, which goes on up to the next quote
   pub in_quotes : List ℕ → List Piece
   in_quotes [] = Broken OpenQuote ∷ []
   in_quotes (octet ∷ text) =
@@ -58,7 +58,8 @@ abbrev mutual
       else (if octet == 92 then after_backslash true text
       else before true (octet ∷ []) (in_quotes text)))
 
-  -- behind a backslash: three digits of a value up to 255, or any octet but a digit and the line feed
+  -- the pieces of a text behind a backslash: three digits of a value up to 255, or any octet but a digit and the line
+  -- feed
   pub after_backslash : Bool → List ℕ → List Piece
   after_backslash quoted [] = bad_escape quoted
   after_backslash quoted (octet ∷ text) =
@@ -66,12 +67,12 @@ abbrev mutual
       else (if octet == 10 then bad_escape quoted
       else before quoted (92 ∷ octet ∷ []) (if quoted then in_quotes text else pieces text))
 
-  -- behind a backslash and a digit
+  -- the pieces of a text behind a backslash and a digit
   pub after_digit : Bool → ℕ → List ℕ → List Piece
   after_digit quoted first [] = bad_escape quoted
   after_digit quoted first (second ∷ text) = after_two_digits quoted first second text
 
-  -- behind a backslash and two octets, the first of which is a digit
+  -- the pieces of a text behind a backslash and two octets, the first of which is a digit
   pub after_two_digits : Bool → ℕ → ℕ → List ℕ → List Piece
   after_two_digits quoted first second [] = bad_escape quoted
   after_two_digits quoted first second (third ∷ text) =

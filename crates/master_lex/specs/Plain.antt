@@ -5,12 +5,12 @@ use Rattle.master_lex.specs.Octets.{kind, stands}
 use Rattle.master_lex.specs.States.{State, pushed, run}
 use Rattle.master_lex.specs.declared.scanner.TheConstants.{MOST}
 
--- these octets more of the token under way, which they may begin
+-- the state with these octets more in the token under way, which they may begin
 abbrev pub with_plain : State → List ℕ → Bool → State
 with_plain s [] quoted = s
 with_plain s octets quoted = pushed s octets quoted
 
--- so many octets in front stand for themselves, and are more of the token, within its limit
+-- this many octets in front stand for themselves, and are more of the token, within its limit
 pub record KeptPlain (old new : State) (octets : List ℕ) (quoted : Bool) (count : ℕ) : Type 0 where
   pub plain : count ≤ prefix_len (λ octet. stands quoted (kind octet)) octets
   pub short : count ≤ MOST - length old.raw

@@ -49,11 +49,11 @@ with_mode s mode = record s { position = record s.position { mode = mode } }
 abbrev pub failed : State → LexKind → State
 failed s kind = with_mode s (Faulty (record { line = s.position.line; kind = kind }))
 
--- these octets more of the token under way, however long it is
+-- the state with these octets more in the token under way, however long it is
 abbrev pub pushed : State → List ℕ → Bool → State
 pushed s octets quoted = record s { raw = s.raw ++ octets; position = record s.position { mode = InToken quoted Outside } }
 
--- these octets more of the token under way
+-- the state with these octets more in the token under way, or the fault if it gets too long
 abbrev pub kept : State → List ℕ → Bool → State
 kept s octets quoted = if nat_le (length octets) (MOST - length s.raw) then pushed s octets quoted else failed s TokenTooLong
 

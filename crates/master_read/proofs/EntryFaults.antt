@@ -1,4 +1,4 @@
--- Each fault of a text says something of the text: no definition speaks of want of memory.
+-- Each fault of a text says something of the text: no definition speaks of `NoMemory`.
 use Rattle.std.proofs.Common.{◌≡◌, ◌≢◌, inl, inr, subst, sym, ℕ, zero, suc, true, ◌&&◌, ◌==◌, nat_le, length, refl, List, [], ◌∷◌, codes, is_none, Option, Some, None, Result, Ok, Err}
 use Rattle.std.specs.Result.{IfErr}
 use Rattle.std.specs.Str.{is_utf8}
@@ -197,16 +197,17 @@ fault_told room file line so_far entry (Cause cause) (inr same) = carried (effec
   carried (Ok more) told e = absurd cc
   carried (Err fault) told e = let is : fault ≡ cause = cc in subst IsTold is told
 
--- a fault of texts is no want of memory, and none stands in it
+-- a fault of texts is no `NoMemory`, and none stands in it
 pub record IsTextFault (fault : TextFault) : Type 0 where
   pub own : fault ≢ NoMemory
   pub tells : TellsOfText fault
 
+-- texts that don't read on: by a fault of a text, or because they ask for a file
 abbrev pub IsUnread : Unread → Type 0
 IsUnread (Faulty fault) = IsTextFault fault
 IsUnread (Asks file) = Unit {0}
 
--- a fault of texts, or the file that they ask for, is no want of memory, and none stands in it
+-- a fault of texts, or the file that they ask for, is no `NoMemory`, and none stands in it
 pub unread_tells : (unread : Unread) → IsUnread unread → TellsOfUnread unread
 unread_tells (Faulty fault) said = said.tells
 unread_tells (Asks file) said = tt
@@ -250,7 +251,7 @@ next_told : (include : Include) → ToldBy include → (room : ℕ) (name : List
 next_told include told room name origin progress [] = tt
 next_told include told room name origin progress (text ∷ texts) = with_file_told include told room origin text _
 
--- whatever may be included below a file, its fault is no want of memory, and none stands in it
+-- whatever may be included below a file, its fault is no `NoMemory`, and none stands in it
 pub included_told : (limits : Limits) (levels : ℕ) → ToldBy (included limits levels)
 unfolding included
 included_told limits zero file line name origin progress = record { own = λ e. cc; tells = refl }

@@ -4,7 +4,7 @@ use Rattle.std.specs.Option.{option_or}
 use Rattle.dns_data.specs.Name.{Labels}
 use Rattle.master_read.specs.declared.context.Context.{Context}
 
--- the context before everything
+-- the context before everything: the root as origin, no TTL and no owner
 abbrev pub no_context : Context
 no_context = record { origin = []; default_ttl = None; stated_ttl = None; owner = None }
 

@@ -56,19 +56,19 @@ abbrev pub begins_with_digit : List ℕ → Bool
 begins_with_digit [] = false
 begins_with_digit (octet ∷ octets) = is_digit octet
 
--- with this TTL, behind its token
+-- what stood in front of the type, with this TTL, behind its token
 abbrev pub with_ttl : Front → List Token → Option ℕ → Result Front TextCause
 with_ttl front tokens stated = do
   ttl ← ok_or stated BadTtl
   Ok (record front { ttl = Some ttl; tokens = tokens })
 
--- with this class, behind its token; a word that is no class's is left where it is
+-- what stood in front of the type, with this class, behind its token; a word that is no class's is left where it is
 abbrev pub with_class_word : Front → List Token → Option ClassWord → Result Front TextCause
 with_class_word front tokens (Some In) = Ok (record front { class = true; tokens = tokens })
 with_class_word front tokens (Some NotIn) = Err ClassNotIn
 with_class_word front tokens None = Ok front
 
--- the next token is taken, if it is a TTL or a class and none such was taken
+-- what stood in front of the type, with the next token if it is a TTL or a class and none such was taken
 abbrev pub with_word : Front → Token → List Token → Result Front TextCause
 with_word front token tokens =
     if token.quoted then Ok front

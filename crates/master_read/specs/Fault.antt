@@ -1,4 +1,4 @@
--- Faults that say something of the text: want of memory stands in none of them.
+-- Faults that say something of the text: `NoMemory` stands in none of them.
 use Rattle.std.specs.Prelude.{◌≡◌, Bool, true, false}
 use Rattle.dns_data.specs.declared.fault.NameFault.{NameFault}
 use Rattle.dns_data.specs.declared.fault.NameFault.TheVariants as name_faults
@@ -23,13 +23,13 @@ tells_of_data rdata_faults.NoMemory = false
 tells_of_data (rdata_faults.BadName fault) = tells_of_name fault
 tells_of_data _ = true
 
--- whether a cause says something of the text: want of memory is no cause
+-- whether a cause says something of the text: `NoMemory` is no cause
 abbrev pub tells_of_text : TextCause → Bool
 tells_of_text (BadOwner fault) = tells_of_name fault
 tells_of_text (Rdata fault) = tells_of_data fault
 tells_of_text _ = true
 
--- want of memory never stands inside a fault of the text
+-- `NoMemory` never stands inside a fault of the text
 abbrev pub TellsOfText : TextFault → Type 0
 TellsOfText (text_faults.At file line cause) = tells_of_text cause ≡ true
 TellsOfText text_faults.NoMemory = Unit {0}

@@ -30,7 +30,7 @@ pub record Held : Type 0 where
   pub fault : Option TextFault
   pub ended : Bool
 
--- the limits within which the code counts, and that a fault is no want of memory in disguise
+-- the limits within which the code counts, and that a fault is no `NoMemory` in disguise
 pub record IsSoundReader (held : Held) : Type 0 where
   pub unended : held.lexer.finished ≡ false
   pub fed_less : held.lexer.fed ≤ held.fed
@@ -121,7 +121,7 @@ GoesOn Done held origin room includes texts = (held.ended ≡ true) × HasEnded 
 abbrev pub HasFailed : Held → Type 0
 HasFailed held = held.fault ≡ Some NoMemory
 
--- the fault is want of memory
+-- the fault is `NoMemory`
 abbrev pub is_no_memory : Option TextFault → Bool
 is_no_memory (Some NoMemory) = true
 is_no_memory _ = false

@@ -24,7 +24,7 @@ pub data Unread : Type 0 where
   Faulty : (fault : TextFault) → Unread
   Asks : (file : List ℕ) → Unread
 
--- want of memory never stands inside
+-- an answer that memory ran out never stands inside
 abbrev pub TellsOfUnread : Unread → Type 0
 TellsOfUnread (Faulty fault) = TellsOfText fault
 TellsOfUnread (Asks file) = Unit {0}
@@ -34,7 +34,7 @@ pub record Progress : Type 0 where
   pub records : Records
   pub texts : List (List ℕ)
 
--- nothing was read
+-- the records before anything was read: none
 abbrev pub no_records : Records
 no_records = record { context = no_context; rrs = []; seen = 0; included = 0 }
 
@@ -56,7 +56,7 @@ abbrev pub said_by : Records → Directive → Effect
 said_by so_far (Sets context) = Leaves (record so_far { context = context })
 said_by so_far (Includes file origin) = Opens file origin
 
--- one record entry more, kept or dropped, where there is room for it
+-- the records with one record entry more, kept or dropped, if there is room for it
 abbrev pub with_made : ℕ → Records → Made → Result Records TextCause
 with_made room so_far made =
     if nat_le room so_far.seen then Err TooMany
@@ -78,51 +78,52 @@ effect_of room file so_far entry =
 abbrev pub Include : Type 0
 Include = ℕ → ℕ → List ℕ → Labels → Progress → Result Progress Unread
 
--- with what an entry in this file and line makes
+-- what was read, with what an entry in this file and line makes
 abbrev pub with_effect : Include → ℕ → ℕ → Effect → Progress → Result Progress Unread
 with_effect include file line (Leaves records) progress = Ok (record progress { records = records })
 with_effect include file line (Opens name origin) progress = include file line name origin progress
 
--- one entry more of the file of this number
+-- what was read, with one entry more of the file of this number
 unfoldable pub with_entry : Include → ℕ → ℕ → Entry → Progress → Result Progress Unread
 with_entry include room file entry progress = do
   effect ← at file entry.line (effect_of room file progress.records entry)
   with_effect include file entry.line effect progress
 
--- the entries in order, each in the context that those before it leave, up to the first that has a fault
+-- what was read, with these entries, each in the context that those before it leave, up to the first that has a fault
 unfoldable pub with_entries : Include → ℕ → ℕ → List Entry → Progress → Result Progress Unread
 with_entries include room file [] progress = Ok progress
 with_entries include room file (entry ∷ entries) progress = do
   more ← with_entry include room file entry progress
   with_entries include room file entries more
 
--- Files. A file ends, or has the fault of a spelling; behind it the origin and the last owner are those before it.
+-- What was read once a file has ended, or the fault of its spelling. The origin and the last owner are then those
+-- before the file.
 abbrev pub ended : ℕ → Context → Option LexFault → Progress → Result Progress Unread
 ended file before None progress = Ok (in_context progress (back_at before progress.records.context))
 ended file before (Some fault) progress = Err (Faulty (At file fault.line (Lex fault.kind)))
 
--- entries of a file, and behind them a fault of a spelling, or none
+-- what was read once the entries of a file were read, and behind them the fault of its spelling or none
 unfoldable pub with_rest : Include → ℕ → ℕ → Context → List Entry → Option LexFault → Progress → Result Progress Unread
 with_rest include room file before entries fault progress = do
   more ← with_entries include room file entries progress
   ended file before fault more
 
--- a file under an origin; as many files were opened before it as were included so far
+-- what was read once a file under an origin was read. As many files were opened before it as were included so far.
 abbrev pub with_include : Include → ℕ → Labels → List ℕ → Progress → Result Progress Unread
 with_include include room origin text progress =
     with_rest include room progress.records.included progress.records.context (text_entries text) (text_fault text)
     (in_context progress (under origin progress.records.context))
 
--- the next file, of this name; where no text is left, it is asked for
+-- what was read once the next file was read, which has this name; if no text is left, it is asked for
 abbrev pub with_next_text : List ℕ → (List ℕ → Progress → Result Progress Unread) → Progress → List (List ℕ) → Result Progress Unread
 with_next_text name next progress [] = Err (Asks name)
 with_next_text name next progress (text ∷ texts) = next text (record progress { texts = texts })
 
--- one file more is included
+-- what was read so far, with one file more included
 abbrev pub one_included : Progress → Progress
 one_included progress = record progress { records = record progress.records { included = progress.records.included + 1 } }
 
--- an `$INCLUDE` in a file below which so many levels of included files may lie
+-- what an `$INCLUDE` makes of what was read, in a file below which only so many levels of included files may lie
 unfoldable pub included : Limits → ℕ → Include
 included limits zero file line name origin progress = Err (Faulty (At file line IncludeDepth))
 included limits (suc levels) file line name origin progress =
@@ -133,7 +134,7 @@ included limits (suc levels) file line name origin progress =
 abbrev pub most_levels : ℕ
 most_levels = 8
 
--- what records give
+-- what was read of a zone's files, without the context for what would follow
 abbrev pub zone_text_of : Records → ZoneText
 zone_text_of records = record { rrs = records.rrs; seen = records.seen; included = records.included }
 

@@ -27,7 +27,7 @@ pub fn asks_within_the_limit()
     ensures { (origin : Labels) (room includes : ℕ) (texts : List (List ℕ)) (file : List ℕ) → zone_text origin room includes texts ≡ Err (Asks file) → length texts ≤ includes }
 {}
 
-/// No texts are refused for want of memory, nor does one stand in their fault: that answer is a call's alone.
+/// No texts are refused because memory ran out, nor does that error stand in their fault: that answer is a call's alone.
 pub fn no_text_wants_memory()
     ensures own { (origin : Labels) (room includes : ℕ) (texts : List (List ℕ)) → zone_text origin room includes texts ≢ Err (Faulty TextFault.NoMemory) }
     ensures inside { (origin : Labels) (room includes : ℕ) (texts : List (List ℕ)) → IfErr (zone_text origin room includes texts) TellsOfUnread }

@@ -8,7 +8,7 @@
 //! The layer above may rest on this: what `finish` answers is what the definition `zone_text` says of the texts that
 //! were fed, so the pieces don't count, and `end_file` asks for a file exactly where that definition does; the
 //! definition is that of the texts' entries (master_lex's `text_entries`), each read in the context that those before
-//! it leave; and a fault that lies in a name or in data is never want of memory.
+//! it leave; and a fault that lies in a name or in data is never `NoMemory`.
 //!
 //! Costs: each octet is passed over by the lexer once, and by the reading of its entry a bounded number of times.
 //! The entries of one piece are held until they are read, so a large text is best fed in pieces. A record takes

@@ -1,4 +1,4 @@
--- No metadata are refused for want of memory: that answer is a call's alone.
+-- No metadata are refused because memory ran out: that answer is a call's alone.
 use Rattle.std.proofs.Common.{ℕ, ◌+◌, List, [], ◌∷◌, length, codes, is_some, nat_lt, ◌==◌, Option, Some, None, Result, Ok, Err}
 use Rattle.std.specs.List.{list_all}
 use Rattle.std.specs.Option.{ok_or}

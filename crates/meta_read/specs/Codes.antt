@@ -1,4 +1,4 @@
--- The codes of faults in metadata. No metadata are refused for want of memory, and its word is never printed.
+-- The codes of faults in metadata. No metadata are refused because memory ran out, and its word is never printed.
 use Rattle.std.specs.Prelude.{ℕ, List, codes}
 use Rattle.meta_read.specs.declared.fault.MetaFault.{MetaFault}
 use Rattle.meta_read.specs.declared.fault.MetaFault.TheVariants.{NotJson, Shape, BadName, TopUnhosted, NoTops, TooManyRows, NoMemory}

@@ -25,7 +25,7 @@ tops_in values =
     then (if length values == 0 then Err NoTops else each top_of 1 values)
     else Err (Shape 0)
 
--- the top servers
+-- the top servers that the metadata name, each once, or the first fault
 abbrev pub tops_of : Data → Result (List Labels) MetaFault
 tops_of value = do
   values ← ok_or (list_at (codes "TopNameServers") value) (Shape 0)

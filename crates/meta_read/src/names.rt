@@ -24,7 +24,7 @@ pub(crate) fn name_in_row(alloc: Global, row: u32, text: &str) -> Result<Name, M
     }
 }
 
-/// Of equal names the first.
+/// The names without those that equal an earlier one.
 pub(crate) fn once(alloc: Global, names: &[Name]) -> Result<List<Name>, NoMemory>
     ensures { IfOk result (λ single. single ≡ distinct name_eq names.now) }
 {

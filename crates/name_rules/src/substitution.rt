@@ -30,9 +30,9 @@ pub fn substitute(
     target.join_labels(alloc, &labels_below(name, owner))
 }
 
-/// The name with an open tail with the target's labels in the owner's place, and with its tail. It is `TooLong` where the
-/// name that it makes would have more than 255 octets with the tail. The owner may be the known name itself, which lies above
-/// a name with a tail.
+/// The name with an open tail with the target's labels in the owner's place, and with its tail. It is `TooLong` where
+/// the name that it makes would have more than 255 octets with the tail. The owner may be the known name itself, which
+/// lies above a name with a tail.
 pub fn substitute_sym(
     alloc: Global,
     name: &SymName,

@@ -100,6 +100,7 @@ abbrev pub Advances : Setting → State → Hop → State → Type 0
 Advances setting state (Refer cut) to = (to.used ≡ state.used) × (state.cut < to.cut) × (to.name ≡ state.name)
 Advances setting state (Rewrite place by_dname name) to = (to.used ≡ state.used + 1) × (state.used < setting.rewrites)
 
+-- the hop leads from the one state to the other, which has a longer zone cut or has used one rewrite more
 pub record StepsOn (setting : Setting) (state : State) (hop : Hop) (to : State) : Type 0 where
   pub near : IsNear setting to
   pub within : to.cut ≤ length to.name

@@ -45,15 +45,19 @@ the_walk None e = cc
 the_walk (Some walk) e = (walk, refl)
 
 module _ (setting : Setting) (rtype : RrType) (depth : ℕ) (query : Labels) where
+  -- all walks of the query of so many states at most, with their numbers
   abbrev pub numbered : List Numbered
   numbered = all_along depth setting rtype query
 
+  -- the numbers of a walk that has them
   abbrev pub numbers_of : Numbered → List ℕ
   numbers_of x = x.0
 
+  -- the numbers of all these walks, in order
   abbrev pub paths : List (List ℕ)
   paths = map numbers_of numbered
 
+  -- all these walks, without numbers
   abbrev pub total : List Walk
   total = flat_map (walks_within depth setting rtype) (start setting.config query)
 

@@ -47,7 +47,7 @@ pub record IsFirstUnnamed (ground : Ground) (above : Labels) (label : List ℕ) 
   pub unnamed : IsNamed ground (above ++ label ∷ []) → ⊥
   pub first : (other : List ℕ) → IsLabel other → trial_cmp other label ≡ Less → IsNamed ground (above ++ other ∷ [])
 
--- the name stands for a class below a name
+-- the name stands for the class below another: it is that other name with its first unnamed label below
 pub record StandsBelow (ground : Ground) (above name : Labels) : Type 0 where
   pub label : List ℕ
   pub first : IsFirstUnnamed ground above label

@@ -11,7 +11,8 @@ use Rattle.net_model.specs.declared.place.Cut.{Cut}
 use Rattle.net_model.specs.declared.place.Place.{Place}
 use Rattle.net_model.specs.Class.{class_cmp}
 
--- the place of a fault's kind in a report
+-- the place of a fault's kind in a report, counted from 0: lame delegation, delegation differs, missing glue, glue
+-- differs, cyclic dependency, rewrite limit, blackhole, answers differ, overlong, no address
 abbrev pub kind_number : Fault → ℕ
 kind_number (Lame cut) = 0
 kind_number (Differs cut) = 1
@@ -24,13 +25,13 @@ kind_number (Answers class rtype) = 7
 kind_number (Overlong place) = 8
 kind_number (NoAddress cut) = 9
 
--- by server, zone, zone cut and name server
+-- the order of name servers of delegations: by server, zone, zone cut and name server
 abbrev pub cut_cmp : Cut → Cut → Ordering
 cut_cmp a b =
     ordering_then (name_cmp a.server b.server)
     (ordering_then (name_cmp a.zone b.zone) (ordering_then (name_cmp a.cut b.cut) (name_cmp a.ns b.ns)))
 
--- by server, zone and owner
+-- the order of places of rewrites: by server, zone and owner
 abbrev pub place_cmp : Place → Place → Ordering
 place_cmp a b =
     ordering_then (name_cmp a.server b.server) (ordering_then (name_cmp a.zone b.zone) (name_cmp a.owner b.owner))
@@ -49,6 +50,6 @@ fault_place_cmp (Overlong a) (Overlong b) = place_cmp a b
 fault_place_cmp (NoAddress a) (NoAddress b) = cut_cmp a b
 fault_place_cmp a b = Equal
 
--- the order of faults
+-- the order of faults: by kind, and within a kind by place
 abbrev pub fault_cmp : Fault → Fault → Ordering
 fault_cmp a b = ordering_then (nat_cmp (kind_number a) (kind_number b)) (fault_place_cmp a b)

@@ -28,7 +28,7 @@ dname_owner zone name =
     && owns zone above types.Dname)
     name
 
--- the first of some names
+-- the first of some names, if there is one
 abbrev pub first_name : List Labels → Option Labels
 first_name [] = None
 first_name (name ∷ names) = Some name
@@ -59,7 +59,7 @@ synthesized zone None = ByNothing
 synthesized zone (Some encloser) =
     if exists_in zone (source_of_synthesis encloser) then ByRecords (source_of_synthesis encloser) else ByNothing
 
--- of the zone cut and the DNAME owner the shorter one decides, and the cut where they are one name
+-- if a name has a zone cut and a DNAME owner, the shorter one decides, and the cut if they are one name
 abbrev pub shorter_decides : Zone → Option Labels → Option Labels → Option Deciding
 shorter_decides zone (Some cut) None = Some (ByCut cut)
 shorter_decides zone (Some cut) (Some owner) =
@@ -67,7 +67,8 @@ shorter_decides zone (Some cut) (Some owner) =
 shorter_decides zone None (Some owner) = Some (by_dname zone owner)
 shorter_decides zone None None = None
 
--- with neither, the name's own records decide, or those of its wildcard
+-- what decides at a name: the zone cut or the DNAME owner; without either the name's own records, or those of its
+-- wildcard
 abbrev pub decided : Zone → Labels → Option Deciding → Deciding
 decided zone name (Some above) = above
 decided zone name None = if exists_in zone name then ByRecords name else synthesized zone (closest_encloser zone name)

@@ -22,7 +22,8 @@ nearest server name =
     option_and_then (zone_with_origin server)
     (longest (λ above. is_some (zone_with_origin server above)) name)
 
--- the zone with the longest origin at or above the name, of the server of this name; one that isn't configured holds no zone
+-- the zone with the longest origin at or above the name, of the server of this name; one that isn't configured holds no
+-- zone
 abbrev pub nearest_of : Config → Labels → Labels → Option Zone
 nearest_of config server name = option_and_then (λ holder. nearest holder name) (server_named config server)
 

@@ -3,7 +3,7 @@ use Rattle.std.specs.Prelude.{Bool, List, [], ◌∷◌, map, reverse, Option}
 use Rattle.std.specs.List.{find}
 use Rattle.dns_data.specs.Name.{Labels}
 
--- the root first, the name last
+-- the prefixes of a name, its ancestors and itself: the root first, the name last (RFC 1034 section 3.1)
 abbrev pub prefixes : Labels → List Labels
 prefixes [] = [] ∷ []
 prefixes (label ∷ rest) = [] ∷ map (λ above. label ∷ above) (prefixes rest)

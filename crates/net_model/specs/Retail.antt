@@ -29,7 +29,7 @@ retailed_hops count tail (state ∷ states) (hop ∷ hops) =
     retailed_hop count tail state.carried hop ∷ retailed_hops count tail states hops
 retailed_hops count tail states hops = hops
 
--- the walk so replaced; all else stays
+-- the walk with the query's last labels replaced by others; all else stays
 abbrev pub retail : ℕ → Labels → Walk → Walk
 retail count tail walk =
     record {

@@ -31,12 +31,12 @@ pub record FaultSetting : Type 1 where
   pub in_least : Labels → Type 0
   pub in_greatest : Labels → Type 0
 
--- with two lists of names in the place of the least and the greatest set
+-- what faults are read in, with two lists of names in the place of the least and the greatest set
 abbrev pub with_lists : Setting → List Labels → List Labels → FaultSetting
 with_lists setting least greatest =
     record { walks = setting; in_least = Contains least; in_greatest = Contains greatest }
 
--- with the least and the greatest set of the configuration
+-- what faults are read in, with the least and the greatest set of the configuration
 abbrev pub with_sets : Setting → FaultSetting
 with_sets setting =
     record {
@@ -60,7 +60,7 @@ pub record LastRewriteAt (walk : Walk) (place : Place) : Type 0 where
   pub states : walk.states ≡ before ++ last ∷ []
   pub at_place : last.last ≡ Some place
 
--- the zone in which the referral stands, and the one of its name server with exactly the cut as origin
+-- both zones of a referral: the one in which it stands, and the one of its name server with exactly the cut as origin
 pub record BothSides (config : Config) (cut : Cut) : Type 0 where
   pub above : Zone
   pub below : Zone
@@ -77,7 +77,7 @@ pub record ZonesDiffer (config : Config) (cut : Cut) : Type 0 where
   pub sides : BothSides config cut
   pub differ : ns_names sides.above cut.cut ≢ ns_names sides.below cut.cut
 
--- delegation differs: the walk goes by a referral whose two zones do
+-- delegation differs: the walk goes by a referral whose two zones list other name servers
 pub record ShowsDiffers (config : Config) (walk : Walk) (cut : Cut) : Type 0 where
   pub refers : Refers walk cut
   pub zones : ZonesDiffer config cut
@@ -87,7 +87,7 @@ pub record WantsGlue (config : Config) (cut : Cut) : Type 0 where
   pub inside : is_prefix cut.cut cut.ns ≡ true
   pub no_glue : has_glue config cut ≡ false
 
--- missing glue: the walk goes by a referral to such a name server
+-- missing glue: the walk goes by a referral to a name server at or below the cut that has no glue
 pub record ShowsNoGlue (config : Config) (walk : Walk) (cut : Cut) : Type 0 where
   pub refers : Refers walk cut
   pub wants : WantsGlue config cut
@@ -101,7 +101,7 @@ pub record AddressesDiffer (config : Config) (cut : Cut) : Type 0 where
   pub below : addresses sides.below cut.ns ≢ []
   pub differ : addresses sides.above cut.ns ≢ addresses sides.below cut.ns
 
--- glue differs: the walk goes by a referral to such a name server
+-- glue differs: the walk goes by a referral to a name server of which both zones hold addresses, and not the same ones
 pub record ShowsGlueDiffers (config : Config) (walk : Walk) (cut : Cut) : Type 0 where
   pub refers : Refers walk cut
   pub glue : AddressesDiffer config cut
@@ -115,7 +115,7 @@ pub record DependsOnItself (setting : FaultSetting) (cut : Cut) : Type 0 where
   pub learnt_at_most : setting.in_greatest cut.ns
   pub not_at_least : setting.in_least cut.ns → ⊥
 
--- cyclic dependency: the walk goes by a referral to such a name server
+-- cyclic dependency: the walk goes by a referral to a name server whose address depends on itself
 pub record ShowsCyclic (setting : FaultSetting) (walk : Walk) (cut : Cut) : Type 0 where
   pub refers : Refers walk cut
   pub depends : DependsOnItself setting cut
@@ -136,7 +136,7 @@ is_authoritative leaves.NoData = true
 is_authoritative leaves.NxDomain = true
 is_authoritative leaf = false
 
--- answers differ: two walks end in such leaves, and these are not equal
+-- answers differ: two walks end in what a zone has for the name, and the two aren't equal
 pub record ShowsAnswers (one other : Walk) : Type 0 where
   pub first : is_authoritative one.leaf ≡ true
   pub second : is_authoritative other.leaf ≡ true

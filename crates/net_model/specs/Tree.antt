@@ -46,7 +46,7 @@ pub record AreReached (config : Config) (rewrites : ℕ) (query : Labels) (pairs
   pub once : AllPairs (λ a b. a ≢ b) pairs
   pub all : (pair : State × RrType) → Contains pairs pair ↔ IsReached config rewrites query pair
 
--- more than so many different items are so
+-- more different items than the limit have the property
 pub record HasMoreThan {X : Type 0} (P : X → Type 0) (most : ℕ) : Type 0 where
   pub items : List X
   pub more : most < length items

@@ -42,16 +42,16 @@ walk_along setting query rtype (number ∷ numbers) =
 abbrev pub path_cmp : List ℕ → List ℕ → Ordering
 path_cmp a b = slice_cmp nat_cmp a b
 
--- it is a walk of the query
+-- the walk is one of the query with the type
 abbrev pub IsWalk : Setting → Labels → RrType → Walk → Type 0
 IsWalk setting query rtype walk = (numbers : List ℕ) × (walk_along setting query rtype numbers ≡ Some walk)
 
--- these are the lists of numbers of all walks of the query, in order
+-- the lists of numbers are those of all walks of the query with the type, in order
 pub record ArePaths (setting : Setting) (query : Labels) (rtype : RrType) (paths : List (List ℕ)) : Type 0 where
   pub ordered : AllPairs (λ a b. path_cmp a b ≡ Less) paths
   pub all : (numbers : List ℕ) → Contains paths numbers ↔ IsSome (walk_along setting query rtype numbers)
 
--- these are all walks of the query, in order
+-- the walks are all those of the query with the type, in order
 abbrev pub AreWalks : Setting → Labels → RrType → List Walk → Type 0
 AreWalks setting query rtype walks =
     (paths : List (List ℕ)) × ArePaths setting query rtype paths

@@ -33,7 +33,7 @@ pub enum Hop {
     },
 }
 
-/// How a walk ends.
+/// How a walk ends, a variant for each way.
 #[derive(Debug, Drop)]
 pub enum Leaf {
     /// The data of the type, in the order of their texts.

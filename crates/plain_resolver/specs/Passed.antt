@@ -25,7 +25,7 @@ abbrev pub NoneHasTooMany : Config → ℕ → ℕ → List Labels → Type 0
 NoneHasTooMany config rewrites most followed =
     (name : Labels) → Contains (server_names config) name → HasTooMany config rewrites most followed name → ⊥
 
--- none has in the sets from which the first rounds start
+-- in no set from which one of the first rounds starts does a server's name have too many walks
 abbrev pub NoneInRounds : Config → ℕ → ℕ → List Labels → ℕ → Type 0
 NoneInRounds config rewrites most begin rounds =
     (before : ℕ) (followed : List Labels) → before < rounds → AfterRounds config rewrites before begin followed
@@ -39,7 +39,7 @@ pub record IsFirstToPass (config : Config) (rewrites most : ℕ) (followed : Lis
   pub none_has : (other : Labels) → Contains earlier other → HasTooMany config rewrites most followed other → ⊥
   pub has : HasTooMany config rewrites most followed name
 
--- and it is so of the first set from which a round starts in which one has
+-- the name is that of the first server that has too many walks in the first round in which one has
 pub record IsFirstWithTooMany (config : Config) (rewrites most : ℕ) (begin : List Labels) (name : Labels) : Type 0 where
   pub before : ℕ
   pub is_round : before < length config.servers

@@ -1,7 +1,7 @@
 //! All walks of one query, and the sets of learnt addresses, by following each walk by itself.
 //!
 //! The layer above may rest on this: `resolve` gives all walks of the definitions, in their order, or tells that there
-//! are more than so many; `learnt` gives what the definitions' rounds give. Each builds the trees of the configuration's
+//! are more than the limit; `learnt` gives what the definitions' rounds give. Each builds the trees of the configuration's
 //! zones; `resolve_at` and `learnt_at` are given them, where several queries are asked.
 #![tactic(auto)]
 

@@ -33,9 +33,10 @@ pub fn learnt(
     learnt_at(alloc, &hosts, rewrites, from, most)
 }
 
-/// The names of the servers whose addresses are learnt after as many rounds as there are servers, begun with these, by the
-/// trees of the configuration's zones. It is `WalksPassed` where for one of the sets from which a round starts some server's
-/// name has more than `most` walks of type A or of type AAAA, with the first such server of the first such set.
+/// The names of the servers whose addresses are learnt after as many rounds as there are servers, begun with these, by
+/// the trees of the configuration's zones. It is `WalksPassed` where for one of the sets from which a round starts some
+/// server's name has more than `most` walks of type A or of type AAAA, with the first such server of the first such
+/// set.
 pub fn learnt_at(
     alloc: Global,
     hosts: &Hosts<'_>,

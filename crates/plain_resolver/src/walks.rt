@@ -59,7 +59,8 @@ pub fn resolve_at(
     Ok(walks)
 }
 
-/// Shows a visitor all walks of the query in order, or tells that there are more than `most`; no more than `most` are shown.
+/// Shows a visitor all walks of the query in order, or tells that there are more than `most`; no more than `most` are
+/// shown.
 pub(crate) fn visit_walks<V: WalkVisitor>(
     alloc: Global,
     resolver: &Resolver<'_, '_>,
@@ -78,7 +79,7 @@ pub(crate) fn visit_walks<V: WalkVisitor>(
     Ok(())
 }
 
-/// Shows a visitor all walks that go on from a begun walk by this state, or tells that there is no room for so many.
+/// Shows a visitor all walks that go on from a begun walk by this state, or tells that there is no room for that many.
 fn visit_from<V: WalkVisitor>(
     alloc: Global,
     resolver: &Resolver<'_, '_>,

@@ -14,6 +14,7 @@ abbrev pub waits_in : ℕ → Option Spot → Bool
 waits_in deque (Some (Waiting d)) = d == deque
 waits_in deque spot = false
 
+-- the deque with this number
 abbrev pub at : List Deque → ℕ → Deque
 at deques d = get_or deques d new_deque
 

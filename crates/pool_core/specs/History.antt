@@ -38,7 +38,8 @@ first_stop [] = None
 first_stop (Stop cause ∷ history) = Some cause
 first_stop (entry ∷ history) = first_stop history
 
--- the entry may come after this history: a claim of an issued ticket that wasn't claimed, before any stop; a filing of a ticket that was claimed and not filed; any stop
+-- the entry may come after this history: a claim of an issued ticket that wasn't claimed, before any stop; a filing of
+-- a ticket that was claimed and not filed; any stop
 abbrev pub may_come_next : List HistoryEntry → HistoryEntry → Bool
 may_come_next history (Claim ticket) =
     nat_lt ticket (issued_in history) && not (is_claimed_in history ticket) && is_none (first_stop history)

@@ -10,7 +10,8 @@ use Rattle.pool_core.specs.Steps.{run}
 use Rattle.pool_core.specs.History.{issued_in, is_claimed_in, is_filed_in, first_stop, is_legal}
 use Rattle.pool_core.specs.Shadow.{shadow}
 
--- it holds of the pool after every list of events, for every number of workers and every limit of at least one ticket
+-- the property holds of the pool after every list of events, for every number of workers and every limit of at least
+-- one ticket
 abbrev pub AfterEveryRun : (Pool → Type 0) → Type 0
 AfterEveryRun Holds = (workers limit : ℕ) (events : List Event) → 1 ≤ limit → Holds (run workers limit events)
 
@@ -80,7 +81,8 @@ abbrev pub spot_is_filed : Option Spot → Bool
 spot_is_filed (Some Filed) = true
 spot_is_filed spot = false
 
--- that history replays to the same issued, claimed and filed tickets, and to the cause of the first stop
+-- the history of the accepted events replays to the same issued, claimed and filed tickets, and to the cause of the
+-- first stop
 pub record ReplaysToItself (pool : Pool) : Type 0 where
   pub issued : issued_in (shadow pool.accepted) ≡ issued pool
   pub claimed : (ticket : ℕ) → is_claimed_in (shadow pool.accepted) ticket ≡ spot_is_claimed (spot_of pool ticket)

@@ -7,7 +7,8 @@ use Rattle.pool_core.specs.declared.spot.Spot.{Spot}
 use Rattle.pool_core.specs.declared.spot.Spot.TheVariants.{Issued}
 use Rattle.pool_core.specs.Deques.{Deque, new_deque}
 
--- the events accepted so far, the spot of each issued ticket by its number, the deque of each worker, and the cause of the first stop
+-- the events accepted so far, the spot of each issued ticket by its number, the deque of each worker, and the cause of
+-- the first stop
 pub record Pool : Type 0 where
   pub workers : ℕ
   pub limit : ℕ

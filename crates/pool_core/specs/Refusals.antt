@@ -83,7 +83,7 @@ refusal pool event =
     (option_or (illegal pool event)
     (option_or (empty_deque pool event) (too_many pool event)))))
 
--- the call gives the refusal where there is one; else it is done, or gives the fault that is free, as want of memory
+-- the call gives the refusal where there is one; else it is done, or gives the fault that is free, as `NoMemory`
 abbrev pub RefusesOr : {T E : Type 0} → E → Result T E → Option E → Type 0
 RefusesOr free (Ok value) refusal = refusal ≡ None
 RefusesOr free (Err fault) refusal = (refusal ≡ Some fault) ⊎ ((fault ≡ free) × (refusal ≡ None))

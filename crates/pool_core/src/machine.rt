@@ -79,7 +79,7 @@ impl Core {
 
     /// One step of a worker. Refusals are tried in this order: a worker or a deque that is not there, a
     /// ticket that was not issued, a claim after a stop, a spot from which the event moves no ticket, an
-    /// empty deque, more tickets than the limit, want of memory. A refused event changes nothing.
+    /// empty deque, more tickets than the limit, `NoMemory`. A refused event changes nothing.
     pub fn step(&mut self, event: Event) -> Result<(), StepFault>
         ensures answers { RefusesOr StepFault.NoMemory result (refusal self.old event) }
         ensures ok { OnOk result (self.new ≡ happens self.old event) }

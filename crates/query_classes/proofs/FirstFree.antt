@@ -22,6 +22,7 @@ module _ (ground : Ground) (closed : IsClosed ground) (above : Labels) (live : L
   abbrev pub taken_at : ℕ → List Labels
   taken_at place = map (λ (name : Labels). above ++ last_of name ∷ []) (filter (is_below (name_at ground.names place)) ground.names)
 
+  -- the names one label below the name that are taken by a live base name
   abbrev pub taken : List Labels
   taken = flat_map taken_at live
 

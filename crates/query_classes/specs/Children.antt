@@ -26,7 +26,8 @@ pub record AreChildren (ground : Ground) (above : Labels) (names : List Labels) 
 abbrev pub of_name_length : Labels → List (List ℕ) → List Labels
 of_name_length above labels = filter (λ name. nat_le (wire_octets name) 255) (map (λ label. above ++ label ∷ []) labels)
 
--- the name with each of the labels below, where that has at most 255 octets, each with the live set that comes with its label
+-- the name with each of the labels below, where that has at most 255 octets, each with the live set that comes with its
+-- label
 abbrev pub live_below : Labels → List NextName → List LiveName
 live_below above nexts = filter (λ one. nat_le (wire_octets one.name) 255) (map (λ next. record { name = above ++ next.label ∷ []; live = next.live }) nexts)
 

@@ -15,7 +15,7 @@ pub record ListedClass : Type 0 where
   pub class : Class
   pub representative : Labels
 
--- it is a class of the tree at or below the name that isn't empty, with its representative
+-- the listed class is one of the tree at or below the name that isn't empty, with its representative
 abbrev pub IsListed : Ground → Labels → ListedClass → Type 0
 IsListed ground above listed =
     IsInPart ground above (class_name listed.class) × IsRepresentative ground listed.class listed.representative

@@ -2,8 +2,8 @@
 
 ghost use Rattle.net_model.specs.Reading.{Ground};
 
-/// What names a ground, so that names of its class tree can keep what is known of them in a graph with this ground: a live set
-/// is read in no other.
+/// What names a ground, so that names of its class tree can keep what is known of them in a graph with this ground: a
+/// live set is read in no other.
 pub trait OnGround {
     ghost ground: { Ground };
 }

@@ -20,7 +20,7 @@ pub struct ClassRow {
     pub below: Option<Name>,
 }
 
-/// The part of the class tree at or below a name, where it has at most so many names: its names in order, each with the
+/// The part of the class tree at or below a name, where it has at most this many names: its names in order, each with the
 /// representative of the class below it. At or below the root it is the whole tree, and where the name isn't named there is
 /// none.
 pub fn class_tree(
@@ -56,7 +56,7 @@ pub fn class_tree(
     Ok(List::from_vec(rows))
 }
 
-/// The row of a name, whose live set is let go, and of the class below it.
+/// The row of a name and of the class below it. The name's live set is let go.
 fn row_of(found: LiveName, below: Option<Name>) -> ClassRow
     ensures name { result.name ≡ found.name }
     ensures below { result.below ≡ below }

@@ -12,8 +12,8 @@ use std::alloc::Global;
 use std::cmp::Ordering;
 use std::marker::{Model, PhantomData};
 
-/// A name of the class tree of a ground with its live set, so that it isn't walked to again. Contracts see the name, and names
-/// are ordered as `Name` orders them.
+/// A name of the class tree of a ground with its live set, so that it isn't walked to again. Contracts see the name,
+/// and names are ordered as `Name` orders them.
 #[derive(Drop)]
 pub struct TreeName<G: OnGround> {
     found: LiveName,

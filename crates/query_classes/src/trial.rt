@@ -32,7 +32,7 @@ fn before_last(octets: &[u8]) -> usize
     place
 }
 
-/// The octets of the label that is tried next, where so many stand before those at the end that are the last.
+/// The octets of the label that is tried next, where this many stand before those at the end that are the last.
 fn next_octets(alloc: Global, octets: &[u8], place: usize) -> Result<Vec<u8>, NoMemory>
     requires last { IsLastBut octets.now place }
     requires octets { list_all is_label_octet octets.now ≡ true }
@@ -49,7 +49,7 @@ fn next_octets(alloc: Global, octets: &[u8], place: usize) -> Result<Vec<u8>, No
     Ok(next)
 }
 
-/// Puts the letter that is tried first so many times at the end.
+/// Puts the letter that is tried first this many times at the end.
 fn put_letters(octets: &mut Vec<u8>, count: usize) -> Result<(), NoMemory>
     ensures { OnOk result (octets.new.items ≡ octets.old.items ++ replicate count 97) }
 {

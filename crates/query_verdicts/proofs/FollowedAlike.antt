@@ -129,6 +129,7 @@ module _ (config : Config) (rewrites : ℕ) (followed : List Labels) (all : Foll
 
 -- ---- where each configured server is a top server or followed, it may be followed
 
+-- the server is a top server or a learnt one
 abbrev pub is_in : tree.BTreeSet Labels → List Labels → Server → Bool
 is_in tops learnt server = tree.contains name_cmp tops server.name || is_among learnt server.name
 

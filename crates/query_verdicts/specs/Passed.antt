@@ -33,7 +33,7 @@ abbrev pub SomeNamePasses : Config → ℕ → ℕ → Type 0
 SomeNamePasses config rewrites states =
     (name : Labels) × Contains (server_names config) name × (IsName name × PassesStates config rewrites states name)
 
--- it is the name of the first configured server whose name reaches more pairs than so many
+-- the name is that of the first configured server whose name reaches more pairs than so many
 pub record IsFirstServerPassed (config : Config) (rewrites states : ℕ) (name : Labels) : Type 0 where
   pub before : List Labels
   pub after : List Labels

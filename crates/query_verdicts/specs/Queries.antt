@@ -50,9 +50,9 @@ pub record IsLeastGraph (config : Config) (rewrites : ℕ) (query : Labels) (gra
   pub is_graph : IsGraphOf (following config rewrites followed) query graph
   pub exact : IsExactIn (following config rewrites followed) query graph
 
--- The walks of the query end so while the servers of the set in force are followed: it has these outcomes and no others, and no
--- walk of it ends in a name of more than 255 octets (RFC 6672 section 2.2). Neither it nor the name of some server reaches too many
--- pairs of state and type.
+-- The walks of the query end so while the servers of the set in force are followed: it has these outcomes and no
+-- others, and no walk of it ends in a name of more than 255 octets (RFC 6672 section 2.2). Neither it nor the name of
+-- some server reaches too many pairs of state and type.
 pub record AreStraightEnds (config : Config) (rewrites states : ℕ) (query : Labels) (ends : StraightEnds) : Type 0 where
   pub few : PassesStates config rewrites states query → ⊥
   pub learnt : SomeServerPasses config rewrites states → ⊥

@@ -25,8 +25,8 @@ abbrev pub SomeServerPasses : Config → ℕ → ℕ → Type 0
 SomeServerPasses config rewrites states =
     (name : Labels) × Contains (server_names config) name × PassesStates config rewrites states name
 
--- These are the faults that the query shows, with the set in force. Where the name of some server passes the limit nothing
--- is looked for: the report is then refused.
+-- The faults are those that the query shows, with the set in force. If the name of some server passes the limit,
+-- the list is empty: the report is then refused.
 pub record AreFaultsOf (config : Config) (rewrites states : ℕ) (query : Labels) (shown : List Seen) : Type 0 where
   pub none_sought : SomeServerPasses config rewrites states → shown ≡ []
   pub sought : (SomeServerPasses config rewrites states → ⊥) → (followed : List Labels) → IsInForce config rewrites followed

@@ -1,4 +1,5 @@
-//! The entries of a report: each fault with the first class that shows it, and the first walks of that class's representative.
+//! The entries of a report: each fault with the first class that shows it, and the first walks of that class's
+//! representative.
 
 ghost use Rattle.std.specs.Prelude.{◌≡◌, ◌++◌, All, IfOk, IfSome, IsPermutation, OnOk, Some, slice_get};
 ghost use Rattle.std.specs.List.Sorted.{IsSortedBy};
@@ -151,8 +152,8 @@ struct Walked {
     graph: Graph,
 }
 
-/// The entries of faults with their classes, one for each. A graph is made where the class is another than that of the fault
-/// before: once for each class, if the faults of one class stand together.
+/// The entries of faults with their classes, one for each. A graph is made where the class is another than that of the
+/// fault before: once for each class, if the faults of one class stand together.
 fn entries_by_class<S: OnSubject>(
     judge: &NameJudge<'_, S>,
     found: List<ClassFault>,
@@ -248,8 +249,8 @@ fn query_of<S: OnSubject>(judge: &NameJudge<'_, S>, class: &Class) -> Result<Nam
     }
 }
 
-/// The graph of the walks of a query while the servers of the least set are followed. Where the name of no server passes the
-/// limit there is that set.
+/// The graph of the walks of a query while the servers of the least set are followed. Where the name of no server
+/// passes the limit there is that set.
 fn least_graph<S: OnSubject>(judge: &NameJudge<'_, S>, query: &Name) -> Result<Graph, NoMemory>
     requires none_passes { NonePasses S.subject S.states }
     requires few { PassesStates S.subject.config S.subject.rewrites S.states query.now → ⊥ }

@@ -19,8 +19,8 @@ use std::marker::Model;
 use straight_walks::{StraightEnds, straight_ends};
 use zone_lookup::{Hosts, LearntSets};
 
-/// The queries of a configuration, with what is learnt of it once: the trees of all zones, the two sets of learnt addresses and
-/// the regions of names. Contracts see the configuration and the limits of its queries.
+/// The queries of a configuration, with what is learnt of it once: the trees of all zones, the two sets of learnt
+/// addresses and the regions of names. Contracts see the configuration and the limits of its queries.
 #[derive(Drop)]
 pub struct QueryGraphs<'a> {
     queries: Queries<'a>,
@@ -39,9 +39,9 @@ impl<'a> Model for QueryGraphs<'a> {
 }
 
 impl<'a> QueryGraphs<'a> {
-    /// The queries of a configuration, each of which may use so many rewrites, and of each of which no more pairs of state and
-    /// type are looked at than so many. The trees of all zones, the graph of each server's name and the regions of names are
-    /// made here, once.
+    /// The queries of a configuration, each of which may use this many rewrites, and of each of which no more pairs of
+    /// state and type are looked at than the limit. The trees of all zones, the graph of each server's name and the
+    /// regions of names are made here, once.
     pub fn prepare(
         alloc: Global,
         config: &'a Config,
@@ -60,8 +60,8 @@ impl<'a> QueryGraphs<'a> {
         Ok(QueryGraphs { queries, learnt })
     }
 
-    /// The two sets of learnt addresses, or the name of the first configured server that reaches more pairs of state and type
-    /// than are looked at.
+    /// The two sets of learnt addresses, or the name of the first configured server that reaches more pairs of state
+    /// and type than are looked at.
     pub fn sets(&self) -> Result<&LearntSets, &Name>
         ensures sets { IfOk result (λ sets. AreSets self.now.config self.now.rewrites self.now.states sets.now) }
         ensures passed { IfErr result (λ server. IsFirstServerPassed self.now.config self.now.rewrites self.now.states server.now) }
@@ -72,9 +72,9 @@ impl<'a> QueryGraphs<'a> {
         }
     }
 
-    /// The graph of the walks of a query while the servers of the least set of learnt addresses are followed, or `None` where
-    /// the name of some server reaches more pairs of state and type than are looked at, so that there is no such set. It is
-    /// `StatesPassed` where the query reaches more.
+    /// The graph of the walks of a query while the servers of the least set of learnt addresses are followed, or `None`
+    /// where the name of some server reaches more pairs of state and type than are looked at, so that there is no such
+    /// set. It is `StatesPassed` where the query reaches more.
     pub fn graph(&self, query: &Name) -> Result<Option<Graph>, GraphFault>
         ensures graph { IfOk result (λ found. MatchOption found (SomeServerPasses self.now.config self.now.rewrites self.now.states)
             (IsLeastGraph self.now.config self.now.rewrites query.now)) }
@@ -91,9 +91,9 @@ impl<'a> QueryGraphs<'a> {
         }
     }
 
-    /// What the walks of a query end in while the servers of the least set of learnt addresses are followed, where they are seen to
-    /// go straight there without a graph, or `None`. The query's region is looked for near a place first, whatever that is, and the
-    /// place is left near which that of the next query may be looked for.
+    /// What the walks of a query end in while the servers of the least set of learnt addresses are followed, where they
+    /// are seen to go straight there without a graph, or `None`. The query's region is looked for near a place first,
+    /// whatever that is, and the place is left near which that of the next query may be looked for.
     pub fn straight_ends(
         &self,
         near: &mut usize,
@@ -115,9 +115,9 @@ impl<'a> QueryGraphs<'a> {
         }
     }
 
-    /// The verdict of a query: the faults that it shows, or that it reaches more pairs of state and type than are looked at.
-    /// Where the name of some server does, no fault is looked for. The query's region is looked for near a place first,
-    /// whatever that is, and the place is left near which that of the next query may be looked for.
+    /// The verdict of a query: the faults that it shows, or that it reaches more pairs of state and type than are
+    /// looked at. Where the name of some server does, no fault is looked for. The query's region is looked for near a
+    /// place first, whatever that is, and the place is left near which that of the next query may be looked for.
     pub fn verdict(
         &self,
         near: &mut usize,

@@ -14,8 +14,8 @@ ghost use Rattle.net_model.specs.Reading.{Ground, Covers};
 ghost use Rattle.net_model.specs.declared.config.Config.{Config};
 ghost use Rattle.net_model.specs.declared.fault.Fault.{Fault};
 
-/// Some query at or below a subject's name shows a fault exactly where the representative of some class of the subject's tree
-/// does, where the subject's ground covers its configuration and its name is in the tree.
+/// Some query at or below a subject's name shows a fault exactly where the representative of some class of the
+/// subject's tree does, where the subject's ground covers its configuration and its name is in the tree.
 pub fn carrying()
     ensures { (subject : Subject) → IsCovering subject → (fault : Fault) → IsShown subject fault ↔ SomeClassShows subject fault }
 {}

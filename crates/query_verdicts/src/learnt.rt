@@ -21,8 +21,8 @@ use std::collections::BTreeSet;
 use straight_walks::Regions;
 use zone_lookup::{LearntSets, set_of};
 
-/// The two sets of learnt addresses, the regions of names by which queries are seen to go straight, and whether each configured
-/// server is seen to be a top server or in the least set.
+/// The two sets of learnt addresses, the regions of names by which queries are seen to go straight, and whether each
+/// configured server is seen to be a top server or in the least set.
 #[derive(Drop)]
 pub(crate) struct Learnt<'a> {
     pub sets: LearntSets,

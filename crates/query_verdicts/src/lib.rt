@@ -1,11 +1,12 @@
-//! The verdicts of queries: the graphs of their walks and the faults that these show, of a query by itself and of the names of a
-//! class tree, and the report of a subject from these verdicts.
+//! The verdicts of queries: the graphs of their walks and the faults that these show, of a query by itself and of the
+//! names of a class tree, and the report of a subject from these verdicts.
 //!
-//! The layer above may rest on this: `QueryGraphs` tells of each query the graph of its walks while the servers of the least
-//! set are followed, or without one what they end in where they go straight, and the faults that it shows; and some query at
-//! or below a subject's name shows a fault exactly where the representative of some class of the subject's tree does
-//! (`laws::carrying`), so the report that `NameJudge` makes of representatives is one of all queries. A subject is a
-//! configuration with its limits, the names that are told apart in it, and the name at or below which queries are looked at.
+//! The layer above may rest on this: `QueryGraphs` tells of each query the graph of its walks while the servers of the
+//! least set are followed, or without one what they end in where they go straight, and the faults that it shows; and
+//! some query at or below a subject's name shows a fault exactly where the representative of some class of the
+//! subject's tree does (`laws::carrying`), so the report that `NameJudge` makes of representatives is one of all
+//! queries. A subject is a configuration with its limits, the names that are told apart in it, and the name at or below
+//! which queries are looked at.
 //!
 //! Costs: `prepare` makes the trees of all zones and a graph of each server's name, once. A name of the tree keeps its own
 //! live set, found once, one label on from that of the name above it: none is walked to from the root to be judged, and judging

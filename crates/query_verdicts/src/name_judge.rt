@@ -45,8 +45,8 @@ impl<'a, S: OnSubject> Model for NameJudge<'a, S> {
 }
 
 impl<'a, S: OnSubject> NameJudge<'a, S> {
-    /// The judge with the graphs of the configuration's queries, the graph of the base names of the subject's ground, that of
-    /// the configuration's own base names where the ground is another, and the subject's name.
+    /// The judge with the graphs of the configuration's queries, the graph of the base names of the subject's ground,
+    /// that of the configuration's own base names where the ground is another, and the subject's name.
     pub fn new(
         alloc: Global,
         graphs: QueryGraphs<'a>,
@@ -103,8 +103,8 @@ impl<'a, S: OnSubject> NameJudge<'a, S> {
         item.copy(self.alloc)
     }
 
-    /// The verdict of a name of the class tree: of the class of the name alone, and of the class below it. The second query's
-    /// region is looked for near the first one's; for that one no place is known, as if it were past the last.
+    /// The verdict of a name of the class tree: of the class of the name alone, and of the class below it. The region of
+    /// the second query is searched from that of the first; `usize::MAX` means no hint.
     fn judge_name(&self, name: &LiveName) -> Result<NameVerdict, NoMemory>
         requires live { IsLiveIn S.subject.ground name.now.name name.now.live }
         requires in_tree { IsInTree S.subject.ground name.now.name }

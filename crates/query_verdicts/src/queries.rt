@@ -11,8 +11,8 @@ use name_rules::SymName;
 use std::alloc::Global;
 use zone_lookup::Hosts;
 
-/// A configuration's servers with the trees of their zones, how many rewrites a query may use, and how many pairs of state and
-/// type it may reach.
+/// A configuration's servers with the trees of their zones, how many rewrites a query may use, and how many pairs of
+/// state and type it may reach.
 #[derive(Drop)]
 pub(crate) struct Queries<'a> {
     pub alloc: Global,
@@ -21,8 +21,8 @@ pub(crate) struct Queries<'a> {
     pub states: u32,
 }
 
-/// The graph of the walks of a query while every configured server is followed. It is `StatesPassed` where the query reaches
-/// more pairs of state and type than it may.
+/// The graph of the walks of a query while every configured server is followed. It is `StatesPassed` where the query
+/// reaches more pairs of state and type than it may.
 pub(crate) fn graph_of(queries: &Queries<'_>, query: &Name) -> Result<Graph, GraphFault>
     ensures built { IfOk result (IsBuilt queries.now.trees queries.now.rewrites query.now) }
     ensures few { OnOk result (PassesStates queries.now.trees queries.now.rewrites queries.now.states query.now → ⊥) }

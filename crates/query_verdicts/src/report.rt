@@ -19,8 +19,8 @@ use verdict_book::{Filed, Work};
 /// Why a report isn't given.
 #[derive(Debug, Drop, Error)]
 pub enum ReportFault {
-    /// The representative of some class reaches more pairs of state and type than are looked at; this one is the first. Where
-    /// none does, but the name of some configured server, it is the first such name.
+    /// The representative of some class reaches more pairs of state and type than are looked at; this one is the first.
+    /// Where none does, but the name of some configured server, it is the first such name.
     #[error("more states than are looked at")]
     StatesPassed(Name),
     #[error("no memory")]
@@ -38,10 +38,10 @@ impl From<NoMemory> for ReportFault {
 }
 
 impl<'a, S: OnSubject> NameJudge<'a, S> {
-    /// The report of the subject, from the verdicts of all names of its class tree: the faults that some query at or below the
-    /// subject's name shows, each with its first query and type, and the first walk or pair of walks. Where the representative
-    /// of some class reaches more pairs of state and type than are looked at, it is `StatesPassed` with the first such one;
-    /// else, where the name of some configured server does, with the first such name.
+    /// The report of the subject, from the verdicts of all names of its class tree: the faults that some query at or
+    /// below the subject's name shows, each with its first query and type, and the first walk or pair of walks. Where
+    /// the representative of some class reaches more pairs of state and type than are looked at, it is `StatesPassed`
+    /// with the first such one; else, where the name of some configured server does, with the first such name.
     pub fn report<W: Work<Item = TreeName<SubjectGround<S>>, Verdict = FiledVerdict>>(
         &self,
         filed: List<Filed<W>>,
@@ -62,7 +62,8 @@ impl<'a, S: OnSubject> NameJudge<'a, S> {
     }
 }
 
-/// The report from the names of the class tree with their verdicts, where neither a class nor a server's name passes the limit.
+/// The report from the names of the class tree with their verdicts, where neither a class nor a server's name passes
+/// the limit.
 fn report_with<S: OnSubject, W: Work<Item = TreeName<SubjectGround<S>>, Verdict = FiledVerdict>>(
     judge: &NameJudge<'_, S>,
     filed: List<Filed<W>>,

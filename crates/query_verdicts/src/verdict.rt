@@ -19,23 +19,23 @@ pub enum ClassVerdict {
     StatesPassed,
 }
 
-/// What is told of a name of the class tree: of the class of the name alone, and of the class below it, `None` where that is
-/// empty.
+/// What is told of a name of the class tree: of the class of the name alone, and of the class below it, `None` where
+/// that is empty.
 #[derive(Debug, Drop)]
 pub struct NameVerdict {
     pub exact: ClassVerdict,
     pub below: Option<ClassVerdict>,
 }
 
-/// The verdict of a name of the class tree, as it is filed. Where it tells nothing, as nearly all do, it takes no memory of its
-/// own. Contracts see the verdict.
+/// The verdict of a name of the class tree, as it is filed. Where it tells nothing, as nearly all do, it takes no
+/// memory of its own. Contracts see the verdict.
 #[derive(Debug, Drop)]
 pub struct FiledVerdict {
     told: Told,
 }
 
-/// What is told of a name. Nothing is told of a class whose representative shows no fault and reaches no more pairs of state and
-/// type than are looked at.
+/// What is told of a name. Nothing is told of a class whose representative shows no fault and reaches no more pairs of
+/// state and type than are looked at.
 #[derive(Debug, Drop)]
 enum Told {
     /// Nothing, and the class below the name isn't empty.

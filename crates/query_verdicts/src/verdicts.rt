@@ -113,8 +113,9 @@ fn faults_of(
     }
 }
 
-/// The faults that the query of a graph shows, in fault order, each with its first type. The graph is that of its walks while
-/// the servers of the least set are followed; the class is the query's own, and it is told whether the query represents it.
+/// The faults that the query of a graph shows, in fault order, each with its first type. The graph is that of its walks
+/// while the servers of the least set are followed; the class is the query's own, and it is told whether the query
+/// represents it.
 fn shown_in(
     queries: &Queries<'_>,
     sets: &LearntSets,

@@ -1,4 +1,4 @@
--- The format never speaks of want of memory.
+-- The format never speaks of `NoMemory`.
 use Rattle.std.proofs.Common.{◌≡◌, ℕ, List, [], ◌∷◌, length, leb, ltb, ◌&&◌, not, Result, Ok, Err, inl, inr}
 use Rattle.std.specs.List.{list_all}
 use Rattle.std.proofs.lemmas.Result.{IfErr-at_err}
@@ -23,7 +23,7 @@ use Rattle.rdata_forms.specs.Times.{time_in, time_of}
 use Rattle.rdata_forms.specs.declared.fault.RdataFault.{RdataFault}
 use Rattle.rdata_forms.specs.declared.fault.RdataFault.TheVariants.{FieldCount, BadNumber, BadAddress, BadName, TextTooLong, NoMemory}
 
--- the fault says something of the tokens: it is no want of memory, nor does one stand in it
+-- the fault says something of the tokens: it is no `NoMemory`, nor does one stand in it
 pub record IsSaid (fault : RdataFault) : Type 0 where
   pub own : fault ≡ NoMemory → ⊥
   pub named : fault ≡ BadName name_fault.NoMemory → ⊥
@@ -151,7 +151,7 @@ reads-data rtype tokens origin = if_err_either IsSaid (is_generic tokens) _ _ (r
 pub reads-other : (word : List ℕ) (tokens : List Token) → Reads (other_of word tokens)
 reads-other word tokens = if_err_either IsSaid (is_generic tokens && not (is_generic_form (written tokens))) _ _ (record { own = λ h. cc; named = λ h. cc }) tt
 
--- a call that answers what reads isn't refused for a name's want of memory either
+-- a call that answers what reads isn't refused because memory ran out for a name either
 pub answers-named : {T : Type 0} (result said : Result T RdataFault) → AnswersOr NoMemory result said → Reads said → result ≡ Err (BadName name_fault.NoMemory) → ⊥
 answers-named (Ok value) said answered reads e = cc
 answers-named (Err fault) said (inl free) reads e = cc

@@ -1,4 +1,4 @@
--- The codes of faults in data. Want of memory is no fault of data, and its word is never printed.
+-- The codes of faults in data. `NoMemory` is no fault of data, and its word is never printed.
 use Rattle.std.specs.Prelude.{ℕ, List, codes}
 use Rattle.rdata_forms.specs.declared.fault.RdataFault.{RdataFault}
 use Rattle.rdata_forms.specs.declared.fault.RdataFault.TheVariants.{FieldCount, BadNumber, BadAddress, BadName, TextTooLong, BadHex, GenericKnown, NoMemory}

@@ -37,7 +37,7 @@ aaaa_of (field ∷ []) = do
   Ok (data_of.Aaaa address)
 aaaa_of fields = Err FieldCount
 
--- one name
+-- data that are one name: NS, CNAME, PTR and DNAME
 abbrev pub one_name : Labels → List (List ℕ) → Result Labels RdataFault
 one_name origin (field ∷ []) = name_in origin field
 one_name origin fields = Err FieldCount
@@ -95,7 +95,7 @@ mx_of origin (a ∷ b ∷ []) = do
   Ok (data_of.Mx preference exchange)
 mx_of origin fields = Err FieldCount
 
--- strings
+-- the character strings that the fields spell, or the first fault
 abbrev pub strings_of : List (List ℕ) → Result (List (List ℕ)) RdataFault
 strings_of [] = Ok []
 strings_of (field ∷ fields) = do

@@ -40,7 +40,7 @@ pub fn name_field(alloc: Global, token: &Token, origin: &Name) -> Result<Name, R
     }
 }
 
-/// A string of at most so many octets, or `TextTooLong`.
+/// A string of at most this many octets, or `TextTooLong`.
 pub fn string_field(alloc: Global, token: &Token, most: usize) -> Result<Octets, RdataFault>
     ensures { AnswersOr RdataFault.NoMemory result (string_of most token.now.raw) }
 {

@@ -19,7 +19,7 @@ pub fn is_generic(tokens: &[Token]) -> bool
     }
 }
 
-/// Whether behind the first token a length of up to 65,535 and exactly so many octets in hexadecimal stand, however
+/// Whether behind the first token a length of up to 65,535 and exactly this many octets in hexadecimal stand, however
 /// the digits are cut into tokens.
 pub fn is_generic_form(tokens: &[Token]) -> bool
     ensures { result ≡ has_generic_form (written tokens.now) }
@@ -33,7 +33,7 @@ pub fn is_generic_form(tokens: &[Token]) -> bool
     }
 }
 
-/// Whether the tokens have so many hexadecimal digits together, and nothing else.
+/// Whether the tokens have this many hexadecimal digits together, and nothing else.
 fn are_digits(tokens: &[Token], count: usize) -> bool
     ensures { result ≡ (list_all is_hex (concat (written tokens.now)) && (length (concat (written tokens.now)) == count)) }
 {

@@ -7,7 +7,7 @@
 //!
 //! The layer above may rest on this: each call answers what the format says, and of several faults the first: the
 //! generic form of a known type, the number of tokens, then the fields from left to right. A call that takes memory
-//! may answer want of memory in its place. A text stands for at most one address and for at most one time, and that
+//! may answer `NoMemory` in its place. A text stands for at most one address and for at most one time, and that
 //! is the one that is read.
 #![tactic(auto)]
 

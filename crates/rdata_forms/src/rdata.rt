@@ -57,7 +57,7 @@ fn read_fields(
 }
 
 /// The data of another type under its word: the tokens as they are written. It is `BadHex` where the first token
-/// isn't quoted and reads `\#`, and a length of up to 65,535 and exactly so many octets in hexadecimal don't follow
+/// isn't quoted and reads `\#`, and a length of up to 65,535 and exactly this many octets in hexadecimal don't follow
 /// (RFC 3597 section 5).
 pub fn read_other(alloc: Global, word: &[u8], tokens: &[Token]) -> Result<Rdata, RdataFault>
     ensures answers { AnswersOr RdataFault.NoMemory result (other_of word.now tokens.now) }

@@ -110,7 +110,7 @@ module _ (subject : Subject) (report : Report) (is : IsReport subject report) (w
       by : Some (stated report) ≡ Some found → stated report ≡ found
       by e = cc
 
-  -- the text of a report is answered by right entries, or for too many walks or want of memory
+  -- the text of a report is answered by right entries, or for too many walks or `NoMemory`
   pub unrefused : (answer : Result Checked CheckFault) → IsChecked subject.config (report_text report) answer → IsUnrefused answer
   unrefused (Ok (Right entries)) checked = tt
   unrefused (Ok (Wrong entry)) (found, e, (few, first)) =

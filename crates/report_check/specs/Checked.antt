@@ -16,7 +16,8 @@ use Rattle.report_check.specs.declared.answer.Checked.TheVariants.{Right, Wrong}
 use Rattle.report_check.specs.declared.answer.CheckFault.{CheckFault}
 use Rattle.report_check.specs.declared.answer.CheckFault.TheVariants.{NotReport, Walks, NoMemory}
 
--- how many walks of one query are followed at most, also of a server's name with type A or with type AAAA to learn its address
+-- how many walks of one query are followed at most, also of a server's name with type A or with type AAAA to learn its
+-- address
 abbrev pub most_walks : ℕ
 most_walks = 10000
 
@@ -35,7 +36,7 @@ pub record PassesWalks (config : Config) (rewrites : ℕ) (value : Data) : Type 
 abbrev pub IsConfirmed : Config → ℕ → Data → Type 0
 IsConfirmed config rewrites value = IsRight config rewrites value × (PassesWalks config rewrites value → ⊥)
 
--- it isn't right, and its query hasn't more walks either
+-- the entry isn't right, and its query hasn't more walks than are followed
 abbrev pub IsWrong : Config → ℕ → Data → Type 0
 IsWrong config rewrites value = (IsRight config rewrites value → ⊥) × (PassesWalks config rewrites value → ⊥)
 
@@ -70,9 +71,9 @@ abbrev pub OfEntries : Config → List ℕ → (ℕ → List Data → Type 0) �
 OfEntries config octets so =
     OfReport octets (λ report. (LearningPasses config report.rewrites → ⊥) × so report.rewrites report.entries)
 
--- The answer is the one to the octets: that they are no report, before all else; then that a server's name has too many walks,
--- which has the number 0; then the first entry that has too many walks or is wrong; or how many entries there are, all of them
--- confirmed. Want of memory may come in place of each.
+-- The answer is the one to the octets: that they are no report, before all else; then that a server's name has too many
+-- walks, which has the number 0; then the first entry that has too many walks or is wrong; or how many entries there
+-- are, all of them confirmed. `NoMemory` may come in place of each.
 abbrev pub IsChecked : Config → List ℕ → Result Checked CheckFault → Type 0
 IsChecked config octets (Ok (Right entries)) =
     OfEntries config octets (λ rewrites all. AllByRecursion (IsConfirmed config rewrites) all × (entries ≡ length all))

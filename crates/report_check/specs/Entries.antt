@@ -44,14 +44,14 @@ pub record IsShownBy (setting : Setting) (query : Labels) (rtype : RrType) (walk
   pub show : WalksShow (with_sets setting) walks fault
   pub is : value ≡ entry_value (entry_with query rtype (first_repeats walks) walks fault)
 
--- it is so by one of all walks, whose value is this
+-- the entry is shown by one of all walks, whose value is this
 pub record ByOne (setting : Setting) (query : Labels) (rtype : RrType) (all : List Walk) (steps value : Data) : Type 0 where
   pub walk : Walk
   pub among : Contains all walk
   pub steps_are : steps ≡ walk_value walk
   pub shown : IsShownBy setting query rtype (walk ∷ []) value
 
--- by a walk and one of all walks, whose value is this
+-- the entry is shown by the given walk and one of all walks, whose value is this
 pub record ByOther (setting : Setting) (query : Labels) (rtype : RrType) (one : Walk) (all : List Walk) (steps value : Data) : Type 0 where
   pub walk : Walk
   pub among : Contains all walk

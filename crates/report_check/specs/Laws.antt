@@ -16,7 +16,7 @@ pub record IsWritable (report : Report) : Type 0 where
   pub few : report.rewrites ≤ 64
   pub text : IsUtf8 (report_text report)
 
--- all entries are right, or too many walks keep that from being seen, or want of memory
+-- all entries are right, or too many walks keep that from being seen, or `NoMemory`
 abbrev pub IsUnrefused : Result Checked CheckFault → Type 0
 IsUnrefused (Ok (Right entries)) = Unit {0}
 IsUnrefused (Ok (Wrong entry)) = ⊥

@@ -15,9 +15,10 @@ use Rattle.graph_form.specs.declared.report.ReportEntry.{ReportEntry}
 use Rattle.report_json.specs.Json.{name_value}
 use Rattle.report_json.specs.Report.{entry_value}
 
--- The value is that of an entry: of a query and a type, of a fault, of one walk of the query that shows it (of two where answers
--- differ), and of whether the first walk comes to a server twice with one name. The walks are those of the set in force. So the
--- value is an object with these members and no others, and each text in it is the one that a report has.
+-- The value is that of an entry: of a query and a type, of a fault, of one walk of the query that shows it (of two
+-- where answers differ), and of whether the first walk comes to a server twice with one name. The walks are those of
+-- the set in force. So the value is an object with these members and no others, and each text in it is the one that a
+-- report has.
 pub record IsRight (config : Config) (rewrites : ℕ) (value : Data) : Type 0 where
   pub entry : ReportEntry
   pub is : value ≡ entry_value entry
@@ -27,8 +28,8 @@ pub record IsRight (config : Config) (rewrites : ℕ) (value : Data) : Type 0 wh
   pub shows : ShowsBy (with_sets (following config rewrites followed)) entry.query entry.seen.rtype entry.seen.fault entry.walks
   pub repeated : (first : Walk) → slice_get entry.walks 0 ≡ Some first → entry.repeats ≡ repeats first.states
 
--- The value names a query and its type: the text of the one stands at `query`, the word of the other at `type`. Another text of the
--- same name, or a word in lower case, names none.
+-- The value names a query and its type: the text of the one stands at `query`, the word of the other at `type`. Another
+-- text of the same name, or a word in lower case, names none.
 pub record NamesQuery (value : Data) (query : Labels) (rtype : RrType) : Type 0 where
   pub is_name : IsName query
   pub query_is : get (codes "query") value ≡ Some (name_value query)

@@ -14,11 +14,12 @@ pub enum Checked {
 /// Why nothing is said of the entries of a report.
 #[derive(Clone, Copy, Debug, PartialEq, Eq, Error)]
 pub enum CheckFault {
-    /// The octets are no value that `serde_json` reads; or it has no whole number of 1 to 64 at `rewrites`, or no list at `faults`.
+    /// The octets are no value that `serde_json` reads; or it has no whole number of 1 to 64 at `rewrites`, or no list
+    /// at `faults`.
     #[error("not a report")]
     NotReport,
-    /// The query of the entry with this number, counted from 1, has more than 10,000 walks; with the number 0, the name of a
-    /// server has more, whose address is to be learnt.
+    /// The query of the entry with this number, counted from 1, has more than 10,000 walks; with the number 0, the name
+    /// of a server has more, whose address is to be learnt.
     #[error("more than 10000 walks for entry {entry}")]
     Walks { entry: u64 },
     /// Memory ran out.

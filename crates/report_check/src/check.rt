@@ -21,10 +21,10 @@ use serde_json::Value;
 use std::alloc::Global;
 use zone_lookup::Hosts;
 
-/// Checks the octets of a report against a configuration, entry by entry. It is `NotReport` where they are none; else `Walks` with
-/// the number 0 where the name of a server has more than 10,000 walks with type A or with type AAAA in a set from which a round of
-/// learning starts; else `Walks` or `Wrong` with the number of the first entry that isn't right, or whose query has more than
-/// 10,000 walks with the entry's type: of one entry the walks are counted first.
+/// Checks the octets of a report against a configuration, entry by entry. It is `NotReport` where they are none; else
+/// `Walks` with the number 0 where the name of a server has more than 10,000 walks with type A or with type AAAA in a
+/// set from which a round of learning starts; else `Walks` or `Wrong` with the number of the first entry that isn't
+/// right, or whose query has more than 10,000 walks with the entry's type: of one entry the walks are counted first.
 pub fn check_report(alloc: Global, config: &Config, bytes: &[u8]) -> Result<Checked, CheckFault>
     ensures { IsChecked config.now bytes.now result }
 {

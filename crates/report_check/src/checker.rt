@@ -26,8 +26,8 @@ use std::alloc::Global;
 use std::marker::Model;
 use zone_lookup::{Hosts, LearntSets};
 
-/// The servers with the trees of their zones, how many rewrites a walk may use, the sets of learnt addresses, and the classes of
-/// names. Contracts see what walks are read in, with the set in force.
+/// The servers with the trees of their zones, how many rewrites a walk may use, the sets of learnt addresses, and the
+/// classes of names. Contracts see what walks are read in, with the set in force.
 #[derive(Drop)]
 pub(crate) struct Checker<'h, 'a> {
     hosts: &'h Hosts<'a>,

@@ -13,8 +13,8 @@ use zone_lookup::{
     Hosts, LearntSets, addresses_differ, depends_on_itself, wants_glue, zones_differ,
 };
 
-/// The faults that a walk shows by itself: those of its referrals, whatever comes behind them, and those of its end. An overlong
-/// rewrite is among them whatever the query.
+/// The faults that a walk shows by itself: those of its referrals, whatever comes behind them, and those of its end. An
+/// overlong rewrite is among them whatever the query.
 pub(crate) fn faults_of_walk(
     alloc: Global,
     hosts: &Hosts<'_>,
@@ -57,8 +57,8 @@ fn put_hop(
     }
 }
 
-/// Puts the faults of a referral behind the others, if its zone cut is at or below its zone's origin, as the zone cut of every
-/// referral on a walk is.
+/// Puts the faults of a referral behind the others, if its zone cut is at or below its zone's origin, as the zone cut
+/// of every referral on a walk is.
 fn put_cut(
     alloc: Global,
     hosts: &Hosts<'_>,

@@ -14,14 +14,14 @@ ghost use Rattle.report_check.specs.declared.answer.Checked.{Checked};
 ghost use Rattle.report_check.specs.declared.answer.CheckFault.{CheckFault};
 ghost use Rattle.report_check.specs.declared.answer.CheckFault.TheVariants.{NoMemory};
 
-/// To each configuration and octets there is one answer beside want of memory.
+/// To each configuration and octets there is one answer beside `NoMemory`.
 pub fn one_answer()
     ensures { (config : Config) (octets : List ℕ) (one other : Result Checked CheckFault) → IsChecked config octets one → IsChecked config octets other
         → one ≢ Err NoMemory → other ≢ Err NoMemory → one ≡ other }
 {}
 
-/// Each entry of a report is right, whatever it is read in; its text is read as the report of these entries; so the answer to it
-/// is neither that an entry is wrong nor that it is no report.
+/// Each entry of a report is right, whatever it is read in; its text is read as the report of these entries; so the
+/// answer to it is neither that an entry is wrong nor that it is no report.
 pub fn a_report_checks()
     ensures right { (subject : Subject) (report : Report) → IsReport subject report
         → AllByRecursion (IsRight subject.config subject.rewrites) (map entry_value report.entries) }

@@ -15,8 +15,9 @@ use zone_lookup::{Hosts, LearntSets};
 /// How many walks of one query are followed at most.
 pub const MOST_WALKS: u32 = 10_000;
 
-/// The least and the greatest set of learnt addresses, each found by following walks. It is `WalksPassed` where the name of a
-/// server has more than 10,000 walks of type A or of type AAAA in a set from which a round starts; the least set comes first.
+/// The least and the greatest set of learnt addresses, each found by following walks. It is `WalksPassed` where the
+/// name of a server has more than 10,000 walks of type A or of type AAAA in a set from which a round starts; the least
+/// set comes first.
 pub(crate) fn learnt_sets(
     alloc: Global,
     hosts: &Hosts<'_>,

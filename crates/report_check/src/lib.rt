@@ -1,18 +1,20 @@
-//! A report checked entry by entry, by a second way: with walks alone, and without the graphs, the laws and the workers that made
-//! it.
+//! A report checked entry by entry, by a second way: with walks alone, and without the graphs, the laws and the workers
+//! that made it.
 //!
-//! The layer above may rest on this: `check_report` answers what `IsChecked` says of the configuration and the octets. A yes
-//! means that the walks of each entry are walks of its query, and show its fault; that no fault is missing it doesn't say. To
-//! each configuration and octets there is one answer beside want of memory (`laws::one_answer`). Each entry of a report that
-//! `check` makes is right (`laws::a_report_checks`), so that the answer to its text is yes, or too many walks, or want of memory.
+//! The layer above may rest on this: `check_report` answers what `IsChecked` says of the configuration and the octets.
+//! A yes means that the walks of each entry are walks of its query, and show its fault; that no fault is missing it
+//! doesn't say. To each configuration and octets there is one answer beside `NoMemory` (`laws::one_answer`). Each
+//! entry of a report that `check` makes is right (`laws::a_report_checks`), so that the answer to its text is yes, or
+//! too many walks, or `NoMemory`.
 //!
-//! Nothing in an entry is taken apart but its query and its type. The walks of these are followed, the faults that a walk shows
-//! are found, and the entry that would be right is written and compared with the one in hand.
+//! Nothing in an entry is taken apart but its query and its type. The walks of these are followed, the faults that a
+//! walk shows are found, and the entry that would be right is written and compared with the one in hand.
 //!
-//! Costs: the trees of all zones are built once, and the two sets of learnt addresses are found once, by as many rounds as there
-//! are servers at most. Of each entry all walks of its query with its type are followed, at most 10,000, and each is written
-//! once, or once more for each walk that may be its first where there are two. The graph of base names is made once, and only
-//! where an entry has two walks, or is right but for the question whether its query represents a class.
+//! Costs: the trees of all zones are built once, and the two sets of learnt addresses are found once, by as many rounds
+//! as there are servers at most. Of each entry all walks of its query with its type are followed, at most 10,000, and
+//! each is written once, or once more for each walk that may be its first where there are two. The graph of base names
+//! is made once, and only where an entry has two walks, or is right but for the question whether its query represents a
+//! class.
 #![tactic(auto)]
 
 mod answer;

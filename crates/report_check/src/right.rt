@@ -25,8 +25,8 @@ use plain_resolver::ResolveFault;
 use serde_json::Value;
 use std::alloc::Global;
 
-/// Whether the value is that of a right entry. It is `WalksPassed` where it names a query with a type that has more than 10,000
-/// walks, whatever else it holds.
+/// Whether the value is that of a right entry. It is `WalksPassed` where it names a query with a type that has more
+/// than 10,000 walks, whatever else it holds.
 pub(crate) fn is_right(
     alloc: Global,
     checker: &mut Checker<'_, '_>,
@@ -112,7 +112,8 @@ fn shows_alone(
     is_one_of(alloc, checker, asked, walk, faults, text)
 }
 
-/// Whether the text is that of an entry with this walk and one of the faults, which are those that the walk shows by itself.
+/// Whether the text is that of an entry with this walk and one of the faults, which are those that the walk shows by
+/// itself.
 fn is_one_of(
     alloc: Global,
     checker: &mut Checker<'_, '_>,
@@ -134,7 +135,8 @@ fn is_one_of(
     Ok(false)
 }
 
-/// Whether the text is that of an entry with this walk and this fault, which the walk shows by itself, and the query may show it.
+/// Whether the text is that of an entry with this walk and this fault, which the walk shows by itself, and the query
+/// may show it.
 fn shows_fault(
     alloc: Global,
     checker: &mut Checker<'_, '_>,

@@ -25,7 +25,7 @@ kind_word (Answers class rtype) = codes "answers-differ"
 kind_word (Overlong place) = codes "overlong"
 kind_word (NoAddress cut) = codes "no-address"
 
--- the place of a fault of a delegation
+-- the JSON value of the place of a fault of a delegation
 abbrev pub cut_value : Cut → Data
 cut_value cut = object_of (
     (codes "cut", name_value cut.cut)
@@ -33,7 +33,7 @@ cut_value cut = object_of (
     ∷ (codes "server", name_value cut.server)
     ∷ (codes "zone", name_value cut.zone) ∷ [])
 
--- the place of a rewrite
+-- the JSON value of the place of a rewrite
 abbrev pub place_value : Place → Data
 place_value place = object_of (
     (codes "owner", name_value place.owner)
@@ -45,14 +45,14 @@ abbrev pub class_kind : Class → List ℕ
 class_kind (Exact name) = codes "exact"
 class_kind (Below name) = codes "below"
 
--- a class and a type
+-- the JSON value of a class and a type
 abbrev pub class_value : Class → RrType → Data
 class_value class rtype = object_of (
     (codes "class", string (class_kind class))
     ∷ (codes "name", name_value (class_name class))
     ∷ (codes "type", string (word_of rtype)) ∷ [])
 
--- the place of a fault
+-- the JSON value of the place of a fault
 abbrev pub fault_value : Fault → Data
 fault_value (Lame cut) = cut_value cut
 fault_value (Differs cut) = cut_value cut

@@ -29,12 +29,12 @@ abbrev mutual
   IsPlain (array values) = ArePlain values
   IsPlain (object members) = MembersPlain members
 
-  -- all values of a list are so
+  -- each value of the list is plain
   pub ArePlain : Items → Type 0
   ArePlain no_items = ⊤
   ArePlain (item value more) = IsPlain value × ArePlain more
 
-  -- and all members of an object, each named below those behind it
+  -- each member of the object has a plain value, and stands before those whose names are greater
   pub MembersPlain : Members → Type 0
   MembersPlain no_members = ⊤
   MembersPlain (member key value more) = AreAbove key more × IsPlain value × MembersPlain more

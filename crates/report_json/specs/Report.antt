@@ -16,14 +16,14 @@ showing_members entry =
     ∷ (codes "type", string (word_of entry.seen.rtype))
     ∷ (codes "walks", array_of (map walk_value entry.walks)) ∷ []
 
--- an entry: a fault, and the query that shows it first
+-- the JSON value of an entry: a fault, and the query that shows it first
 abbrev pub entry_value : ReportEntry → Data
 entry_value entry = object_of (
     (codes "kind", string (kind_word entry.seen.fault))
     ∷ (codes "place", fault_value entry.seen.fault)
     ∷ (codes "query", name_value entry.query) ∷ showing_members entry)
 
--- its text without white space
+-- the text of an entry, without white space
 abbrev pub entry_text : ReportEntry → List ℕ
 entry_text entry = compact_text (entry_value entry)
 
@@ -35,10 +35,10 @@ report_members report =
     ∷ (codes "names", number (unsigned report.names))
     ∷ (codes "rewrites", number (unsigned report.rewrites)) ∷ []
 
--- a report
+-- the JSON value of a report
 abbrev pub report_value : Report → Data
 report_value report = object_of (report_members report)
 
--- its text without white space, and a line feed
+-- the text of a report, without white space, and a line feed
 abbrev pub report_text : Report → List ℕ
 report_text report = compact_text (report_value report) ++ codes "\n"

@@ -18,10 +18,11 @@ site_value told = object_of (
 abbrev pub sites_members : List Told → List (List ℕ × Data)
 sites_members told = (codes "sites", array_of (map site_value told)) ∷ []
 
+-- the JSON value of what all checks tell
 abbrev pub sites_value : List Told → Data
 sites_value told = object_of (sites_members told)
 
--- its text without white space, and a line feed
+-- the text of what all checks tell, without white space, and a line feed
 abbrev pub sites_text : List Told → List ℕ
 sites_text told = compact_text (sites_value told) ++ codes "\n"
 
@@ -29,6 +30,6 @@ sites_text told = compact_text (sites_value told) ++ codes "\n"
 abbrev pub scope_value : Report → Labels → List Told → Data
 scope_value report name told = object_of (report_members report ++ (codes "scope", name_value name) ∷ sites_members told)
 
--- its text without white space, and a line feed
+-- the text of a report on a name and of what all checks tell, without white space, and a line feed
 abbrev pub scope_text : Report → Labels → List Told → List ℕ
 scope_text report name told = compact_text (scope_value report name told) ++ codes "\n"

@@ -22,7 +22,7 @@ zone_member (Some zone) = (codes "zone", name_value zone) ∷ []
 abbrev pub rewrite_word : Bool → List ℕ
 rewrite_word by_dname = if by_dname then codes "dname" else codes "cname"
 
--- a referral to a name server, and a rewrite
+-- the JSON value of a referral to a name server, or of a rewrite
 abbrev pub hop_value : State → Hop → Data
 hop_value state (Refer cut) = object_of (
     (codes "cut", name_value cut.cut)
@@ -39,7 +39,7 @@ hop_value state (Rewrite place by_dname to) = object_of (
     ∷ (codes "to", name_value to)
     ∷ (codes "zone", name_value place.zone) ∷ [])
 
--- a server that answers with data
+-- the JSON value of an answer with data
 abbrev pub answer_value : State → List Rdata → Data
 answer_value state rdata = object_of (
     (codes "did", string (codes "answer"))
@@ -47,21 +47,21 @@ answer_value state rdata = object_of (
     ∷ (codes "rdata", texts_value rdata)
     ∷ (codes "server", name_value state.server) ∷ zone_member state.zone)
 
--- a server that has no data, no such name, or no zone for the name
+-- the JSON value of a step to a server that has no data, no such name, or no zone for the name
 abbrev pub absence_value : State → List ℕ → Data
 absence_value state did = object_of (
     (codes "did", string did)
     ∷ (codes "name", name_value state.name)
     ∷ (codes "server", name_value state.server) ∷ zone_member state.zone)
 
--- a name server at which the walk stops
+-- the JSON value of a name server at which the walk stops
 abbrev pub stop_value : State → List ℕ → Labels → Data
 stop_value state did ns = object_of (
     (codes "did", string did)
     ∷ (codes "name", name_value state.name)
     ∷ (codes "ns", name_value ns) ∷ [])
 
--- a rewrite that isn't made
+-- the JSON value of a rewrite that isn't made
 abbrev pub unmade_value : State → List ℕ → Place → Data
 unmade_value state did place = object_of (
     (codes "did", string did)
@@ -69,7 +69,7 @@ unmade_value state did place = object_of (
     ∷ (codes "owner", name_value place.owner)
     ∷ (codes "server", name_value state.server) ∷ zone_member state.zone)
 
--- the last step
+-- the JSON value of the last step of a walk
 abbrev pub leaf_value : State → Leaf → Data
 leaf_value state (Answer rdata) = answer_value state rdata
 leaf_value state NoData = absence_value state (codes "nodata")
@@ -81,21 +81,21 @@ leaf_value state (Limit place) = unmade_value state (codes "limit") place
 leaf_value state (Overlong place) = unmade_value state (codes "overlong") place
 leaf_value state (NoAddress ns) = stop_value state (codes "no-address") ns
 
--- each hop, in the state from which it leads
+-- the JSON values of the hops, each in the state from which it leads
 abbrev pub hop_values : List State → List Hop → List Data
 hop_values (state ∷ states) (hop ∷ hops) = hop_value state hop ∷ hop_values states hops
 hop_values states hops = []
 
--- the end of a walk, in its last state
+-- the JSON value of the end of a walk, in its last state
 abbrev pub end_values : Leaf → List State → List Data
 end_values leaf [] = []
 end_values leaf (state ∷ []) = leaf_value state leaf ∷ []
 end_values leaf (state ∷ next ∷ states) = end_values leaf (next ∷ states)
 
--- a walk
+-- the JSON value of a walk: its steps, in order
 abbrev pub walk_value : Walk → Data
 walk_value walk = array_of (hop_values walk.states walk.hops ++ end_values walk.leaf walk.states)
 
--- its text without white space
+-- the text of a walk, without white space
 abbrev pub walk_text : Walk → List ℕ
 walk_text walk = compact_text (walk_value walk)

@@ -32,8 +32,9 @@ pub fn texts_read_back()
         → read (scope_text report name told) ≡ Some (scope_value report name told) }
 {}
 
-/// Two texts of walks, and two of entries, are equal exactly where the values are. So it is with what serde_json writes of a
-/// value that it holds: it is the text of a walk, or of an entry, exactly where the value is the walk's, or the entry's.
+/// Two texts of walks, and two of entries, are equal exactly where the values are. So it is with what serde_json writes
+/// of a value that it holds: it is the text of a walk, or of an entry, exactly where the value is the walk's, or the
+/// entry's.
 pub fn texts_tell_values()
     ensures walks { (one other : Walk) → (walk_text one ≡ walk_text other) ↔ (walk_value one ≡ walk_value other) }
     ensures entries { (one other : ReportEntry) → (entry_text one ≡ entry_text other) ↔ (entry_value one ≡ entry_value other) }

@@ -9,7 +9,7 @@ use Rattle.config_load.specs.declared.fault.LoadFault.TheVariants.{Read, NoMemor
 use Rattle.run_endings.specs.declared.ending.Ending.{Ending}
 use Rattle.run_endings.specs.Endings.{OfReading, read_failed, refused, no_memory}
 
--- a run ends so, or in a failed read of a file to which it comes and whose count rose, or for want of memory
+-- a run ends so, or in a failed read of a file to which it comes and whose count rose, or because memory ran out
 abbrev pub EndsOrFails : Type 0 → (List ℕ → Type 0) → (List ℕ → ℕ) → (List ℕ → ℕ) → Ending → Type 0
 EndsOrFails EndsSo ComesTo before after ending =
     EndsSo

@@ -1,6 +1,6 @@
 //! How a run of a program ends: its status, its text for out and its line for err, and the writing of both.
 //!
-//! The layer above may rest on this: an ending is the one that its definition says, or that of want of memory; a text is
+//! The layer above may rest on this: an ending is the one that its definition says, or that of `NoMemory`; a text is
 //! written whole, or the sink's count of failures rose and a front of it was written.
 #![tactic(auto)]
 

@@ -63,6 +63,7 @@ module _ (two : Compared) where
   pub covers_first : Covers (joint two) two.first
   covers_first = joined_covers (two.first ∷ two.second ∷ []) [] two.first (has_first two.first (two.second ∷ []))
 
+  -- the joint ground covers the second configuration
   pub covers_second : Covers (joint two) two.second
   covers_second = joined_covers (two.first ∷ two.second ∷ []) [] two.second (has_later two.first (two.second ∷ []) two.second (has_first two.second []))
 

@@ -61,6 +61,7 @@ module _ (two : Compared) (sought : Sought) where
         same_end (Below name) also query told end stands (subst (λ (n : Labels). IsRepresentative (joint two) (Below n) query) of_name ends.represents) is ends.is_end in
         true≢false (sym holds ∙ (ap (is_sought sought) same ∙ e))
 
+    -- if the end of the class of the name alone is sought, it is the first sought at the name
     pub found_exact : (end : PairEnd) → IsPairEnd two name end → is_sought sought end ≡ true → (query : Labels) → query ≡ name
         → IsFirstSoughtAt two sought name (record { query = query; end = end })
     found_exact end is holds query same =
@@ -99,6 +100,7 @@ module _ (two : Compared) (sought : Sought) where
         subst (λ (other : PairEnd). IsFirstSoughtAt two sought name (record { query = found.query; end = other })) (sym same)
         (found_below exact end is e told holds found.query stands)
 
+    -- if neither end of the name is sought, none is sought at the name
     pub none_found : (exact : PairEnd) (below : Option PairEnd) → IsPairEnd two name exact → IsBelowEnd two name below → is_sought sought exact ≡ false
         → option_map_or (is_sought sought) below false ≡ false → NoneSoughtAt two sought name
     none_found exact below is told e f = by where

@@ -25,6 +25,7 @@ module _ (two : Compared) (query : Labels) where
   one_first : (a b : RrType) → IsFirstApart two query a → IsFirstApart two query b → a ≡ b
   one_first a b one other = one_type a b (omega (arith, one.first b other.differ, other.first a one.differ))
 
+  -- a query has one end in two configurations
   pub one_end : (a b : PairEnd) → IsPairEnd two query a → IsPairEnd two query b → a ≡ b
   one_end StatesPassed StatesPassed one other = refl
   one_end StatesPassed Unbounded one other = absurd (other.0.few one)
@@ -54,6 +55,7 @@ module _ (two : Compared) where
       let same : also ≡ query = one_representative (joint two) (Below above) also query represents stands in
       ap (λ (end : PairEnd). Some end) (one_end two query a b is (subst (λ (name : Labels). IsPairEnd two name b) same other))
 
+  -- a name has one verdict
   pub one_verdict : (name : Labels) (a b : PairVerdict) → IsPairVerdict two name a → IsPairVerdict two name b → a ≡ b
   one_verdict name a b one other =
       ap (λ (end : PairEnd). record a { exact = end }) (one_end two name a.exact b.exact one.exact other.exact)
@@ -76,6 +78,7 @@ module _ (two : Compared) where
       let rtype : r ≡ t = one_first two b r t (subst (λ (name : Labels). IsFirstApart two name r) query one.first_type) other.first_type in
       ap (λ (name : Labels). told.Apart name r) query ∙ ap (λ (other : RrType). told.Apart b other) rtype
 
+  -- two configurations have one comparison
   pub one_sameness : (a b : Sameness) → IsSameness two a → IsSameness two b → a ≡ b
   one_sameness (told.Same classes names) (told.Same classes' names') one other =
       let (same_names, same_classes) = one_size (joint two) [] names classes names' classes' one.0 other.0 in
@@ -86,6 +89,7 @@ module _ (two : Compared) where
       absurd (one.first_type.differ (other.1 query one.is_name one.apart.bounded rtype))
   one_sameness (told.Apart a r) (told.Apart b t) one other = one_difference a b r t one other
 
+  -- one representative is the first that passes in one of the configurations
   pub one_passed : (a b : Labels) → IsFirstPassedInOne two a → IsFirstPassedInOne two b → a ≡ b
   one_passed a b one other =
       let class : one.class ≡ other.class =

@@ -37,6 +37,7 @@ data_ties x y = sym (same_lists x y) ∙ lists_ties (data_impl.ghosts).cmp match
 -- a set to which an answer was put
 module _ (old : OutcomeSet) (after : tree.BTreeSet (Bor (List Rdata))) (key : Bor (List Rdata))
     (updates : tree.Updates (λ x y. slice_cmp (data_impl.ghosts).cmp x.now y.now) old.answers after key true) where
+  -- the set has the outcomes that it had, and the answer
   pub answer_put : (query : Leaf) → has_outcome (record old { answers = after }) query ≡ (has_outcome old query || outcome_eq query (leaves.Answer key.now))
   answer_put (leaves.Answer rdata) =
       has-added (slice_cmp (data_impl.ghosts).cmp) (pointwise data_eq) (lists_total total-law) data_ties old.answers after key updates rdata

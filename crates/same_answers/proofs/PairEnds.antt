@@ -217,6 +217,7 @@ module _ (two : Compared) (query : Labels) where
     by true false e f = (looked, λ bounded. true≢false (sym (bounds_second.1 bounded.1) ∙ f))
     by false other e f = (looked, λ bounded. true≢false (sym (bounds_first.1 bounded.0) ∙ e))
 
+  -- what was looked at in both configurations gives the end of the query
   pub end_by_looked : (first second : Looked) → IsLooked (limited_to two.first two.rewrites two.states) query first
       → IsLooked (limited_to two.second two.rewrites two.states) query second → IsPairEnd two query (looked_end first second)
   end_by_looked Passed second one other = inl one
@@ -240,6 +241,7 @@ module _ (two : Compared) (query : Labels) where
         let by_ends = are.outcomes rtype outcome in
         (λ has. by_ends.0 (in_one.0 has), λ told. in_one.1 (by_ends.1 told))
 
+  -- the ends of straight walks in both configurations give the end of the query
   pub end_by_straight : (first second : StraightEnds) → AreStraightEnds two.first two.rewrites two.states query first
       → AreStraightEnds two.second two.rewrites two.states query second → IsPairEnd two query (straight_end first second)
   end_by_straight first second one other =
@@ -297,6 +299,7 @@ module _ (two : Compared) (query : Labels) where
     by (inl some) = (Equal, (few, λ none. absurd (none some)))
     by (inr none) = looked_end_exists (record { few = few; learnt = none })
 
+  -- each query has an end
   pub end_exists : (end : PairEnd) × IsPairEnd two query end
   end_exists = by (either (passes_decided two.first two.rewrites query two.states) (passes_decided two.second two.rewrites query two.states)) where
     by : Decided (PassesInOne two query) → (end : PairEnd) × IsPairEnd two query end

@@ -75,6 +75,7 @@ module _ (two : Compared) where
   unfolding verdict_of
   verdict_is name is = tested name (is_name name) refl is
 
+  -- the children and the verdicts are those of the joint class tree
   pub values : ArePairValues two children_of verdict_of
   values = record { children = items.children_are (joint two) joint_closed; verdicts = verdict_is }
 

@@ -26,6 +26,7 @@ module _ (two : Compared) where
       let (class, query, it) = class_passes two.second two.rewrites two.states (joint two) (covers_second two) some in
       (class, query, record { is_class = (it.is_class.named, it.is_class.is_name); represents = it.represents; passes = inr it.passes })
 
+  -- if no class passes in either configuration, and a server's name that passes is a name, no server's name passes
   pub none_passes : (SomeClassPassesInOne two → ⊥)
       → (SomeServerPasses two.first two.rewrites two.states → SomeNamePasses two.first two.rewrites two.states)
       → (SomeServerPasses two.second two.rewrites two.states → SomeNamePasses two.second two.rewrites two.states)

@@ -20,8 +20,8 @@ pub record IsBoundedIn (config : Config) (rewrites : ℕ) (query : Labels) : Typ
   pub in_force : IsInForce config rewrites followed
   pub bounded : (rtype : RrType) → IsBoundedWith (following config rewrites followed) query rtype
 
--- the query has the outcome with the type: the data, no data or no such name that a zone has for it (RFC 1034 section 4.3.2,
--- RFC 2308 section 2), or a failure, all of which are one outcome
+-- the query has the outcome with the type: the data, no data or no such name that a zone has for it (RFC 1034 section
+-- 4.3.2, RFC 2308 section 2), or a failure, all of which are one outcome
 pub record HasOutcomeIn (config : Config) (rewrites : ℕ) (query : Labels) (rtype : RrType) (outcome : Option Leaf) : Type 0 where
   pub followed : List Labels
   pub in_force : IsInForce config rewrites followed
@@ -31,8 +31,8 @@ pub record HasOutcomeIn (config : Config) (rewrites : ℕ) (query : Labels) (rty
 abbrev pub AreBounded : Compared → Labels → Type 0
 AreBounded two query = IsBoundedIn two.first two.rewrites query × IsBoundedIn two.second two.rewrites query
 
--- the query has the same outcomes with the type in both: each that it has in the one it has in the other. TTLs play no part,
--- nor does the server that tells it.
+-- the query has the same outcomes with the type in both: each that it has in the one it has in the other. TTLs play no
+-- part, nor does the server that tells it.
 abbrev pub AnswersAlike : Compared → Labels → RrType → Type 0
 AnswersAlike two query rtype =
     (outcome : Option Leaf) → HasOutcomeIn two.first two.rewrites query rtype outcome ↔ HasOutcomeIn two.second two.rewrites query rtype outcome
@@ -41,7 +41,7 @@ AnswersAlike two query rtype =
 abbrev pub AllAlike : Compared → Type 0
 AllAlike two = (query : Labels) → IsName query → AreBounded two query → (rtype : RrType) → AnswersAlike two query rtype
 
--- so has the representative of each class that they bound
+-- the representative of each class, if both configurations bound it, has the same outcomes in them with each type
 abbrev pub ClassesAlike : Compared → Type 0
 ClassesAlike two =
     (class : Class) (query : Labels) → IsInTree (joint two) (class_name class) → IsRepresentative (joint two) class query → AreBounded two query

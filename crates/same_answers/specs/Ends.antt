@@ -1,4 +1,5 @@
--- The ends of the graph of a query's walks, and how those of two graphs are compared: for the contracts of inner calls alone.
+-- The ends of the graph of a query's walks, and how those of two graphs are compared: for the contracts of inner calls
+-- alone.
 use Rattle.std.specs.Prelude.{Bool, false, ◌&&◌, not, List, [], ◌∷◌, if◌then◌else◌}
 use Rattle.std.specs.List.{find, flat_map, list_all, list_any}
 use Rattle.std.specs.Option.{option_map_or}
@@ -24,7 +25,7 @@ branch_ends (End hop leaf) = leaf ∷ []
 abbrev pub node_ends : RrType → Node → List Leaf
 node_ends rtype node = flat_map branch_ends (branches_of node rtype)
 
--- those of all nodes
+-- the ends of all nodes of a graph with a type
 abbrev pub ends_of : PlainGraph → RrType → List Leaf
 ends_of graph rtype = flat_map (node_ends rtype) graph.nodes
 
@@ -33,15 +34,15 @@ abbrev pub branch_overlong : Branch → Bool
 branch_overlong (Go hop to) = false
 branch_overlong (End hop leaf) = is_overlong leaf
 
--- so does a branch of the node with the type
+-- a branch of the node with the type ends in a name of more than 255 octets
 abbrev pub node_overlong : RrType → Node → Bool
 node_overlong rtype node = list_any branch_overlong (branches_of node rtype)
 
--- and of some node
+-- a branch of some node with the type ends in a name of more than 255 octets
 abbrev pub graph_overlong : PlainGraph → RrType → Bool
 graph_overlong graph rtype = list_any (node_overlong rtype) graph.nodes
 
--- with no type does the graph end so
+-- with no type does the graph end in a name of more than 255 octets
 abbrev pub is_bounded : PlainGraph → Bool
 is_bounded graph = list_all (λ rtype. not (graph_overlong graph rtype)) types
 

@@ -8,7 +8,7 @@ use Rattle.same_answers.specs.declared.looked.Looked.TheVariants.{Passed, Unlear
 use Rattle.same_answers.specs.declared.verdict.PairEnd.{PairEnd}
 use Rattle.same_answers.specs.declared.verdict.PairEnd.TheVariants.{Equal, StatesPassed}
 
--- it is found so in the configuration of these queries
+-- what is found is that of the query in the configuration of these queries
 abbrev pub IsLooked : LimitedQueries → Labels → Looked → Type 0
 IsLooked queries query Passed = PassesStates queries.config queries.rewrites queries.states query
 IsLooked queries query Unlearnt =

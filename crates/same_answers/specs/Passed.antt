@@ -14,11 +14,13 @@ pub record ClassPassesInOne (two : Compared) (class : Class) (query : Labels) : 
   pub represents : IsRepresentative (joint two) class query
   pub passes : PassesInOne two query
 
--- that of some class does
+-- the representative of some class of the joint tree reaches more pairs than are looked at, in one of the
+-- configurations
 abbrev pub SomeClassPassesInOne : Compared → Type 0
 SomeClassPassesInOne two = (class : Class) × (query : Labels) × ClassPassesInOne two class query
 
--- it is the first representative in class order that does
+-- the query is the first representative in class order that reaches more pairs than are looked at, in one of the
+-- configurations
 pub record IsFirstPassedInOne (two : Compared) (query : Labels) : Type 0 where
   pub class : Class
   pub passes : ClassPassesInOne two class query

@@ -51,7 +51,7 @@ is_sought sought_as.Passed StatesPassed = true
 is_sought sought_as.Apart (Apart rtype) = true
 is_sought sought end = false
 
--- it is what is told of the class, and the query its representative
+-- the query is the representative of the class, and the end is what is told of it
 pub record ClassEnds (two : Compared) (class : Class) (query : Labels) (end : PairEnd) : Type 0 where
   pub is_class : IsInTree (joint two) (class_name class)
   pub represents : IsRepresentative (joint two) class query
@@ -62,7 +62,7 @@ abbrev pub NoneSoughtAt : Compared → Sought → Labels → Type 0
 NoneSoughtAt two sought name =
     (class : Class) (query : Labels) (end : PairEnd) → class_name class ≡ name → ClassEnds two class query end → is_sought sought end ≡ true → ⊥
 
--- it is told of this one of them first
+-- the found class is the first of the name of which what is sought is told
 pub record IsFirstSoughtAt (two : Compared) (sought : Sought) (name : Labels) (found : Found) : Type 0 where
   pub class : Class
   pub of_name : class_name class ≡ name
@@ -71,6 +71,7 @@ pub record IsFirstSoughtAt (two : Compared) (sought : Sought) (name : Labels) (f
   pub first : (other : Class) (query : Labels) (end : PairEnd) → class_name other ≡ name → ClassEnds two other query end
       → is_sought sought end ≡ true → class_cmp other class ≢ Less
 
+-- the found class is the first of the name of which what is sought is told, or there is none
 abbrev pub IsSoughtAt : Compared → Sought → Labels → Option Found → Type 0
 IsSoughtAt two sought name found = MatchOption found (NoneSoughtAt two sought name) (IsFirstSoughtAt two sought name)
 
@@ -80,10 +81,11 @@ IsFoundBelow two above end found =
     MatchOption found ((query : Labels) → IsRepresentative (joint two) (Below above) query → ⊥)
     (λ found. IsRepresentative (joint two) (Below above) found.query × (found.end ≡ end))
 
--- the same of the classes of all names
+-- what is sought is told of no class
 abbrev pub NoneSought : Compared → Sought → Type 0
 NoneSought two sought = (class : Class) (query : Labels) (end : PairEnd) → ClassEnds two class query end → is_sought sought end ≡ true → ⊥
 
+-- the found class is the first of all of which what is sought is told
 pub record IsFirstSought (two : Compared) (sought : Sought) (found : Found) : Type 0 where
   pub class : Class
   pub ends : ClassEnds two class found.query found.end

@@ -24,8 +24,8 @@ pub record ClassIsApart (two : Compared) (class : Class) (query : Labels) : Type
   pub bounded : AreBounded two query
   pub differ : (rtype : RrType) × (AnswersAlike two query rtype → ⊥)
 
--- it is the first such representative in class order, a name of at most 255 octets (RFC 1035 section 2.3.4), with the first
--- type with which its outcomes differ
+-- the query is the first representative in class order whose outcomes differ, a name of at most 255 octets (RFC 1035
+-- section 2.3.4), and the type is the first with which they do
 pub record IsFirstDifference (two : Compared) (query : Labels) (rtype : RrType) : Type 0 where
   pub class : Class
   pub apart : ClassIsApart two class query
@@ -33,8 +33,8 @@ pub record IsFirstDifference (two : Compared) (query : Labels) (rtype : RrType) 
   pub first_class : (other : Class) (name : Labels) → ClassIsApart two other name → class_cmp other class ≢ Less
   pub first_type : IsFirstApart two query rtype
 
--- what is told: no query that both bound has other outcomes in the one than in the other, with the number of the names and of
--- the classes that aren't empty of the joint tree; or the first query that has
+-- what is told: no query that both bound has other outcomes in the one than in the other, with the number of the names
+-- and of the classes that aren't empty of the joint tree; or the first query that has
 abbrev pub IsSameness : Compared → Sameness → Type 0
 IsSameness two (Same classes names) = IsTreeSize (joint two) [] names classes × AllAlike two
 IsSameness two (Apart query rtype) = IsFirstDifference two query rtype

@@ -14,8 +14,8 @@ pub record ArePairValues (two : Compared) (children_of : Labels → List Labels)
   pub children : (name : Labels) → AreChildren (joint two) name (children_of name)
   pub verdicts : (name : Labels) → IsName name → IsPairVerdict two name (verdict_of name)
 
--- the queries are those of the two configurations within their limits, the graph is that of the joint ground, and the children
--- and verdicts are those of its class tree
+-- the queries are those of the two configurations within their limits, the graph is that of the joint ground, and the
+-- children and verdicts are those of its class tree
 pub record IsPairing (two : Compared) (children_of : Labels → List Labels) (verdict_of : Labels → PairVerdict) (first second : LimitedQueries) (names : Ground) : Type 0 where
   pub values : ArePairValues two children_of verdict_of
   pub of_first : first ≡ limited_to two.first two.rewrites two.states

@@ -16,7 +16,8 @@ use Rattle.same_answers.specs.declared.verdict.PairVerdict.{PairVerdict}
 abbrev pub PassesInOne : Compared → Labels → Type 0
 PassesInOne two query = PassesStates two.first two.rewrites two.states query ⊎ PassesStates two.second two.rewrites two.states query
 
--- so does the name of some server, in the configuration that has the server
+-- the name of some server reaches more pairs of state and type than are looked at, in the configuration that has the
+-- server
 abbrev pub SomeServerPassesInOne : Compared → Type 0
 SomeServerPassesInOne two = SomeServerPasses two.first two.rewrites two.states ⊎ SomeServerPasses two.second two.rewrites two.states
 
@@ -30,8 +31,8 @@ pub record IsFirstApart (two : Compared) (query : Labels) (rtype : RrType) : Typ
   pub differ : AnswersAlike two query rtype → ⊥
   pub first : (other : RrType) → (AnswersAlike two query other → ⊥) → number_of rtype ≤ number_of other
 
--- What is told of the class that the query represents. Where the name of some server passes, outcomes aren't looked for, and
--- nothing is told apart: some representative passes then.
+-- What is told of the class that the query represents. Where the name of some server passes, outcomes aren't looked
+-- for, and nothing is told apart: some representative passes then.
 abbrev pub IsPairEnd : Compared → Labels → PairEnd → Type 0
 IsPairEnd two query StatesPassed = PassesInOne two query
 IsPairEnd two query Unbounded = IsLookedAt two query × (AreBounded two query → ⊥)

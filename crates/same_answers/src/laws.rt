@@ -1,4 +1,5 @@
-//! What the representatives of the joint class tree tell of all queries, and what the children and the verdicts of its names are.
+//! What the representatives of the joint class tree tell of all queries, and what the children and the verdicts of its
+//! names are.
 
 ghost use Rattle.std.specs.Prelude.{◌≡◌, ◌↔◌, ℕ, List, []};
 ghost use Rattle.dns_data.specs.Name.{Labels};
@@ -13,13 +14,14 @@ ghost use Rattle.same_answers.specs.declared.sameness.Sameness.{Sameness};
 ghost use Rattle.same_answers.specs.declared.verdict.PairVerdict.{PairVerdict};
 ghost use Rattle.verdict_book.specs.Items.{ReachesMore};
 
-/// Each query of at most 255 octets that both configurations bound has the same outcomes in both, with each type, exactly where
-/// so has the representative of each class that they bound.
+/// Each query of at most 255 octets that both configurations bound has the same outcomes in both, with each type,
+/// exactly where so has the representative of each class that they bound.
 pub fn comparing()
     ensures { (two : Compared) → AllAlike two ↔ ClassesAlike two }
 {}
 
-/// One thing is told of two configurations, and one representative is the first that reaches too many pairs of state and type.
+/// One thing is told of two configurations, and one representative is the first that reaches too many pairs of state
+/// and type.
 pub fn one_sameness()
     ensures one { (two : Compared) (a b : Sameness) → IsSameness two a → IsSameness two b → a ≡ b }
     ensures passed { (two : Compared) (a b : Labels) → IsFirstPassedInOne two a → IsFirstPassedInOne two b → a ≡ b }
@@ -30,7 +32,7 @@ pub fn values_exist()
     ensures { (two : Compared) → (children_of : Labels → List Labels) × (verdict_of : Labels → PairVerdict) × ArePairValues two children_of verdict_of }
 {}
 
-/// More than so many items are reached from the root exactly where the joint class tree has more names.
+/// More items than the limit are reached from the root exactly where the joint class tree has more names.
 pub fn tree_is_reached()
     ensures { (two : Compared) (children_of : Labels → List Labels) → ((name : Labels) → AreChildren (joint two) name (children_of name))
         → (limit : ℕ) → ReachesMore [] children_of limit ↔ HasMoreThan (IsInTree (joint two)) limit }

@@ -92,9 +92,9 @@ impl<'a, N: PairNaming + Send> Work for Pairing<'a, N> {
 }
 
 impl<'a, N: PairNaming> Pairing<'a, N> {
-    /// The comparison of two configurations, in each of which a query may use so many rewrites, and of each of which no more
-    /// pairs of state and type are looked at than so many. The trees of all zones, the graph of each server's name and the graph
-    /// of the base names of both are made here, once.
+    /// The comparison of two configurations, in each of which a query may use this many rewrites, and of each of which no
+    /// more pairs of state and type are looked at than the limit. The trees of all zones, the graph of each server's name
+    /// and the graph of the base names of both are made here, once.
     pub fn prepare(
         alloc: Global,
         first: &'a Config,
@@ -121,8 +121,8 @@ impl<'a, N: PairNaming> Pairing<'a, N> {
         })
     }
 
-    /// The verdict of a name of the class tree: of the class of the name alone, and of the class below it. The second query's
-    /// regions are looked for near the first one's; for that one no place is known, as if it were past the last.
+    /// The verdict of a name of the class tree: of the class of the name alone, and of the class below it. The regions
+    /// of the second query are searched from those of the first; `usize::MAX` means no hint.
     fn judge_name(&self, name: &LiveName) -> Result<PairVerdict, NoMemory>
         requires live { IsLiveIn (joint N.compared) name.now.name name.now.live }
         requires in_tree { IsInTree (joint N.compared) name.now.name }
@@ -154,7 +154,8 @@ impl<'a, N: PairNaming> Pairing<'a, N> {
         }
     }
 
-    /// What is told of the class that the query represents. Graphs are made where its walks aren't seen to go straight in both.
+    /// What is told of the class that the query represents. Graphs are made where its walks aren't seen to go straight
+    /// in both.
     fn judge_class(&self, near: &mut PairNear, query: &Name) -> Result<PairEnd, NoMemory>
         ensures { IfOk result (IsPairEnd N.compared query.now) }
     {
@@ -195,8 +196,8 @@ impl<'a, N: PairNaming> Pairing<'a, N> {
         above.below(self.alloc, &self.names)
     }
 
-    /// Where no representative reaches more pairs of state and type than are looked at, no server's name does, since it would be
-    /// in a class.
+    /// Where no representative reaches more pairs of state and type than are looked at, no server's name does, since it
+    /// would be in a class.
     pub(crate) fn servers_are_learnt(&self)
         requires { SomeClassPassesInOne N.compared → ⊥ }
         ensures { SomeServerPassesInOne N.compared → ⊥ }
@@ -205,7 +206,8 @@ impl<'a, N: PairNaming> Pairing<'a, N> {
         servers_have_names(&self.second);
     }
 
-    /// The memory from which the comparison takes; the children and the verdicts of its name are those of the joint class tree.
+    /// The memory from which the comparison takes; the children and the verdicts of its name are those of the joint
+    /// class tree.
     pub(crate) fn alloc(&self) -> Global
         ensures { ArePairValues N.compared N.children_of N.verdict_of }
     {
@@ -220,8 +222,8 @@ struct PairNear {
     second: usize,
 }
 
-/// A server whose name reaches more pairs of state and type than are looked at has a name of at most 255 octets, as all that
-/// are configured.
+/// A server whose name reaches more pairs of state and type than are looked at has a name of at most 255 octets, as all
+/// that are configured.
 fn servers_have_names(graphs: &QueryGraphs<'_>)
     ensures { SomeServerPasses graphs.now.config graphs.now.rewrites graphs.now.states
         → SomeNamePasses graphs.now.config graphs.now.rewrites graphs.now.states }

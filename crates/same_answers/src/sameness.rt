@@ -20,19 +20,19 @@ use verdict_book::{Filed, Work};
 /// What is told of two configurations.
 #[derive(Debug, Drop)]
 pub enum Sameness {
-    /// Each query of at most 255 octets that both bound has the same outcomes in both, with each type. So many classes that
-    /// aren't empty, and so many names, were looked at.
+    /// Each query of at most 255 octets that both bound has the same outcomes in both, with each type. This many
+    /// classes that aren't empty, and this many names, were looked at.
     Same { classes: u32, names: u32 },
-    /// Both bound this query, and its outcomes differ with the type. It is the first representative of which that is so, with the
-    /// first type.
+    /// Both bound this query, and its outcomes differ with the type. It is the first representative of which that is
+    /// so, with the first type.
     Apart { query: Name, rtype: RrType },
 }
 
 /// Why two configurations aren't compared.
 #[derive(Debug, Drop, Error)]
 pub enum SameFault {
-    /// The representative of some class reaches more pairs of state and type than are looked at, in one of the configurations;
-    /// this one is the first.
+    /// The representative of some class reaches more pairs of state and type than are looked at, in one of the
+    /// configurations; this one is the first.
     #[error("more states than are looked at")]
     StatesPassed(Name),
     #[error("no memory")]
@@ -50,9 +50,9 @@ impl From<NoMemory> for SameFault {
 }
 
 impl<'a, N: PairNaming + Send> Pairing<'a, N> {
-    /// What is told of the two configurations, from the verdicts of all names of their joint class tree. `Same` speaks of every
-    /// query that both bound, and `Apart` names one. Where some representative reaches more pairs of state and type than are
-    /// looked at, in one of the configurations, it is `StatesPassed` with the first such one.
+    /// What is told of the two configurations, from the verdicts of all names of their joint class tree. `Same` speaks
+    /// of every query that both bound, and `Apart` names one. Where some representative reaches more pairs of state and
+    /// type than are looked at, in one of the configurations, it is `StatesPassed` with the first such one.
     pub fn outcome(&self, filed: List<Filed<Pairing<'a, N>>>) -> Result<Sameness, SameFault>
         requires whole { IsWholeTree name_cmp [] N.children_of N.verdict_of filed }
         requires few { length filed < 2 ^ 31 }
@@ -113,7 +113,7 @@ fn apart_by(found: Found) -> Sameness
     }
 }
 
-/// So many classes and names, of which none tells the configurations apart.
+/// The answer that nothing differs, with the number of the classes and of the names.
 fn counted<N: PairNaming, W: Work<Item = TreeName<JointGround<N>>, Verdict = PairVerdict>>(
     rows: &[Filed<W>],
 ) -> Sameness

@@ -15,8 +15,8 @@ use dns_data::{Name, NoMemory};
 use query_classes::{LiveName, TreeName};
 use verdict_book::{Filed, Work};
 
-/// What is sought: a class whose representative reaches more pairs of state and type than are looked at, or one whose outcomes
-/// differ.
+/// What is sought: a class whose representative reaches more pairs of state and type than are looked at, or one whose
+/// outcomes differ.
 #[derive(Clone, Copy, Debug)]
 pub(crate) enum Sought {
     Passed,

@@ -5,8 +5,8 @@ use dns_data::RrType;
 /// What is told of a class, by its representative.
 #[derive(Clone, Copy, Debug, PartialEq, Eq)]
 pub enum PairEnd {
-    /// Both configurations bound it, and with each type it has the same outcomes in both. It is also told where the name of some
-    /// server reaches more pairs of state and type than are looked at.
+    /// Both configurations bound it, and with each type it has the same outcomes in both. It is also told where the
+    /// name of some server reaches more pairs of state and type than are looked at.
     Equal,
     /// Both bound it, and its outcomes differ with this type, the first one.
     Apart(RrType),
@@ -16,8 +16,8 @@ pub enum PairEnd {
     StatesPassed,
 }
 
-/// What is told of a name of the class tree: of the class of the name alone, and of the class below it, `None` where that is
-/// empty.
+/// What is told of a name of the class tree: of the class of the name alone, and of the class below it, `None` where
+/// that is empty.
 #[derive(Clone, Copy, Debug, PartialEq, Eq)]
 pub struct PairVerdict {
     pub exact: PairEnd,

@@ -51,7 +51,7 @@ end_eq a b = type_eq a.rtype b.rtype && name_eq a.server b.server && leaf_eq a.l
 abbrev pub ends_of : (RrType → List Walk) → List TypedEnd
 ends_of walks = distinct end_eq (flat_map (λ rtype. map (end_of rtype) (walks rtype)) types)
 
--- these are the ends of all walks of the query
+-- the ends are those of all walks of the query
 pub record AreEnds (setting : Setting) (query : Labels) (ends : List TypedEnd) : Type 0 where
   pub walks : RrType → List Walk
   pub are_walks : (rtype : RrType) → AreWalks setting query rtype (walks rtype)

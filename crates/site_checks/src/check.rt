@@ -13,10 +13,10 @@ pub trait SiteCheck: Drop {
     /// The check's name.
     ghost name: { Self → List ℕ };
 
-    /// Its findings so far, in order.
+    /// The check's findings so far, in order.
     ghost held: { Self → List (List ℕ) };
 
-    /// What its findings are, where they were these, once a view was shown.
+    /// The check's findings after a view, by those before it.
     ghost step: { Self → List (List ℕ) → Seen → List (List ℕ) };
 
     /// The check's name.
@@ -30,7 +30,7 @@ pub trait SiteCheck: Drop {
         ensures name { name self.new ≡ name self.old }
         ensures step { (findings : List (List ℕ)) (view : Seen) → step self.new findings view ≡ step self.old findings view };
 
-    /// Its findings so far, in order.
+    /// The check's findings so far, in order.
     fn findings(&self, alloc: Global) -> Result<List<Line>, NoMemory>
         ensures { IfOk result (λ lines. lines ≡ held self.now) };
 }

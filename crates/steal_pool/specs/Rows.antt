@@ -16,7 +16,7 @@ own_view row = worker_view row.deque
 abbrev pub other_view : OtherRow → SeatView
 other_view row = view row.seat
 
--- it is the same deque
+-- the owner's row is at the same deque as before
 abbrev pub IsSameDeque : OwnRow → OwnRow → Type 0
 IsSameDeque old new = worker_deque new.deque ≡ worker_deque old.deque
 
@@ -24,7 +24,7 @@ IsSameDeque old new = worker_deque new.deque ≡ worker_deque old.deque
 abbrev pub IsSeatOf : OwnRow → OtherRow → Type 0
 IsSeatOf own other = stealer_deque other.deque ≡ worker_deque own.deque
 
--- it is a seat at the same deque
+-- the other row's seat is at the same deque as before
 abbrev pub IsSameSeat : OtherRow → OtherRow → Type 0
 IsSameSeat old new = stealer_deque new.deque ≡ stealer_deque old.deque
 

@@ -75,7 +75,7 @@ fn add_slot<W: Work, A: Capped, B: Ledger, C: Ledger>(
     tally.stop = first_cause(tally.stop, stop_of(slot.ended));
 }
 
-/// Which of two causes counts: want of room before want of memory, and either before none.
+/// Which of two causes counts: want of room before `NoMemory`, and either before none.
 fn first_cause(one: Option<StopCause>, other: Option<StopCause>) -> Option<StopCause>
     ensures { result ≡ first_cause one other }
 {

@@ -163,8 +163,8 @@ impl<W: Work, A: Capped, B: Ledger, C: Ledger> LockedBook<W, A, B, C> {
 /// How often a worker tries a lock that another one has before it waits for it.
 const TRIES: u32 = 100;
 
-/// The book, once no other worker has it. What is done with it takes less time than to fall asleep and to be woken, so it is
-/// tried some times before the worker waits.
+/// The book, once no other worker has it. What is done with it takes less time than to fall asleep and to be woken, so
+/// it is tried some times before the worker waits.
 pub(crate) fn locked<'b, W: Work, A: Capped, B: Ledger, C: Ledger, R: Wait>(
     rt: &R,
     book: &'b Mutex<LockedBook<W, A, B, C>>,

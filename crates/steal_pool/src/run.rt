@@ -20,7 +20,7 @@ use std::sync::{Mutex, Wait};
 use std::thread::Threads;
 use verdict_book::{Book, Filed, JudgeShare, PoolFault, Work, walk_tree};
 
-/// The reached items of the work with their verdicts, each once, sorted by item, judged by so many workers
+/// The reached items of the work with their verdicts, each once, sorted by item, judged by this many workers
 /// in threads. `TooMany` comes exactly where more than `limit` items are reached.
 pub fn run_tree<W: Work + Sync, G: Gate + Sync, R: Threads + Wait + Sync>(
     rt: &R,

@@ -9,7 +9,7 @@ use verdict_book::JudgeShare;
 /// How a worker ended.
 #[derive(Clone, Copy, Debug, PartialEq, Eq)]
 pub enum Ended {
-    /// Nothing was unfiled, and so many tickets had been issued.
+    /// Nothing was unfiled, and this many tickets had been issued.
     Whole(u32),
     /// The book was stopped, for this cause.
     Stopped(StopCause),

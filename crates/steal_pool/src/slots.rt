@@ -104,8 +104,8 @@ fn other_seats(alloc: Global, rows: &[OwnRow], place: usize) -> Result<Vec<Other
     Ok(others)
 }
 
-/// Pushes ticket 0 on the deque of the first slot and runs each slot's worker, in as many threads. Where that push is refused
-/// none is run.
+/// Pushes ticket 0 on the deque of the first slot and runs each slot's worker, in as many threads. Where that push is
+/// refused none is run.
 pub fn run_slots<
     W: Work + Sync,
     A: Capped + Sync,

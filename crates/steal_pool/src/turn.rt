@@ -127,7 +127,7 @@ fn judge_and_file<W: Work, A: Capped, B: Ledger, C: Ledger, R: Wait>(
     }
 }
 
-/// Waits until the count of refused pushes has room for so many more, which it lacks only near its type's
+/// Waits until the count of refused pushes has room for this many more, which it lacks only near its type's
 /// end. Then it never returns.
 fn wait_for_count<R: Wait>(rt: &R, refused: u64, more: u32)
     ensures { refused + more < 2 ^ 64 }

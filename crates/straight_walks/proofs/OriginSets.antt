@@ -15,6 +15,7 @@ use Rattle.dns_data.proofs.Names.{same_names}
 abbrev pub borrowed_cmp : Bor Labels → Bor Labels → Ordering
 borrowed_cmp a b = name_cmp a.now b.now
 
+-- the names behind references
 abbrev pub names_of : List (Bor Labels) → List Labels
 names_of names = map (λ name. name.now) names
 

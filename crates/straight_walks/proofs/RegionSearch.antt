@@ -193,6 +193,7 @@ module _ (config : Config) (deps : Deps) (origin : Labels) where
         both : after.passed.items ++ after.answering.items ≡ before.passed.items ++ (before.answering.items ++ item ∷ [])
         both = ap (λ (p : List Queued). p ++ after.answering.items) more.passed ∙ ap (λ (a : List Queued). before.passed.items ++ a) more.answering
 
+    -- once the next state was looked at, one more of the states was
     pub one_looked_at : IsLookedAt config deps origin item before after → AreLookedAt (at + 1) after
     one_looked_at (inl more) = passed_looked_at more
     one_looked_at (inr more) = answering_looked_at more

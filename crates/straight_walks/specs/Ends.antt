@@ -7,7 +7,8 @@ use Rattle.net_model.specs.declared.walk.Leaf.{Leaf}
 use Rattle.straight_walks.specs.Answers.{Answering, leaf_of}
 use Rattle.straight_walks.specs.declared.ends.StraightEnds.{StraightEnds}
 
--- with the type it is one of the outcomes of the ends: what zones answer, or the failure of a walk that ends where none answers
+-- with the type it is one of the outcomes of the ends: what zones answer, or the failure of a walk that ends where none
+-- answers
 abbrev pub IsOutcomeOf : StraightEnds → RrType → Option Leaf → Type 0
 IsOutcomeOf ends rtype (Some leaf) = option_map (λ answering. leaf_of answering rtype) ends.answer ≡ Some leaf
 IsOutcomeOf ends rtype None = ends.fails ≡ true

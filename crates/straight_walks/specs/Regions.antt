@@ -1,5 +1,5 @@
--- Names by the longest origin of a zone at or above them, for all of which walks are the same as long as no zone answers. A public
--- clause cites AreRegionsFor alone.
+-- Names by the longest origin of a zone at or above them, for all of which walks are the same as long as no zone
+-- answers. A public clause cites AreRegionsFor alone.
 use Rattle.std.specs.Prelude.{◌≡◌, ◌<◌, true, false, List, [], ◌∷◌, ◌++◌, ◌⊎◌, map, length, None, Contains}
 use Rattle.std.specs.List.{AllByRecursion}
 use Rattle.std.specs.List.Sorted.{IsStrictlySortedBy}
@@ -22,11 +22,11 @@ pub record IsNearestOrigin (config : Config) (origin name : Labels) : Type 0 whe
   pub above : is_prefix origin name ≡ true
   pub none_longer : (server longer : Labels) → is_prefix longer name ≡ true → length origin < length longer → held_zone config server longer ≡ None
 
--- these are the origins of the zones, or more
+-- each zone's origin is among the origins
 abbrev pub HasOrigins : List Zone → List Labels → Type 0
 HasOrigins zones origins = (zone : Zone) → Contains zones zone → Contains origins zone.origin
 
--- these are the origins of all servers' zones, or more
+-- the origin of each server's zones is among the origins
 abbrev pub HasEachOrigin : Config → List Labels → Type 0
 HasEachOrigin config origins = (server : Server) → Contains config.servers server → HasOrigins server.zones origins
 
@@ -41,8 +41,8 @@ pub record IsRegionStart (config : Config) (search : RegionSearch) : Type 0 wher
   pub answering : search.answering.items ≡ []
   pub fails : search.fails ≡ false
 
--- the state is put at the end of those that are passed: for each name whose nearest origin this is walks go straight from it, and
--- its server answers none of them
+-- the state is put at the end of those that are passed: for each name whose nearest origin this is walks go straight
+-- from it, and its server answers none of them
 pub record IsPassedMore (config : Config) (deps : Deps) (origin : Labels) (one : Queued) (before after : RegionSearch) : Type 0 where
   pub extends : Extends before.queue.items after.queue.items
   pub passed : after.passed.items ≡ before.passed.items ++ one ∷ []
@@ -57,7 +57,7 @@ pub record IsAnsweringMore (one : Queued) (before after : RegionSearch) : Type 0
   pub answering : after.answering.items ≡ before.answering.items ++ one ∷ []
   pub fails : after.fails ≡ before.fails
 
--- the state is looked at: it is one of those or one of these
+-- the state is looked at: it is put at the end of those that are passed, or of those whose servers answer
 abbrev pub IsLookedAt : Config → Deps → Labels → Queued → RegionSearch → RegionSearch → Type 0
 IsLookedAt config deps origin one before after = IsPassedMore config deps origin one before after ⊎ IsAnsweringMore one before after
 
@@ -77,6 +77,6 @@ pub record AreRegions (config : Config) (deps : Deps) (regions : List Region) : 
   pub each : AllByRecursion (IsRegion config deps) regions
   pub all : HasEachOrigin config (region_origins regions)
 
--- these are the regions of the configuration, with the two sets of learnt addresses
+-- the regions are those of the configuration, with the two sets of learnt addresses
 abbrev pub AreRegionsFor : Config → Deps → Regions → Type 0
 AreRegionsFor config deps made = AreRegions config deps made.regions.items

@@ -115,8 +115,9 @@ to_servers zone cut names setting state = map (λ ns. referred setting state (cu
 abbrev pub FailsOrGoes : Config → Deps → Bool → List State → Branch → Type 0
 FailsOrGoes config deps fails states branch = ((fails ≡ true) × EndsUnanswered config deps branch) ⊎ GoesTo config deps states branch
 
--- the referrals of a zone cut to these name servers, from the query's state at a server, show no fault, and end where no zone
--- answers or go on to queued states; no other states come to the queue, and walks fail only where one of them ends
+-- the referrals of a zone cut to these name servers, from the query's state at a server, show no fault, and end where
+-- no zone answers or go on to queued states; no other states come to the queue, and walks fail only where one of them
+-- ends
 pub record AreReferrals (config : Config) (deps : Deps) (query server : Labels) (zone : Zone) (cut : Labels) (names : List Labels) (before : List Queued) (fails_before : Bool) (after : List Queued) (fails : Bool) : Type 0 where
   pub extends : Extends before after
   pub still : fails_before ≡ true → fails ≡ true
@@ -165,8 +166,8 @@ pub record Passes (config : Config) (deps : Deps) (query server : Labels) (befor
 
 -- ---- searches
 
--- the search for the name begins at the top servers, and walks come to each queued state; from those that are passed walks go
--- straight, and the query has the outcomes of the ends
+-- the search for the name begins at the top servers, and walks come to each queued state; from those that are passed
+-- walks go straight, and the query has the outcomes of the ends
 pub record HasWalked (config : Config) (deps : Deps) (query : Labels) (queue passed : List Queued) (ends : StraightEnds) : Type 0 where
   pub begins : (state : State) → Contains (start config query) state → Contains (map (queued_state config query) queue) state
   pub comes : (setting : Setting) (rtype : RrType) → IsSettingOf config deps setting → (one : Queued) → Contains queue one
@@ -176,7 +177,7 @@ pub record HasWalked (config : Config) (deps : Deps) (query : Labels) (queue pas
   pub told : (setting : Setting) (rtype : RrType) (outcome : Option Leaf) → IsSettingOf config deps setting → IsOutcomeOf ends rtype outcome
       → HasOutcome setting query rtype outcome
 
--- so many of the queued states are passed
+-- the first queued states, as many as said, are passed
 pub record HasPassed (config : Config) (deps : Deps) (query : Labels) (queue : List Queued) (passed : ℕ) (ends : StraightEnds) : Type 0 where
   pub within : passed ≤ length queue
   pub walked : HasWalked config deps query queue (take passed queue) ends

@@ -31,7 +31,7 @@ impl<'h, 'a> Model for ZoneAnswer<'h, 'a> {
 }
 
 impl<'h, 'a> ZoneAnswer<'h, 'a> {
-    /// That the zone has the data of this owner.
+    /// The answer that the zone has the data of this owner.
     pub(crate) fn of_owner(tree: &'h Tree<'a>, owner: NodeId) -> ZoneAnswer<'h, 'a>
         requires { IsNode tree.now owner }
         ensures { result ≡ answering_by tree.now (Some owner) }
@@ -42,7 +42,7 @@ impl<'h, 'a> ZoneAnswer<'h, 'a> {
         }
     }
 
-    /// That there is no such name in the zone.
+    /// The answer that there is no such name in the zone.
     pub(crate) fn of_nothing(tree: &'h Tree<'a>) -> ZoneAnswer<'h, 'a>
         ensures { result ≡ answering_by tree.now None }
     {

@@ -1,8 +1,8 @@
 //! Queries whose walks go straight: by delegations alone, to ends that show no fault, where all servers answer alike.
 //!
-//! The layer above may rest on this: where `straight_ends` gives what the walks of a query end in, the query shows no fault,
-//! reaches no more pairs of state and type than are allowed, and has the outcomes of these ends and no others. Where it gives
-//! nothing, nothing is said. Ends of two configurations can be compared, type by type.
+//! The layer above may rest on this: where `straight_ends` gives what the walks of a query end in, the query shows no
+//! fault, reaches no more pairs of state and type than are allowed, and has the outcomes of these ends and no others.
+//! Where it gives nothing, nothing is said. Ends of two configurations can be compared, type by type.
 //!
 //! Costs: for each origin of a zone, once, what decides at it is looked for at each of at most 32 states, and each name server of
 //! a zone cut is looked into: of one that isn't configured its glue alone is looked for, beside the zone cut, and nothing is

@@ -11,8 +11,8 @@ use dns_data::{Name, NoMemory};
 use std::alloc::Global;
 use zone_lookup::{Hosts, Near};
 
-/// A state to which walks for a name come: the server, and how many labels the zone cut has that led there, 0 where none did; with
-/// a place near which the zone is looked for in which the server looks the name up.
+/// A state to which walks for a name come: the server, and how many labels the zone cut has that led there, 0 where
+/// none did; with a place near which the zone is looked for in which the server looks the name up.
 #[derive(Clone, Copy)]
 pub(crate) struct Queued<'a> {
     pub server: &'a Name,
@@ -31,8 +31,8 @@ impl<'a> Queued<'a> {
     }
 }
 
-/// The states in which walks begin, at the top servers: no zone cut leads there. Their zones are looked for near those in which
-/// the servers look this name up.
+/// The states in which walks begin, at the top servers: no zone cut leads there. Their zones are looked for near those
+/// in which the servers look this name up.
 pub(crate) fn start_states<'a>(
     alloc: Global,
     hosts: &Hosts<'a>,
@@ -48,8 +48,8 @@ pub(crate) fn start_states<'a>(
     Ok(queue)
 }
 
-/// Puts the state at a server to which a zone cut of so many labels led at the end of the queue, unless it is there. Its zone is
-/// looked for near that in which the server looks this name up.
+/// Puts the state at a server to which a zone cut of this many labels led at the end of the queue, unless it is there.
+/// Its zone is looked for near that in which the server looks this name up.
 pub(crate) fn enqueue<'a>(
     hosts: &Hosts<'_>,
     name: &Name,
@@ -67,7 +67,7 @@ pub(crate) fn enqueue<'a>(
     Ok(())
 }
 
-/// Whether the state at a server to which a zone cut of so many labels led is in the queue.
+/// Whether the state at a server to which a zone cut of this many labels led is in the queue.
 fn is_queued(queue: &[Queued<'_>], server: &Name, cut: u32) -> bool
     ensures { result ≡ true → (config : Config) (query : Labels) → Contains (map (queued_state config query) queue.now) (state_at config query server.now cut) }
 {

@@ -15,8 +15,8 @@ use std::alloc::Global;
 use zone_lookup::{Hosts, LearntSets};
 use zone_tree::{NodeId, Tree};
 
-/// Whether the referrals of a zone cut are seen to show no fault. The states at its name servers that are configured are queued
-/// then; and walks fail that end at one that isn't.
+/// Whether the referrals of a zone cut are seen to show no fault. The states at its name servers that are configured
+/// are queued then; and walks fail that end at one that isn't.
 pub(crate) fn queue_referrals<'a>(
     alloc: Global,
     hosts: &Hosts<'a>,

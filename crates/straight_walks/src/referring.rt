@@ -10,9 +10,9 @@ use dns_data::Name;
 use zone_lookup::Hosts;
 use zone_tree::{NodeId, Tree};
 
-/// The next referral of a search over the queued states that it hasn't passed yet: there is none, walks end at all of them, and
-/// all servers that answer answer alike; or they do so up to the state of this place, whose server refers the query by this zone
-/// cut. Of other searches nothing is said.
+/// The next referral of a search over the queued states that it hasn't passed yet: there is none, walks end at all of
+/// them, and all servers that answer answer alike; or they do so up to the state of this place, whose server refers the
+/// query by this zone cut. Of other searches nothing is said.
 #[derive(Clone, Copy)]
 pub(crate) enum NextReferral<'h, 'a> {
     Ends,
@@ -24,8 +24,8 @@ pub(crate) enum NextReferral<'h, 'a> {
     Unclear,
 }
 
-/// The next referral of the search that has passed so many of the queued states. What walks end in at the states on the way is put
-/// to what they ended in before. It takes no memory.
+/// The next referral of the search that has passed this many of the queued states. What walks end in at the states on the
+/// way is put to what they ended in before. It takes no memory.
 pub(crate) fn next_referral<'h, 'a>(
     hosts: &'h Hosts<'a>,
     query: &Name,

@@ -43,8 +43,8 @@ pub(crate) fn search_below<'a>(
     }
 }
 
-/// The search that has passed all states up to those whose servers answer for the origin, or `None` where walks for the origin
-/// aren't seen to go straight, or reach too many states.
+/// The search that has passed all states up to those whose servers answer for the origin, or `None` where walks for the
+/// origin aren't seen to go straight, or reach too many states.
 fn search_of_origin<'a>(
     alloc: Global,
     hosts: &Hosts<'a>,
@@ -68,8 +68,8 @@ fn search_of_origin<'a>(
     Ok(Some(search.found(alloc)?))
 }
 
-/// A search over the states to which walks for an origin come: the queue of them; those that are passed, and those whose servers
-/// answer, of the ones that were looked at; and whether some walk ends where no zone answers.
+/// A search over the states to which walks for an origin come: the queue of them; those that are passed, and those
+/// whose servers answer, of the ones that were looked at; and whether some walk ends where no zone answers.
 #[derive(Drop)]
 struct RegionSearch<'a> {
     queue: Vec<Queued<'a>>,
@@ -92,8 +92,9 @@ impl<'a> RegionSearch<'a> {
         })
     }
 
-    /// Whether walks for the origin go straight from the state. It is put at the end of those that are passed, and the states to
-    /// which its server refers the query are queued; or, where its server answers, at the end of those whose servers do.
+    /// Whether walks for the origin go straight from the state. It is put at the end of those that are passed, and the
+    /// states to which its server refers the query are queued; or, where its server answers, at the end of those whose
+    /// servers do.
     fn look_at(
         &mut self,
         alloc: Global,

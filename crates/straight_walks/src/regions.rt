@@ -16,8 +16,8 @@ use dns_data::{Name, NoMemory};
 use std::alloc::Global;
 use zone_lookup::{Hosts, LearntSets, nearest_item};
 
-/// The origins of a configuration's zones, each with the states to which walks for the names below it come, as far as these are
-/// the same for all names that have no other origin between.
+/// The origins of a configuration's zones, each with the states to which walks for the names below it come, as far as
+/// these are the same for all names that have no other origin between.
 #[derive(Drop)]
 pub struct Regions<'a> {
     regions: Vec<Region<'a>>,
@@ -37,9 +37,9 @@ impl<'a> Regions<'a> {
         Ok(Regions { regions })
     }
 
-    /// The search for a name, which has passed all states up to those whose servers answer for the nearest origin, or `None` where
-    /// no origin is at or above the name. The region is looked for near a place first, whatever that is, and the place is left near
-    /// which that of the next name may be looked for.
+    /// The search for a name, which has passed all states up to those whose servers answer for the nearest origin, or
+    /// `None` where no origin is at or above the name. The region is looked for near a place first, whatever that is,
+    /// and the place is left near which that of the next name may be looked for.
     pub(crate) fn search_for(&self, near: &mut usize, query: &Name) -> Option<&Search<'a>>
         requires { IsStrictlySortedBy name_cmp (region_origins self.now.regions.items) }
         ensures { IfSome result (λ searched. (config : Config) (deps : Deps) → AreRegionsFor config deps self.now → IsSearch config deps query.now searched.now) }

@@ -29,6 +29,7 @@ module _ {I : Type 0} (first : I) (children : I → List I) where
   abbrev Origin : List I → List HistoryEntry → I → Type 0
   Origin items h item = (item ≡ first) ⊎ ((t : ℕ) × (parent : I) × (place : ℕ) × (is_filed_in h t ≡ true) × At items t parent × IsChildAt children parent place item)
 
+  -- the items of a history: one for each issued ticket, each reached, each once, with all children of filed ones
   pub record Known (h : List HistoryEntry) (items : List I) : Type 0 where
     pub len : length items ≡ issued_in h
     pub head : At items 0 first

@@ -183,7 +183,7 @@ impl<W: Work> Book<W> {
         }
     }
 
-    /// Whether so many more tickets are within the limit.
+    /// Whether this many more tickets are within the limit.
     fn has_room(&self, count: usize) -> bool
         ensures { result ≡ nat_le (issued_in self.now.history + count) self.now.limit }
     {
@@ -254,7 +254,7 @@ impl<W: Work> Book<W> {
         self.issued() - self.filed
     }
 
-    /// How many tickets were issued. Where nothing is unfiled, exactly so many items of the work are
+    /// How many tickets were issued. Where nothing is unfiled, exactly that many items of the work are
     /// reached. It takes no memory.
     pub fn issued(&self) -> u32
         ensures count { result ≡ issued_in self.now.history }

@@ -4,7 +4,7 @@ use crate::claim::{Claim, Kept};
 use crate::work::Work;
 use dns_data::List;
 
-/// The tickets that a filing issued: so many, from the first one on.
+/// The tickets that a filing issued: this many, from the first one on.
 #[derive(Clone, Copy, Debug, PartialEq, Eq)]
 pub struct Issued {
     pub first: u32,

@@ -22,7 +22,7 @@ ghost use Rattle.net_model.specs.Tree.{IsReached, AreReached, HasMoreThan};
 ghost use Rattle.net_model.specs.Walk.{IsWalk, IsBoundedWith};
 ghost use Rattle.walk_laws.specs.Outcome.{HaveSameOutcomes};
 
-/// With so many rewrites a configuration has one set in force: there is one, and no other.
+/// With this many rewrites a configuration has one set in force: there is one, and no other.
 pub fn one_in_force()
     ensures exists { (config : Config) (rewrites : ℕ) → (followed : List Labels) × IsInForce config rewrites followed }
     ensures one { (config : Config) (rewrites : ℕ) (one other : List Labels) → IsInForce config rewrites one
@@ -53,8 +53,8 @@ pub fn overlong_law()
         → (of_own : Walk) × IsWalk setting (above ++ own) rtype of_own × (is_overlong of_own.leaf ≡ true) }
 {}
 
-/// A query with a walk that comes back to a server and a name has one that ends at the rewrite limit, with the same type, at
-/// the place of a rewrite that the walk makes in between: it shows the rewrite limit there.
+/// A query with a walk that comes back to a server and a name has one that ends at the rewrite limit, with the same
+/// type, at the place of a rewrite that the walk makes in between: it shows the rewrite limit there.
 pub fn return_law()
     ensures limit { (setting : Setting) (query : Labels) (rtype : RrType) (walk : Walk) → IsWalk setting query rtype walk
         → (back : ComesBack walk)
@@ -88,9 +88,9 @@ pub fn carrying()
         → (class : Class) (query : Labels) → IsClassOf base query class → Represents config query → IsRepresentative base class query }
 {}
 
-/// Queries of one class of which no walk with a type ends in a name that is too long have the same outcomes with it, whatever
-/// servers are followed, under every ground that covers the configuration. Where it is so of one of them, it is so of the
-/// class's representative, which has the same outcomes.
+/// Queries of one class of which no walk with a type ends in a name that is too long have the same outcomes with it,
+/// whatever servers are followed, under every ground that covers the configuration. Where it is so of one of them, it
+/// is so of the class's representative, which has the same outcomes.
 pub fn outcomes()
     ensures members { (setting : Setting) (base : Ground) → Covers base setting.config
         → (class : Class) (one other : Labels) → IsClassOf base one class → IsClassOf base other class

@@ -23,6 +23,7 @@ abbrev pub HopInside : Hop → Type 0
 HopInside (Refer cut) = is_prefix cut.zone cut.cut ≡ true
 HopInside (Rewrite place by_dname to) = Unit {0}
 
+-- a referral of the branch has its zone cut at or below the origin of its zone
 abbrev pub BranchInside : Branch → Type 0
 BranchInside (Go hop state) = HopInside hop
 BranchInside (End None leaf) = Unit {0}

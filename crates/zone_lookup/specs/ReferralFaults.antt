@@ -1,5 +1,5 @@
--- The faults of a referral to a name server, whatever comes behind it: what the NS and glue records at both sides of the zone
--- cut show (RFC 1034 sections 4.2.1 and 4.3.2). The contracts of inner calls alone cite it.
+-- The faults of a referral to a name server, whatever comes behind it: what the NS and glue records at both sides of
+-- the zone cut show (RFC 1034 sections 4.2.1 and 4.3.2). The contracts of inner calls alone cite it.
 use Rattle.std.specs.Prelude.{Bool, List, [], ◌∷◌, ◌++◌, if◌then◌else◌}
 use Rattle.dns_data.specs.Name.{is_prefix}
 use Rattle.net_model.specs.declared.config.Config.{Config}

@@ -1,4 +1,5 @@
--- What both zones of a delegation hold: the one that refers, and the one of the name server with the zone cut as its origin.
+-- What both zones of a delegation hold: the one that refers, and the one of the name server with the zone cut as its
+-- origin.
 use Rattle.std.specs.Prelude.{Bool, false, ◌&&◌, not, List, ◌==◌, length, Option, Some, None}
 use lib.Pointwise.{pointwise}
 use Rattle.dns_data.specs.Name.{Labels, name_eq, is_prefix}

@@ -70,8 +70,8 @@ pub fn is_among(names: &[Name], name: &Name) -> bool
     names.iter().any(|other| *name == *other)
 }
 
-/// Whether the zone holds an address of the name server of a zone cut, which is at or below the zone's origin. The names that
-/// stand next behind the cut's are looked at first.
+/// Whether the zone holds an address of the name server of a zone cut, which is at or below the zone's origin. The
+/// names that stand next behind the cut's are looked at first.
 pub fn has_glue_below(tree: &Tree<'_>, cut: NodeId, ns: &Name) -> bool
     requires node { IsNode tree.now cut }
     requires inside { is_prefix tree.now.zone.origin ns.now ≡ true }

@@ -1,23 +1,24 @@
-//! The lookup of a name and a type in a zone, the servers of a configuration with the trees of their zones, the steps of a walk
-//! from server to server, and what the zones and the learnt addresses tell of a referral.
+//! The lookup of a name and a type in a zone, the servers of a configuration with the trees of their zones, the steps
+//! of a walk from server to server, and what the zones and the learnt addresses tell of a referral.
 //!
-//! The layer above may rest on this: `find` answers what the definition `found` says of the zone; `Hosts` finds a server, a
-//! zone by its origin and the nearest zone of a name as the definitions do, and tells which name servers may be followed.
-//! `starts` gives the states in which a query begins, and `after_lookup` the steps of a state, as the definitions do. Of a
-//! referral it is told as the definitions say whether the two zones list other name servers or hold other addresses, whether glue
-//! is missing, and whether the name server's address depends on itself (`LearntSets` has the learnt addresses); one that
-//! `is_sound` lets pass shows none of these, whatever comes behind it.
+//! The layer above may rest on this: `find` answers what the definition `found` says of the zone; `Hosts` finds a
+//! server, a zone by its origin and the nearest zone of a name as the definitions do, and tells which name servers may
+//! be followed. `starts` gives the states in which a query begins, and `after_lookup` the steps of a state, as the
+//! definitions do. Of a referral it is told as the definitions say whether the two zones list other name servers or
+//! hold other addresses, whether glue is missing, and whether the name server's address depends on itself (`LearntSets`
+//! has the learnt addresses); one that `is_sound` lets pass shows none of these, whatever comes behind it.
 //!
-//! Costs: what decides at a name is found in one search among the zone's names, or in two where a wildcard may answer. No data
-//! are looked at but those that are answered. A server and a zone are found in as many comparisons of names as the logarithm of
-//! their number. For the nearest zone of a name there is one such search, `nearest_item`, and one more each time that the origin
-//! before the place of the name, or of its prefix, is not at or above the name: the next search is for the prefix that both have
-//! in common. The first search takes two comparisons where the place near which the name is looked for is the place of the last
-//! origin that isn't behind it; a server takes one where it stands at its place near, as `nearest_near` looks for both. Glue that
-//! stands right behind its zone cut in the order of names is found in a few comparisons. Of a referral both zones are found by
-//! their origins, and their name servers and the addresses of glue are compared; whether a name is among the learnt ones is found
-//! in sets that are made once. `is_sound` looks into one name server, and for one that isn't configured only for its glue;
-//! `may_follow` passes over the top servers.
+//! Costs: what decides at a name is found in one search among the zone's names, or in two where a wildcard may answer.
+//! No data are looked at but those that are answered. A server and a zone are found in as many comparisons of names as
+//! the logarithm of their number. For the nearest zone of a name there is one such search, `nearest_item`, and one more
+//! each time that the origin before the place of the name, or of its prefix, is not at or above the name: the next
+//! search is for the prefix that both have in common. The first search takes two comparisons where the place near which
+//! the name is looked for is the place of the last origin that isn't behind it; a server takes one where it stands at
+//! its place near, as `nearest_near` looks for both. Glue that stands right behind its zone cut in the order of names
+//! is found in a few comparisons. Of a referral both zones are found by their origins, and their name servers and the
+//! addresses of glue are compared; whether a name is among the learnt ones is found in sets that are made once.
+//! `is_sound` looks into one name server, and for one that isn't configured only for its glue; `may_follow` passes over
+//! the top servers.
 #![tactic(auto)]
 
 mod ends;

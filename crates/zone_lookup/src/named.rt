@@ -49,8 +49,8 @@ pub(crate) fn near_of<T: Named>(items: &[T], name: &Name) -> usize
     not_behind(place_of(items, &name.labels()))
 }
 
-/// The item whose name is the longest at or above this one, among items in the order of their names. The name's place is looked
-/// for near a place first, whatever that is, and is the place near which the next name may be looked for.
+/// The item whose name is the longest at or above this one, among items in the order of their names. The name's place
+/// is looked for near a place first, whatever that is, and is the place near which the next name may be looked for.
 pub fn nearest_item<'i, T: Named>(items: &'i [T], near: &mut usize, name: &Name) -> Option<&'i T>
     requires { IsStrictlySortedBy name_cmp (map T.name_of items.now) }
     ensures some { IfSome result (λ item. IsAtLongest (item_named T.name_of items.now) name.now (length name.now) item.now) }
@@ -85,7 +85,7 @@ fn nearest_of_fewer<'i, T: Named>(items: &'i [T], name: &Name, fewer: usize) -> 
 }
 
 /// The item whose name is the longest among the name's prefixes of at most `count` labels, or a number of labels which all
-/// such names stay below. The place is that of the prefix of so many labels.
+/// such names stay below. The place is that of the prefix of this many labels.
 fn nearest_or_fewer<'i, T: Named>(
     items: &'i [T],
     name: &Name,
@@ -107,7 +107,7 @@ fn nearest_or_fewer<'i, T: Named>(
 }
 
 /// The item whose name is the longest among the name's prefixes of at most `count` labels, or a number of labels which all
-/// such names stay below, where no item is at the prefix of so many labels and so many items stand before it.
+/// such names stay below, where no item is at the prefix of this many labels and this many items stand before it.
 fn nearest_before<'i, T: Named>(
     items: &'i [T],
     name: &Name,
@@ -143,8 +143,8 @@ fn not_behind(place: Result<usize, usize>) -> usize {
     }
 }
 
-/// The place of the item of this name, among items in the order of their names, or how many of them stand before the name. It is
-/// looked for near a place first, whatever that is.
+/// The place of the item of this name, among items in the order of their names, or how many of them stand before the
+/// name. It is looked for near a place first, whatever that is.
 fn place_near<T: Named>(items: &[T], near: usize, name: &Labels<'_>) -> Result<usize, usize>
     requires { IsStrictlySortedBy name_cmp (map T.name_of items.now) }
     ensures range { IsSearchInRange result (length items.now) }
@@ -156,8 +156,8 @@ fn place_near<T: Named>(items: &[T], near: usize, name: &Labels<'_>) -> Result<u
     }
 }
 
-/// The place of the item of this name, or how many items stand before the name, where the item at a place and the next one tell
-/// it.
+/// The place of the item of this name, or how many items stand before the name, where the item at a place and the next
+/// one tell it.
 fn told_near<T: Named>(items: &[T], near: usize, name: &Labels<'_>) -> Option<Result<usize, usize>>
     ensures range { IfSome result (λ place. IsSearchInRange place (length items.now)) }
     ensures position { IfSome result (IsBinarySearchResult (λ item. name_cmp (T.name_of item) name.now) items.now) }
@@ -169,8 +169,8 @@ fn told_near<T: Named>(items: &[T], near: usize, name: &Labels<'_>) -> Option<Re
     }
 }
 
-/// The place of the item of this name, or how many items stand before the name, where the item behind one that stands before the
-/// name tells it.
+/// The place of the item of this name, or how many items stand before the name, where the item behind one that stands
+/// before the name tells it.
 fn told_behind<T: Named>(
     items: &[T],
     before: usize,

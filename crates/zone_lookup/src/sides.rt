@@ -1,4 +1,5 @@
-//! What both zones of a delegation hold: the one that refers, and the one of the name server with the zone cut as its origin.
+//! What both zones of a delegation hold: the one that refers, and the one of the name server with the zone cut as its
+//! origin.
 
 ghost use lib.Pointwise.{pointwise};
 ghost use Rattle.std.specs.Prelude.{◌≡◌, true, map, IfOk};

@@ -32,9 +32,9 @@ pub fn depends_on_itself(hosts: &Hosts<'_>, sets: &LearntSets, cut: &Cut) -> boo
 }
 
 impl LearntSets {
-    /// Whether a referral to a name server is sound: its zones list the same name servers and hold the same addresses of it, it
-    /// has glue where it needs some, and its address doesn't depend on itself. One that isn't configured is asked for its glue
-    /// alone.
+    /// Whether a referral to a name server is sound: its zones list the same name servers and hold the same addresses
+    /// of it, it has glue where it needs some, and its address doesn't depend on itself. One that isn't configured is
+    /// asked for its glue alone.
     pub fn is_sound(&self, alloc: Global, hosts: &Hosts<'_>, cut: &Cut) -> Result<bool, NoMemory>
         requires { is_prefix cut.now.zone cut.now.cut ≡ true }
         ensures { IfOk result (λ sound. sound ≡ true → IsSound hosts.now self.now cut.now) }

@@ -188,7 +188,7 @@ fn delegated(
     Ok(Step::Go(Hop::Refer(cut), to))
 }
 
-/// The state at the server that a zone cut of so many labels led to, in its zone with this origin.
+/// The state at the server that a zone cut of this many labels led to, in its zone with this origin.
 fn below_cut(
     alloc: Global,
     state: &State,

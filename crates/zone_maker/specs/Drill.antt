@@ -10,7 +10,7 @@ use Rattle.io_edges.specs.MemoryFiles.{FilesInMemory, no_files, with_file}
 abbrev pub zone_numbers : ℕ → List ℕ
 zone_numbers n = range_with_len 0 n
 
--- the number of the zone behind this one; behind the last one comes the first
+-- the number of the next zone; after the last one comes the first
 abbrev pub next_zone : ℕ → ℕ → ℕ
 next_zone n i = if nat_lt (i + 1) n then i + 1 else 0
 
@@ -58,7 +58,7 @@ soa_end i = codes ". h.z" ++ decimal i ++ codes ". 1 2 3 4 5\n"
 abbrev pub soa_line : ℕ → List ℕ
 soa_line i = codes "z" ++ decimal i ++ codes ". SOA ns.z" ++ decimal i ++ soa_end i
 
--- its web server
+-- the address of the zone's web server
 abbrev pub web_line : ℕ → List ℕ
 web_line i = codes "www.z" ++ decimal i ++ address_end 1 i
 

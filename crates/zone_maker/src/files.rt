@@ -8,7 +8,7 @@ use dns_data::{List, NoMemory};
 use io_edges::MemoryFiles;
 use std::alloc::Global;
 
-/// The files of a drill of so many zones, 1 to 5,000, with the metadata under the name `meta.json`.
+/// The files of a drill of this many zones, 1 to 5,000, with the metadata under the name `meta.json`.
 pub fn make(alloc: Global, zones: u32) -> Result<MemoryFiles, NoMemory>
     requires some { 1 ≤ zones }
     requires few { zones ≤ 5000 }

@@ -32,7 +32,7 @@ impl Model for DrillFiles {
 }
 
 impl DrillFiles {
-    /// The files of a drill of so many zones, 1 to 5,000, with the metadata under the name `meta.json`.
+    /// The files of a drill of this many zones, 1 to 5,000, with the metadata under the name `meta.json`.
     pub fn make(alloc: Global, zones: u32) -> Result<DrillFiles, NoMemory>
         requires some { 1 ≤ zones }
         requires few { zones ≤ 5000 }

@@ -8,7 +8,7 @@ use dns_data::NoMemory;
 use std::alloc::Global;
 use std::fmt::Write;
 
-/// The metadata of so many zones.
+/// The metadata of this many zones.
 pub(crate) fn meta_text(alloc: Global, zones: u32) -> Result<String, NoMemory>
     ensures { IfOk result (λ text. string_bytes text ≡ meta_text zones) }
 {
@@ -34,7 +34,7 @@ fn put_meta_row(text: &mut String, i: u32) -> Result<(), NoMemory>
     Ok(())
 }
 
-/// The root zone of so many zones.
+/// The root zone of this many zones.
 pub(crate) fn root_text(alloc: Global, zones: u32) -> Result<String, NoMemory>
     ensures { IfOk result (λ text. string_bytes text ≡ root_text zones) }
 {
@@ -56,7 +56,7 @@ fn put_referral(text: &mut String, i: u32) -> Result<(), NoMemory>
     put_server(text, 0, i)
 }
 
-/// The zone with this number, of so many.
+/// The zone with this number, of this many.
 pub(crate) fn made_zone_text(alloc: Global, zones: u32, i: u32) -> Result<String, NoMemory>
     requires within { i < zones }
     requires few { zones ≤ 5000 }

@@ -93,7 +93,7 @@ module _ (told : FilesTold) (said : Option Job) (before after : List ℕ → ℕ
       by (inr (inl (file, is, comes, rose))) = subst SaysSo (sym is) ((comes, rose), refl)
       by (inr (inr is)) = subst SaysSo (sym is) refl
 
-    -- where no read of a job's files failed, its run has the job's outcome, or ends for want of memory
+    -- where no read of a job's files failed, its run has the job's outcome, or ends because memory ran out
     pub complete : NoJobReadFailed told said before after → Outcome told said ending ⊎ (ending ≡ no_memory)
     complete none = by ends where
       by : JobEnds told said before after ending → Outcome told said ending ⊎ (ending ≡ no_memory)
@@ -101,7 +101,7 @@ module _ (told : FilesTold) (said : Option Job) (before after : List ℕ → ℕ
       by (inr (inl (file, is, comes, rose))) = absurd (none file comes rose)
       by (inr (inr is)) = inr is
 
-    -- a job's run has the job's outcome, or ends for an unread file or want of memory
+    -- a job's run has the job's outcome, or ends for an unread file or `NoMemory`
     pub cause : IsEnding told said ending
     cause = by ends where
       by : JobEnds told said before after ending → IsEnding told said ending

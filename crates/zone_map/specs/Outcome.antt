@@ -23,7 +23,7 @@ abbrev pub Outcome : FilesTold → Option Job → Ending → Type 0
 Outcome told None ending = ending ≡ without_output Usage usage_line
 Outcome told (Some job) ending = OfReading job.meta (Tells job.asked) (loaded job.meta told) ending
 
--- a run ends in the outcome of its job, in a failed read or for want of memory
+-- a run ends in the outcome of its job, in a failed read or because memory ran out
 abbrev pub IsEnding : FilesTold → Option Job → Ending → Type 0
 IsEnding told job ending = Outcome told job ending ⊎ ((file : List ℕ) × (ending ≡ read_failed file)) ⊎ (ending ≡ no_memory)
 

@@ -34,7 +34,8 @@ other_tokens rdata = []
 abbrev pub told_data : Rdata → List ℕ
 told_data rdata = if is_some (type_of_data rdata) then data_text rdata else other_tokens rdata
 
--- the columns of a record: its server, its zone, its owner and its type; the file and the line from which it was read; its data
+-- the columns of a record: its server, its zone, its owner and its type; the file and the line from which it was read;
+-- its data
 abbrev pub record_columns : RowFiles → Rr → List (List ℕ)
 record_columns row rr =
     name_text row.server ∷ name_text row.origin ∷ name_text rr.owner ∷ type_text rr.rdata

@@ -31,8 +31,8 @@ pub fn groot_map<F: Files, O: Sink, E: Sink>(
     out: &mut O,
     err: &mut E,
 ) -> Status
-    // For files that read, by the octets that were read of them, `records` writes exactly the records of their configuration,
-    // in the order of rows, each with the file and the line from which it was read.
+    // For files that read, by the octets that were read of them, `records` writes exactly the records of their
+    // configuration, in the order of rows, each with the file and the line from which it was read.
     ensures records { (meta : List ℕ) (all : Read) →
         job_of (map (λ word. word.now) words.now) ≡ Some (record { asked = Asked.Records; meta = meta }) →
         loaded meta (F.told files.new) ≡ Reads all →
@@ -47,7 +47,8 @@ pub fn groot_map<F: Files, O: Sink, E: Sink>(
         × (result ≡ ending.status) × Appends (O.taken out.old) (O.taken out.new) ending.out)
         ⊎ (result ≡ Status.NoMemory) }
 
-    // However it ends: as its job does, in a failed read or for want of memory, unless out fails; and err took its line.
+    // However it ends: as its job does, in a failed read or because memory ran out, unless out fails; and err took its
+    // line.
     ensures cause { (ending left : Ended)
         × IsEnding (F.told files.new) (job_of (map (λ word. word.now) words.now)) ending
         × IsLeft ending (O.taken out.old) (O.taken out.new) (O.faults out.old) (O.faults out.new) left
@@ -83,7 +84,7 @@ pub fn run_words<F: Files>(alloc: Global, words: &[&str], files: &mut F) -> Endi
     ensures complete { NoJobReadFailed (F.told files.new) (job_of (map (λ word. word.now) words.now)) (F.faults files.old) (F.faults files.new) →
         Outcome (F.told files.new) (job_of (map (λ word. word.now) words.now)) result ⊎ (result ≡ no_memory) }
 
-    // However it ends: as its job does, in a failed read or for want of memory. A failed read comes before no refusal.
+    // However it ends: as its job does, in a failed read or because memory ran out. A failed read comes before no refusal.
     ensures cause { IsEnding (F.told files.new) (job_of (map (λ word. word.now) words.now)) result }
     ensures read_fault { (file : List ℕ) → result.status ≡ Status.ReadFault file →
         JobComesTo (F.told files.new) (job_of (map (λ word. word.now) words.now)) file

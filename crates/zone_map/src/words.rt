@@ -24,7 +24,7 @@ impl Asked {
     /// What may be asked for.
     const ALL: [Asked; 1] = [Asked::Records];
 
-    /// Its word.
+    /// The word for what is asked for.
     fn word(&self) -> &'static str
         ensures { result.now ≡ asked_word self.now }
     {

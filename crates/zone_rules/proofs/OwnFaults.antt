@@ -1,4 +1,4 @@
--- No records are refused for want of memory: that answer is a call's alone.
+-- No records are refused because memory ran out: that answer is a call's alone.
 use Rattle.std.proofs.Common.{List, [], ◌∷◌, ◌++◌, Option, Some, None}
 use Rattle.std.specs.List.{filter}
 use Rattle.std.specs.Option.{option_or, option_map}

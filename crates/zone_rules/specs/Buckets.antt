@@ -64,10 +64,10 @@ lower_key key = (lower_half key.0, key.1)
 abbrev pub lower_keys : (ℕ → Bool) → List (ℕ × Bool) → List (ℕ × Bool)
 lower_keys may keys = map lower_key (filter (λ key. may key.0) keys)
 
--- of two items with one number, of which one has to stand alone, this tells that they may be rivals
+-- the test says of two items with one number, one of which has to stand alone, that they may be rivals
 abbrev pub TellsRivals : (ℕ → Bool) → List (ℕ × Bool) → Type 0
 TellsRivals may keys = AllPairs (λ a b. a.0 ≡ b.0 → (a.1 || b.1) ≡ true → may b.0 ≡ true) keys
 
--- of each key it is said whether an item with it may have a rival, by its number alone
+-- for each key it is said whether an item with it may have a rival, by its number alone
 abbrev pub SaysRivals : List Bool → List (ℕ × Bool) → Type 0
 SaysRivals said keys = (may : ℕ → Bool) × (said ≡ map (λ key. may key.0) keys) × TellsRivals may keys

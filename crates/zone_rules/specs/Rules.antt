@@ -12,7 +12,7 @@ use Rattle.zone_rules.specs.declared.fault.RuleCause.TheVariants.{TwoSoas, SoaEl
 use Rattle.zone_rules.specs.declared.fault.RuleFault.{RuleFault}
 use Rattle.zone_rules.specs.declared.fault.RuleFault.TheVariants.{At}
 
--- a record of this type stands before
+-- some record before has this type
 abbrev pub had : RrType → List Rr → Bool
 had rtype before = list_any (is_type rtype) before
 

@@ -60,8 +60,8 @@ impl Bucket {
     }
 }
 
-/// Of each key, which is a number and whether the item has to stand alone, whether an item with it may have a rival: of
-/// the two one has to stand alone.
+/// For each key, which is a number and whether the item has to stand alone, whether an item with it may have a rival:
+/// of the two one has to stand alone.
 pub(crate) fn rivals(alloc: Global, keys: &[(u64, bool)]) -> Result<Vec<bool>, NoMemory>
     ensures { IfOk result (λ rivals. SaysRivals rivals.items keys.now) }
 {
@@ -103,7 +103,7 @@ fn push_lower(
 }
 
 impl Buckets {
-    /// The buckets of items with these keys, so many for an item.
+    /// The buckets of items with these keys, this many for an item.
     fn of(alloc: Global, keys: &[(u64, bool)], for_one: usize) -> Result<Buckets, NoMemory>
         ensures { IfOk result (λ buckets. Marked buckets keys.now) }
     {
@@ -114,7 +114,7 @@ impl Buckets {
         Ok(buckets)
     }
 
-    /// Of each key whether an item with it may have a rival in these buckets.
+    /// For each key, whether an item with it may have a rival in these buckets.
     fn rivals(&self, alloc: Global, keys: &[(u64, bool)]) -> Result<Vec<bool>, NoMemory>
         ensures { IfOk result (λ rivals. rivals.items ≡ map (λ key. has_rival self.now key.0) keys.now) }
     {
@@ -125,8 +125,8 @@ impl Buckets {
         Ok(rivals)
     }
 
-    /// Of each key whether an item with it may have a rival by what is said of it, and in these buckets by the lower half
-    /// of its number, too.
+    /// For each key, whether an item with it may have a rival by what is said of it, and in these buckets by the lower
+    /// half of its number, too.
     fn rivals_too(
         &self,
         alloc: Global,
@@ -152,7 +152,7 @@ impl Buckets {
         is_rival && self.has_rival(lower_half(number))
     }
 
-    /// So many empty buckets, but at least one and no more than there may be.
+    /// Empty buckets, as many as asked for, but at least one and no more than there may be.
     fn new(alloc: Global, count: usize) -> Result<Buckets, NoMemory>
         ensures { IfOk result (λ buckets. Marked buckets []) }
     {

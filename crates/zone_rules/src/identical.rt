@@ -23,8 +23,8 @@ struct Identity<'a> {
     owner: &'a Name,
 }
 
-/// Of identical records the first, in their order: owner, type and data are compared, and not the TTL, the file or the
-/// line. Only those are put into an ordered set that may have a rival; none is copied.
+/// The records without those that are identical to an earlier one: owner, type and data are compared, and not the TTL,
+/// the file or the line. Only those are put into an ordered set that may have a rival; none is copied.
 pub(crate) fn first_of_identical(alloc: Global, rrs: List<Rr>) -> Result<List<Rr>, NoMemory>
     ensures { IfOk result (λ kept. kept ≡ distinct is_identical rrs) }
 {
@@ -35,7 +35,7 @@ pub(crate) fn first_of_identical(alloc: Global, rrs: List<Rr>) -> Result<List<Rr
     chosen(alloc, rrs, firsts.as_slice())
 }
 
-/// Of each record whether none before it is identical.
+/// For each record, whether none before it is identical.
 fn are_first(alloc: Global, rrs: &[Rr]) -> Result<Vec<bool>, NoMemory>
     ensures { IfOk result (λ firsts. firsts.items ≡ are_first is_identical rrs.now) }
 {

@@ -27,8 +27,8 @@ pub(crate) struct Before<'a> {
     dnames: BTreeSet<&'a Name>,
 }
 
-/// Looks for the first record that breaks a rule, and for an SOA record. An SOA, an NS or a DNAME record is always looked at,
-/// any other only where it may have a rival at its owner: else it breaks no rule.
+/// Looks for the first record that breaks a rule, and for an SOA record. An SOA, an NS or a DNAME record is always
+/// looked at, any other only where it may have a rival at its owner: else it breaks no rule.
 pub(crate) fn check_rules(alloc: Global, origin: &Name, rrs: &[Rr]) -> Result<(), RuleFault>
     ensures ok { OnOk result ((first_fault origin.now rrs.now ≡ None) × (had RrType.Soa rrs.now ≡ true)) }
     ensures err { IfErr result (λ fault. (fault ≡ RuleFault.NoMemory) ⊎ (checked origin.now rrs.now ≡ Err fault)) }
@@ -49,8 +49,8 @@ pub(crate) fn check_rules(alloc: Global, origin: &Name, rrs: &[Rr]) -> Result<()
     Ok(())
 }
 
-/// Of each record the number of its owner with whether it has to stand alone there, as a CNAME record has (RFC 1034 section
-/// 3.6.2), and whether it is an SOA, an NS or a DNAME record, which may break a rule also without a rival.
+/// For each record, the number of its owner with whether it has to stand alone there, as a CNAME record has (RFC 1034
+/// section 3.6.2), and whether it is an SOA, an NS or a DNAME record, which may break a rule also without a rival.
 #[derive(Drop)]
 struct Owners {
     keys: Vec<(u64, bool)>,
@@ -86,8 +86,8 @@ impl<'a> Before<'a> {
         }
     }
 
-    /// One record more stands before, unless it breaks a rule. It may have a rival at its owner, or hasn't any. One that hasn't,
-    /// and is none of those that are watched, isn't looked at.
+    /// Puts one record more before the next ones, unless it breaks a rule. Records without a rival are skipped, unless
+    /// they are SOA, NS or DNAME.
     fn check(
         &mut self,
         origin: &Name,
@@ -114,7 +114,8 @@ impl<'a> Before<'a> {
         Ok(())
     }
 
-    /// One record more stands before, which may have a rival at its owner or hasn't any.
+    /// Puts one record more before the next ones. Of a record without a rival it is only kept
+    /// whether it is an SOA record, and the owner if it is a DNAME record.
     fn put(&mut self, rr: &'a Rr, has_rival: bool) -> Result<(), NoMemory>
         ensures { (may_have : Labels → Bool) (before : List Rr) → has_rival ≡ may_have rr.now.owner → IsSummaryOf may_have self.old before → OnOk result (IsSummaryOf may_have self.new (before ++ rr.now ∷ [])) }
     {
@@ -125,7 +126,8 @@ impl<'a> Before<'a> {
         Ok(())
     }
 
-    /// The first rule that the record breaks, if it breaks one. It may have a rival at its owner, or hasn't any.
+    /// The first rule that the record breaks, if it breaks one. Some rules are asked only of
+    /// records with a rival.
     fn rule_at(&self, origin: &Name, rr: &'a Rr, has_rival: bool) -> Option<RuleCause>
         ensures { result ≡ rule_in self.now has_rival origin.now rr.now }
     {

@@ -23,9 +23,11 @@ Entry = List ℕ × Rdata
 abbrev pub IsKeyed : Entry → Type 0
 IsKeyed entry = entry.0 ≡ data_text entry.1
 
+-- the name behind a reference
 abbrev pub now_of : Bor Labels → Labels
 now_of name = name.now
 
+-- the data of an entry
 abbrev pub data_at_entry : Entry → Rdata
 data_at_entry entry = entry.1
 

@@ -21,9 +21,11 @@ use Rattle.zone_tree.specs.Owners.{leading}
 use Rattle.zone_tree.specs.Records.{data_of}
 use Rattle.zone_tree.proofs.SortedTree.{InOrder, in_order_after}
 
+-- the owner of a record
 abbrev pub owner_of : Rr → Labels
 owner_of rr = rr.owner
 
+-- the data of a record
 abbrev pub rdata_of : Rr → Rdata
 rdata_of rr = rr.rdata
 

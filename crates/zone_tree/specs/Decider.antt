@@ -15,7 +15,7 @@ deciding_by tree (Redirection node) = by_dname tree.zone (name_of tree node)
 deciding_by tree (Records node) = ByRecords (name_of tree node)
 deciding_by tree Nothing = ByNothing
 
--- its node is one of the tree's
+-- the decider's node is one of the tree's
 abbrev pub IsOfTree : ZoneTree → Decider → Type 0
 IsOfTree tree (Cut node) = IsNode tree node
 IsOfTree tree (Redirection node) = IsNode tree node

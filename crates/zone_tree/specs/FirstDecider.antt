@@ -12,7 +12,7 @@ use Rattle.net_model.specs.Zone.{owns, exists_in}
 abbrev pub is_cut : Zone → Labels → Bool
 is_cut zone above = nat_lt (length zone.origin) (length above) && owns zone above types.Ns
 
--- it decides at those below it: as a zone cut, or as the owner of a DNAME record (RFC 6672 section 3.2, step 3c)
+-- the name decides at those below it: as a zone cut, or as the owner of a DNAME record (RFC 6672 section 3.2, step 3c)
 abbrev pub decides_below : Zone → Labels → Bool
 decides_below zone above = is_cut zone above || (nat_le (length zone.origin) (length above) && owns zone above types.Dname)
 
@@ -30,7 +30,7 @@ pub record AreFirstDeciders (zone : Zone) (names : List Labels) (places : List �
   pub many : length places ≡ length names
   pub each : (k d : ℕ) → k < length names → IsFirstDecider zone names (slice_index_or names k []) (slice_index_or places k d)
 
--- the name at or below the origin redirects another, as a DNAME owner above it
+-- the name, at or below the origin, redirects another, as a DNAME owner above it
 abbrev pub redirects : Zone → Labels → Labels → Bool
 redirects zone name above = nat_le (length zone.origin) (length above) && nat_lt (length above) (length name) && owns zone above types.Dname
 

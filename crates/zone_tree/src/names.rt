@@ -48,7 +48,7 @@ fn push_new(
     Ok(())
 }
 
-/// The name of the first so many labels of a name.
+/// The name of the first labels of a name, as many as asked for.
 fn front_of(alloc: Global, name: &Name, count: usize) -> Result<Name, NoMemory>
     ensures { IfOk result (λ front. front ≡ take count name.now) }
 {

@@ -115,8 +115,8 @@ impl<'a> Tree<'a> {
         Some(NodeId::at(place))
     }
 
-    /// The node of the name with these labels, or `None` where that name doesn't exist in the zone. The next few names behind
-    /// the node's are looked at first: a name below another mostly stands there.
+    /// The node of the name with these labels, or `None` where that name doesn't exist in the zone. The next few names
+    /// behind the node's are looked at first: a name below another mostly stands there.
     pub fn node_near(&self, node: NodeId, labels: &Labels<'_>) -> Option<NodeId>
         requires { IsNode self.now node }
         ensures node { IfSome result (IsNode self.now) }

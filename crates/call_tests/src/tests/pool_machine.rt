@@ -4,7 +4,8 @@ use pool_core::{Core, Event, Spot, StepFault, StopCause};
 use std::alloc::Global;
 use std::test::Fail;
 
-// Worker 1 steals the first ticket and files it with two children, of which it takes one: then all three tickets are issued.
+// Worker 1 steals the first ticket and files it with two children, of which it takes one: then all three tickets are
+// issued.
 #[test]
 fn tickets_go_from_deques_to_their_filing_up_to_the_limit(rt: HostRuntime) -> Result<(), Fail> {
     let mut core = Core::new(rt.alloc(), 2, 3)?;

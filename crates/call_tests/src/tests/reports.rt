@@ -13,7 +13,7 @@ const ALIAS: &str = "t. 60 SOA ns.t. h.t. 1 2 3 4 5\nt. 60 NS ns.t.\na.t. 60 CNA
 const REPORT: &str =
     "{\"classes\":6,\"faults\":[{\"kind\":\"blackhole\",\"place\":{\"owner\":\"a.t.\",\"server\":\"ns.t.\",\"zone\":\"t.\"},\"query\":\"a.t.\",\"repeats\":false,\"type\":\"A\",\"walks\":[[{\"did\":\"cname\",\"name\":\"a.t.\",\"owner\":\"a.t.\",\"server\":\"ns.t.\",\"to\":\"b.t.\",\"zone\":\"t.\"},{\"did\":\"nxdomain\",\"name\":\"b.t.\",\"server\":\"ns.t.\",\"zone\":\"t.\"}]]}],\"names\":3,\"rewrites\":12}\n";
 
-/// This report with another target of the alias in its walk.
+/// The report of the zone with another target of the alias in its walk.
 const OTHER_TARGET: &str =
     "{\"classes\":6,\"faults\":[{\"kind\":\"blackhole\",\"place\":{\"owner\":\"a.t.\",\"server\":\"ns.t.\",\"zone\":\"t.\"},\"query\":\"a.t.\",\"repeats\":false,\"type\":\"A\",\"walks\":[[{\"did\":\"cname\",\"name\":\"a.t.\",\"owner\":\"a.t.\",\"server\":\"ns.t.\",\"to\":\"c.t.\",\"zone\":\"t.\"},{\"did\":\"nxdomain\",\"name\":\"b.t.\",\"server\":\"ns.t.\",\"zone\":\"t.\"}]]}],\"names\":3,\"rewrites\":12}\n";
 

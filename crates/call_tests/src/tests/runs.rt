@@ -14,7 +14,7 @@ use std::thread::Threads;
 /// A zone of three names: the root, `t.` and `www.t.`.
 const ZONE: &str = "t. 60 SOA ns.t. h.t. 1 2 3 4 5\nt. 60 NS ns.t.\nwww.t. 60 A 10.0.0.1\n";
 
-/// Its report.
+/// The report of the zone of three names.
 const REPORT: &str = "{\"classes\":6,\"faults\":[],\"names\":3,\"rewrites\":12}\n";
 
 /// The files of one zone, of which the read with this number fails, counted from 1; with 0, none.
@@ -24,7 +24,7 @@ fn source(alloc: Global, zone: &str, fails: u32) -> Result<MemoryFiles, NoMemory
     files(alloc, ALONE, &[("t.zone", zone)], calls)
 }
 
-/// An output that takes so many octets, and then fails.
+/// An output that takes this many octets, and then fails.
 fn sink(alloc: Global, room: u32) -> Result<MemorySink, NoMemory> {
     MemorySink::new(alloc, room, List::new(alloc))
 }
@@ -36,7 +36,7 @@ struct Outputs {
     err: MemorySink,
 }
 
-/// An out that takes so many octets, and an err that takes any line.
+/// An out that takes this many octets, and an err that takes any line.
 fn two_outputs(alloc: Global, room: u32) -> Result<Outputs, NoMemory> {
     let out = sink(alloc, room)?;
     let err = sink(alloc, 100)?;
@@ -137,7 +137,7 @@ impl Gate for PairGate {
 const REDIRECTED: &str =
     "t. 60 SOA ns.t. h.t. 1 2 3 4 5\nt. 60 NS ns.t.\nd.t. 60 DNAME e.t.\nwww.e.t. 60 A 10.0.0.1\n";
 
-/// Its report.
+/// The report of the zone with a redirection.
 const BLACKHOLE: &str =
     "{\"classes\":12,\"faults\":[{\"kind\":\"blackhole\",\"place\":{\"owner\":\"d.t.\",\"server\":\"ns.t.\",\"zone\":\"t.\"},\"query\":\"a.d.t.\",\"repeats\":false,\"type\":\"A\",\"walks\":[[{\"did\":\"dname\",\"name\":\"a.d.t.\",\"owner\":\"d.t.\",\"server\":\"ns.t.\",\"to\":\"a.e.t.\",\"zone\":\"t.\"},{\"did\":\"nxdomain\",\"name\":\"a.e.t.\",\"server\":\"ns.t.\",\"zone\":\"t.\"}]]}],\"names\":6,\"rewrites\":12}\n";
 

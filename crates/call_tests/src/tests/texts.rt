@@ -61,8 +61,8 @@ fn a_scope_has_a_text(rt: HostRuntime) -> Result<(), Fail> {
     Ok(())
 }
 
-/// Whether this is the text of a report of the scope of this name, which has no fault, with the name alone and the class below
-/// it, where no check tells anything.
+/// Whether this is the text of a report of the scope of this name, which has no fault, with the name alone and the
+/// class below it, where no check tells anything.
 fn is_text_of_scope(alloc: Global, scope: &Name, wanted: &str) -> bool {
     let report = Report {
         classes: 2,

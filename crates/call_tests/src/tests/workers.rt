@@ -118,7 +118,7 @@ fn workers_end_where_one_of_them_has_no_memory(rt: HostRuntime) {
     }
 }
 
-/// Whether a run with so many workers ends where it has to, if at this item there is no memory.
+/// Whether a run with this many workers ends where it has to, if at this item there is no memory.
 fn ends<R: Threads + Wait + Sync>(rt: &R, alloc: Global, workers: u32, fails: u32) -> bool
     requires { 1 ≤ workers }
 {

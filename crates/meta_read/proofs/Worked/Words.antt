@@ -4,10 +4,11 @@ use Rattle.serde_json.specs.Data.{Data, string, array, object, no_members, membe
 use Rattle.serde_json.specs.View.{items_of}
 use Rattle.dns_data.specs.Name.{Labels}
 
--- two servers
+-- a.t., a server
 abbrev pub a : Labels
 a = codes "t" ∷ codes "a" ∷ []
 
+-- b.t., another server
 abbrev pub b : Labels
 b = codes "t" ∷ codes "b" ∷ []
 

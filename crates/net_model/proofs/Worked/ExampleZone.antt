@@ -5,30 +5,39 @@ use Rattle.dns_data.specs.declared.rdata.Rdata.TheVariants.{A, Ns, Soa, Mx, Txt,
 use Rattle.net_model.specs.declared.config.Zone.{Zone}
 use Rattle.net_model.proofs.Words.{rr, zone_at}
 
+-- example.
 abbrev pub example : Labels
 example = codes "example" ∷ []
 
+-- *.example.
 abbrev pub wildcard : Labels
 wildcard = codes "example" ∷ codes "*" ∷ []
 
+-- sub.*.example.
 abbrev pub below_wildcard : Labels
 below_wildcard = codes "example" ∷ codes "*" ∷ codes "sub" ∷ []
 
+-- host1.example.
 abbrev pub host1 : Labels
 host1 = codes "example" ∷ codes "host1" ∷ []
 
+-- host2.example.
 abbrev pub host2 : Labels
 host2 = codes "example" ∷ codes "host2" ∷ []
 
+-- subdel.example.
 abbrev pub delegated_name : Labels
 delegated_name = codes "example" ∷ codes "subdel" ∷ []
 
+-- ns.example.com.
 abbrev pub ns_com : Labels
 ns_com = codes "com" ∷ codes "example" ∷ codes "ns" ∷ []
 
+-- ns.example.net.
 abbrev pub ns_net : Labels
 ns_net = codes "net" ∷ codes "example" ∷ codes "ns" ∷ []
 
+-- the zone of RFC 4592 section 2.2.1
 abbrev pub example_zone : Zone
 example_zone =
     zone_at example

@@ -8,15 +8,19 @@ use Rattle.net_model.specs.declared.config.Zone.{Zone}
 use Rattle.zone_rules.specs.declared.fault.RuleFault.{RuleFault}
 use Rattle.zone_rules.specs.ZoneOf.{zone_of}
 
+-- t.
 abbrev pub t : Labels
 t = codes "t" ∷ []
 
+-- u.
 abbrev pub u : Labels
 u = codes "u" ∷ []
 
+-- a.t.
 abbrev pub a : Labels
 a = codes "t" ∷ codes "a" ∷ []
 
+-- b.t.
 abbrev pub b : Labels
 b = codes "t" ∷ codes "b" ∷ []
 
@@ -24,6 +28,7 @@ b = codes "t" ∷ codes "b" ∷ []
 abbrev pub x : Labels
 x = codes "t" ∷ codes "a" ∷ codes "x" ∷ []
 
+-- *.t.
 abbrev pub star : Labels
 star = codes "t" ∷ codes "*" ∷ []
 
@@ -43,12 +48,15 @@ soa owner serial line = rr owner (Soa [] [] serial 2 3 4 5) line
 abbrev pub address : Labels → ℕ → ℕ → Rr
 address owner last line = rr owner (A (192 ∷ 0 ∷ 2 ∷ last ∷ [])) line
 
+-- an NS record in this line
 abbrev pub ns : Labels → Labels → ℕ → Rr
 ns owner target line = rr owner (Ns target) line
 
+-- a CNAME record in this line
 abbrev pub cname : Labels → Labels → ℕ → Rr
 cname owner target line = rr owner (Cname target) line
 
+-- a DNAME record in this line
 abbrev pub dname : Labels → Labels → ℕ → Rr
 dname owner target line = rr owner (Dname target) line
 

@@ -1,4 +1,4 @@
--- The definition's fault is no want of memory in a name, and neither is the call's.
+-- The definition's fault is no `NoMemory` in a name, and neither is the call's.
 use Rattle.rdata_forms.specs.Forms.{fields_of, written}
 use Rattle.rdata_forms.proofs.Named.{reads-fields, answers-named}
 use Rattle.rdata_forms.proofs.rdata.read_rdata.Goals as goal

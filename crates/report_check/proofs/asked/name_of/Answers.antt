@@ -21,7 +21,7 @@ returns-in-Ok c =
     ∙ ap (λ (origin : Labels). name_of_text c.as_bytes.result.now origin) (sym c.root.ensures) ∙ c.in-Ok.ensures in
     IfOk-weaker c.if_its_own.result _ _ (λ found h. of_found c.args.text.now c.in-Ok.name reads found h) c.if_its_own.ensures
 
--- a text that isn't read for another cause than want of memory is that of no name
+-- a text that isn't read for another cause than `NoMemory` is that of no name
 of_none : (text octets : List ℕ) (origin : Labels) (fault : NameFault) → octets ≡ text → origin ≡ [] → (fault ≡ NoMemory → ⊥)
     → (fault ≡ NoMemory) ⊎ (name_of_text octets origin ≡ Err fault) → (other : Labels) → IsName other → text ≡ name_text other → ⊥
 of_none text octets origin fault same root some (inl memory) other is e = some memory
