@@ -2,8 +2,8 @@
 """Counts the pages that people read.
 
 A page has at most so many words, and some have no sentence of more than 40 words. Links between pages lead to files and
-headings that are there. The table of docs/ARCHITECTURE.md has the crates of crates.txt. A line names each fault, and the
-status is 1 if there is one.
+headings that are there. The table of docs/ARCHITECTURE.md has the crates of crates.txt, and docs/groot.1 the version of
+CHANGELOG.md. A line names each fault, and the status is 1 if there is one.
 """
 import pathlib
 import re
@@ -34,6 +34,8 @@ def main():
                    if len(it.split()) > MOST_IN_A_SENTENCE]
     for path in [*TOP.glob("*.md"), *TOP.glob("docs/*.md"), *TOP.glob("bench/*.md"), *TOP.glob("cases/*.md"), *TOP.glob("examples/*.md")]:
         faults += [f"{path.relative_to(TOP)}: no {link}" for link in links(path.read_text()) if not leads(path, link)]
+    if version("CHANGELOG.md", r"^## \[(\d[\d.]*)\]") != version("docs/groot.1", r'^\.Os "groot (.*)"$'):
+        faults.append("docs/groot.1: its version isn't that of CHANGELOG.md")
     print("\n".join(faults) or "pages: as long as they may be")
     return int(bool(faults))
 
@@ -54,6 +56,12 @@ def crates_told():
     """The crates by group, as the table of docs/ARCHITECTURE.md has them."""
     found = ROW.findall((TOP / "docs/ARCHITECTURE.md").read_text())
     return [(group.strip(), name) for group, name, link in found if name == link]
+
+
+def version(name, pattern):
+    """The version that a page has, at the first place where the pattern finds one."""
+    found = re.search(pattern, (TOP / name).read_text(), re.M)
+    return found and found.group(1)
 
 
 def sentences(text):
