@@ -1,10 +1,11 @@
 //! The servers whose addresses are learnt.
 
-ghost use Rattle.std.specs.Prelude.{◌≡◌, ◌↔◌, ◌++◌, ◌∷◌, [], length, true, IfOk, OnOk, IsErrOf, if◌then◌else◌};
+ghost use Rattle.std.specs.Prelude.{◌≡◌, ◌↔◌, ◌++◌, ◌∷◌, [], ℕ, List as Items, length, true, IfOk, OnOk, IsErrOf, if◌then◌else◌};
 ghost use Rattle.dns_data.specs.Name.{Labels};
 ghost use Rattle.net_model.specs.Learnt.{LearnsBy, Learns, IsRound, AfterRounds};
 ghost use Rattle.net_model.specs.Step.{following};
 ghost use Rattle.plain_resolver.specs.Passed.{HasMoreWalks, HasTooMany, NoneHasTooMany, NoneInRounds, IsFirstToPass, IsFirstWithTooMany};
+ghost use Rattle.resting_names.specs.Resting.{Rests};
 
 use crate::fault::{LearntFault, ResolveFault};
 use crate::resolver::Resolver;
@@ -12,6 +13,7 @@ use crate::visitor::AddressSeen;
 use crate::walks::visit_walks;
 use dns_data::{List, Name, NoMemory, RrType};
 use net_model::Config;
+use resting_names::{RestingNames, gives_address};
 use std::alloc::Global;
 use zone_lookup::Hosts;
 
@@ -48,9 +50,11 @@ pub fn learnt_at(
     ensures few { OnOk result (NoneInRounds hosts.now rewrites most from.now (length hosts.now.servers)) }
     ensures passed { (name : Labels) → IsErrOf result (LearntFault.WalksPassed name) → IsFirstWithTooMany hosts.now rewrites most from.now name }
 {
+    let config = hosts.config();
+    let resting = RestingNames::of(alloc, config)?;
     let mut followed = from.copy(alloc)?;
-    for _round in 0..hosts.config().servers.items().len() {
-        let learnt = learnt_while(alloc, hosts, rewrites, followed.items(), most)?;
+    for _round in 0..config.servers.items().len() {
+        let learnt = learnt_while(alloc, hosts, &resting, rewrites, followed.items(), most)?;
         if learnt == followed {
             return Ok(followed);
         }
@@ -63,17 +67,20 @@ pub fn learnt_at(
 fn learnt_while(
     alloc: Global,
     hosts: &Hosts<'_>,
+    resting: &RestingNames<'_>,
     rewrites: u32,
     followed: &[Name],
     most: u32,
 ) -> Result<List<Name>, LearntFault>
+    requires { resting.now ≡ hosts.now }
     ensures round { IfOk result (λ learnt. IsRound hosts.now rewrites followed.now learnt) }
     ensures few { OnOk result (NoneHasTooMany hosts.now rewrites most followed.now) }
     ensures passed { (name : Labels) → IsErrOf result (LearntFault.WalksPassed name) → IsFirstToPass hosts.now rewrites most followed.now name }
 {
     let mut learnt = List::new(alloc);
     for server in hosts.config().servers.items() {
-        let is_learnt = learns(alloc, hosts, rewrites, followed, &server.name, most)?;
+        let name = &server.name;
+        let is_learnt = learns(alloc, hosts, resting, rewrites, followed, name, most)?;
         put_if(alloc, &mut learnt, &server.name, is_learnt)?;
     }
     Ok(learnt)
@@ -90,8 +97,48 @@ fn put_if(alloc: Global, names: &mut List<Name>, name: &Name, is_put: bool) -> R
 }
 
 /// Whether an address of the name can be learnt. It is `WalksPassed` with the name where it has more than `most` walks of
-/// type A or of type AAAA.
+/// type A or of type AAAA. No walk of a name is looked at that is seen to rest and to have no more.
 fn learns(
+    alloc: Global,
+    hosts: &Hosts<'_>,
+    resting: &RestingNames<'_>,
+    rewrites: u32,
+    followed: &[Name],
+    name: &Name,
+    most: u32,
+) -> Result<bool, LearntFault>
+    requires { resting.now ≡ hosts.now }
+    ensures learns { IfOk result (λ learns. (learns ≡ true) ↔ Learns (following hosts.now rewrites followed.now) name.now) }
+    ensures few { OnOk result (HasTooMany hosts.now rewrites most followed.now name.now → ⊥) }
+    ensures passed { (other : Labels) → IsErrOf result (LearntFault.WalksPassed other) → (name.now ≡ other) × HasTooMany hosts.now rewrites most followed.now name.now }
+{
+    if rests_within(alloc, hosts, resting, name, most)? {
+        return Ok(gives_address(hosts, name));
+    }
+    learns_by_walks(alloc, hosts, rewrites, followed, name, most)
+}
+
+/// Whether the name is seen to rest and to have no more than `most` walks of a type: one at each top server.
+fn rests_within(
+    alloc: Global,
+    hosts: &Hosts<'_>,
+    resting: &RestingNames<'_>,
+    name: &Name,
+    most: u32,
+) -> Result<bool, NoMemory>
+    requires { resting.now ≡ hosts.now }
+    ensures rests { IfOk result (λ within. within ≡ true → Rests hosts.now name.now) }
+    ensures few { IfOk result (λ within. within ≡ true → (rewrites : ℕ) (followed : Items Labels) → HasTooMany hosts.now rewrites most followed name.now → ⊥) }
+{
+    if hosts.config().tops.items().len() > most as usize {
+        return Ok(false);
+    }
+    resting.has(alloc, name)
+}
+
+/// Whether an address of the name can be learnt, by its walks. It is `WalksPassed` with the name where it has more than `most`
+/// walks of type A or of type AAAA.
+fn learns_by_walks(
     alloc: Global,
     hosts: &Hosts<'_>,
     rewrites: u32,

@@ -9,6 +9,9 @@ use Rattle.plain_resolver.specs.Passed.{NoneHasTooMany, NoneInRounds}
 use Rattle.plain_resolver.proofs.Learning.{stays, next_round, next_few, all_more}
 use Rattle.plain_resolver.proofs.rounds.learnt_at.Goals as goal
 
+pub learnt_while-requires : goal.learnt_while-requires
+learnt_while-requires c = c.in_ok-resting.ensures ∙ c.config-config.ensures
+
 pub returns-then-eq-clause-rounds : goal.returns-then-eq-clause-rounds
 returns-then-eq-clause-rounds c =
     let config = c.args.hosts.now in
@@ -17,7 +20,7 @@ returns-then-eq-clause-rounds c =
     let two = subst (λ (names : List Labels). IsRound config c.args.rewrites names c.in_ok-learnt.learnt) c.items.ensures c.in_ok-learnt.ensures.round in
     let round : IsRound config c.args.rewrites followed followed = subst (IsRound config c.args.rewrites followed) same two in
     stays config c.args.rewrites c.args.from.now followed round c.loop-round._round (length config.servers)
-    (omega (arith, c.loop-round-test.true, ap (λ (ss : List Server). length ss) c.items-round-end.ensures, ap (λ (x : Config). length x.servers) c.config.ensures)) c.loop-round.invariant.after
+    (omega (arith, c.loop-round-test.true, ap (λ (ss : List Server). length ss) c.items-round-end.ensures, ap (λ (x : Config). length x.servers) c.config-config.ensures)) c.loop-round.invariant.after
 
 pub returns-then-eq-clause-few : goal.returns-then-eq-clause-few
 returns-then-eq-clause-few c =
@@ -45,5 +48,5 @@ loop-round-preserved c =
 pub returns-clause-few : goal.returns-clause-few
 returns-clause-few c =
     subst (NoneInRounds c.args.hosts.now c.args.rewrites c.args.most c.args.from.now)
-    (let end : c.loop-round._round ≡ length c.args.hosts.now.servers = omega (arith, c.loop-round-test.false, c.loop-round.auto._round-end, ap (λ (ss : List Server). length ss) c.items-round-end.ensures, ap (λ (x : Config). length x.servers) c.config.ensures) in end)
+    (let end : c.loop-round._round ≡ length c.args.hosts.now.servers = omega (arith, c.loop-round-test.false, c.loop-round.auto._round-end, ap (λ (ss : List Server). length ss) c.items-round-end.ensures, ap (λ (x : Config). length x.servers) c.config-config.ensures) in end)
     c.loop-round.invariant.few
