@@ -64,6 +64,8 @@ def octets(value):
 def made(text, name):
     """The value of a Python expression over the head of a zone, the metadata that most cases have, and files beside."""
     value = eval(text, {"HEAD": HEAD, "METADATA": METADATA, "beside": lambda file: contents("cases", file)})
+    if name == "files":
+        return {file: octets(text) for file, text in value.items()}
     return [octets(word) for word in value] if name == "args" else octets(value)
 
 
@@ -79,6 +81,8 @@ def put(case, key, name, text):
         case.files[name] = octets(text)
     elif key == "made" and name == "args":
         case.words = made(text, name)
+    elif key == "made" and name == "files":
+        case.files.update(made(text, name))
     elif key == "made" and name == "out":
         case.want("out", made(text, name))
     elif key == "made":

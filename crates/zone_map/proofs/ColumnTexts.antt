@@ -1,9 +1,10 @@
 -- Columns that are put one behind the other.
-use Rattle.std.proofs.Common.{◌≡◌, ℕ, ◌<◌, List, [], ◌∷◌, ◌++◌, length, append_assoc, append-nil, Result, Ok, Err, ap, sym, ◌∙◌, arith}
+use Rattle.std.proofs.Common.{◌≡◌, ℕ, ◌<◌, List, [], ◌∷◌, ◌++◌, length, append_assoc, append-nil, Result, Ok, Err, refl, ap, sym, ◌∙◌, arith}
 use Rattle.std.specs.Prelude.{OnOk}
 use Rattle.dns_data.specs.DataText.{separated}
 use Rattle.dns_data.proofs.Pieces.{separated-push}
-use Rattle.zone_map.specs.Columns.{tab}
+use Rattle.std.proofs.lemmas.List.{length-append}
+use Rattle.zone_map.specs.Columns.{line_of, tab}
 
 -- what follows of an answer
 pub on_ok : {T E P Q : Type 0} (result : Result T E) → (P → Q) → OnOk result P → OnOk result Q
@@ -33,3 +34,14 @@ seven_columns t a b c d e f g =
     let seven = more t g (a ∷ b ∷ c ∷ d ∷ e ∷ f ∷ []) (omega arith) _ six in
     let x : List ℕ = (((((((t ++ a) ++ tab) ++ b) ++ tab) ++ c) ++ tab) ++ d) ++ tab in
     ap (λ r. (r ++ tab) ++ g) (sym (append_assoc x e (tab ++ f)) ∙ sym (append_assoc (x ++ e) tab f)) ∙ seven
+
+-- three columns more, and the end of the line
+pub three_more : (t : List ℕ) (columns : List (List ℕ)) (a b c : List ℕ) → 0 < length columns
+    → (((((((t ++ separated tab columns) ++ tab) ++ a) ++ tab) ++ b) ++ tab) ++ c) ++ 10 ∷ [] ≡ t ++ line_of (columns ++ a ∷ b ∷ c ∷ [])
+three_more t columns a b c some =
+    let one = more t a columns some (t ++ separated tab columns) refl in
+    let two = more t b (columns ++ a ∷ []) (omega (arith, some, length-append columns (a ∷ []))) _ one in
+    let three = more t c ((columns ++ a ∷ []) ++ b ∷ []) (omega (arith, length-append (columns ++ a ∷ []) (b ∷ []))) _ two in
+    ap (λ r. r ++ 10 ∷ []) three
+    ∙ append_assoc t (separated tab (((columns ++ a ∷ []) ++ b ∷ []) ++ c ∷ [])) (10 ∷ [])
+    ∙ ap (λ cs. t ++ (separated tab cs ++ 10 ∷ [])) (append_assoc (columns ++ a ∷ []) (b ∷ []) (c ∷ []) ∙ append_assoc columns (a ∷ []) (b ∷ c ∷ []))

@@ -1,5 +1,5 @@
 -- How the run of a job ends is how the run of its words ends.
-use Rattle.std.proofs.Common.{◌≡◌, ◌≢◌, ℕ, List, [], Option, Some, None, Result, Ok, Err, sym, subst, inl, inr, refl}
+use Rattle.std.proofs.Common.{◌≡◌, ◌≢◌, ℕ, List, [], ◌∷◌, Option, Some, None, Err, sym, subst, inl, inr, refl}
 use Rattle.std.specs.Prelude.{◌⊎◌, IsTrue}
 use Rattle.io_edges.specs.Counts.{Rose}
 use Rattle.io_edges.specs.Files.{FilesTold}
@@ -11,15 +11,15 @@ use Rattle.config_load.specs.declared.fault.LoadFault.{LoadFault}
 use Rattle.config_load.specs.declared.fault.LoadFault.TheVariants as load_faults
 use Rattle.config_load.specs.declared.loaded.Loaded.{Loaded}
 use Rattle.run_endings.specs.Ends.{EndsWithout, IsNotLoaded}
-use Rattle.run_endings.specs.Endings.{OfReading, with_output, no_memory, writes_nothing}
+use Rattle.run_endings.specs.Endings.{OfReading, no_memory, writes_nothing}
 use Rattle.run_endings.specs.declared.ending.Ending.{Ending}
 use Rattle.run_endings.specs.declared.status.Status.{Status}
 use Rattle.run_endings.specs.declared.status.Status.TheVariants.{Clean, Faults, ReadFault, WriteFault}
 use Rattle.zone_map.specs.JobEnds.{JobEnds}
 use Rattle.zone_map.specs.Outcome.{Tells, Outcome, IsEnding, JobComesTo, NoJobReadFailed}
-use Rattle.zone_map.specs.Records.{records_text}
+use Rattle.zone_map.specs.Targets.{targets_status, targets_text}
 use Rattle.zone_map.specs.declared.words.Asked.{Asked}
-use Rattle.zone_map.specs.declared.words.Asked.TheVariants.{Records}
+use Rattle.zone_map.specs.declared.words.Asked.TheVariants.{Records, Targets}
 use Rattle.zone_map.specs.declared.words.Job.{Job}
 
 -- ---- by what the files give
@@ -71,6 +71,11 @@ module _ (told : FilesTold) (said : Option Job) (before after : List ℕ → ℕ
 
   of_asked : (asked : Asked) (all : Loaded) (ending : Ending) → Tells asked all ending → SaysSo ending
   of_asked Records all ending is = subst SaysSo (sym is) tt
+  of_asked Targets all ending (inl (server, first, is)) = subst SaysSo (sym is) refl
+  of_asked Targets all ending (inr tells) = subst SaysSo (sym tells.as_text) (by (targets_text tells.ends all) (targets_text tells.ends all)) where
+    by : (text out : List ℕ) → Says (targets_status text) out
+    by [] out = tt
+    by (octet ∷ text) out = tt
 
   of_reading : (meta : List ℕ) (asked : Asked) (ending : Ending) (reading : Reading Loaded) → OfReading meta (Tells asked) reading ending → SaysSo ending
   of_reading meta asked ending (Reads all) tells = of_asked asked all ending tells
@@ -135,7 +140,3 @@ pub told_of_read : (told : FilesTold) (said : Option Job) (job : Job) (all : Loa
 told_of_read told said job all ending is reads outcome =
     subst (λ (read : Reading Loaded). OfReading job.meta (Tells job.asked) read ending) reads
     (subst (λ (other : Option Job). Outcome told other ending) is outcome)
-
--- each thing that may be asked for is told so
-pub tells_records : (asked : Asked) (all : Loaded) (ending : Ending) → ending ≡ with_output Clean (records_text all) → Tells asked all ending
-tells_records Records all ending is = is

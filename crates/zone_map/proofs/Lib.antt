@@ -1,3 +1,5 @@
 pub mod ColumnTexts
 pub mod Endings
 mod Worked
+pub mod KnownTargets
+pub mod TargetWalks

@@ -1,16 +1,20 @@
 -- Values of the definitions that were worked out by hand.
-use Rattle.std.proofs.Common.{◌≡◌, ℕ, List, [], ◌∷◌, ◌++◌, codes, Some, None, refl}
+use Rattle.std.proofs.Common.{◌≡◌, ℕ, true, false, List, [], ◌∷◌, ◌++◌, codes, Some, None, refl}
 use Rattle.std.specs.Fmt.{digits}
 use Rattle.dns_data.specs.Name.{Labels}
-use Rattle.dns_data.specs.declared.rdata.Rdata.TheVariants.{A, Mx, Other}
+use Rattle.dns_data.specs.declared.rdata.Rdata.TheVariants.{A, Mx, Ns, Other}
 use Rattle.dns_data.specs.declared.rdata.Rr.{Rr}
 use Rattle.net_model.specs.declared.config.Config.{Config}
-use Rattle.config_load.specs.declared.loaded.Loaded.{Loaded}
+use Rattle.net_model.specs.declared.walk.Leaf.{Leaf}
+use Rattle.net_model.specs.declared.walk.Leaf.TheVariants as leaves
+use Rattle.net_model.specs.declared.walk.Walk.{Walk}
 use Rattle.config_load.specs.declared.loaded.RowFiles.{RowFiles}
 use Rattle.zone_map.specs.Columns.{file_text, line_of, written}
 use Rattle.zone_map.specs.Records.{records_text, told_data, type_text}
+use Rattle.zone_map.specs.Targets.{dead_ends, is_reverse, target_in, targets_text}
 use Rattle.zone_map.specs.Words.{job_of}
-use Rattle.zone_map.specs.declared.words.Asked.TheVariants.{Records}
+use Rattle.zone_map.specs.declared.target_ends.DeadEnds.TheVariants as dead
+use Rattle.zone_map.specs.declared.words.Asked.TheVariants.{Records, Targets}
 
 -- Tabs, line feeds and backslashes of a file's name are escaped.
 
@@ -64,10 +68,60 @@ both_rows : records_text (record { config = config; rows = rows }) ≡ lines
 unfolding digits t s mail host config rows lines
 both_rows = refl
 
+-- Targets that count.
+
+mail_counts : target_in [] [] t mail.rdata ≡ Some (codes "t" ∷ codes "m" ∷ [])
+unfolding mail
+mail_counts = refl
+
+name_server_of_no_zone : target_in ([] ∷ []) [] t (Ns s) ≡ None
+unfolding t s
+name_server_of_no_zone = refl
+
+name_server_of_a_zone : target_in ([] ∷ t ∷ []) [] t (Ns s) ≡ Some s
+unfolding t s
+name_server_of_a_zone = refl
+
+reverse : is_reverse (codes "arpa" ∷ codes "ip6" ∷ codes "1" ∷ []) ≡ true
+reverse = refl
+
+above_reverse : is_reverse (codes "arpa" ∷ []) ≡ false
+above_reverse = refl
+
+-- The ends of walks at two servers.
+
+end_in : Leaf → Walk
+end_in leaf = record { states = []; hops = []; leaf = leaf }
+
+either : dead_ends (end_in leaves.NxDomain ∷ end_in leaves.NoData ∷ []) ≡ Some dead.Either
+unfolding end_in
+either = refl
+
+elsewhere : dead_ends (end_in leaves.NxDomain ∷ end_in leaves.Outside ∷ []) ≡ None
+unfolding end_in
+elsewhere = refl
+
+-- The line of a record whose target leads nowhere; the two rows have one.
+
+dead_line : List ℕ
+dead_line = codes "s." ++ 9 ∷ codes "t." ++ 9 ∷ codes "t." ++ 9 ∷ codes "MX" ++ 9 ∷ codes "mail.inc" ++ 9 ∷ codes "12" ++ 9 ∷ codes "5 m.t." ++ 9
+    ∷ codes "m.t." ++ 9 ∷ codes "nxdomain" ++ 9 ∷ codes "too many walks" ++ 10 ∷ []
+
+one_line : targets_text (λ name. record { four = Some dead.NxDomain; six = Some dead.TooMany }) (record { config = config; rows = rows }) ≡ dead_line
+unfolding digits t s mail host config rows dead_line
+one_line = refl
+
+no_line : targets_text (λ name. record { four = Some dead.NxDomain; six = None }) (record { config = config; rows = rows }) ≡ []
+unfolding digits t s mail host config rows
+no_line = refl
+
 -- Words.
 
 asked : job_of (codes "records" ∷ codes "m.json" ∷ []) ≡ Some (record { asked = Records; meta = codes "m.json" })
 asked = refl
+
+targets_asked : job_of (codes "targets" ∷ codes "m.json" ∷ []) ≡ Some (record { asked = Targets; meta = codes "m.json" })
+targets_asked = refl
 
 not_asked : job_of (codes "Records" ∷ codes "m.json" ∷ []) ≡ None
 not_asked = refl

@@ -6,7 +6,12 @@ pub use Rattle.dns_data.specs.RrType
 pub use Rattle.dns_data.specs.Spelling
 pub use Rattle.io_edges.specs.Counts
 pub use Rattle.io_edges.specs.Files
+pub use Rattle.net_model.specs.Learnt
 pub use Rattle.net_model.specs.Nearest
+pub use Rattle.net_model.specs.Step
+pub use Rattle.net_model.specs.Walk
+pub use Rattle.plain_resolver.specs.Passed
+pub use Rattle.zone_lookup.specs.LearntSets
 pub use Rattle.config_load.specs.Conf
 pub use Rattle.config_load.specs.Faults
 pub use Rattle.config_load.specs.Load
@@ -15,6 +20,8 @@ pub use Rattle.run_endings.specs.Endings
 pub use Rattle.run_endings.specs.Writing
 pub mod Columns
 pub mod Records
+pub mod Targets
+pub mod TargetsAsked
 pub mod Words
 pub mod Outcome
 pub mod JobEnds

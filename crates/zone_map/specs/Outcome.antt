@@ -9,14 +9,16 @@ use Rattle.run_endings.specs.Endings.{OfReading, with_output, without_output, re
 use Rattle.run_endings.specs.declared.ending.Ending.{Ending}
 use Rattle.run_endings.specs.declared.status.Status.TheVariants.{Clean, Usage}
 use Rattle.zone_map.specs.Records.{records_text}
+use Rattle.zone_map.specs.Targets.{IsTargets}
 use Rattle.zone_map.specs.Words.{usage_line}
 use Rattle.zone_map.specs.declared.words.Asked.{Asked}
-use Rattle.zone_map.specs.declared.words.Asked.TheVariants.{Records}
+use Rattle.zone_map.specs.declared.words.Asked.TheVariants.{Records, Targets}
 use Rattle.zone_map.specs.declared.words.Job.{Job}
 
--- what is told of what was read: for `records` the lines of all records
+-- what is told of what was read: for `records` the lines of all records, for `targets` those of targets that lead nowhere
 abbrev pub Tells : Asked → Loaded → Ending → Type 0
 Tells Records all ending = ending ≡ with_output Clean (records_text all)
+Tells Targets all ending = IsTargets all ending
 
 -- what the words' job gives, by what is told of the files
 abbrev pub Outcome : FilesTold → Option Job → Ending → Type 0

@@ -1,18 +1,19 @@
 -- What the words of the command line ask for.
-use Rattle.std.specs.Prelude.{ℕ, nat_eq, Bool, ◌&&◌, not, List, [], ◌∷◌, codes, length, if◌then◌else◌, ◌==◌, Option, Some, None, option_map}
+use Rattle.std.specs.Prelude.{ℕ, nat_eq, Bool, ◌&&◌, not, List, [], ◌∷◌, codes, length, if◌then◌else◌, ◌==◌, Option, None, option_map}
 use Rattle.std.specs.List.{find, starts_with}
 use Rattle.dns_data.specs.Rdata.{octets_eq}
 use Rattle.zone_map.specs.declared.words.Asked.{Asked}
-use Rattle.zone_map.specs.declared.words.Asked.TheVariants.{Records}
+use Rattle.zone_map.specs.declared.words.Asked.TheVariants.{Records, Targets}
 use Rattle.zone_map.specs.declared.words.Job.{Job}
 
 -- the word of what may be asked for
 abbrev pub asked_word : Asked → List ℕ
 asked_word Records = codes "records"
+asked_word Targets = codes "targets"
 
 -- what may be asked for
 abbrev pub all_asked : List Asked
-all_asked = Records ∷ []
+all_asked = Records ∷ Targets ∷ []
 
 -- what a word asks for, which is compared as written
 abbrev pub asked_by : List ℕ → Option Asked
@@ -33,4 +34,4 @@ job_of words = None
 
 -- the line on err where the words are no job
 abbrev pub usage_line : List ℕ
-usage_line = codes "usage: groot-map records META\n"
+usage_line = codes "usage: groot-map records META | targets META\n"

@@ -13,9 +13,11 @@ ghost use Rattle.run_endings.specs.declared.ending.Ending.{Ending as Ended};
 ghost use Rattle.zone_map.specs.JobEnds.{JobEnds};
 ghost use Rattle.zone_map.specs.Outcome.{IsEnding, JobComesTo, JobOpensNoOther, NoJobReadFailed, Outcome, Tells};
 ghost use Rattle.zone_map.specs.Records.{records_text};
+ghost use Rattle.zone_map.specs.Targets.{IsTargets};
 ghost use Rattle.zone_map.specs.Words.{job_of};
 
 use crate::records::records_text;
+use crate::targets::targets_ending;
 use crate::words::{Asked, Job, read_words, usage_line};
 use config_load::{Loaded, load_with_files};
 use dns_data::NoMemory;
@@ -39,6 +41,15 @@ pub fn groot_map<F: Files, O: Sink, E: Sink>(
         NoJobReadFailed (F.told files.new) (job_of (map (λ word. word.now) words.now)) (F.faults files.old) (F.faults files.new) →
         (Rose (O.faults out.old) (O.faults out.new) → ⊥) →
         ((result ≡ Status.Clean) × Appends (O.taken out.old) (O.taken out.new) (records_text all)) ⊎ (result ≡ Status.NoMemory) }
+
+    // And `targets` writes exactly the records whose target leads nowhere, with the ends of its walks of type A and of type AAAA.
+    ensures targets { (meta : List ℕ) (all : Read) →
+        job_of (map (λ word. word.now) words.now) ≡ Some (record { asked = Asked.Targets; meta = meta }) →
+        loaded meta (F.told files.new) ≡ Reads all →
+        NoJobReadFailed (F.told files.new) (job_of (map (λ word. word.now) words.now)) (F.faults files.old) (F.faults files.new) →
+        (Rose (O.faults out.old) (O.faults out.new) → ⊥) →
+        ((ending : Ended) × IsTargets all ending × (result ≡ ending.status) × Appends (O.taken out.old) (O.taken out.new) ending.out)
+        ⊎ (result ≡ Status.NoMemory) }
 
     // Where nothing failed, the run is the outcome of the words' job.
     ensures complete { NoJobReadFailed (F.told files.new) (job_of (map (λ word. word.now) words.now)) (F.faults files.old) (F.faults files.new) →
@@ -123,5 +134,6 @@ fn told(alloc: Global, asked: Asked, all: &Loaded) -> Ending
 {
     match asked {
         Asked::Records => Ending::written(Status::Clean, records_text(alloc, all)),
+        Asked::Targets => targets_ending(alloc, all),
     }
 }

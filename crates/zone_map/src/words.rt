@@ -11,6 +11,8 @@ use std::alloc::Global;
 pub enum Asked {
     /// Each record, and where it was read.
     Records,
+    /// Each record whose target leads nowhere.
+    Targets,
 }
 
 /// What is asked for, over which metadata file.
@@ -22,7 +24,7 @@ pub struct Job {
 
 impl Asked {
     /// What may be asked for.
-    const ALL: [Asked; 1] = [Asked::Records];
+    const ALL: [Asked; 2] = [Asked::Records, Asked::Targets];
 
     /// The word for what is asked for.
     fn word(&self) -> &'static str
@@ -30,6 +32,7 @@ impl Asked {
     {
         match self {
             Asked::Records => "records",
+            Asked::Targets => "targets",
         }
     }
 
@@ -81,5 +84,5 @@ fn job_over(alloc: Global, meta: &str, asked: Option<Asked>) -> Result<Option<Jo
 pub(crate) fn usage_line() -> &'static str
     ensures { result.now ≡ usage_line }
 {
-    "usage: groot-map records META\n"
+    "usage: groot-map records META | targets META\n"
 }

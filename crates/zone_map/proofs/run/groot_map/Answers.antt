@@ -1,4 +1,4 @@
-use Rattle.std.proofs.Common.{List, ℕ, refl, ap, subst, sym, inl, inr, ◌∙◌}
+use Rattle.std.proofs.Common.{List, ℕ, refl, ap, subst, inl, inr}
 use Rattle.std.specs.Io.KnownBytes.{Appends}
 use Rattle.run_endings.specs.declared.ending.Ending.{Ending}
 use Rattle.run_endings.specs.Writing.{output_failed, TookProperFront}
@@ -12,6 +12,18 @@ returns-in-Ok-clause-records g c = λ meta all job reads none quiet.
       | inl outcome ↦
           let is = told_of_read _ _ _ all c.run_words-ending.result job reads outcome in
           inl (ap (λ (ending : Ending). ending.status) is, subst (λ (ending : Ending). Appends (g.O.Sink.taken c.args.out.now) (g.O.Sink.taken c.write_all.new.sink) ending.out) is taken)
+      | inr ran_out ↦ inr (ap (λ (ending : Ending). ending.status) ran_out)
+    ]
+
+pub returns-in-Ok-clause-targets : goal.returns-in-Ok-clause-targets
+returns-in-Ok-clause-targets g c = λ meta all job reads none quiet.
+    elim (c.run_words-ending.ensures.complete none) [
+      | inl outcome ↦ inl (
+        c.run_words-ending.result,
+        told_of_read _ _ _ all c.run_words-ending.result job reads outcome,
+        refl,
+        subst (λ (text : List ℕ). Appends (g.O.Sink.taken c.args.out.now) (g.O.Sink.taken c.write_all.new.sink) text) c.items.ensures c.in-Ok.ensures.ok,
+      )
       | inr ran_out ↦ inr (ap (λ (ending : Ending). ending.status) ran_out)
     ]
 
@@ -40,6 +52,9 @@ returns-in-Ok-clause-cause g c = (
 
 pub returns-in-Err-clause-records : goal.returns-in-Err-clause-records
 returns-in-Err-clause-records g c = λ meta all job reads none quiet. absurd (quiet c.in-Err.ensures.cause)
+
+pub returns-in-Err-clause-targets : goal.returns-in-Err-clause-targets
+returns-in-Err-clause-targets g c = λ meta all job reads none quiet. absurd (quiet c.in-Err.ensures.cause)
 
 pub returns-in-Err-clause-cause : goal.returns-in-Err-clause-cause
 returns-in-Err-clause-cause g c = (

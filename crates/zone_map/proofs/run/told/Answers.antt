@@ -1,11 +1,19 @@
-use Rattle.std.proofs.Common.{inl, inr}
+use Rattle.std.proofs.Common.{inl, inr, subst, sym}
+use Rattle.zone_map.specs.Outcome.{Tells}
 use Rattle.zone_map.specs.Records.{records_text}
-use Rattle.zone_map.proofs.Endings.{tells_records}
+use Rattle.zone_map.specs.declared.words.Asked.{Asked}
 use Rattle.zone_map.proofs.run.told.Goals as goal
 
-pub returns : goal.returns
-returns c =
+pub returns-in-Records : goal.returns-in-Records
+returns-in-Records c =
     elim (c.written.ensures (records_text c.args.all.now) c.records_text.ensures) [
-      | inl is ↦ inl (tells_records c.args.asked c.args.all.now c.written.result is)
+      | inl is ↦ inl (subst (λ (asked : Asked). Tells asked c.args.all.now c.written.result) (sym c.in-Records.is) is)
+      | inr ran_out ↦ inr ran_out
+    ]
+
+pub returns-in-Targets : goal.returns-in-Targets
+returns-in-Targets c =
+    elim c.targets_ending.ensures [
+      | inl is ↦ inl (subst (λ (asked : Asked). Tells asked c.args.all.now c.targets_ending.result) (sym c.in-Targets.is) is)
       | inr ran_out ↦ inr ran_out
     ]
