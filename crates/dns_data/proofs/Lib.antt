@@ -31,3 +31,4 @@ pub mod Spellings
 pub mod StandardFacts
 pub mod Tellers
 pub mod TextsTellData
+pub mod WordLengths

@@ -74,10 +74,10 @@ too_long labels absolute said e long origin = ap (placed origin) e ∙ by absolu
     by false = if_long (origin ++ reverse labels) (omega (arith, sum_reverse labels, sum_by-append (λ (xs : List ℕ). length xs + 1) origin (reverse labels)))
 
 -- labels that stand at the end of the octets are a name's
-pub put_flat : (out : List ℕ) (start : ℕ) (labels : Labels) → IsPutAt out start labels → length out ≡ 254 → AllByRecursion IsLabel labels → EncodesName (take (254 - start) (drop start out)) × (labels_of (take (254 - start) (drop start out)) ≡ reverse labels)
-put_flat out start labels h room good =
+pub put_flat : (size : ℕ) (out : List ℕ) (start : ℕ) (labels : Labels) → IsPutAt out start labels → length out ≡ size → size ≤ 254 → AllByRecursion IsLabel labels → EncodesName (take (size - start) (drop start out)) × (labels_of (take (size - start) (drop start out)) ≡ reverse labels)
+put_flat size out start labels h room short good =
     let name : IsName (reverse labels) = record { labels = all_reverse IsLabel labels good; short = omega (arith, sum_reverse labels, put_size out start labels h) } in
-    let same : take (254 - start) (drop start out) ≡ encoded (reverse labels) = take_all (254 - start) (drop start out) (omega (arith, length-drop start out)) ∙ h.same in
+    let same : take (size - start) (drop start out) ≡ encoded (reverse labels) = take_all (size - start) (drop start out) (omega (arith, length-drop start out)) ∙ h.same in
     (subst EncodesName (sym same) (flat_of (reverse labels) name), ap labels_of same ∙ decodes (reverse labels))
 
 -- where the labels stand
@@ -96,59 +96,59 @@ placed_is text origin above absolute said e f = ap (placed origin) e ∙ by abso
     by true = refl
     by false = refl
 
--- what is spelled so far: these labels stand at the end, and those of the rest follow
-pub record IsSpelling (whole rest out : List ℕ) (start : Option ℕ) : Type 0 where
+-- what is spelled so far: these labels stand at the end of so many octets, and those of the rest follow
+pub record IsSpelling (size : ℕ) (whole rest out : List ℕ) (start : Option ℕ) : Type 0 where
   pub labels : Labels
   pub said : after_labels labels (spelled [] (signs rest)) ≡ spelled [] (signs whole)
   pub good : AllByRecursion IsLabel labels
   pub put : IsPut out start labels
-  pub room : length out ≡ 254
+  pub room : length out ≡ size
 
 -- all is spelled
-pub record IsDone (whole out : List ℕ) (start : Option ℕ) (absolute : Bool) : Type 0 where
+pub record IsDone (size : ℕ) (whole out : List ℕ) (start : Option ℕ) (absolute : Bool) : Type 0 where
   pub labels : Labels
   pub said : spelled [] (signs whole) ≡ Ok (record { labels = labels; absolute = absolute })
   pub good : AllByRecursion IsLabel labels
   pub put : IsPut out start labels
-  pub room : length out ≡ 254
+  pub room : length out ≡ size
 
 -- one more label is put
 abbrev pub PutsMore : List ℕ → Option ℕ → List ℕ → Option ℕ → List ℕ → Type 0
 PutsMore out start out_after start_after label = (labels : Labels) → IsPut out start labels → IsPut out_after start_after (labels ++ label ∷ [])
 
 -- before the first label nothing is put, and the whole text is left
-pub spelling_start : (text out : List ℕ) → length out ≡ 254 → IsSpelling text text out (Some (length out))
-spelling_start text out room = record { labels = []; said = refl; good = tt; put = put_none out; room = room }
+pub spelling_start : (size : ℕ) (text out : List ℕ) → length out ≡ size → IsSpelling size text text out (Some (length out))
+spelling_start size text out room = record { labels = []; said = refl; good = tt; put = put_none out; room = room }
 
 -- where the rest begins with a label and a dot and the label is put, what is behind the dot is left
-pub spelling_more : (whole rest after out out_after label : List ℕ) (start start_after : Option ℕ) → IsSpelling whole rest out start → spelled [] (signs rest) ≡ after_label label (spelled [] (signs after)) → IsLabel label → PutsMore out start out_after start_after label → length out_after ≡ 254 → IsSpelling whole after out_after start_after
-spelling_more whole rest after out out_after label start start_after h first good puts room =
+pub spelling_more : (size : ℕ) (whole rest after out out_after label : List ℕ) (start start_after : Option ℕ) → IsSpelling size whole rest out start → spelled [] (signs rest) ≡ after_label label (spelled [] (signs after)) → IsLabel label → PutsMore out start out_after start_after label → length out_after ≡ size → IsSpelling size whole after out_after start_after
+spelling_more size whole rest after out out_after label start start_after h first good puts room =
     record { labels = h.labels ++ label ∷ []; said = label_carried h.labels label _ _ _ h.said first; good = all_push IsLabel h.labels label h.good good; put = puts h.labels h.put; room = room }
 
 -- where the rest is a label alone and the label is put, all is spelled, and the name isn't absolute
-pub spelling_last : (whole rest out out_after label : List ℕ) (start start_after : Option ℕ) → IsSpelling whole rest out start → spelled [] (signs rest) ≡ Ok (record { labels = label ∷ []; absolute = false }) → IsLabel label → PutsMore out start out_after start_after label → length out_after ≡ 254 → IsDone whole out_after start_after false
-spelling_last whole rest out out_after label start start_after h first good puts room =
+pub spelling_last : (size : ℕ) (whole rest out out_after label : List ℕ) (start start_after : Option ℕ) → IsSpelling size whole rest out start → spelled [] (signs rest) ≡ Ok (record { labels = label ∷ []; absolute = false }) → IsLabel label → PutsMore out start out_after start_after label → length out_after ≡ size → IsDone size whole out_after start_after false
+spelling_last size whole rest out out_after label start start_after h first good puts room =
     record { labels = h.labels ++ label ∷ []; said = last_carried h.labels label _ _ h.said first; good = all_push IsLabel h.labels label h.good good; put = puts h.labels h.put; room = room }
 
 -- where nothing is left, all is spelled, and the name is absolute
-pub spelling_end : (whole rest out : List ℕ) (start : Option ℕ) → IsSpelling whole rest out start → length rest ≡ 0 → IsDone whole out start true
-spelling_end whole rest out start h none =
+pub spelling_end : (size : ℕ) (whole rest out : List ℕ) (start : Option ℕ) → IsSpelling size whole rest out start → length rest ≡ 0 → IsDone size whole out start true
+spelling_end size whole rest out start h none =
     record { labels = h.labels; said = none_left h.labels rest _ h.said none; good = h.good; put = h.put; room = h.room }
 
 -- where all is spelled and had room, the text's labels stand at the end of the octets
-pub done_ok : (whole out : List ℕ) (start : Option ℕ) (absolute : Bool) → IsDone whole out start absolute → (s : ℕ) (b : Bool) → (start ≡ Some s) × (b ≡ absolute) → IsSpelled whole out s b
-done_ok whole out start absolute h s b e =
+pub done_ok : (size : ℕ) (whole out : List ℕ) (start : Option ℕ) (absolute : Bool) → IsDone size whole out start absolute → (s : ℕ) (b : Bool) → (start ≡ Some s) × (b ≡ absolute) → IsSpelled whole out s b
+done_ok size whole out start absolute h s b e =
     record { labels = h.labels; said = h.said ∙ ap (λ (v : Bool). Ok (record { labels = h.labels; absolute = v })) (sym e.1); good = h.good; put = put_at out start s h.labels e.0 h.put }
 
--- where all is spelled and had no room, the name is too long under any origin
-pub done_fault : (whole out : List ℕ) (start : Option ℕ) (absolute : Bool) → IsDone whole out start absolute → (fault : NameFault) → (start ≡ None) × (fault ≡ NameTooLong) → (origin : Labels) → placed origin (spelled [] (signs whole)) ≡ Err fault
-done_fault whole out start absolute h fault e origin =
+-- where all is spelled and had no room in as many octets as a name has, the name is too long under any origin
+pub done_fault : (size : ℕ) (whole out : List ℕ) (start : Option ℕ) (absolute : Bool) → IsDone size whole out start absolute → (fault : NameFault) → (start ≡ None) × (fault ≡ NameTooLong) → size ≡ 254 → (origin : Labels) → placed origin (spelled [] (signs whole)) ≡ Err fault
+done_fault size whole out start absolute h fault e most origin =
     let full : length out + 1 < wire_octets h.labels = subst (λ (o : Option ℕ). IsPut out o h.labels) e.0 h.put in
-    too_long h.labels absolute _ h.said (omega (arith, full, h.room)) origin ∙ ap (λ (f : NameFault). Err f) (sym e.1)
+    too_long h.labels absolute _ h.said (omega (arith, full, h.room, most)) origin ∙ ap (λ (f : NameFault). Err f) (sym e.1)
 
 -- a fault of what is left is the fault of the whole text under any origin
-pub spelling_fault : (whole rest out : List ℕ) (start : Option ℕ) → IsSpelling whole rest out start → (fault : NameFault) → spelled [] (signs rest) ≡ Err fault → (origin : Labels) → placed origin (spelled [] (signs whole)) ≡ Err fault
-spelling_fault whole rest out start h fault e origin =
+pub spelling_fault : (size : ℕ) (whole rest out : List ℕ) (start : Option ℕ) → IsSpelling size whole rest out start → (fault : NameFault) → spelled [] (signs rest) ≡ Err fault → (origin : Labels) → placed origin (spelled [] (signs whole)) ≡ Err fault
+spelling_fault size whole rest out start h fault e origin =
     ap (placed origin) (sym h.said ∙ ap (after_labels h.labels) e ∙ after_labels_fault h.labels fault)
 
 -- the leaf's text comes first, and the top label's last

@@ -64,9 +64,16 @@ impl Octets {
     pub fn from_octets(alloc: Global, octets: &[u8]) -> Result<Octets, NoMemory>
         ensures { IfOk result (λ copy. copy ≡ octets.now) }
     {
-        let mut copy = Octets::with_capacity(alloc, octets.len())?;
-        copy.extend_from_slice(alloc, octets)?;
-        Ok(copy)
+        if octets.len() <= MOST_INLINE {
+            return Ok(Octets {
+                storage: Storage::Inline(Short::of(octets)),
+            });
+        }
+        let mut copy = Vec::with_capacity(alloc, octets.len())?;
+        copy.extend_from_slice(octets)?;
+        Ok(Octets {
+            storage: Storage::Heap(copy),
+        })
     }
 
     /// The octets of a vector.
@@ -78,10 +85,8 @@ impl Octets {
                 storage: Storage::Heap(octets),
             };
         }
-        let mut short = Short::new();
-        short.append(octets.as_slice());
         Octets {
-            storage: Storage::Inline(short),
+            storage: Storage::Inline(Short::of(octets.as_slice())),
         }
     }
 
@@ -175,10 +180,20 @@ impl Octets {
         requires { length front.now + length back.now ≤ 255 }
         ensures { IfOk result (λ both. both ≡ front.now ++ back.now) }
     {
-        let mut both = Octets::with_capacity(alloc, front.len() + back.len())?;
-        both.extend_from_slice(alloc, front)?;
-        both.extend_from_slice(alloc, back)?;
-        Ok(both)
+        let count = front.len() + back.len();
+        if count <= MOST_INLINE {
+            let mut short = Short::of(front);
+            short.append(back);
+            return Ok(Octets {
+                storage: Storage::Inline(short),
+            });
+        }
+        let mut both = Vec::with_capacity(alloc, count)?;
+        both.extend_from_slice(front)?;
+        both.extend_from_slice(back)?;
+        Ok(Octets {
+            storage: Storage::Heap(both),
+        })
     }
 
     /// Keeps the first octets, at most this many.

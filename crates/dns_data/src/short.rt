@@ -32,6 +32,16 @@ impl Short {
         }
     }
 
+    /// These octets.
+    pub(crate) fn of(octets: &[u8]) -> Short
+        requires { length octets.now ≤ 30 }
+        ensures { result ≡ octets.now }
+    {
+        let mut short = Short::new();
+        short.append(octets);
+        short
+    }
+
     /// The octets.
     pub(crate) fn items(&self) -> &[u8]
         ensures same { result.now ≡ self.now }

@@ -39,6 +39,22 @@ impl Name {
     fn from_spelling(alloc: Global, text: &[u8], origin: &Name) -> Result<Name, NameFault>
         ensures { AnswersOr NameFault.NoMemory result (placed origin.now (spelled [] (signs text.now))) }
     {
+        if text.len() >= 30 {
+            return Name::from_long_spelling(alloc, text, origin);
+        }
+        let mut out = [0; 30];
+        match spell(&mut out, text) {
+            Ok((start, absolute)) => {
+                Name::placed(alloc, labels_above(origin, absolute), &out[start..])
+            }
+            Err(_) => Name::from_long_spelling(alloc, text, origin),
+        }
+    }
+
+    /// The name that the text's signs spell, which may be as many as a name has room for.
+    fn from_long_spelling(alloc: Global, text: &[u8], origin: &Name) -> Result<Name, NameFault>
+        ensures { AnswersOr NameFault.NoMemory result (placed origin.now (spelled [] (signs text.now))) }
+    {
         let mut out = [0; 254];
         let (start, absolute) = spell(&mut out, text)?;
         Name::placed(alloc, labels_above(origin, absolute), &out[start..])
@@ -55,11 +71,11 @@ fn labels_above(origin: &Name, absolute: bool) -> &[u8]
 }
 
 /// Puts what the text spells at the end of the octets, the last label first: from where on, and whether a dot ends
-/// the last label.
+/// the last label. It is `NameTooLong` where the octets have no room.
 fn spell(out: &mut [u8], text: &[u8]) -> Result<(usize, bool), NameFault>
-    requires { length out.old ≡ 254 }
     ensures ok { IfOk result (λ said. IsSpelled text.now out.new said.0 said.1) }
-    ensures fault { IfErr result (λ fault. (origin : List (List ℕ)) → placed origin (spelled [] (signs text.now)) ≡ Err fault) }
+    ensures fault { length out.old ≡ 254
+        → IfErr result (λ fault. (origin : List (List ℕ)) → placed origin (spelled [] (signs text.now)) ≡ Err fault) }
 {
     let mut start = Some(out.len());
     let mut rest = text;
