@@ -34,45 +34,45 @@ none_shown setting query silent =
     }
 
 -- the query reaches few pairs
-abbrev pub IsFew : Config → ℕ → Labels → Type 0
-IsFew config states query = (rewrites : ℕ) → HasMoreThan (IsReached config rewrites query) states → ⊥
+abbrev pub IsFew : Config → ℕ → ℕ → Labels → Type 0
+IsFew config rewrites states query = HasMoreThan (IsReached config rewrites query) states → ⊥
 
 -- and shows nothing
-abbrev pub IsSilent : Config → Labels → Deps → Type 0
-IsSilent config query deps =
-    (rewrites : ℕ) (rtype : RrType) (fault : Fault) → Shows (with_lists (following config rewrites deps.least) deps.least deps.greatest) query rtype fault → ⊥
+abbrev pub IsSilent : Config → ℕ → Labels → Deps → Type 0
+IsSilent config rewrites query deps =
+    (rtype : RrType) (fault : Fault) → Shows (with_lists (following config rewrites deps.least) deps.least deps.greatest) query rtype fault → ⊥
 
 module _ (config : Config) (rewrites states : ℕ) (query : Labels) (deps : Deps) (sets : AreSets config rewrites states deps) where
   -- so its class has no faults
-  straight_verdict : IsFew config states query → IsSilent config query deps → IsClassVerdict config rewrites states query (Faults [])
+  straight_verdict : IsFew config rewrites states query → IsSilent config rewrites query deps → IsClassVerdict config rewrites states query (Faults [])
   straight_verdict few silent = (
-    few rewrites,
+    few,
     all_sought config rewrites states deps sets query []
         (none_shown _ query
-        (λ rtype fault shows. silent rewrites rtype fault
+        (λ rtype fault shows. silent rtype fault
         ((lists_show config rewrites deps.least deps.least deps.greatest sets.least sets.greatest query rtype fault).1 shows))),
   )
 
   -- where its walks are seen to go straight
-  pub straight_found : (found : Option StraightEnds) → IfSome found (λ ends. IsFew config states query) → IfSome found (λ ends. IsSilent config query deps)
+  pub straight_found : (found : Option StraightEnds) → IfSome found (λ ends. IsFew config rewrites states query) → IfSome found (λ ends. IsSilent config rewrites query deps)
       → is_some found ≡ true → IsClassVerdict config rewrites states query (Faults [])
   straight_found None few silent e = cc
   straight_found (Some ends) few silent e = straight_verdict few silent
 
   -- and those of a call that gives their ends are the query's
-  pub straight_ends : {E : Type 0} (given : Result (Option StraightEnds) E) → IfOk given (λ found. IfSome found (λ ends. IsFew config states query))
-      → IfOk given (λ found. IfSome found (λ ends. (rewrites : ℕ) (rtype : RrType) → IsBoundedWith (following config rewrites deps.least) query rtype))
-      → IfOk given (λ found. IfSome found (λ ends. (rewrites : ℕ) (rtype : RrType) (outcome : Option Leaf)
+  pub straight_ends : {E : Type 0} (given : Result (Option StraightEnds) E) → IfOk given (λ found. IfSome found (λ ends. IsFew config rewrites states query))
+      → IfOk given (λ found. IfSome found (λ ends. (rtype : RrType) → IsBoundedWith (following config rewrites deps.least) query rtype))
+      → IfOk given (λ found. IfSome found (λ ends. (rtype : RrType) (outcome : Option Leaf)
       → HasOutcome (following config rewrites deps.least) query rtype outcome ↔ IsOutcomeOf ends rtype outcome))
       → IfOk given (λ found. IfSome found (AreStraightEnds config rewrites states query))
   straight_ends (Ok None) few bounded outcomes = tt
   straight_ends (Ok (Some ends)) few bounded outcomes =
       record {
-        few = few rewrites;
+        few = few;
         learnt = sets.none_passes;
         followed = deps.least;
         in_force = sets.least;
-        bounded = bounded rewrites;
-        outcomes = outcomes rewrites;
+        bounded = bounded;
+        outcomes = outcomes;
       }
   straight_ends (Err fault) few bounded outcomes = tt

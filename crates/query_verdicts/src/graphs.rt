@@ -109,6 +109,7 @@ impl<'a> QueryGraphs<'a> {
                 &learnt.regions,
                 near,
                 query,
+                self.queries.rewrites,
                 self.queries.states,
             ),
             Err(_) => Ok(None),

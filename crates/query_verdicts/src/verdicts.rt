@@ -83,6 +83,7 @@ fn shows_nothing(
         &learnt.regions,
         near,
         query,
+        queries.rewrites,
         queries.states,
     )?;
     Ok(found.is_some())

@@ -1,11 +1,10 @@
 -- Walks of a query come to the states in which it begins, and on by each branch of a state to which they come.
-use Rattle.std.proofs.Common.{◌==◌, true, [], ◌∷◌, length, Option, refl, ap, ◌∙◌}
+use Rattle.std.proofs.Common.{◌==◌, ◌∷◌, length, Option, refl, ap, ◌∙◌}
 use Rattle.std.specs.Prelude.{Contains, option_and_then, option_map}
-use Rattle.std.specs.Option.{option_to_list}
 use Rattle.dns_data.specs.Name.{Labels}
 use Rattle.dns_data.specs.declared.rr_type.RrType.{RrType}
 use Rattle.graph_form.proofs.Places.{place_of_item}
-use Rattle.net_model.specs.Step.{Setting, Go, End, next, start}
+use Rattle.net_model.specs.Step.{Setting, Go, next, start}
 use Rattle.net_model.specs.Walk.{branched, led_on, walk_from}
 use Rattle.net_model.specs.declared.walk.Leaf.{Leaf}
 use Rattle.net_model.specs.declared.walk.State.{State}
@@ -27,10 +26,8 @@ module _ (setting : Setting) (query : Labels) (rtype : RrType) where
         comes (at ∷ numbers) (led_on state hop walk)
         (ap (branched state (length numbers == 0) (walk_from setting rtype numbers)) here ∙ ap (option_map (led_on state hop)) e)
 
-    -- and the query has the outcome with which a branch ends
+    -- and the query has the outcome of each walk from there
     pub comes_to_end : (outcome : Option Leaf) → EndsWith setting rtype state outcome → HasOutcome setting query rtype outcome
-    comes_to_end outcome (hop, leaf, has, told) =
-        let (at, here) = place_of_item (next setting rtype state) (End hop leaf) has in
-        let (whole, is_walk, same) =
-        comes (at ∷ []) (record { states = state ∷ []; hops = option_to_list hop; leaf = leaf }) (ap (branched state true (walk_from setting rtype [])) here) in
+    comes_to_end outcome (numbers, walk, goes, told) =
+        let (whole, is_walk, same) = comes numbers walk goes in
         (whole, is_walk, ap outcome_of same ∙ told)

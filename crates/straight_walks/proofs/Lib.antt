@@ -1,4 +1,6 @@
 mod Worked
+pub mod AliasWalks
+pub mod AliasEnds
 pub mod ComingTo
 pub mod FewStates
 pub mod GivenEnds
@@ -6,6 +8,7 @@ pub mod LeastFollowed
 pub mod GoingOn
 pub mod Replies
 pub mod SameOutcomes
+pub mod StatesBehind
 pub mod ShowsNothing
 pub mod StraightSearch
 pub mod StraightWalks

@@ -1,23 +1,25 @@
 -- What a server replies, by what its zone has for the name.
-use Rattle.std.proofs.Common.{◌≡◌, ℕ, Bool, true, false, List, [], ◌∷◌, Option, Some, None, Bor, refl, sym, ap, ◌∙◌}
-use Rattle.std.specs.Prelude.{if◌then◌else◌}
+use Rattle.std.proofs.Common.{◌≡◌, ℕ, ◌+◌, ◌<◌, Bool, true, false, ◌&&◌, List, [], ◌∷◌, map, Option, Some, None, Bor, refl, sym, ap, ◌∙◌, lt-ltb}
+use Rattle.std.specs.Prelude.{if◌then◌else◌, is_some}
 use Rattle.dns_data.specs.Name.{Labels, is_prefix}
 use Rattle.dns_data.specs.RrType.{type_eq}
 use Rattle.dns_data.specs.declared.rdata.Rdata.{Rdata}
 use Rattle.dns_data.specs.declared.rr_type.RrType.{RrType}
 use Rattle.dns_data.specs.declared.rr_type.RrType.TheVariants as types
 use Rattle.dns_data.proofs.NameFronts.{is_prefix_tells}
-use Rattle.net_model.specs.Lookup.{Deciding, ByCut, ByNothing, ByRecords, aliased, answer_of, answered, deciding, first_name}
+use Rattle.net_model.specs.Lookup.{Deciding, ByCut, ByNothing, ByRecords, aliased, answer_of, answered, deciding, first_name, found}
 use Rattle.net_model.specs.Nearest.{nearest_of}
-use Rattle.net_model.specs.Step.{Setting, End, after_lookup, in_zone, next}
+use Rattle.net_model.specs.Step.{Setting, Branch, Go, End, after_lookup, arrived, in_zone, next, rewritten}
 use Rattle.net_model.specs.Zone.{ns_names, targets_at}
 use Rattle.net_model.specs.declared.config.Config.{Config}
 use Rattle.net_model.specs.declared.config.Zone.{Zone}
-use Rattle.net_model.specs.declared.walk.Leaf.TheVariants.{Outside}
+use Rattle.net_model.specs.declared.place.Place.{Place}
+use Rattle.net_model.specs.declared.walk.Hop.TheVariants.{Rewrite}
+use Rattle.net_model.specs.declared.walk.Leaf.TheVariants.{Limit, Outside}
 use Rattle.net_model.specs.declared.walk.State.{State}
 use Rattle.zone_tree.specs.Tree.{ZoneTree, IsNode, name_of}
 use Rattle.zone_lookup.proofs.CutsInside.{cut_inside}
-use Rattle.straight_walks.specs.Answers.{leaf_with, sorted_data}
+use Rattle.straight_walks.specs.Answers.{leaf_with, owner_leaf, sorted_data, zone_owner}
 use Rattle.straight_walks.specs.Searching.{IsReply, state_at, to_servers}
 use Rattle.straight_walks.specs.declared.server.Reply.TheVariants as reply
 use Rattle.straight_walks.proofs.Unhosted.{nearest_is_held}
@@ -36,24 +38,75 @@ cut_is_inside : (zone : Zone) (query cut : Labels) → is_prefix zone.origin que
 cut_is_inside zone query cut inside decides =
     cut_inside zone query types.A cut (ns_names zone cut) (is_prefix_tells zone.origin query inside) (ap (answered zone query types.A) decides)
 
-module _ (config : Config) (query server : Labels) where
-  in_nearest : (held : Option Zone) → held ≡ nearest_of config server query → (setting : Setting) (rtype : RrType) (above : ℕ) → setting.config ≡ config
-      → next setting rtype (state_at config query server above) ≡ in_zone setting rtype (state_at config query server above) held
-  in_nearest held is setting rtype above same =
-      ap (in_zone setting rtype (state_at config query server above)) (ap (λ (c : Config). nearest_of c server query) same ∙ sym is)
+-- ---- a state with the name at the server
 
+module _ (config : Config) (query server : Labels) (setting : Setting) (rtype : RrType) (state : State)
+    (same : setting.config ≡ config) (at : state.server ≡ server) (named : state.name ≡ query) where
+  in_nearest : (held : Option Zone) → held ≡ nearest_of config server query → next setting rtype state ≡ in_zone setting rtype state held
+  in_nearest held is =
+      ap (in_zone setting rtype state)
+      (ap (λ (c : Config). nearest_of c state.server state.name) same
+      ∙ ap (λ (name : Labels). nearest_of config name state.name) at
+      ∙ ap (nearest_of config server) named
+      ∙ sym is)
+
+  decided_by : (zone : Zone) → Some zone ≡ nearest_of config server query → (what : Deciding) → deciding zone query ≡ what
+      → next setting rtype state ≡ after_lookup setting state zone.origin (answered zone query rtype what)
+  decided_by zone is what decides =
+      in_nearest (Some zone) is
+      ∙ ap (λ (name : Labels). after_lookup setting state zone.origin (found zone name rtype)) named
+      ∙ ap (λ (d : Deciding). after_lookup setting state zone.origin (answered zone query rtype d)) decides
+
+  -- a name at which an alias stands
+  module _ (tree : Bor ZoneTree) (owner : ℕ) (target : Bor Labels) (so : IsReply config query server (reply.Alias tree owner target)) where
+    abbrev alias : Option Labels
+    alias = first_name (targets_at tree.now.zone (name_of tree.now owner) types.Cname)
+
+    -- the branches, by whether the alias counts
+    abbrev by_alias : Bool → List Branch
+    by_alias is_cname = after_lookup setting state tree.now.zone.origin (aliased tree.now.zone (name_of tree.now owner) rtype (if is_cname then None else alias))
+
+    decided_alias : next setting rtype state ≡ by_alias (type_eq rtype types.Cname)
+    decided_alias = decided_by tree.now.zone (sym so.1) (ByRecords (name_of tree.now owner)) so.2
+
+    -- with type CNAME its own data are answered
+    pub alias_answers : type_eq rtype types.Cname ≡ true → next setting rtype state ≡ End None (owner_leaf (zone_owner tree.now (Some owner)) rtype) ∷ []
+    alias_answers is =
+        decided_alias ∙ ap by_alias is ∙ answers (sorted_data tree.now.zone (name_of tree.now owner) rtype) setting state tree.now.zone.origin
+
+    -- where the alias stands
+    abbrev pub place : Place
+    place = record { server = state.server; zone = tree.now.zone.origin; owner = name_of tree.now owner }
+
+    -- the state with its target at the same server
+    abbrev pub aliased_to : State
+    aliased_to = arrived setting.config target.now (state.carried && false) (state.used + 1) (Some place) state.server
+
+    -- with each other type walks go on to it, if they may and the server has a zone for it
+    pub alias_goes : type_eq rtype types.Cname ≡ false → state.used < setting.rewrites → is_some (nearest_of config server target.now) ≡ true
+        → next setting rtype state ≡ Go (Rewrite place false target.now) aliased_to ∷ []
+    alias_goes other fewer held =
+        decided_alias ∙ ap by_alias other
+        ∙ ap (λ (to : Option Labels). after_lookup setting state tree.now.zone.origin (aliased tree.now.zone (name_of tree.now owner) rtype to)) so.3
+        ∙ ap (λ (may : Bool). if may then rewritten setting.config state place false target.now else End None (Limit place) ∷ []) (lt-ltb state.used setting.rewrites fewer)
+        ∙ ap (map (λ (name : Labels). Go (Rewrite place false target.now) (arrived setting.config target.now (state.carried && false) (state.used + 1) (Some place) name)))
+        (ap (λ (there : Bool). if there then state.server ∷ [] else setting.config.tops) held_there)
+      where
+        held_there : is_some (nearest_of setting.config state.server target.now) ≡ true
+        held_there =
+            ap (λ (c : Config). is_some (nearest_of c state.server target.now)) same
+            ∙ ap (λ (name : Labels). is_some (nearest_of config name target.now)) at
+            ∙ held
+
+-- ---- the query at the server
+
+module _ (config : Config) (query server : Labels) where
   -- a server without a zone for the name
   pub outside_ends : IsReply config query server reply.Outside → (setting : Setting) (rtype : RrType) (above : ℕ) → setting.config ≡ config
       → next setting rtype (state_at config query server above) ≡ End None Outside ∷ []
-  outside_ends none = in_nearest None (sym none)
+  outside_ends none setting rtype above same = in_nearest config query server setting rtype (state_at config query server above) same refl refl None (sym none)
 
   module _ (tree : Bor ZoneTree) (is : Some tree.now.zone ≡ nearest_of config server query) (inside : is_prefix tree.now.zone.origin query ≡ true) where
-    decided_by : (what : Deciding) → deciding tree.now.zone query ≡ what → (setting : Setting) (rtype : RrType) (above : ℕ) → setting.config ≡ config
-        → next setting rtype (state_at config query server above) ≡ after_lookup setting (state_at config query server above) tree.now.zone.origin (answered tree.now.zone query rtype what)
-    decided_by what decides setting rtype above same =
-        in_nearest (Some tree.now.zone) is setting rtype above same
-        ∙ ap (λ (d : Deciding). after_lookup setting (state_at config query server above) tree.now.zone.origin (answered tree.now.zone query rtype d)) decides
-
     -- a server whose zone has a zone cut that decides at the name refers the query there
     pub cut_decides : (cut : ℕ) → IsNode tree.now cut → deciding tree.now.zone query ≡ ByCut (name_of tree.now cut) → IsReply config query server (reply.Refers tree cut)
     cut_decides cut node decides = (
@@ -69,16 +122,23 @@ module _ (config : Config) (query server : Labels) where
         → first_name (targets_at tree.now.zone (name_of tree.now owner) types.Cname) ≡ None → IsReply config query server (reply.Records tree owner)
     records_decide owner node decides none = (
       node,
-      λ setting rtype above same.
-          decided_by (ByRecords (name_of tree.now owner)) decides setting rtype above same
-          ∙ ap (λ (alias : Option Labels). after_lookup setting (state_at config query server above) tree.now.zone.origin (aliased tree.now.zone (name_of tree.now owner) rtype alias))
+      ap (λ (zone : Option Zone). is_some zone) (sym is),
+      λ setting rtype state same at named.
+          decided_by config query server setting rtype state same at named tree.now.zone is (ByRecords (name_of tree.now owner)) decides
+          ∙ ap (λ (alias : Option Labels). after_lookup setting state tree.now.zone.origin (aliased tree.now.zone (name_of tree.now owner) rtype alias))
           (no_alias (type_eq rtype types.Cname) (first_name (targets_at tree.now.zone (name_of tree.now owner) types.Cname)) none)
-          ∙ answers (sorted_data tree.now.zone (name_of tree.now owner) rtype) setting (state_at config query server above) tree.now.zone.origin,
+          ∙ answers (sorted_data tree.now.zone (name_of tree.now owner) rtype) setting state tree.now.zone.origin,
     )
+
+    -- where one is among them the name is an alias
+    pub alias_decides : (owner : ℕ) → IsNode tree.now owner → deciding tree.now.zone query ≡ ByRecords (name_of tree.now owner)
+        → (target : Bor Labels) → first_name (targets_at tree.now.zone (name_of tree.now owner) types.Cname) ≡ Some target.now
+        → IsReply config query server (reply.Alias tree owner target)
+    alias_decides owner node decides target alias = (node, sym is, decides, alias)
 
     -- a server whose zone has nothing that decides at the name answers the query
     pub nothing_decides : deciding tree.now.zone query ≡ ByNothing → IsReply config query server (reply.Nothing tree)
-    nothing_decides decides = decided_by ByNothing decides
+    nothing_decides decides = λ setting rtype state same at named. decided_by config query server setting rtype state same at named tree.now.zone is ByNothing decides
 
 -- the branches of a state at a server whose zone refers the name
 pub refers_to : (config : Config) (query server : Labels) (tree : Bor ZoneTree) (cut : ℕ) → IsReply config query server (reply.Refers tree cut)
@@ -86,5 +146,4 @@ pub refers_to : (config : Config) (query server : Labels) (tree : Bor ZoneTree) 
     → next setting rtype (state_at config query server above)
     ≡ to_servers tree.now.zone (name_of tree.now cut) (ns_names tree.now.zone (name_of tree.now cut)) setting (state_at config query server above)
 refers_to config query server tree cut so setting rtype above same =
-    in_nearest config query server (Some tree.now.zone) (sym so.3) setting rtype above same
-    ∙ ap (λ (d : Deciding). after_lookup setting (state_at config query server above) tree.now.zone.origin (answered tree.now.zone query rtype d)) so.4
+    decided_by config query server setting rtype (state_at config query server above) same refl refl tree.now.zone (sym so.3) (ByCut (name_of tree.now cut)) so.4

@@ -1,5 +1,5 @@
 -- Ends that are compared.
-use Rattle.std.proofs.Common.{◌≡◌, Bool, true, false, List, [], ◌∷◌, Option, Some, None, refl, sym, ap, ◌∙◌, inl, inr, true≢false}
+use Rattle.std.proofs.Common.{◌≡◌, ℕ, ◌≤◌, Bool, true, false, List, [], ◌∷◌, Option, Some, None, refl, sym, ap, ◌∙◌, inl, inr, true≢false}
 use Rattle.std.specs.Prelude.{◌↔◌, ◌⊎◌, option_map, if◌then◌else◌}
 use Rattle.std.specs.Option.{option_map_or}
 use Rattle.std.specs.Cmp.{booleans_Decides}
@@ -17,9 +17,9 @@ use Rattle.net_model.specs.Shown.{is_authoritative}
 use Rattle.net_model.specs.declared.walk.Leaf.{Leaf}
 use Rattle.net_model.specs.declared.walk.Leaf.TheVariants.{NxDomain}
 use Rattle.walk_laws.specs.Outcome.{outcome_of}
-use Rattle.straight_walks.specs.Answers.{Answering, leaf_of, leaf_with, sorted_data}
+use Rattle.straight_walks.specs.Answers.{Answering, ZoneOwner, leaf_of, leaf_with, owner_leaf, owner_with, sorted_data}
 use Rattle.straight_walks.specs.Ends.{IsOutcomeOf, answers_alike, ends_alike}
-use Rattle.straight_walks.specs.Searching.{IsPut, KeepsOutcomes}
+use Rattle.straight_walks.specs.Searching.{IsPut}
 use Rattle.straight_walks.specs.declared.ends.StraightEnds.{StraightEnds}
 
 -- ---- what a zone answers
@@ -28,12 +28,16 @@ told_data : (found : List Rdata) → is_authoritative (leaf_with found) ≡ true
 told_data [] = refl
 told_data (first ∷ rest) = refl
 
--- it answers with authority
-pub answers_told : (answering : Answering) (rtype : RrType) → is_authoritative (leaf_of answering rtype) ≡ true
-answers_told answering rtype = by answering.owner where
-  by : (owner : Option Labels) → is_authoritative (option_map_or (λ owner. leaf_with (sorted_data answering.zone owner rtype)) owner NxDomain) ≡ true
+-- an owner's zone answers with authority
+owner_told : (owner : ZoneOwner) (rtype : RrType) → is_authoritative (owner_leaf owner rtype) ≡ true
+owner_told owner rtype = by owner.owner where
+  by : (name : Option Labels) → is_authoritative (option_map_or (λ name. leaf_with (sorted_data owner.zone name rtype)) name NxDomain) ≡ true
   by None = refl
-  by (Some owner) = told_data (sorted_data answering.zone owner rtype)
+  by (Some name) = told_data (sorted_data owner.zone name rtype)
+
+-- so does a server
+pub answers_told : (answering : Answering) (rtype : RrType) → is_authoritative (leaf_of answering rtype) ≡ true
+answers_told answering rtype = owner_told (owner_with answering rtype) rtype
 
 -- so that is the outcome of a walk that ends there
 pub outcome_told : (answering : Answering) (rtype : RrType) → outcome_of (leaf_of answering rtype) ≡ Some (leaf_of answering rtype)
@@ -44,13 +48,13 @@ pub one_answer : (some other : Answering) (rtype : RrType) → answer_eq (leaf_o
 one_answer some other rtype equal = same_answers (leaf_of some rtype) (leaf_of other rtype) equal
 
 -- it is told by the data that the owner has, or that there is none
-told_by : (answering : Answering) (rtype : RrType) (found : Option (List Rdata)) → found ≡ option_map (λ owner. sorted_data answering.zone owner rtype) answering.owner
-    → leaf_of answering rtype ≡ option_map_or leaf_with found NxDomain
-told_by answering rtype found is = by answering.owner ∙ ap (λ (data_found : Option (List Rdata)). option_map_or leaf_with data_found NxDomain) (sym is) where
-  by : (owner : Option Labels) → option_map_or (λ owner. leaf_with (sorted_data answering.zone owner rtype)) owner NxDomain
-      ≡ option_map_or leaf_with (option_map (λ owner. sorted_data answering.zone owner rtype) owner) NxDomain
+told_by : (owner : ZoneOwner) (rtype : RrType) (found : Option (List Rdata)) → found ≡ option_map (λ name. sorted_data owner.zone name rtype) owner.owner
+    → owner_leaf owner rtype ≡ option_map_or leaf_with found NxDomain
+told_by owner rtype found is = by owner.owner ∙ ap (λ (data_found : Option (List Rdata)). option_map_or leaf_with data_found NxDomain) (sym is) where
+  by : (name : Option Labels) → option_map_or (λ name. leaf_with (sorted_data owner.zone name rtype)) name NxDomain
+      ≡ option_map_or leaf_with (option_map (λ name. sorted_data owner.zone name rtype) name) NxDomain
   by None = refl
-  by (Some owner) = refl
+  by (Some name) = refl
 
 -- data are equal as the answers are that they make
 data_told : (found others : List Rdata) → pointwise data_eq found others ≡ answer_eq (leaf_with found) (leaf_with others)
@@ -59,14 +63,36 @@ data_told [] (other ∷ others) = refl
 data_told (one ∷ found) [] = refl
 data_told (one ∷ found) (other ∷ others) = refl
 
--- so zones whose owners have these data are compared by them
-pub compared_by_data : (one other : Answering) (rtype : RrType) (found others : List Rdata) → Some found ≡ option_map (λ owner. sorted_data one.zone owner rtype) one.owner
-    → Some others ≡ option_map (λ owner. sorted_data other.zone owner rtype) other.owner
+-- where these data are found, or no owner, answers are compared by them
+abbrev pub FoundWith : Answering → RrType → Option (List Rdata) → Type 0
+FoundWith answering rtype found =
+    found ≡ option_map (λ name. sorted_data (owner_with answering rtype).zone name rtype) (owner_with answering rtype).owner
+
+compared_found : (one other : Answering) (rtype : RrType) (found others : Option (List Rdata)) → FoundWith one rtype found → FoundWith other rtype others
+    → answer_eq (option_map_or leaf_with found NxDomain) (option_map_or leaf_with others NxDomain) ≡ answer_eq (leaf_of one rtype) (leaf_of other rtype)
+compared_found one other rtype found others is also =
+    ap (λ (leaf : Leaf). answer_eq leaf (option_map_or leaf_with others NxDomain)) (sym (told_by (owner_with one rtype) rtype found is))
+    ∙ ap (answer_eq (leaf_of one rtype)) (sym (told_by (owner_with other rtype) rtype others also))
+
+pub compared_by_data : (one other : Answering) (rtype : RrType) (found others : List Rdata) → FoundWith one rtype (Some found) → FoundWith other rtype (Some others)
     → pointwise (data_impl.ghosts).eq found others ≡ answer_eq (leaf_of one rtype) (leaf_of other rtype)
 compared_by_data one other rtype found others is also =
-    same_lists found others ∙ data_told found others
-    ∙ ap (λ (leaf : Leaf). answer_eq leaf (leaf_with others)) (sym (told_by one rtype (Some found) is))
-    ∙ ap (answer_eq (leaf_of one rtype)) (sym (told_by other rtype (Some others) also))
+    same_lists found others ∙ data_told found others ∙ compared_found one other rtype (Some found) (Some others) is also
+
+pub both_nothing : (one other : Answering) (rtype : RrType) → FoundWith one rtype None → FoundWith other rtype None → true ≡ answer_eq (leaf_of one rtype) (leaf_of other rtype)
+both_nothing one other rtype is also = compared_found one other rtype None None is also
+
+data_or_nothing : (found : List Rdata) → (answer_eq (leaf_with found) NxDomain ≡ false) × (answer_eq NxDomain (leaf_with found) ≡ false)
+data_or_nothing [] = (refl, refl)
+data_or_nothing (first ∷ rest) = (refl, refl)
+
+pub first_nothing : (one other : Answering) (rtype : RrType) (others : List Rdata) → FoundWith one rtype None → FoundWith other rtype (Some others)
+    → false ≡ answer_eq (leaf_of one rtype) (leaf_of other rtype)
+first_nothing one other rtype others is also = sym (data_or_nothing others).1 ∙ compared_found one other rtype None (Some others) is also
+
+pub second_nothing : (one other : Answering) (rtype : RrType) (found : List Rdata) → FoundWith one rtype (Some found) → FoundWith other rtype None
+    → false ≡ answer_eq (leaf_of one rtype) (leaf_of other rtype)
+second_nothing one other rtype found is also = sym (data_or_nothing found).0 ∙ compared_found one other rtype (Some found) None is also
 
 -- ---- whether ends are alike
 
@@ -118,31 +144,45 @@ alike_decides one other rtype = (
       ((answers_decide rtype one.answer other.answer).1 (answers_told_alike rtype (told rtype one.answer) (told rtype other.answer) (λ leaf. same (Some leaf)))),
 )
 
--- ---- what one more zone answers
+-- ---- what one more server answers
 
--- it answers as those before
-pub put_same : (ends : StraightEnds) (before answering : Answering) → ends.answer ≡ Some before → ((rtype : RrType) → leaf_of before rtype ≡ leaf_of answering rtype)
-    → IsPut ends answering ends
-put_same ends before answering is same =
-    record {
-      still = λ rtype outcome told. told;
-      there = λ rtype.
-          ap (option_map (λ (one : Answering). leaf_of one rtype)) is ∙ ap (λ (leaf : Leaf). Some leaf) (same rtype);
-      only = λ rtype outcome told. inl told;
-    }
+-- the ends with another number of rewrites
+abbrev pub with_rewrites : StraightEnds → ℕ → StraightEnds
+with_rewrites ends rewrites = record ends { rewrites = rewrites }
 
--- or none answered before
-pub put_first : (ends : StraightEnds) (answering : Answering) → ends.answer ≡ None → IsPut ends answering (record ends { answer = Some answering })
-put_first ends answering none = record { still = still; there = λ rtype. refl; only = only } where
-  still : KeepsOutcomes ends (record ends { answer = Some answering })
-  still rtype None is = is
-  still rtype (Some leaf) is =
-      let told = sym (ap (option_map (λ (one : Answering). leaf_of one rtype)) none) ∙ is in absurd (by told)
+module _ (ends : StraightEnds) (answering : Answering) (rewrites more : ℕ) (kept : ends.rewrites ≤ more) (reached : rewrites ≤ more) where
+  -- it answers as those before
+  pub put_same : (before : Answering) → ends.answer ≡ Some before → ((rtype : RrType) → leaf_of before rtype ≡ leaf_of answering rtype)
+      → IsPut ends answering rewrites (with_rewrites ends more)
+  put_same before is same =
+      record {
+        still = record { rewrites = kept; outcomes = still };
+        behind = reached;
+        there = λ rtype.
+            ap (option_map (λ (one : Answering). leaf_of one rtype)) is ∙ ap (λ (leaf : Leaf). Some leaf) (same rtype);
+        only = λ rtype outcome told. inl (back rtype outcome told);
+      }
     where
-      by : None ≡ Some leaf → ⊥
-      by e = cc
+      still : (rtype : RrType) (outcome : Option Leaf) → IsOutcomeOf ends rtype outcome → IsOutcomeOf (with_rewrites ends more) rtype outcome
+      still rtype None told = told
+      still rtype (Some leaf) told = told
 
-  only : (rtype : RrType) (outcome : Option Leaf) → IsOutcomeOf (record ends { answer = Some answering }) rtype outcome
-      → IsOutcomeOf ends rtype outcome ⊎ (outcome ≡ Some (leaf_of answering rtype))
-  only rtype None is = inl is
-  only rtype (Some leaf) is = inr (sym is)
+      back : (rtype : RrType) (outcome : Option Leaf) → IsOutcomeOf (with_rewrites ends more) rtype outcome → IsOutcomeOf ends rtype outcome
+      back rtype None told = told
+      back rtype (Some leaf) told = told
+
+  -- or none answered before
+  pub put_first : ends.answer ≡ None → IsPut ends answering rewrites (record (with_rewrites ends more) { answer = Some answering })
+  put_first none = record { still = record { rewrites = kept; outcomes = still }; behind = reached; there = λ rtype. refl; only = only } where
+    still : (rtype : RrType) (outcome : Option Leaf) → IsOutcomeOf ends rtype outcome → IsOutcomeOf (record (with_rewrites ends more) { answer = Some answering }) rtype outcome
+    still rtype None is = is
+    still rtype (Some leaf) is =
+        let told = sym (ap (option_map (λ (one : Answering). leaf_of one rtype)) none) ∙ is in absurd (by told)
+      where
+        by : None ≡ Some leaf → ⊥
+        by e = cc
+
+    only : (rtype : RrType) (outcome : Option Leaf) → IsOutcomeOf (record (with_rewrites ends more) { answer = Some answering }) rtype outcome
+        → IsOutcomeOf ends rtype outcome ⊎ (outcome ≡ Some (leaf_of answering rtype))
+    only rtype None is = inl is
+    only rtype (Some leaf) is = inr (sym is)

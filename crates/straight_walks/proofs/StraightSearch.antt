@@ -1,5 +1,5 @@
 -- The search for the states from which walks go straight.
-use Rattle.std.proofs.Common.{◌≡◌, ℕ, ◌+◌, ◌<◌, ◌≤◌, Bool, true, false, List, [], ◌∷◌, ◌++◌, length, map, take, take_all, get_or, Option, Some, None, IfSome, Bor, refl, sym, ap, ◌∙◌, subst, inl, inr, arith}
+use Rattle.std.proofs.Common.{◌≡◌, ℕ, ◌+◌, ◌*◌, ◌<◌, ◌≤◌, Bool, true, false, List, [], ◌∷◌, ◌++◌, length, map, take, take_all, get_or, Option, Some, None, IfSome, Bor, refl, sym, ap, ◌∙◌, subst, inl, inr, arith}
 use Rattle.std.specs.Prelude.{◌⊎◌, Contains}
 use Rattle.std.specs.List.{AllByRecursion}
 use Rattle.std.proofs.lemmas.List.{append-nil, length-append, length-map, map-append, take_more, take-append-le}
@@ -7,7 +7,7 @@ use Rattle.std.proofs.lemmas.List.Elements.{Contains-get_or}
 use Rattle.std.proofs.lemmas.Option.{slice_get_read}
 use Rattle.dns_data.specs.Name.{Labels}
 use Rattle.dns_data.specs.declared.rr_type.RrType.{RrType}
-use Rattle.dns_data.proofs.Membership.{each_along, from_map, has_first, map_has}
+use Rattle.dns_data.proofs.Membership.{each_along, has_first, map_has}
 use Rattle.dns_data.proofs.Names.{all_push, all_so}
 use Rattle.net_model.specs.declared.deps.Deps.{Deps}
 use Rattle.net_model.specs.Step.{Setting, Branch, Go, End, next, start}
@@ -21,16 +21,18 @@ use Rattle.walk_laws.specs.Outcome.{HasOutcome, outcome_of}
 use Rattle.zone_tree.specs.Tree.{ZoneTree, name_of}
 use Rattle.straight_walks.specs.Answers.{Answering, leaf_of}
 use Rattle.straight_walks.specs.Ends.{IsOutcomeOf}
-use Rattle.straight_walks.specs.Searching.{AnswersSo, AreReferrals, EndsWith, FailsOrGoes, HasPassed, HasWalked, IsComeTo, IsNextReferral, IsPut, IsReply, IsSettingOf, KeepsOutcomes, LeadsOn, Passes, state_at, queued_state, to_servers, unanswered}
-use Rattle.straight_walks.specs.Straight.{EndsInAnswer, EndsUnanswered, GoesStraight, GoesTo, StepsStraight}
+use Rattle.straight_walks.specs.Searching.{AnswersSo, AreReferrals, EndsWith, FailsOrGoes, GoesStraightIn, HasPassed, HasWalked, IsComeTo, IsNextReferral, IsPut, IsReply, IsSettingFor, IsSettingOf, KeepsOutcomes, LeadsOn, Passes, PassesState, state_at, queued_state, to_servers, unanswered}
+use Rattle.straight_walks.specs.Straight.{StepsStraight}
 use Rattle.straight_walks.specs.declared.ends.StraightEnds.{StraightEnds}
 use Rattle.straight_walks.specs.declared.queue.Queued.{Queued}
 use Rattle.straight_walks.specs.declared.referring.NextReferral.TheVariants as referring
 use Rattle.straight_walks.specs.declared.server.Reply.TheVariants as reply
+use Rattle.straight_walks.proofs.AliasWalks.{ends_along, ends_by_branch}
 use Rattle.straight_walks.proofs.ComingTo.{comes_first, comes_on, comes_to_end}
 use Rattle.straight_walks.proofs.GoingOn.{goes_still, still_queued}
 use Rattle.straight_walks.proofs.Replies.{outside_ends, refers_to}
 use Rattle.straight_walks.proofs.SameOutcomes.{answers_told, outcome_told}
+use Rattle.straight_walks.proofs.StatesBehind.{all_step, few_in_all, still_there, with_behind}
 
 -- nothing is told yet where no zone answers and no walk fails
 none_told : (rtype : RrType) (outcome : Option Leaf) → IsOutcomeOf (unanswered false) rtype outcome → ⊥
@@ -38,29 +40,30 @@ none_told rtype None is = cc
 none_told rtype (Some leaf) is = cc
 
 module _ (config : Config) (deps : Deps) (query : Labels) where
-  -- how a branch goes straight
-  abbrev Straight : Setting → StraightEnds → RrType → List Queued → Branch → Type 0
-  Straight setting ends rtype queue branch =
-      (IsOutcomeOf ends rtype None × EndsUnanswered setting.config deps branch)
-      ⊎ (EndsInAnswer ends rtype branch ⊎ GoesTo setting.config deps (map (queued_state config query) queue) branch)
-
   -- the states at these servers are among those at the others
   abbrev pub AreAmong : List Queued → List Queued → Type 0
   AreAmong before after = (state : State) → Contains (map (queued_state config query) before) state → Contains (map (queued_state config query) after) state
 
-  module _ (setting : Setting) (before after : List Queued) (more : AreAmong before after) (ends_before ends : StraightEnds) (still : KeepsOutcomes ends_before ends) where
-    -- a branch that goes straight where some states are queued does so where those and others are, and more outcomes are told
-    goes_straight_still : (rtype : RrType) (branch : Branch) → Straight setting ends_before rtype before branch → Straight setting ends rtype after branch
-    goes_straight_still rtype branch (inl (fails, ending)) = inl (still rtype None fails, ending)
-    goes_straight_still rtype branch (inr (inl (leaf, is, told, answers))) = inr (inl (leaf, is, still rtype (Some leaf) told, answers))
-    goes_straight_still rtype branch (inr (inr goes)) =
-        inr (inr (goes_still setting.config deps (map (queued_state config query) before) (map (queued_state config query) after) more branch goes))
+  -- where walks may be rewritten as often as the ends tell they may as often as those before told
+  setting_before : (ends_before ends : StraightEnds) → KeepsOutcomes ends_before ends → (setting : Setting) → IsSettingFor config deps ends setting
+      → IsSettingFor config deps ends_before setting
+  setting_before ends_before ends still setting of = record { is_of = of.is_of; rewrites = omega (arith, still.rewrites, of.rewrites) }
+
+  module _ (setting : Setting) (before after : List Queued) (more : AreAmong before after) (ends_before ends : StraightEnds) (still : KeepsOutcomes ends_before ends) (rtype : RrType) where
+    -- a branch that ends or goes on to queued states does so where those and others are, and more outcomes are told
+    branch_still : (branch : Branch) → FailsOrGoes setting.config deps ends_before.fails (map (queued_state config query) before) branch
+        → FailsOrGoes setting.config deps ends.fails (map (queued_state config query) after) branch
+    branch_still branch (inl (failing, ending)) = inl (still.outcomes rtype None failing, ending)
+    branch_still branch (inr goes) =
+        inr (goes_still setting.config deps (map (queued_state config query) before) (map (queued_state config query) after) more branch goes)
 
     -- walks still go straight from a state then
-    steps_still : (state : State)
-        → StepsStraight setting deps ends_before (map (queued_state config query) before) state → StepsStraight setting deps ends (map (queued_state config query) after) state
-    steps_still state so rtype =
-        all_so (Straight setting ends_before rtype before) (Straight setting ends rtype after) (next setting rtype state) (goes_straight_still rtype) (so rtype)
+    steps_still : (state : State) → PassesState setting deps ends_before rtype (map (queued_state config query) before) state
+        → PassesState setting deps ends rtype (map (queued_state config query) after) state
+    steps_still state (inl branches) =
+        inl (all_so (FailsOrGoes setting.config deps ends_before.fails (map (queued_state config query) before))
+        (FailsOrGoes setting.config deps ends.fails (map (queued_state config query) after)) (next setting rtype state) branch_still branches)
+    steps_still state (inr (behind, leaf, few, is, told, along)) = inr (behind, leaf, omega (arith, few, still.rewrites), is, still.outcomes rtype (Some leaf) told, along)
 
   -- ---- one server
 
@@ -70,9 +73,9 @@ module _ (config : Config) (deps : Deps) (query : Labels) where
     outside_passes so =
         record {
           extends = ([], sym (append-nil queue));
-          still = still;
-          steps = λ setting above of rtype.
-              subst (AllByRecursion (Straight setting (record ends { fails = true }) rtype queue)) (sym (ends_so setting rtype above of)) (inl (refl, inl refl), tt);
+          still = record { rewrites = omega arith; outcomes = still };
+          steps = λ setting rtype above of.
+              inl (subst (AllByRecursion (FailsOrGoes setting.config deps true (map (queued_state config query) queue))) (sym (ends_so setting rtype above of.is_of)) (inl (refl, inl refl), tt));
           leads = λ one has. inl has;
           told = told;
         }
@@ -81,40 +84,39 @@ module _ (config : Config) (deps : Deps) (query : Labels) where
             → next setting rtype (state_at config query server above) ≡ End None Outside ∷ []
         ends_so setting rtype above of = outside_ends config query server so setting rtype above of.config_is
 
-        still : KeepsOutcomes ends (record ends { fails = true })
+        still : (rtype : RrType) (outcome : Option Leaf) → IsOutcomeOf ends rtype outcome → IsOutcomeOf (record ends { fails = true }) rtype outcome
         still rtype None is = refl
         still rtype (Some leaf) is = is
 
         told : (rtype : RrType) (outcome : Option Leaf) → IsOutcomeOf (record ends { fails = true }) rtype outcome → IsOutcomeOf ends rtype outcome
-            ⊎ ((setting : Setting) (above : ℕ) → IsSettingOf config deps setting → EndsWith setting rtype (state_at config query server above) outcome)
+            ⊎ ((setting : Setting) (above : ℕ) → IsSettingFor config deps (record ends { fails = true }) setting
+            → EndsWith setting rtype (state_at config query server above) outcome)
         told rtype (Some leaf) is = inl is
         told rtype None is = inr (λ setting above of.
-            (None, Outside, subst (λ (all : List Branch). Contains all (End None Outside)) (sym (ends_so setting rtype above of)) (has_first (End None Outside) []), refl))
+            ends_by_branch setting rtype (state_at config query server above) None Outside None
+            (subst (λ (all : List Branch). Contains all (End None Outside)) (sym (ends_so setting rtype above of.is_of)) (has_first (End None Outside) [])) refl)
 
-    -- whose zone answers as those before, or is the first
-    pub answer_passes : (answering : Answering) (after : StraightEnds) → AnswersSo config query server answering → IsPut ends answering after
+    -- that answers as those before, or is the first
+    pub answer_passes : (answering : Answering) (rewrites : ℕ) (after : StraightEnds) → AnswersSo config query server answering rewrites → IsPut ends answering rewrites after
         → Passes config deps query server queue ends queue after
-    answer_passes answering after so put =
+    answer_passes answering rewrites after so put =
         record {
           extends = ([], sym (append-nil queue));
           still = put.still;
-          steps = λ setting above of rtype.
-              subst (AllByRecursion (Straight setting after rtype queue)) (sym (so setting rtype above of.config_is))
-              (inr (inl (leaf_of answering rtype, answers_told answering rtype, put.there rtype, refl)), tt);
+          steps = λ setting rtype above of.
+              let (behind, few, along) = so setting rtype above of.is_of.config_is (omega (arith, put.behind, of.rewrites)) in
+              inr (behind, leaf_of answering rtype, omega (arith, few, put.behind), answers_told answering rtype, put.there rtype, along);
           leads = λ one has. inl has;
           told = λ rtype outcome is. told rtype outcome (put.only rtype outcome is);
         }
       where
         told : (rtype : RrType) (outcome : Option Leaf) → IsOutcomeOf ends rtype outcome ⊎ (outcome ≡ Some (leaf_of answering rtype)) → IsOutcomeOf ends rtype outcome
-            ⊎ ((setting : Setting) (above : ℕ) → IsSettingOf config deps setting → EndsWith setting rtype (state_at config query server above) outcome)
+            ⊎ ((setting : Setting) (above : ℕ) → IsSettingFor config deps after setting → EndsWith setting rtype (state_at config query server above) outcome)
         told rtype outcome (inl before) = inl before
         told rtype outcome (inr same) = inr (λ setting above of.
-            let leaf = leaf_of answering rtype in (
-              None,
-              leaf,
-              subst (λ (all : List Branch). Contains all (End None leaf)) (sym (so setting rtype above of.config_is)) (has_first (End None leaf) []),
-              outcome_told answering rtype ∙ sym same,
-            ))
+            let (behind, few, along) = so setting rtype above of.is_of.config_is (omega (arith, put.behind, of.rewrites)) in
+            subst (EndsWith setting rtype (state_at config query server above)) (outcome_told answering rtype ∙ sym same)
+            (ends_along setting rtype (leaf_of answering rtype) (state_at config query server above) behind along))
 
     -- whose zone refers it
     pub referral_passes : (tree : Bor ZoneTree) (cut : ℕ) (after : List Queued) (fails : Bool) → IsReply config query server (reply.Refers tree cut)
@@ -123,11 +125,10 @@ module _ (config : Config) (deps : Deps) (query : Labels) where
     referral_passes tree cut after fails so on =
         record {
           extends = on.extends;
-          still = still;
-          steps = λ setting above of rtype.
-              subst (AllByRecursion (Straight setting (record ends { fails = fails }) rtype after)) (sym (refers setting rtype above of))
-              (all_so (FailsOrGoes setting.config deps fails (map (queued_state config query) after)) (Straight setting (record ends { fails = fails }) rtype after)
-              (branches setting above) (fails_or_goes setting rtype) (on.each setting above of));
+          still = record { rewrites = omega arith; outcomes = still };
+          steps = λ setting rtype above of.
+              inl (subst (AllByRecursion (FailsOrGoes setting.config deps fails (map (queued_state config query) after))) (sym (refers setting rtype above of.is_of))
+              (on.each setting above of.is_of));
           leads = λ one has. leads one (on.leads one has);
           told = told;
         }
@@ -138,14 +139,9 @@ module _ (config : Config) (deps : Deps) (query : Labels) where
         refers : (setting : Setting) (rtype : RrType) (above : ℕ) → IsSettingOf config deps setting → next setting rtype (state_at config query server above) ≡ branches setting above
         refers setting rtype above of = refers_to config query server tree cut so setting rtype above of.config_is
 
-        still : KeepsOutcomes ends (record ends { fails = fails })
+        still : (rtype : RrType) (outcome : Option Leaf) → IsOutcomeOf ends rtype outcome → IsOutcomeOf (record ends { fails = fails }) rtype outcome
         still rtype None is = on.still is
         still rtype (Some leaf) is = is
-
-        fails_or_goes : (setting : Setting) (rtype : RrType) (branch : Branch) → FailsOrGoes setting.config deps fails (map (queued_state config query) after) branch
-            → Straight setting (record ends { fails = fails }) rtype after branch
-        fails_or_goes setting rtype branch (inl ending) = inl ending
-        fails_or_goes setting rtype branch (inr goes) = inr (inr goes)
 
         leads : (one : Queued) → Contains queue one ⊎ ((setting : Setting) (above : ℕ) → IsSettingOf config deps setting
             → (hop : Hop) × Contains (branches setting above) (Go hop (queued_state config query one)))
@@ -157,17 +153,20 @@ module _ (config : Config) (deps : Deps) (query : Labels) where
             (hop, subst (λ (all : List Branch). Contains all (Go hop (queued_state config query one))) (sym (refers setting rtype above of)) has))
 
         told : (rtype : RrType) (outcome : Option Leaf) → IsOutcomeOf (record ends { fails = fails }) rtype outcome → IsOutcomeOf ends rtype outcome
-            ⊎ ((setting : Setting) (above : ℕ) → IsSettingOf config deps setting → EndsWith setting rtype (state_at config query server above) outcome)
+            ⊎ ((setting : Setting) (above : ℕ) → IsSettingFor config deps (record ends { fails = fails }) setting
+            → EndsWith setting rtype (state_at config query server above) outcome)
         told rtype (Some leaf) is = inl is
         told rtype None is = by (on.told is) where
           by : (ends.fails ≡ true) ⊎ ((setting : Setting) (above : ℕ) → IsSettingOf config deps setting
               → (hop : Option Hop) × (leaf : Leaf) × Contains (branches setting above) (End hop leaf) × (outcome_of leaf ≡ None))
               → (ends.fails ≡ true)
-              ⊎ ((setting : Setting) (above : ℕ) → IsSettingOf config deps setting → EndsWith setting rtype (state_at config query server above) None)
+              ⊎ ((setting : Setting) (above : ℕ) → IsSettingFor config deps (record ends { fails = fails }) setting
+              → EndsWith setting rtype (state_at config query server above) None)
           by (inl before) = inl before
           by (inr end) = inr (λ setting above of.
-              let (hop, leaf, has, none) = end setting above of in
-              (hop, leaf, subst (λ (all : List Branch). Contains all (End hop leaf)) (sym (refers setting rtype above of)) has, none))
+              let (hop, leaf, has, none) = end setting above of.is_of in
+              ends_by_branch setting rtype (state_at config query server above) hop leaf None
+              (subst (λ (all : List Branch). Contains all (End hop leaf)) (sym (refers setting rtype above of.is_of)) has) none)
 
   -- ---- those that are passed
 
@@ -180,7 +179,7 @@ module _ (config : Config) (deps : Deps) (query : Labels) where
             comes_first setting query rtype (queued_state config query one)
             (subst (λ (c : Config). Contains (start c query) (queued_state config query one)) (sym of.config_is)
             (subst (λ (all : List State). Contains all (queued_state config query one)) is (map_has (queued_state config query) queue one has)));
-        steps = λ setting of. tt;
+        steps = λ setting rtype of. tt;
         told = λ setting rtype outcome of is. absurd (none_told rtype outcome is);
       }
 
@@ -192,12 +191,13 @@ module _ (config : Config) (deps : Deps) (query : Labels) where
       record {
         begins = λ state has. more state (so.begins state has);
         comes = λ setting rtype of other has. comes setting rtype of other (one.leads other has);
-        steps = λ setting of.
-            subst (AllByRecursion (StepsStraight setting deps ends (map (queued_state config query) after))) (sym (map-append (queued_state config query) passed (item ∷ [])))
-            (all_push (StepsStraight setting deps ends (map (queued_state config query) after)) (map (queued_state config query) passed) (queued_state config query item)
-            (all_so (StepsStraight setting deps ends_before (map (queued_state config query) queue)) (StepsStraight setting deps ends (map (queued_state config query) after))
-            (map (queued_state config query) passed) (steps_still setting queue after more ends_before ends one.still) (so.steps setting of))
-            (one.steps setting item.cut of));
+        steps = λ setting rtype of.
+            subst (AllByRecursion (PassesState setting deps ends rtype (map (queued_state config query) after))) (sym (map-append (queued_state config query) passed (item ∷ [])))
+            (all_push (PassesState setting deps ends rtype (map (queued_state config query) after)) (map (queued_state config query) passed) (queued_state config query item)
+            (all_so (PassesState setting deps ends_before rtype (map (queued_state config query) queue)) (PassesState setting deps ends rtype (map (queued_state config query) after))
+            (map (queued_state config query) passed) (steps_still setting queue after more ends_before ends one.still rtype)
+            (so.steps setting rtype (setting_before ends_before ends one.still setting of)))
+            (one.steps setting rtype item.cut of));
         told = λ setting rtype outcome of is. told setting rtype outcome of (one.told rtype outcome is);
       }
     where
@@ -212,13 +212,13 @@ module _ (config : Config) (deps : Deps) (query : Labels) where
       comes setting rtype of other (inr leads) =
           comes_on setting query rtype (queued_state config query item) (so.comes setting rtype of item among) (queued_state config query other) (leads setting rtype item.cut of)
 
-      told : (setting : Setting) (rtype : RrType) (outcome : Option Leaf) → IsSettingOf config deps setting
-          → IsOutcomeOf ends_before rtype outcome ⊎ ((setting : Setting) (above : ℕ) → IsSettingOf config deps setting
+      told : (setting : Setting) (rtype : RrType) (outcome : Option Leaf) → IsSettingFor config deps ends setting
+          → IsOutcomeOf ends_before rtype outcome ⊎ ((setting : Setting) (above : ℕ) → IsSettingFor config deps ends setting
           → EndsWith setting rtype (state_at config query item.server.now above) outcome)
           → HasOutcome setting query rtype outcome
-      told setting rtype outcome of (inl before) = so.told setting rtype outcome of before
+      told setting rtype outcome of (inl before) = so.told setting rtype outcome (setting_before ends_before ends one.still setting of) before
       told setting rtype outcome of (inr end) =
-          comes_to_end setting query rtype (queued_state config query item) (so.comes setting rtype of item among) outcome (end setting item.cut of)
+          comes_to_end setting query rtype (queued_state config query item) (so.comes setting rtype of.is_of item among) outcome (end setting item.cut of)
 
   -- a search over the same states in another order
   pub walked_among : (queue other passed : List Queued) (ends : StraightEnds) → AreAmong queue other → ((one : Queued) → Contains other one → Contains queue one)
@@ -227,9 +227,10 @@ module _ (config : Config) (deps : Deps) (query : Labels) where
       record {
         begins = λ state has. more state (so.begins state has);
         comes = λ setting rtype of one has. so.comes setting rtype of one (back one has);
-        steps = λ setting of.
-            all_so (StepsStraight setting deps ends (map (queued_state config query) queue)) (StepsStraight setting deps ends (map (queued_state config query) other))
-            (map (queued_state config query) passed) (steps_still setting queue other more ends ends (λ rtype outcome is. is)) (so.steps setting of);
+        steps = λ setting rtype of.
+            all_so (PassesState setting deps ends rtype (map (queued_state config query) queue)) (PassesState setting deps ends rtype (map (queued_state config query) other))
+            (map (queued_state config query) passed) (steps_still setting queue other more ends ends (record { rewrites = omega arith; outcomes = λ rtype outcome is. is }) rtype)
+            (so.steps setting rtype of);
         told = so.told;
       }
 
@@ -262,20 +263,40 @@ module _ (config : Config) (deps : Deps) (query : Labels) where
           (slice_get_read queue (length queue) at item refl meets.1 is) meets.2
 
   -- where all are
-  pub all_passed : (queue : List Queued) (at most : ℕ) (ends : StraightEnds) → HasPassed config deps query queue at ends → length queue ≤ at → length queue ≤ most
-      → (setting : Setting) → IsSettingOf config deps setting → GoesStraight setting deps most query ends
-  all_passed queue at most ends so all few setting of =
+  pub all_passed : (queue : List Queued) (at most : ℕ) (ends : StraightEnds) → HasPassed config deps query queue at ends → length queue ≤ at
+      → length queue * (ends.rewrites + 1) ≤ most → GoesStraightIn config deps ends.rewrites most query ends
+  all_passed queue at most ends so all few setting of enough rtype =
       record {
-        states = map (queued_state config query) queue;
-        few = subst (λ (n : ℕ). n ≤ most) (sym (length-map queue (queued_state config query))) few;
-        begins = λ state has. so.walked.begins state (subst (λ (c : Config). Contains (start c query) state) of.config_is has);
-        not_rewritten = λ state has.
-            let from = from_map (queued_state config query) queue state has in
-            subst (λ (s : State). s.last ≡ None) from.2 refl;
+        states = with_behind setting deps ends rtype states states passes;
+        few =
+            let in_all : length (with_behind setting deps ends rtype states states passes) ≤ length states * (ends.rewrites + 1) =
+            few_in_all setting deps ends rtype states (ends.rewrites + 1) (omega arith) states passes in
+            let as_many : length states * (ends.rewrites + 1) ≡ length queue * (ends.rewrites + 1) =
+            ap (λ (n : ℕ). n * (ends.rewrites + 1)) (length-map queue (queued_state config query)) in
+            omega (arith, few);
+        begins = λ state has.
+            still_there setting deps ends rtype states states passes state (so.walked.begins state (subst (λ (c : Config). Contains (start c query) state) of.config_is has));
         steps = λ state has.
-            each_along (StepsStraight setting deps ends (map (queued_state config query) queue)) (map (queued_state config query) queue)
-            (subst (λ (passed : List Queued). AllByRecursion (StepsStraight setting deps ends (map (queued_state config query) queue)) (map (queued_state config query) passed))
-            (take_all at queue all) (so.walked.steps setting of))
+            each_along (StepsStraight setting deps ends rtype (with_behind setting deps ends rtype states states passes)) (with_behind setting deps ends rtype states states passes)
+            (all_step setting deps ends rtype states (with_behind setting deps ends rtype states states passes) (still_there setting deps ends rtype states states passes)
+            states passes (λ one among. among))
             state has;
-        told = λ rtype outcome is. so.walked.told setting rtype outcome of is;
+        told = λ outcome is. so.walked.told setting rtype outcome (record { is_of = of; rewrites = enough }) is;
       }
+    where
+      states : List State
+      states = map (queued_state config query) queue
+
+      passes : AllByRecursion (PassesState setting deps ends rtype (map (queued_state config query) queue)) (map (queued_state config query) queue)
+      passes =
+          subst (λ (passed : List Queued). AllByRecursion (PassesState setting deps ends rtype (map (queued_state config query) queue)) (map (queued_state config query) passed))
+          (take_all at queue all) (so.walked.steps setting rtype (record { is_of = of; rewrites = enough }))
+
+  -- and where the ends are given if they are within these limits
+  pub given_within : (rewrites most states : ℕ) (ends : StraightEnds) (given : Option StraightEnds) → IfSome given (λ found. found ≡ ends)
+      → IfSome given (λ found. states * (ends.rewrites + 1) ≤ most) → IfSome given (λ found. ends.rewrites ≤ rewrites)
+      → (states * (ends.rewrites + 1) ≤ most → GoesStraightIn config deps ends.rewrites most query ends) → IfSome given (GoesStraightIn config deps rewrites most query)
+  given_within rewrites most states ends None same few fewer straight = tt
+  given_within rewrites most states ends (Some found) same few fewer straight =
+      subst (GoesStraightIn config deps rewrites most query) (sym same)
+      (λ setting of enough rtype. straight few setting of (omega (arith, fewer, enough)) rtype)

@@ -1,5 +1,5 @@
 -- The walks of a query whose walks go straight: in which states they stand, by which hops they go and how they end.
-use Rattle.std.proofs.Common.{◌≡◌, ℕ, true, List, [], ◌∷◌, length, refl, sym, subst, inl, inr, true≢false}
+use Rattle.std.proofs.Common.{◌≡◌, ℕ, true, List, [], ◌∷◌, ◌++◌, length, refl, sym, ap, ◌∙◌, subst, inl, inr, true≢false}
 use Rattle.std.specs.Prelude.{◌⊎◌, ◌==◌, Contains, slice_get, Option, Some, None, option_and_then}
 use Rattle.std.specs.List.{AllByRecursion}
 use Rattle.std.specs.Option.{option_to_list}
@@ -8,28 +8,29 @@ use Rattle.dns_data.specs.declared.rr_type.RrType.{RrType}
 use Rattle.dns_data.proofs.Names.{all_so}
 use Rattle.net_model.specs.declared.deps.Deps.{Deps}
 use Rattle.graph_form.proofs.Places.{item_there}
-use Rattle.net_model.specs.Shown.{is_authoritative}
+use Rattle.net_model.specs.Shown.{ShowsBlackhole, is_authoritative}
 use Rattle.net_model.specs.Step.{Setting, Branch, Go, End, next, start}
-use Rattle.net_model.specs.Walk.{IsWalk, walk_from}
+use Rattle.net_model.specs.Walk.{IsWalk, led_on, walk_from}
 use Rattle.net_model.specs.declared.config.Config.{Config}
+use Rattle.net_model.specs.declared.place.Place.{Place}
 use Rattle.net_model.specs.declared.walk.Hop.{Hop}
 use Rattle.net_model.specs.declared.walk.Hop.TheVariants.{Refer, Rewrite}
 use Rattle.net_model.specs.declared.walk.Leaf.{Leaf}
 use Rattle.net_model.specs.declared.walk.Leaf.TheVariants.{Answer, NoData, NxDomain, Outside, Unhosted}
 use Rattle.net_model.specs.declared.walk.State.{State}
 use Rattle.net_model.specs.declared.walk.Walk.{Walk}
-use Rattle.net_model.proofs.Leads.{GoesOn, EndsBy, branch_taken}
+use Rattle.net_model.proofs.Leads.{GoesOn, EndsBy, branch_taken, first_state}
 use Rattle.net_model.proofs.WalkEnds.{item}
 use Rattle.walk_laws.specs.Outcome.{outcome_of}
 use Rattle.zone_lookup.specs.Sound.{IsSound}
 use Rattle.straight_walks.specs.Ends.{IsOutcomeOf}
-use Rattle.straight_walks.specs.Straight.{EndsInAnswer, EndsUnanswered, GoesStraight, GoesTo}
+use Rattle.straight_walks.specs.Straight.{BranchStraight, GoesStraight}
 use Rattle.straight_walks.specs.declared.ends.StraightEnds.{StraightEnds}
 
--- the hop is a referral that shows no fault
+-- the hop is a referral that shows no fault, or a rewrite
 abbrev pub IsSoundHop : Config → Deps → Hop → Type 0
 IsSoundHop config deps (Refer cut) = IsSound config deps cut
-IsSoundHop config deps (Rewrite place by_dname to) = ⊥
+IsSoundHop config deps (Rewrite place by_dname to) = Unit {0}
 
 -- no zone answers there and walks fail, or one answers what the ends have with the type
 abbrev pub EndsSo : StraightEnds → RrType → Leaf → Type 0
@@ -37,16 +38,56 @@ EndsSo ends rtype Outside = ends.fails ≡ true
 EndsSo ends rtype (Unhosted ns) = ends.fails ≡ true
 EndsSo ends rtype leaf = (is_authoritative leaf ≡ true) × IsOutcomeOf ends rtype (Some leaf)
 
--- the branch goes on by such a hop to one of the states, or ends so after such a hop or none
-abbrev GoesSo : Config → Deps → StraightEnds → RrType → List State → Branch → Type 0
-GoesSo config deps ends rtype states (Go hop to) = IsSoundHop config deps hop × Contains states to
-GoesSo config deps ends rtype states (End hop leaf) = AllByRecursion (IsSoundHop config deps) (option_to_list hop) × EndsSo ends rtype leaf
+-- the branch of the state goes on by such a hop to one of the states, or ends so after such a hop or none; the name exists where a
+-- rewrite led to the state
+abbrev GoesSo : Config → Deps → StraightEnds → RrType → List State → State → Branch → Type 0
+GoesSo config deps ends rtype states state (Go hop to) = IsSoundHop config deps hop × Contains states to
+GoesSo config deps ends rtype states state (End hop leaf) =
+    AllByRecursion (IsSoundHop config deps) (option_to_list hop) × EndsSo ends rtype leaf × (leaf ≡ NxDomain → state.last ≡ None)
 
--- so the walk goes: it stands in some of the states
+-- so the walk goes: it stands in some of the states, and a name to which it is rewritten exists
 pub record GoesStraightBy (config : Config) (deps : Deps) (ends : StraightEnds) (rtype : RrType) (states : List State) (walk : Walk) : Type 0 where
   pub among : AllByRecursion (Contains states) walk.states
   pub hops : AllByRecursion (IsSoundHop config deps) walk.hops
   pub ends_so : EndsSo ends rtype walk.leaf
+  pub exists : (place : Place) → ShowsBlackhole walk place → ⊥
+
+-- ---- blackholes
+
+-- a walk of one state shows none where its end doesn't
+one_state : (state last : State) (before : List State) → state ∷ [] ≡ before ++ last ∷ [] → state ≡ last
+one_state state last [] e = cc
+one_state state last (first ∷ before) e = absurd (none_more before (cc)) where
+  none_more : (before : List State) → [] ≡ before ++ last ∷ [] → ⊥
+  none_more [] e = cc
+  none_more (first ∷ before) e = cc
+
+end_exists : (state : State) (hops : List Hop) (leaf : Leaf) → (leaf ≡ NxDomain → state.last ≡ None) → (place : Place)
+    → ShowsBlackhole (record { states = state ∷ []; hops = hops; leaf = leaf }) place → ⊥
+end_exists state hops leaf exists place shows =
+    let same : state ≡ shows.rewritten.last = one_state state shows.rewritten.last shows.rewritten.before shows.rewritten.states in
+    let none : state.last ≡ None = exists shows.ends in
+    let some : shows.rewritten.last.last ≡ Some place = shows.rewritten.at_place in
+    absurd (by (sym none ∙ ap (λ (s : State). s.last) same ∙ some))
+  where
+    by : None ≡ Some place → ⊥
+    by e = cc
+
+-- and one that goes on shows none where the walk behind it doesn't
+on_exists : (state : State) (hop : Hop) (later : Walk) (first : State) (rest : List State) → later.states ≡ first ∷ rest → (place : Place)
+    → ShowsBlackhole (led_on state hop later) place → ShowsBlackhole later place
+on_exists state hop later first rest are place shows = by shows.rewritten.before shows.rewritten.states where
+  by : (before : List State) → state ∷ later.states ≡ before ++ shows.rewritten.last ∷ [] → ShowsBlackhole later place
+  by [] e = let none : later.states ≡ [] = cc in absurd (nothing (sym are ∙ none)) where
+    nothing : first ∷ rest ≡ [] → ⊥
+    nothing e = cc
+  by (one ∷ before) e =
+      record {
+        rewritten = record { before = before; last = shows.rewritten.last; states = cc; at_place = shows.rewritten.at_place };
+        ends = shows.ends;
+      }
+
+-- ---- walks
 
 -- an end with this answer
 ends_answered : (ends : StraightEnds) (rtype : RrType) (leaf : Leaf) → is_authoritative leaf ≡ true → IsOutcomeOf ends rtype (Some leaf) → EndsSo ends rtype leaf
@@ -64,22 +105,26 @@ end_told ends rtype NoData so = so.1
 end_told ends rtype NxDomain so = so.1
 end_told ends rtype leaf so = absurd (true≢false (sym so.0))
 
-module _ (setting : Setting) (deps : Deps) (most : ℕ) (query : Labels) (ends : StraightEnds) (straight : GoesStraight setting deps most query ends) (rtype : RrType) where
+module _ (setting : Setting) (deps : Deps) (most : ℕ) (query : Labels) (ends : StraightEnds) (rtype : RrType) (straight : GoesStraight setting deps most query ends rtype) where
   -- a branch of one of the states
-  abbrev BranchSo : Branch → Type 0
-  BranchSo branch = GoesSo setting.config deps ends rtype straight.states branch
+  abbrev BranchSo : State → Branch → Type 0
+  BranchSo state branch = GoesSo setting.config deps ends rtype straight.states state branch
 
   -- a walk from one of the states
   abbrev So : Walk → Type 0
   So walk = GoesStraightBy setting.config deps ends rtype straight.states walk
 
   -- where each branch of a state goes straight it goes so
-  branch_so : (branch : Branch)
-      → (IsOutcomeOf ends rtype None × EndsUnanswered setting.config deps branch) ⊎ (EndsInAnswer ends rtype branch ⊎ GoesTo setting.config deps straight.states branch) → BranchSo branch
-  branch_so branch (inl (fails, inl outside)) = subst BranchSo (sym outside) (tt, fails)
-  branch_so branch (inl (fails, inr (cut, sound, unhosted))) = subst BranchSo (sym unhosted) ((sound, tt), fails)
-  branch_so branch (inr (inl (leaf, is, told, answers))) = subst BranchSo (sym answers) (tt, ends_answered ends rtype leaf is told)
-  branch_so branch (inr (inr (cut, to, sound, goes, has))) = subst BranchSo (sym goes) (sound, has)
+  branch_so : (state : State) (branch : Branch) → BranchStraight setting deps ends rtype straight.states state branch → BranchSo state branch
+  branch_so state branch (inl (fails, inl outside)) = subst (BranchSo state) (sym outside) (tt, fails, λ is. absurd (apart is)) where
+    apart : Outside ≡ NxDomain → ⊥
+    apart e = cc
+  branch_so state branch (inl (fails, inr (cut, sound, unhosted))) = subst (BranchSo state) (sym unhosted) ((sound, tt), fails, λ is. absurd (apart is)) where
+    apart : Unhosted cut.ns ≡ NxDomain → ⊥
+    apart e = cc
+  branch_so state branch (inr (inl (leaf, is, told, exists, answers))) = subst (BranchSo state) (sym answers) (tt, ends_answered ends rtype leaf is told, exists)
+  branch_so state branch (inr (inr (inl (cut, to, sound, goes, has)))) = subst (BranchSo state) (sym goes) (sound, has)
+  branch_so state branch (inr (inr (inr (place, target, to, goes, has)))) = subst (BranchSo state) (sym goes) (tt, has)
 
   -- each walk from one of the states goes so
   walk_straight : (numbers : List ℕ) (state : State) (walk : Walk) → Contains straight.states state → walk_from setting rtype numbers state ≡ Some walk → So walk
@@ -88,9 +133,10 @@ module _ (setting : Setting) (deps : Deps) (most : ℕ) (query : Labels) (ends :
       by (branch_taken state (length numbers == 0) (walk_from setting rtype numbers) (slice_get (next setting rtype state) number) walk e)
       (λ to later among goes. walk_straight numbers to later among goes)
     where
-      taken : (branch : Branch) → slice_get (next setting rtype state) number ≡ Some branch → BranchSo branch
+      taken : (branch : Branch) → slice_get (next setting rtype state) number ≡ Some branch → BranchSo state branch
       taken branch is =
-          item BranchSo (next setting rtype state) number branch (all_so _ BranchSo (next setting rtype state) branch_so (straight.steps state has rtype)) is
+          item (BranchSo state) (next setting rtype state) number branch
+          (all_so (BranchStraight setting deps ends rtype straight.states state) (BranchSo state) (next setting rtype state) (branch_so state) (straight.steps state has)) is
 
       by : GoesOn state (walk_from setting rtype numbers) (slice_get (next setting rtype state) number) walk
           ⊎ EndsBy state (slice_get (next setting rtype state) number) walk
@@ -98,10 +144,23 @@ module _ (setting : Setting) (deps : Deps) (most : ℕ) (query : Labels) (ends :
       by (inl on) behind =
           let branch = taken (Go on.hop on.to) on.is in
           let so = behind on.to on.later branch.1 on.goes in
-          subst So on.made (record { among = (has, so.among); hops = (branch.0, so.hops); ends_so = so.ends_so })
+          let begun = first_state setting rtype numbers on.to on.later on.goes in
+          subst So on.made
+          (record {
+            among = (has, so.among);
+            hops = (branch.0, so.hops);
+            ends_so = so.ends_so;
+            exists = λ place shows. so.exists place (on_exists state on.hop on.later on.to begun.0 begun.1 place shows);
+          })
       by (inr end) behind =
           let branch = taken (End end.hop end.leaf) end.is in
-          subst So end.made (record { among = (has, tt); hops = branch.0; ends_so = branch.1 })
+          subst So end.made
+          (record {
+            among = (has, tt);
+            hops = branch.0;
+            ends_so = branch.1;
+            exists = end_exists state (option_to_list end.hop) end.leaf branch.2;
+          })
 
   -- and so does each walk of the query
   pub goes_by : (walk : Walk) → IsWalk setting query rtype walk → So walk

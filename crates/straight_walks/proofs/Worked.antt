@@ -1,11 +1,13 @@
 -- A worked value: a query whose walks go straight, by a delegation to two name servers that answer alike.
-use Rattle.std.proofs.Common.{◌≡◌, true, false, List, [], ◌∷◌, refl, subst, inl, inr, arith}
+use Rattle.std.proofs.Common.{◌≡◌, Bool, true, false, cond, List, [], ◌∷◌, refl, sym, ap, ◌∙◌, subst, inl, inr, arith}
 use Rattle.std.specs.Prelude.{codes, Option, Some, None, Contains}
 use Rattle.dns_data.specs.Name.{Labels}
+use Rattle.dns_data.specs.RrType.{type_eq}
 use Rattle.dns_data.specs.declared.rdata.Rdata.{Rdata}
 use Rattle.dns_data.specs.declared.rdata.Rdata.TheVariants.{A, Ns}
 use Rattle.dns_data.specs.declared.rdata.Rr.{Rr}
 use Rattle.dns_data.specs.declared.rr_type.RrType.{RrType}
+use Rattle.dns_data.specs.declared.rr_type.RrType.TheVariants as types
 use Rattle.dns_data.proofs.Membership.{each_along, has_first, has_later}
 use Rattle.net_model.specs.declared.deps.Deps.{Deps}
 use Rattle.net_model.specs.Step.{Setting, following}
@@ -19,6 +21,7 @@ use Rattle.net_model.specs.declared.walk.Leaf.TheVariants.{NxDomain}
 use Rattle.net_model.specs.declared.walk.State.{State}
 use Rattle.zone_lookup.specs.Sound.{IsSound}
 use Rattle.walk_laws.specs.Outcome.{HasOutcome}
+use Rattle.straight_walks.specs.Answers.{ZoneOwner, leaf_of, owner_leaf}
 use Rattle.straight_walks.specs.Ends.{IsOutcomeOf}
 use Rattle.straight_walks.specs.Straight.{GoesStraight, StepsStraight}
 use Rattle.straight_walks.specs.declared.ends.StraightEnds.{StraightEnds}
@@ -86,8 +89,11 @@ abbrev delegated : Zone
 delegated = record { origin = z; rrs = z_servers }
 
 -- they answer that there is no such name, and no walk fails
+abbrev nothing : ZoneOwner
+nothing = record { zone = delegated; owner = None }
+
 abbrev ends : StraightEnds
-ends = record { answer = Some (record { zone = delegated; owner = None }); fails = false }
+ends = record { answer = Some (record { own = nothing; last = nothing }); fails = false; rewrites = 0 }
 
 second : Contains states (behind nsa)
 second = has_later first (behind nsa ∷ behind nsb ∷ []) (behind nsa) (has_first (behind nsa) (behind nsb ∷ []))
@@ -104,30 +110,40 @@ first_sound = record { same_servers = refl; glued = refl; same_addresses = refl;
 second_sound : IsSound setting.config deps (cut nsb)
 second_sound = record { same_servers = refl; glued = refl; same_addresses = refl; independent = refl }
 
-first_goes : StepsStraight setting deps ends states first
-first_goes rtype = (inr (inr (cut nsa, behind nsa, first_sound, refl, second)), (inr (inr (cut nsb, behind nsb, second_sound, refl, third)), tt))
+module _ (rtype : RrType) where
+  -- with each type they answer so
+  leaf_is : leaf_of (record { own = nothing; last = nothing }) rtype ≡ NxDomain
+  leaf_is = by (type_eq rtype types.Cname) where
+    by : (b : Bool) → owner_leaf (cond b nothing nothing) rtype ≡ NxDomain
+    by true = refl
+    by false = refl
 
--- where the name doesn't exist
-second_answers : StepsStraight setting deps ends states (behind nsa)
-second_answers rtype = (inr (inl (NxDomain, refl, refl, refl)), tt)
+  told : IsOutcomeOf ends rtype (Some NxDomain)
+  told = ap (λ (leaf : Leaf). Some leaf) leaf_is
 
-third_answers : StepsStraight setting deps ends states (behind nsb)
-third_answers rtype = (inr (inl (NxDomain, refl, refl, refl)), tt)
+  first_goes : StepsStraight setting deps ends rtype states first
+  first_goes = (inr (inr (inl (cut nsa, behind nsa, first_sound, refl, second))), (inr (inr (inl (cut nsb, behind nsb, second_sound, refl, third))), tt))
 
--- so ends the walk by the first name server
-www_told : (rtype : RrType) (outcome : Option Leaf) → IsOutcomeOf ends rtype outcome → HasOutcome setting www rtype outcome
-www_told rtype (Some leaf) is =
-    subst (HasOutcome setting www rtype) is
-    (record { states = first ∷ behind nsa ∷ []; hops = Refer (cut nsa) ∷ []; leaf = NxDomain }, (0 ∷ 0 ∷ 0 ∷ [], refl), refl)
-www_told rtype None is = cc
+  -- where the name doesn't exist
+  second_answers : StepsStraight setting deps ends rtype states (behind nsa)
+  second_answers = (inr (inl (NxDomain, refl, told, λ is. refl, refl)), tt)
 
-www_goes_straight : GoesStraight setting deps 3 www ends
-www_goes_straight =
-    record {
-      states = states;
-      few = omega arith;
-      begins = λ state has. each_along (Contains states) (first ∷ []) (has_first first (behind nsa ∷ behind nsb ∷ []), tt) state has;
-      not_rewritten = λ state has. each_along (λ (one : State). one.last ≡ None) states (refl, (refl, (refl, tt))) state has;
-      steps = λ state has. each_along (StepsStraight setting deps ends states) states (first_goes, (second_answers, (third_answers, tt))) state has;
-      told = www_told;
-    }
+  third_answers : StepsStraight setting deps ends rtype states (behind nsb)
+  third_answers = (inr (inl (NxDomain, refl, told, λ is. refl, refl)), tt)
+
+  -- so ends the walk by the first name server
+  www_told : (outcome : Option Leaf) → IsOutcomeOf ends rtype outcome → HasOutcome setting www rtype outcome
+  www_told (Some leaf) is =
+      subst (HasOutcome setting www rtype) (sym told ∙ is)
+      (record { states = first ∷ behind nsa ∷ []; hops = Refer (cut nsa) ∷ []; leaf = NxDomain }, (0 ∷ 0 ∷ 0 ∷ [], refl), refl)
+  www_told None is = cc
+
+  www_goes_straight : GoesStraight setting deps 3 www ends rtype
+  www_goes_straight =
+      record {
+        states = states;
+        few = omega arith;
+        begins = λ state has. each_along (Contains states) (first ∷ []) (has_first first (behind nsa ∷ behind nsb ∷ []), tt) state has;
+        steps = λ state has. each_along (StepsStraight setting deps ends rtype states) states (first_goes, (second_answers, (third_answers, tt))) state has;
+        told = www_told;
+      }

@@ -1,9 +1,11 @@
--- What a zone answers to a query with each type.
-use Rattle.std.specs.Prelude.{ℕ, List, [], ◌∷◌, Option, option_map}
+-- What a server answers to a query with each type.
+use Rattle.std.specs.Prelude.{ℕ, List, [], ◌∷◌, Option, Some, option_map, if◌then◌else◌}
 use Rattle.std.specs.Option.{option_map_or}
 use Rattle.dns_data.specs.Name.{Labels}
+use Rattle.dns_data.specs.RrType.{type_eq}
 use Rattle.dns_data.specs.declared.rdata.Rdata.{Rdata}
 use Rattle.dns_data.specs.declared.rr_type.RrType.{RrType}
+use Rattle.dns_data.specs.declared.rr_type.RrType.TheVariants as types
 use Rattle.net_model.specs.Order.{in_order}
 use Rattle.net_model.specs.Zone.{data_at, data_cmp}
 use Rattle.net_model.specs.declared.config.Zone.{Zone}
@@ -11,14 +13,32 @@ use Rattle.net_model.specs.declared.walk.Leaf.{Leaf}
 use Rattle.net_model.specs.declared.walk.Leaf.TheVariants.{Answer, NoData, NxDomain}
 use Rattle.zone_tree.specs.Tree.{ZoneTree, name_of}
 
--- the zone that answers, and the owner whose data it answers; without an owner it answers that there is no such name
-pub record Answering : Type 0 where
+-- an owner in a zone, whose data the zone answers; without one it answers that there is no such name
+pub record ZoneOwner : Type 0 where
   pub zone : Zone
   pub owner : Option Labels
 
--- what the tree's zone answers by this node, or without one
+-- the owner that the tree's node has, or none
+abbrev pub zone_owner : ZoneTree → Option ℕ → ZoneOwner
+zone_owner tree owner = record { zone = tree.zone; owner = option_map (name_of tree) owner }
+
+-- What a server answers: with type CNAME by the name's own owner, and with each other type by the last owner, to which the name's
+-- aliases lead. They are the same where the name is no alias.
+pub record Answering : Type 0 where
+  pub own : ZoneOwner
+  pub last : ZoneOwner
+
+-- what is answered by the tree's node, or without one, where the name is no alias
 abbrev pub answering_by : ZoneTree → Option ℕ → Answering
-answering_by tree owner = record { zone = tree.zone; owner = option_map (name_of tree) owner }
+answering_by tree owner = record { own = zone_owner tree owner; last = zone_owner tree owner }
+
+-- what is answered by the tree's node, whose name is an alias, and by the node of the other tree, to which the aliases lead
+abbrev pub alias_answering : ZoneTree → ℕ → ZoneTree → ℕ → Answering
+alias_answering tree owner last_tree last = record { own = zone_owner tree (Some owner); last = zone_owner last_tree (Some last) }
+
+-- the owner by which it is answered with a type (RFC 1034 section 3.6.2)
+abbrev pub owner_with : Answering → RrType → ZoneOwner
+owner_with answering rtype = if type_eq rtype types.Cname then answering.own else answering.last
 
 -- the data of a type that an owner has, in the order of their texts
 abbrev pub sorted_data : Zone → Labels → RrType → List Rdata
@@ -29,6 +49,10 @@ abbrev pub leaf_with : List Rdata → Leaf
 leaf_with [] = NoData
 leaf_with (first ∷ rest) = Answer (first ∷ rest)
 
--- what is answered with a type (RFC 1034 section 4.3.2, RFC 2308 section 2)
+-- what an owner's zone answers with a type (RFC 1034 section 4.3.2, RFC 2308 section 2)
+abbrev pub owner_leaf : ZoneOwner → RrType → Leaf
+owner_leaf at rtype = option_map_or (λ owner. leaf_with (sorted_data at.zone owner rtype)) at.owner NxDomain
+
+-- what is answered with a type
 abbrev pub leaf_of : Answering → RrType → Leaf
-leaf_of answering rtype = option_map_or (λ owner. leaf_with (sorted_data answering.zone owner rtype)) answering.owner NxDomain
+leaf_of answering rtype = owner_leaf (owner_with answering rtype) rtype

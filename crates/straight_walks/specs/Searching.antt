@@ -1,27 +1,34 @@
 -- What servers reply, and searches over the states of walks: for the contracts of inner calls alone.
-use Rattle.std.specs.Prelude.{◌≡◌, ◌<◌, ◌≤◌, ℕ, Bool, true, List, [], ◌∷◌, ◌++◌, map, take, length, Contains, Option, Some, None, option_map, IfSome, ◌⊎◌}
+use Rattle.std.specs.Prelude.{◌≡◌, ◌<◌, ◌≤◌, ◌+◌, ◌*◌, ℕ, Bool, true, false, List, [], ◌∷◌, ◌++◌, map, take, length, Contains, Option, Some, None, is_some, option_map, IfSome, ◌⊎◌}
 use Rattle.std.specs.List.{AllByRecursion, slice_get}
 use Rattle.dns_data.specs.Name.{Labels, is_prefix}
+use Rattle.dns_data.specs.RrType.{type_eq}
 use Rattle.dns_data.specs.declared.rr_type.RrType.{RrType}
+use Rattle.dns_data.specs.declared.rr_type.RrType.TheVariants as types
 use Rattle.net_model.specs.declared.deps.Deps.{Deps}
-use Rattle.net_model.specs.Lookup.{ByCut, deciding}
+use Rattle.net_model.specs.Lookup.{ByCut, ByRecords, deciding, first_name}
 use Rattle.net_model.specs.Nearest.{held_zone, nearest_of}
+use Rattle.net_model.specs.Shown.{is_authoritative}
 use Rattle.net_model.specs.Step.{Setting, Branch, Go, End, next, referred, start}
 use Rattle.net_model.specs.Walk.{IsWalk, walk_from}
+use Rattle.net_model.specs.Zone.{targets_at}
 use Rattle.net_model.specs.declared.config.Config.{Config}
 use Rattle.net_model.specs.declared.config.Zone.{Zone}
 use Rattle.net_model.specs.declared.place.Cut.{Cut}
+use Rattle.net_model.specs.declared.place.Place.{Place}
 use Rattle.net_model.specs.declared.walk.Hop.{Hop}
-use Rattle.net_model.specs.declared.walk.Hop.TheVariants.{Refer}
+use Rattle.net_model.specs.declared.walk.Hop.TheVariants.{Refer, Rewrite}
 use Rattle.net_model.specs.declared.walk.Leaf.{Leaf}
+use Rattle.net_model.specs.declared.walk.Leaf.TheVariants.{NxDomain}
 use Rattle.net_model.specs.declared.walk.State.{State}
 use Rattle.net_model.specs.declared.walk.Walk.{Walk}
 use Rattle.walk_laws.specs.Outcome.{HasOutcome, outcome_of}
 use Rattle.zone_tree.specs.Tree.{IsNode, name_of}
 use Rattle.zone_lookup.specs.Sound.{IsSound}
-use Rattle.straight_walks.specs.Answers.{Answering, answering_by, leaf_of}
+use Rattle.straight_walks.specs.Answers.{Answering, ZoneOwner, leaf_of, owner_leaf, zone_owner}
 use Rattle.straight_walks.specs.Ends.{IsOutcomeOf}
-use Rattle.straight_walks.specs.Straight.{EndsUnanswered, FollowsLeast, GoesStraight, GoesTo, StepsStraight}
+use Rattle.straight_walks.specs.Straight.{EndsUnanswered, FollowsLeast, GoesStraight, GoesTo}
+use Rattle.straight_walks.specs.declared.aliases.AliasEnd.{AliasEnd}
 use Rattle.straight_walks.specs.declared.ends.StraightEnds.{StraightEnds}
 use Rattle.straight_walks.specs.declared.queue.Queued.{Queued}
 use Rattle.straight_walks.specs.declared.searching.Search.{Search}
@@ -64,10 +71,10 @@ Extends before after = (more : List Queued) × (after ≡ before ++ more)
 abbrev pub LeadsOn : Setting → RrType → State → State → Type 0
 LeadsOn setting rtype from to = (hop : Hop) × Contains (next setting rtype from) (Go hop to)
 
--- a branch of the state ends with the outcome
+-- a walk from the state has the outcome
 abbrev pub EndsWith : Setting → RrType → State → Option Leaf → Type 0
 EndsWith setting rtype from outcome =
-    (hop : Option Hop) × (leaf : Leaf) × Contains (next setting rtype from) (End hop leaf) × (outcome_of leaf ≡ outcome)
+    (numbers : List ℕ) × (walk : Walk) × (walk_from setting rtype numbers from ≡ Some walk) × (outcome_of walk.leaf ≡ outcome)
 
 -- walks of the query come to the state: each walk from it is the rest of one
 abbrev pub IsComeTo : Setting → Labels → RrType → State → Type 0
@@ -77,17 +84,20 @@ IsComeTo setting query rtype state =
 
 -- ---- ends
 
--- no zone answers, and walks fail or don't
+-- no zone answers, no walk is rewritten, and walks fail or don't
 abbrev pub unanswered : Bool → StraightEnds
-unanswered fails = record { answer = None; fails = fails }
+unanswered fails = record { answer = None; fails = fails; rewrites = 0 }
 
--- each outcome of the first is one of the second
-abbrev pub KeepsOutcomes : StraightEnds → StraightEnds → Type 0
-KeepsOutcomes before after = (rtype : RrType) (outcome : Option Leaf) → IsOutcomeOf before rtype outcome → IsOutcomeOf after rtype outcome
+-- each outcome of the first is one of the second, behind no fewer rewrites
+pub record KeepsOutcomes (before after : StraightEnds) : Type 0 where
+  pub rewrites : before.rewrites ≤ after.rewrites
+  pub outcomes : (rtype : RrType) (outcome : Option Leaf) → IsOutcomeOf before rtype outcome → IsOutcomeOf after rtype outcome
 
--- what a zone answers is put to the ends: it is their answer then, and no other outcome comes to those before
-pub record IsPut (before : StraightEnds) (answering : Answering) (after : StraightEnds) : Type 0 where
+-- what a server answers behind so many rewrites is put to the ends: it is their answer then, and no other outcome comes to those
+-- before
+pub record IsPut (before : StraightEnds) (answering : Answering) (rewrites : ℕ) (after : StraightEnds) : Type 0 where
   pub still : KeepsOutcomes before after
+  pub behind : rewrites ≤ after.rewrites
   pub there : (rtype : RrType) → IsOutcomeOf after rtype (Some (leaf_of answering rtype))
   pub only : (rtype : RrType) (outcome : Option Leaf) → IsOutcomeOf after rtype outcome
       → IsOutcomeOf before rtype outcome ⊎ (outcome ≡ Some (leaf_of answering rtype))
@@ -132,17 +142,25 @@ pub record AreReferrals (config : Config) (deps : Deps) (query server : Labels) 
 
 -- ---- servers
 
--- with each type the server answers the query so
-abbrev pub AnswersSo : Config → Labels → Labels → Answering → Type 0
-AnswersSo config query server answering =
-    (setting : Setting) (rtype : RrType) (above : ℕ) → setting.config ≡ config
-    → next setting rtype (state_at config query server above) ≡ End None (leaf_of answering rtype) ∷ []
+-- at a state with the name the server answers with each type what the zone's owner has
+abbrev pub AnswersAt : Config → Labels → Labels → ZoneOwner → Type 0
+AnswersAt config query server owner =
+    (setting : Setting) (rtype : RrType) (state : State) → setting.config ≡ config → state.server ≡ server → state.name ≡ query
+    → next setting rtype state ≡ End None (owner_leaf owner rtype) ∷ []
 
 -- what the server replies to the query
 abbrev pub IsReply : Config → Labels → Labels → Reply → Type 0
 IsReply config query server reply.Outside = nearest_of config server query ≡ None
-IsReply config query server (reply.Records tree owner) = IsNode tree.now owner × AnswersSo config query server (answering_by tree.now (Some owner))
-IsReply config query server (reply.Nothing tree) = AnswersSo config query server (answering_by tree.now None)
+IsReply config query server (reply.Records tree owner) =
+    IsNode tree.now owner
+    × (is_some (nearest_of config server query) ≡ true)
+    × AnswersAt config query server (zone_owner tree.now (Some owner))
+IsReply config query server (reply.Alias tree owner target) =
+    IsNode tree.now owner
+    × (nearest_of config server query ≡ Some tree.now.zone)
+    × (deciding tree.now.zone query ≡ ByRecords (name_of tree.now owner))
+    × (first_name (targets_at tree.now.zone (name_of tree.now owner) types.Cname) ≡ Some target.now)
+IsReply config query server (reply.Nothing tree) = AnswersAt config query server (zone_owner tree.now None)
 IsReply config query server (reply.Refers tree cut) =
     IsNode tree.now cut
     × (is_prefix tree.now.zone.origin (name_of tree.now cut) ≡ true)
@@ -151,18 +169,62 @@ IsReply config query server (reply.Refers tree cut) =
     × (deciding tree.now.zone query ≡ ByCut (name_of tree.now cut))
 IsReply config query server reply.Unclear = Unit {0}
 
+-- ---- aliases
+
+-- walks from the state go on by aliases alone, through these states, and end in the answer; a name to which an alias led exists
+abbrev pub AnswersAlong : Setting → RrType → Leaf → State → List State → Type 0
+AnswersAlong setting rtype leaf state [] = (next setting rtype state ≡ End None leaf ∷ []) × (leaf ≡ NxDomain → state.last ≡ None)
+AnswersAlong setting rtype leaf state (to ∷ behind) =
+    (place : Place) × (target : Labels) × (next setting rtype state ≡ Go (Rewrite place false target) to ∷ []) × AnswersAlong setting rtype leaf to behind
+
+-- with each type but CNAME walks from a state with the name, to which so many rewrites led, go by aliases alone to what the end's
+-- owner has, by no more rewrites in all than the end's
+pub record IsAliasEnd (config : Config) (server name : Labels) (rewrites : ℕ) (end : AliasEnd) : Type 0 where
+  pub node : IsNode end.tree.now end.owner
+  pub held : is_some (nearest_of config server name) ≡ true
+  pub no_fewer : rewrites ≤ end.rewrites
+  pub along : (setting : Setting) (rtype : RrType) (state : State) → setting.config ≡ config → end.rewrites ≤ setting.rewrites → type_eq rtype types.Cname ≡ false
+      → state.server ≡ server → state.name ≡ name → state.used ≡ rewrites
+      → (behind : List State) × (length behind + rewrites ≤ end.rewrites)
+      × AnswersAlong setting rtype (owner_leaf (zone_owner end.tree.now (Some end.owner)) rtype) state behind
+
+-- with each type walks from the query's state at the server end in the answer, behind no more aliases than these
+abbrev pub AnswersSo : Config → Labels → Labels → Answering → ℕ → Type 0
+AnswersSo config query server answering rewrites =
+    (setting : Setting) (rtype : RrType) (above : ℕ) → setting.config ≡ config → rewrites ≤ setting.rewrites
+    → (behind : List State) × (length behind ≤ rewrites) × AnswersAlong setting rtype (leaf_of answering rtype) (state_at config query server above) behind
+
+-- ---- states that are passed
+
+-- walks with the type from the state end in an answer of the ends, behind no more aliases than the ends tell
+abbrev pub EndsAnswered : Setting → StraightEnds → RrType → State → Type 0
+EndsAnswered setting ends rtype state =
+    (behind : List State) × (leaf : Leaf) × (length behind ≤ ends.rewrites) × (is_authoritative leaf ≡ true) × IsOutcomeOf ends rtype (Some leaf)
+    × AnswersAlong setting rtype leaf state behind
+
+-- walks with the type go straight from the state: each branch ends where no zone answers, which is one of the ends, or goes on to one
+-- of the states; or they end in an answer
+abbrev pub PassesState : Setting → Deps → StraightEnds → RrType → List State → State → Type 0
+PassesState setting deps ends rtype states state =
+    AllByRecursion (FailsOrGoes setting.config deps ends.fails states) (next setting rtype state) ⊎ EndsAnswered setting ends rtype state
+
+-- the setting is one of the configuration in which a walk may be rewritten as often as the ends tell
+pub record IsSettingFor (config : Config) (deps : Deps) (ends : StraightEnds) (setting : Setting) : Type 0 where
+  pub is_of : IsSettingOf config deps setting
+  pub rewrites : ends.rewrites ≤ setting.rewrites
+
 -- from the query's state at a server walks go straight, to an end or on to states that are queued then; no other states come to
 -- the queue, and no other outcomes to the ends
 pub record Passes (config : Config) (deps : Deps) (query server : Labels) (before : List Queued) (ends_before : StraightEnds) (after : List Queued) (ends : StraightEnds) : Type 0 where
   pub extends : Extends before after
   pub still : KeepsOutcomes ends_before ends
-  pub steps : (setting : Setting) (above : ℕ) → IsSettingOf config deps setting
-      → StepsStraight setting deps ends (map (queued_state config query) after) (state_at config query server above)
+  pub steps : (setting : Setting) (rtype : RrType) (above : ℕ) → IsSettingFor config deps ends setting
+      → PassesState setting deps ends rtype (map (queued_state config query) after) (state_at config query server above)
   pub leads : (one : Queued) → Contains after one → Contains before one
       ⊎ ((setting : Setting) (rtype : RrType) (above : ℕ) → IsSettingOf config deps setting
       → LeadsOn setting rtype (state_at config query server above) (queued_state config query one))
   pub told : (rtype : RrType) (outcome : Option Leaf) → IsOutcomeOf ends rtype outcome → IsOutcomeOf ends_before rtype outcome
-      ⊎ ((setting : Setting) (above : ℕ) → IsSettingOf config deps setting → EndsWith setting rtype (state_at config query server above) outcome)
+      ⊎ ((setting : Setting) (above : ℕ) → IsSettingFor config deps ends setting → EndsWith setting rtype (state_at config query server above) outcome)
 
 -- ---- searches
 
@@ -172,9 +234,9 @@ pub record HasWalked (config : Config) (deps : Deps) (query : Labels) (queue pas
   pub begins : (state : State) → Contains (start config query) state → Contains (map (queued_state config query) queue) state
   pub comes : (setting : Setting) (rtype : RrType) → IsSettingOf config deps setting → (one : Queued) → Contains queue one
       → IsComeTo setting query rtype (queued_state config query one)
-  pub steps : (setting : Setting) → IsSettingOf config deps setting
-      → AllByRecursion (StepsStraight setting deps ends (map (queued_state config query) queue)) (map (queued_state config query) passed)
-  pub told : (setting : Setting) (rtype : RrType) (outcome : Option Leaf) → IsSettingOf config deps setting → IsOutcomeOf ends rtype outcome
+  pub steps : (setting : Setting) (rtype : RrType) → IsSettingFor config deps ends setting
+      → AllByRecursion (PassesState setting deps ends rtype (map (queued_state config query) queue)) (map (queued_state config query) passed)
+  pub told : (setting : Setting) (rtype : RrType) (outcome : Option Leaf) → IsSettingFor config deps ends setting → IsOutcomeOf ends rtype outcome
       → HasOutcome setting query rtype outcome
 
 -- the first queued states, as many as said, are passed
@@ -186,12 +248,18 @@ pub record HasPassed (config : Config) (deps : Deps) (query : Labels) (queue : L
 abbrev pub IsSearch : Config → Deps → Labels → Search → Type 0
 IsSearch config deps query searched = HasPassed config deps query searched.queue.items searched.passed (unanswered searched.fails)
 
+-- in each setting of the configuration in which walks may use so many rewrites those of the query go straight to the ends, with each
+-- type, over at most so many states
+abbrev pub GoesStraightIn : Config → Deps → ℕ → ℕ → Labels → StraightEnds → Type 0
+GoesStraightIn config deps rewrites most query ends =
+    (setting : Setting) → IsSettingOf config deps setting → rewrites ≤ setting.rewrites → (rtype : RrType) → GoesStraight setting deps most query ends rtype
+
 -- the next referral of a search that has passed so many of the states, with what walks end in before and after: where walks end at
 -- all of them the query goes straight; where a server refers the query the search has passed all up to that state
 abbrev pub IsNextReferral : Config → Labels → List Queued → ℕ → StraightEnds → StraightEnds → NextReferral → Type 0
 IsNextReferral config query queue before ends_before ends referring.Ends =
     (deps : Deps) → HasPassed config deps query queue before ends_before
-    → (most : ℕ) → length queue ≤ most → (setting : Setting) → IsSettingOf config deps setting → GoesStraight setting deps most query ends
+    → (most : ℕ) → length queue * (ends.rewrites + 1) ≤ most → GoesStraightIn config deps ends.rewrites most query ends
 IsNextReferral config query queue before ends_before ends (referring.Refers passed tree cut) =
     (before ≤ passed)
     × (passed < length queue)

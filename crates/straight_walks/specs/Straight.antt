@@ -1,5 +1,6 @@
--- Queries whose walks go straight: by delegations alone, to ends that show no fault, where all servers answer alike.
-use Rattle.std.specs.Prelude.{◌≡◌, ◌≤◌, ℕ, true, List, ◌⊎◌, length, Option, Some, None, Contains}
+-- Queries whose walks go straight: by delegations and by aliases in one server, to ends that show no fault, where all servers answer
+-- alike.
+use Rattle.std.specs.Prelude.{◌≡◌, ◌≤◌, ℕ, true, false, List, ◌⊎◌, length, Option, Some, None, Contains}
 use Rattle.std.specs.List.{AllByRecursion, list_any}
 use Rattle.dns_data.specs.Name.{Labels, name_eq}
 use Rattle.dns_data.specs.declared.rr_type.RrType.{RrType}
@@ -9,9 +10,10 @@ use Rattle.net_model.specs.Shown.{is_authoritative}
 use Rattle.net_model.specs.Step.{Setting, Branch, Go, End, next, start}
 use Rattle.net_model.specs.declared.config.Config.{Config}
 use Rattle.net_model.specs.declared.place.Cut.{Cut}
-use Rattle.net_model.specs.declared.walk.Hop.TheVariants.{Refer}
+use Rattle.net_model.specs.declared.place.Place.{Place}
+use Rattle.net_model.specs.declared.walk.Hop.TheVariants.{Refer, Rewrite}
 use Rattle.net_model.specs.declared.walk.Leaf.{Leaf}
-use Rattle.net_model.specs.declared.walk.Leaf.TheVariants.{Outside, Unhosted}
+use Rattle.net_model.specs.declared.walk.Leaf.TheVariants.{NxDomain, Outside, Unhosted}
 use Rattle.net_model.specs.declared.walk.State.{State}
 use Rattle.walk_laws.specs.Outcome.{HasOutcome}
 use Rattle.zone_lookup.specs.Sound.{IsSound}
@@ -23,32 +25,38 @@ abbrev pub EndsUnanswered : Config → Deps → Branch → Type 0
 EndsUnanswered config deps branch =
     (branch ≡ End None Outside) ⊎ ((cut : Cut) × IsSound config deps cut × (branch ≡ End (Some (Refer cut)) (Unhosted cut.ns)))
 
--- the branch ends where a zone answers what the ends have with the type
-abbrev pub EndsInAnswer : StraightEnds → RrType → Branch → Type 0
-EndsInAnswer ends rtype branch =
-    (leaf : Leaf) × (is_authoritative leaf ≡ true) × IsOutcomeOf ends rtype (Some leaf) × (branch ≡ End None leaf)
+-- the branch ends where a zone answers what the ends have with the type; the name exists where a rewrite led to the state
+abbrev pub EndsInAnswer : StraightEnds → RrType → State → Branch → Type 0
+EndsInAnswer ends rtype state branch =
+    (leaf : Leaf) × (is_authoritative leaf ≡ true) × IsOutcomeOf ends rtype (Some leaf) × (leaf ≡ NxDomain → state.last ≡ None) × (branch ≡ End None leaf)
 
 -- the branch goes on by a referral to one of these states
 abbrev pub GoesTo : Config → Deps → List State → Branch → Type 0
 GoesTo config deps states branch = (cut : Cut) × (to : State) × IsSound config deps cut × (branch ≡ Go (Refer cut) to) × Contains states to
 
--- with each type each branch of the state ends where no zone answers, which is one of the ends, ends with their answer, or goes
--- on to one of the states
-abbrev pub StepsStraight : Setting → Deps → StraightEnds → List State → State → Type 0
-StepsStraight setting deps ends states state =
-    (rtype : RrType)
-    → AllByRecursion (λ branch. (IsOutcomeOf ends rtype None × EndsUnanswered setting.config deps branch) ⊎ (EndsInAnswer ends rtype branch ⊎ GoesTo setting.config deps states branch))
-    (next setting rtype state)
+-- the branch goes on by an alias to one of these states
+abbrev pub GoesByAlias : List State → Branch → Type 0
+GoesByAlias states branch = (place : Place) × (target : Labels) × (to : State) × (branch ≡ Go (Rewrite place false target) to) × Contains states to
 
--- the walks of the query go straight: they reach at most so many states, to none of which a rewrite led; with one type all zones
--- that answer tell the same; and the query has the outcomes of these ends
-pub record GoesStraight (setting : Setting) (deps : Deps) (most : ℕ) (query : Labels) (ends : StraightEnds) : Type 0 where
+-- a branch of the state ends with the type where no zone answers, which is one of the ends, ends with their answer, or goes on to one
+-- of the states
+abbrev pub BranchStraight : Setting → Deps → StraightEnds → RrType → List State → State → Branch → Type 0
+BranchStraight setting deps ends rtype states state branch =
+    (IsOutcomeOf ends rtype None × EndsUnanswered setting.config deps branch)
+    ⊎ (EndsInAnswer ends rtype state branch ⊎ (GoesTo setting.config deps states branch ⊎ GoesByAlias states branch))
+
+-- each branch of the state does so
+abbrev pub StepsStraight : Setting → Deps → StraightEnds → RrType → List State → State → Type 0
+StepsStraight setting deps ends rtype states state = AllByRecursion (BranchStraight setting deps ends rtype states state) (next setting rtype state)
+
+-- the walks of the query with the type go straight: they reach at most so many states, all zones that answer tell the same, and the
+-- query has the outcomes of these ends
+pub record GoesStraight (setting : Setting) (deps : Deps) (most : ℕ) (query : Labels) (ends : StraightEnds) (rtype : RrType) : Type 0 where
   pub states : List State
   pub few : length states ≤ most
   pub begins : (state : State) → Contains (start setting.config query) state → Contains states state
-  pub not_rewritten : (state : State) → Contains states state → state.last ≡ None
-  pub steps : (state : State) → Contains states state → StepsStraight setting deps ends states state
-  pub told : (rtype : RrType) (outcome : Option Leaf) → IsOutcomeOf ends rtype outcome → HasOutcome setting query rtype outcome
+  pub steps : (state : State) → Contains states state → StepsStraight setting deps ends rtype states state
+  pub told : (outcome : Option Leaf) → IsOutcomeOf ends rtype outcome → HasOutcome setting query rtype outcome
 
 -- of the configured servers those of the least set are followed
 abbrev pub FollowsLeast : Setting → Deps → Type 0

@@ -1,4 +1,5 @@
-//! Queries whose walks go straight: by delegations alone, to ends that show no fault, where all servers answer alike.
+//! Queries whose walks go straight: by delegations, and by aliases in one server, to ends that show no fault, where all servers
+//! answer alike.
 //!
 //! The layer above may rest on this: where `straight_ends` gives what the walks of a query end in, the query shows no
 //! fault, reaches no more pairs of state and type than are allowed, and has the outcomes of these ends and no others.
@@ -10,7 +11,8 @@
 //! the origins, of two comparisons where the query before it stands between the same two origins. At each server that answers for
 //! the query's nearest origin there is a search among the server's zones for the nearest zone, of three, one of them
 //! for the server, where no origin of the server's stands between the query and its nearest origin, and what decides at the query
-//! is looked for. Where several servers answer the query, their data are compared, type by type; nothing is looked for again, and
+//! is looked for. Where that is an alias the same is done for its target, at the same server, and for no more than four aliases one
+//! behind the other. Where several servers answer the query, their data are compared, type by type; nothing is looked for again, and
 //! so where ends are compared. All this takes no memory. Only where one of these servers refers the query its nearest origin's
 //! states are copied, once, and each name server of the zone cut is looked into, as for an origin. The search goes on from there,
 //! over the states queued after that one and those at the servers to which it refers the query, and looks at no state twice. Where
@@ -18,6 +20,7 @@
 //! No graph is made.
 #![tactic(auto)]
 
+mod aliases;
 mod answers;
 mod ends;
 mod name_server;

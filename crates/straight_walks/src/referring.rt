@@ -2,6 +2,7 @@
 
 ghost use Rattle.straight_walks.specs.Searching.{IsNextReferral};
 
+use crate::aliases::alias_end;
 use crate::answers::ZoneAnswer;
 use crate::ends::StraightEnds;
 use crate::queue::Queued;
@@ -38,20 +39,27 @@ pub(crate) fn next_referral<'h, 'a>(
     let mut passed = passed;
     while passed < queue.len() {
         let one = queue[passed];
-        match reply_of(hosts, one.near, query, one.server) {
-            Reply::Outside => ends.fails = true,
-            Reply::Records(tree, owner) => {
-                if !ends.put(ZoneAnswer::of_owner(tree, owner)) {
-                    return NextReferral::Unclear;
+        let answered = match reply_of(hosts, one.near, query, one.server) {
+            Reply::Outside => {
+                ends.fails = true;
+                true
+            }
+            Reply::Records(tree, owner) => ends.put(ZoneAnswer::of_owner(tree, owner), 0),
+            Reply::Alias(tree, owner, target) => {
+                match alias_end(hosts, one.near, one.server, target, 1) {
+                    Some(end) => ends.put(
+                        ZoneAnswer::of_alias(tree, owner, end.tree, end.owner),
+                        end.rewrites,
+                    ),
+                    None => false,
                 }
             }
-            Reply::Nothing(tree) => {
-                if !ends.put(ZoneAnswer::of_nothing(tree)) {
-                    return NextReferral::Unclear;
-                }
-            }
+            Reply::Nothing(tree) => ends.put(ZoneAnswer::of_nothing(tree), 0),
             Reply::Refers(tree, cut) => return NextReferral::Refers { passed, tree, cut },
-            Reply::Unclear => return NextReferral::Unclear,
+            Reply::Unclear => false,
+        };
+        if !answered {
+            return NextReferral::Unclear;
         }
         passed += 1;
     }

@@ -111,7 +111,7 @@ impl<'a> RegionSearch<'a> {
                 self.passed.push(one)?;
                 Ok(true)
             }
-            Reply::Records(..) | Reply::Nothing(..) => {
+            Reply::Records(..) | Reply::Alias(..) | Reply::Nothing(..) => {
                 self.answering.push(one)?;
                 Ok(true)
             }

@@ -6,18 +6,20 @@ use dns_data::Name;
 use zone_lookup::{Hosts, Near};
 use zone_tree::{Decider, NodeId, Tree, deciding};
 
-/// What a server replies to a query: it holds no zone for the name; this zone answers the data of this owner; it answers that there
-/// is no such name; or it refers the query by this zone cut. Of other replies nothing is said.
+/// What a server replies to a query: it holds no zone for the name; this zone answers the data of this owner; the owner's name is an
+/// alias of this target; it answers that there is no such name; or it refers the query by this zone cut. Of other replies nothing is
+/// said.
 #[derive(Clone, Copy)]
 pub(crate) enum Reply<'h, 'a> {
     Outside,
     Records(&'h Tree<'a>, NodeId),
+    Alias(&'h Tree<'a>, NodeId, &'a Name),
     Nothing(&'h Tree<'a>),
     Refers(&'h Tree<'a>, NodeId),
     Unclear,
 }
 
-/// What the server replies to the query. Of an alias nothing is said. The server and its zone are looked for near a place first.
+/// What the server replies to the query. The server and its zone are looked for near a place first.
 pub(crate) fn reply_of<'h, 'a>(
     hosts: &'h Hosts<'a>,
     near: Near,
@@ -33,7 +35,7 @@ pub(crate) fn reply_of<'h, 'a>(
         Decider::Cut(cut) => Reply::Refers(tree, cut),
         Decider::Redirection(_) => Reply::Unclear,
         Decider::Records(owner) => match tree.alias(owner) {
-            Some(_) => Reply::Unclear,
+            Some(target) => Reply::Alias(tree, owner, target),
             None => Reply::Records(tree, owner),
         },
         Decider::Nothing => Reply::Nothing(tree),

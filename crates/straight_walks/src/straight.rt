@@ -1,17 +1,16 @@
 //! Whether the walks of a query go straight, and what they end in.
 
-ghost use Rattle.std.specs.Prelude.{◌↔◌, ℕ, Option as Optional, IfOk, IfSome};
+ghost use Rattle.std.specs.Prelude.{◌≡◌, ◌≤◌, ◌+◌, ◌*◌, ◌↔◌, true, ℕ, Option as Optional, IfOk, IfSome};
 ghost use Rattle.dns_data.specs.declared.rr_type.RrType.{RrType as RrTypeValue};
 ghost use Rattle.net_model.specs.declared.fault.Fault.{Fault as FaultValue};
 ghost use Rattle.net_model.specs.declared.walk.Leaf.{Leaf as LeafValue};
 ghost use Rattle.net_model.specs.Shown.{Shows, with_lists};
-ghost use Rattle.net_model.specs.Step.{Setting, following};
+ghost use Rattle.net_model.specs.Step.{following};
 ghost use Rattle.net_model.specs.Tree.{HasMoreThan, IsReached};
 ghost use Rattle.net_model.specs.Walk.{IsBoundedWith};
 ghost use Rattle.straight_walks.specs.Ends.{IsOutcomeOf};
-ghost use Rattle.straight_walks.specs.Searching.{HasPassed, IsSearch, IsSettingOf};
+ghost use Rattle.straight_walks.specs.Searching.{GoesStraightIn, HasPassed, IsSearch};
 ghost use Rattle.straight_walks.specs.Regions.{AreRegionsFor};
-ghost use Rattle.straight_walks.specs.Straight.{GoesStraight};
 ghost use Rattle.walk_laws.specs.Outcome.{HasOutcome};
 
 use crate::ends::StraightEnds;
@@ -28,11 +27,12 @@ use zone_tree::Tree;
 /// No more states than these are looked at.
 pub(crate) const MOST: u32 = 32;
 
-/// What the walks of a query end in, where they are seen to go straight over few enough pairs of state and type, or `None`. Then
-/// the query shows no fault, with no type does a walk of it end in a name of more than 255 octets (RFC 6672 section 2.2), and it
-/// has the outcomes of these ends and no others. The sets are the least and the greatest set of learnt addresses; the servers of
-/// the least set are followed. The regions are those of the same servers and sets. The query's region is looked for near a place
-/// first, whatever that is, and the place is left near which that of the next query may be looked for.
+/// What the walks of a query end in, where they are seen to go straight over few enough pairs of state and type, or `None`. Each
+/// walk may use so many rewrites. Then the query shows no fault, with no type does a walk of it end in a name of more than 255
+/// octets (RFC 6672 section 2.2), and it has the outcomes of these ends and no others. The sets are the least and the greatest set
+/// of learnt addresses; the servers of the least set are followed. The regions are those of the same servers and sets. The query's
+/// region is looked for near a place first, whatever that is, and the place is left near which that of the next query may be looked
+/// for.
 pub fn straight_ends<'h, 'a>(
     alloc: Global,
     hosts: &'h Hosts<'a>,
@@ -40,23 +40,33 @@ pub fn straight_ends<'h, 'a>(
     regions: &Regions<'a>,
     near: &mut usize,
     query: &Name,
+    rewrites: u32,
     states: u32,
 ) -> Result<Option<StraightEnds<'h, 'a>>, NoMemory>
     requires { AreRegionsFor hosts.now sets.now regions.now }
-    ensures few { IfOk result (λ found. IfSome found (λ ends. (rewrites : ℕ) → HasMoreThan (IsReached hosts.now rewrites query.now) states → ⊥)) }
-    ensures shows_nothing { IfOk result (λ found. IfSome found (λ ends. (rewrites : ℕ) (rtype : RrTypeValue) (fault : FaultValue)
+    ensures few { IfOk result (λ found. IfSome found (λ ends. HasMoreThan (IsReached hosts.now rewrites query.now) states → ⊥)) }
+    ensures shows_nothing { IfOk result (λ found. IfSome found (λ ends. (rtype : RrTypeValue) (fault : FaultValue)
         → Shows (with_lists (following hosts.now rewrites sets.now.least) sets.now.least sets.now.greatest) query.now rtype fault → ⊥)) }
-    ensures bounded { IfOk result (λ found. IfSome found (λ ends. (rewrites : ℕ) (rtype : RrTypeValue)
+    ensures bounded { IfOk result (λ found. IfSome found (λ ends. (rtype : RrTypeValue)
         → IsBoundedWith (following hosts.now rewrites sets.now.least) query.now rtype)) }
-    ensures outcomes { IfOk result (λ found. IfSome found (λ ends. (rewrites : ℕ) (rtype : RrTypeValue) (outcome : Optional LeafValue)
+    ensures outcomes { IfOk result (λ found. IfSome found (λ ends. (rtype : RrTypeValue) (outcome : Optional LeafValue)
         → HasOutcome (following hosts.now rewrites sets.now.least) query.now rtype outcome ↔ IsOutcomeOf ends rtype outcome)) }
 {
     let most = (states / 12).min(MOST);
-    ends_by_region(alloc, hosts, sets, regions, near, query, most as usize)
+    ends_by_region(
+        alloc,
+        hosts,
+        sets,
+        regions,
+        near,
+        query,
+        rewrites,
+        most as usize,
+    )
 }
 
 /// What walks end in that go straight over at most so many states, from those of the search of the query's region, or from those at
-/// the top servers where it is in none.
+/// the top servers where it is in none. Each walk may use so many rewrites.
 fn ends_by_region<'h, 'a>(
     alloc: Global,
     hosts: &'h Hosts<'a>,
@@ -64,32 +74,34 @@ fn ends_by_region<'h, 'a>(
     regions: &Regions<'a>,
     near: &mut usize,
     query: &Name,
+    rewrites: u32,
     most: usize,
 ) -> Result<Option<StraightEnds<'h, 'a>>, NoMemory>
     requires { AreRegionsFor hosts.now sets.now regions.now }
-    ensures { IfOk result (λ found. IfSome found (λ ends. (setting : Setting) → IsSettingOf hosts.now sets.now setting → GoesStraight setting sets.now most query.now ends)) }
+    ensures { IfOk result (λ found. IfSome found (GoesStraightIn hosts.now sets.now rewrites most query.now)) }
 {
     match regions.search_for(near, query) {
-        Some(searched) => ends_from(alloc, hosts, sets, query, searched, most),
+        Some(searched) => ends_from(alloc, hosts, sets, query, searched, rewrites, most),
         None => {
             let searched = Search::at_top(alloc, hosts, query)?;
-            ends_from(alloc, hosts, sets, query, &searched, most)
+            ends_from(alloc, hosts, sets, query, &searched, rewrites, most)
         }
     }
 }
 
 /// What walks end in that go straight from all states of a search that has begun, over at most so many. The states are copied where
-/// a server refers the query, and the search goes on from there.
+/// a server refers the query, and the search goes on from there. Each walk may use so many rewrites.
 fn ends_from<'h, 'a>(
     alloc: Global,
     hosts: &'h Hosts<'a>,
     sets: &LearntSets,
     query: &Name,
     searched: &Search<'a>,
+    rewrites: u32,
     most: usize,
 ) -> Result<Option<StraightEnds<'h, 'a>>, NoMemory>
     requires { IsSearch hosts.now sets.now query.now searched.now }
-    ensures { IfOk result (λ found. IfSome found (λ ends. (setting : Setting) → IsSettingOf hosts.now sets.now setting → GoesStraight setting sets.now most query.now ends)) }
+    ensures { IfOk result (λ found. IfSome found (GoesStraightIn hosts.now sets.now rewrites most query.now)) }
 {
     let queue = searched.queue.as_slice();
     if queue.len() > most {
@@ -98,9 +110,10 @@ fn ends_from<'h, 'a>(
     let mut ends = StraightEnds {
         answer: None,
         fails: searched.fails,
+        rewrites: 0,
     };
     match next_referral(hosts, query, queue, searched.passed, &mut ends) {
-        NextReferral::Ends => Ok(Some(ends)),
+        NextReferral::Ends => Ok(ends_within(ends, queue.len(), rewrites, most)),
         NextReferral::Unclear => Ok(None),
         NextReferral::Refers { passed, tree, cut } => {
             let mut queue = Vec::from_slice(alloc, queue)?;
@@ -118,13 +131,23 @@ fn ends_from<'h, 'a>(
             )? {
                 return Ok(None);
             }
-            all_ends(alloc, hosts, sets, query, queue, passed + 1, ends, most)
+            all_ends(
+                alloc,
+                hosts,
+                sets,
+                query,
+                queue,
+                passed + 1,
+                ends,
+                rewrites,
+                most,
+            )
         }
     }
 }
 
 /// What walks end in that go straight from all queued states, and from those to which their servers refer the query, over at most
-/// so many. A search has passed the first so many of them; what walks end in there is told.
+/// so many. A search has passed the first so many of them; what walks end in there is told. Each walk may use so many rewrites.
 fn all_ends<'h, 'a>(
     alloc: Global,
     hosts: &'h Hosts<'a>,
@@ -133,17 +156,18 @@ fn all_ends<'h, 'a>(
     queue: Vec<Queued<'a>>,
     passed: usize,
     ends: StraightEnds<'h, 'a>,
+    rewrites: u32,
     most: usize,
 ) -> Result<Option<StraightEnds<'h, 'a>>, NoMemory>
     requires { HasPassed hosts.now sets.now query.now queue.items passed ends }
-    ensures { IfOk result (λ found. IfSome found (λ ends. (setting : Setting) → IsSettingOf hosts.now sets.now setting → GoesStraight setting sets.now most query.now ends)) }
+    ensures { IfOk result (λ found. IfSome found (GoesStraightIn hosts.now sets.now rewrites most query.now)) }
 {
     let mut queue = queue;
     let mut passed = passed;
     let mut ends = ends;
     while queue.len() <= most {
         match next_referral(hosts, query, queue.as_slice(), passed, &mut ends) {
-            NextReferral::Ends => return Ok(Some(ends)),
+            NextReferral::Ends => return Ok(ends_within(ends, queue.len(), rewrites, most)),
             NextReferral::Unclear => return Ok(None),
             NextReferral::Refers {
                 passed: at,
@@ -169,4 +193,23 @@ fn all_ends<'h, 'a>(
         }
     }
     Ok(None)
+}
+
+/// The ends, where no walk is rewritten more often than so, and so many states are no more than these with as many behind each of
+/// them as there are rewrites.
+#[tactic(auto, using(crate::proofs::GivenEnds::times_fit))]
+fn ends_within<'h, 'a>(
+    ends: StraightEnds<'h, 'a>,
+    states: usize,
+    rewrites: u32,
+    most: usize,
+) -> Option<StraightEnds<'h, 'a>>
+    ensures same { IfSome result (λ found. found ≡ ends.entry) }
+    ensures few { IfSome result (λ found. states * (ends.entry.rewrites + 1) ≤ most) }
+    ensures rewrites { IfSome result (λ found. ends.entry.rewrites ≤ rewrites) }
+{
+    if ends.rewrites <= rewrites && states <= most / (ends.rewrites as usize + 1) {
+        return Some(ends);
+    }
+    None
 }

@@ -1,14 +1,15 @@
-use Rattle.std.proofs.Common.{length, Option, Some, None, refl, sym, subst, arith}
+use Rattle.std.proofs.Common.{length, Option, Some, None, refl, sym, ◌∙◌, subst, arith, true≢false}
 use Rattle.std.specs.Prelude.{IfSome}
 use Rattle.std.proofs.lemmas.Option.{slice_get_read}
 use Rattle.net_model.specs.declared.deps.Deps.{Deps}
-use Rattle.straight_walks.specs.Answers.{Answering, answering_by}
+use Rattle.straight_walks.specs.Answers.{Answering, alias_answering, answering_by}
 use Rattle.straight_walks.specs.Searching.{IsPut, IsReply, Passes}
 use Rattle.straight_walks.specs.declared.queue.Queued.{Queued}
 use Rattle.straight_walks.specs.declared.server.Reply.TheVariants as reply
+use Rattle.straight_walks.proofs.AliasEnds.{alias_answers_so, answers_by}
 use Rattle.straight_walks.proofs.StraightSearch.{all_passed, answer_passes, one_passed, outside_passes}
 use Rattle.straight_walks.proofs.referring.next_referral.Goals as goal
-use Rattle.straight_walks.proofs.referring.next_referral.Goals.{in-Outside, in-Records+else-not-put, in-Nothing+else-not-put-2}
+use Rattle.straight_walks.proofs.referring.next_referral.Goals.{in-Outside, in-Records, in-Alias+in-Some, in-Alias+in-None, in-Nothing, in-Unclear}
 
 pub returns-in-Refers : goal.returns-in-Refers
 returns-in-Refers c =
@@ -28,19 +29,31 @@ loop-passed-preserved c =
     let passed = c.loop-passed.passed in
     let ends = c.loop-passed.ends in
     let one = c.index-queue-passed.result in
+    let server = one.server.now in
     let after = c.match-reply_of.ends in
-    let passes : (deps : Deps) → Passes config deps query one.server.now queue ends queue after =
+    let passes : (deps : Deps) → Passes config deps query server queue ends queue after =
     λ deps. elim c.match-reply_of.branch [
       | in-Outside w ↦
-          subst (Passes config deps query one.server.now queue ends queue) (sym w.ends-is) (outside_passes config deps query one.server.now queue ends w.in-Outside.ensures)
-      | in-Records+else-not-put w ↦
-          subst (Passes config deps query one.server.now queue ends queue) (sym w.ends-is)
-          (answer_passes config deps query one.server.now queue ends (answering_by w.in-Records.tree.now (Some w.in-Records.owner)) w.put.new.self w.in-Records.ensures.1
-          (subst (λ (answering : Answering). IsPut ends answering w.put.new.self) w.of_owner.ensures (w.put.ensures w.if-not-put.false)))
-      | in-Nothing+else-not-put-2 w ↦
-          subst (Passes config deps query one.server.now queue ends queue) (sym w.ends-is)
-          (answer_passes config deps query one.server.now queue ends (answering_by w.in-Nothing.tree.now None) w.put-in-Nothing.new.self w.in-Nothing.ensures
-          (subst (λ (answering : Answering). IsPut ends answering w.put-in-Nothing.new.self) w.of_nothing.ensures (w.put-in-Nothing.ensures w.if-not-put-2.false)))
+          subst (Passes config deps query server queue ends queue) (sym w.ends-is) (outside_passes config deps query server queue ends w.in-Outside.ensures)
+      | in-Records w ↦
+          subst (Passes config deps query server queue ends queue) (sym w.ends-is)
+          (answer_passes config deps query server queue ends (answering_by w.in-Records.tree.now (Some w.in-Records.owner)) 0 w.put-answered.new.self
+          (answers_by config query server w.in-Records.tree (Some w.in-Records.owner) w.in-Records.ensures.2)
+          (subst (λ (answering : Answering). IsPut ends answering 0 w.put-answered.new.self) w.of_owner.ensures (w.put-answered.ensures (sym w.answered-is ∙ c.if-not-answered.false))))
+      | in-Alias+in-Some w ↦
+          subst (Passes config deps query server queue ends queue) (sym w.ends-is)
+          (answer_passes config deps query server queue ends
+          (alias_answering w.in-Alias.tree.now w.in-Alias.owner w.in-Some.end.tree.now w.in-Some.end.owner) w.in-Some.end.rewrites w.put.new.self
+          (alias_answers_so config query server w.in-Alias.tree w.in-Alias.owner w.in-Alias.target w.in-Some.end w.in-Alias.ensures w.in-Some.ensures)
+          (subst (λ (answering : Answering). IsPut ends answering w.in-Some.end.rewrites w.put.new.self) w.of_alias.ensures
+          (w.put.ensures (sym w.answered-is ∙ c.if-not-answered.false))))
+      | in-Alias+in-None w ↦ absurd (true≢false (sym c.if-not-answered.false ∙ w.answered-is))
+      | in-Nothing w ↦
+          subst (Passes config deps query server queue ends queue) (sym w.ends-is)
+          (answer_passes config deps query server queue ends (answering_by w.in-Nothing.tree.now None) 0 w.put-answered-in-Nothing.new.self
+          (answers_by config query server w.in-Nothing.tree None w.in-Nothing.ensures)
+          (subst (λ (answering : Answering). IsPut ends answering 0 w.put-answered-in-Nothing.new.self) w.of_nothing.ensures (w.put-answered-in-Nothing.ensures (sym w.answered-is ∙ c.if-not-answered.false))))
+      | in-Unclear w ↦ absurd (true≢false (sym c.if-not-answered.false ∙ w.answered-is))
     ] in
     record {
       later = omega (arith, c.loop-passed.invariant.later);
@@ -48,6 +61,6 @@ loop-passed-preserved c =
     }
 
 pub returns : goal.returns
-returns c = λ deps so most few setting of.
+returns c = λ deps so most few setting of enough rtype.
     all_passed c.args.hosts.now deps c.args.query.now c.args.queue.now c.loop-passed.passed most c.loop-passed.ends (c.loop-passed.invariant.searched deps so)
-    (omega (arith, c.loop-passed-test.false)) few setting of
+    (omega (arith, c.loop-passed-test.false)) few setting of enough rtype

@@ -1,12 +1,17 @@
 use Rattle.std.proofs.Common.{Bor, sym, ap, ◌∙◌}
 use Rattle.std.specs.Prelude.{option_map}
 use Rattle.dns_data.specs.Name.{Labels}
-use Rattle.straight_walks.proofs.Replies.{cut_decides, nothing_decides, records_decide}
+use Rattle.straight_walks.proofs.Replies.{alias_decides, cut_decides, nothing_decides, records_decide}
 use Rattle.straight_walks.proofs.server.reply_of.Goals as goal
 
 pub returns-in-Cut : goal.returns-in-Cut
 returns-in-Cut c =
     cut_decides c.args.hosts.now c.args.query.now c.args.server.now c.in-Some.tree c.in-Some.ensures.zone c.in-Some.ensures.inside c.in-Cut.cut c.in-Cut.ensures.node c.in-Cut.ensures.decides
+
+pub returns-in-Some-alias : goal.returns-in-Some-alias
+returns-in-Some-alias c =
+    alias_decides c.args.hosts.now c.args.query.now c.args.server.now c.in-Some.tree c.in-Some.ensures.zone c.in-Some.ensures.inside c.in-Records.owner c.in-Records.ensures.node c.in-Records.ensures.decides
+    c.in-Some-alias.target (sym c.alias.ensures ∙ ap (option_map (λ (target : Bor Labels). target.now)) c.in-Some-alias.is)
 
 pub returns-in-None : goal.returns-in-None
 returns-in-None c =

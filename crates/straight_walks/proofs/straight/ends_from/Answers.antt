@@ -1,8 +1,8 @@
-use Rattle.std.proofs.Common.{List, sym, ◌∙◌, subst, arith}
+use Rattle.std.proofs.Common.{List, length, sym, ◌∙◌, subst}
 use Rattle.straight_walks.specs.Searching.{HasPassed, IsNextReferral, unanswered}
 use Rattle.straight_walks.specs.declared.queue.Queued.{Queued}
 use Rattle.straight_walks.specs.declared.referring.NextReferral.TheVariants as referring
-use Rattle.straight_walks.proofs.StraightSearch.{referral_passed}
+use Rattle.straight_walks.proofs.StraightSearch.{given_within, referral_passed}
 use Rattle.straight_walks.proofs.straight.ends_from.Goals as goal
 
 pub all_ends-requires : goal.all_ends-requires
@@ -25,6 +25,10 @@ all_ends-requires c =
 
 pub returns-in-Ends : goal.returns-in-Ends
 returns-in-Ends c =
-    c.in-Ends.ensures c.args.sets.now
-    (subst (λ (all : List Queued). HasPassed c.args.hosts.now c.args.sets.now c.args.query.now all c.args.searched.now.passed (unanswered c.args.searched.now.fails)) (sym c.as_slice-queue.ensures.value) c.requires)
-    c.args.most (omega (arith, c.if-queue-most.false))
+    let config = c.args.hosts.now in
+    let deps = c.args.sets.now in
+    let query = c.args.query.now in
+    given_within config deps query c.args.rewrites c.args.most (length c.as_slice-queue.result.now) c.next_referral.new.ends c.ends_within.result c.ends_within.ensures.same c.ends_within.ensures.few c.ends_within.ensures.rewrites
+    (λ few. c.in-Ends.ensures deps
+    (subst (λ (all : List Queued). HasPassed config deps query all c.args.searched.now.passed (unanswered c.args.searched.now.fails)) (sym c.as_slice-queue.ensures.value) c.requires)
+    c.args.most few)

@@ -5,17 +5,17 @@ use Rattle.straight_walks.proofs.straight.straight_ends.Goals as goal
 
 pub returns-clause-few : goal.returns-clause-few
 returns-clause-few c =
-    few_given c.args.hosts.now c.args.sets.now c.min-most.result c.args.query.now c.ends_by_region.result c.args.states
+    few_given c.args.hosts.now c.args.sets.now c.args.rewrites c.min-most.result c.args.query.now c.ends_by_region.result c.args.states
     (omega (arith, c.min-most.ensures, div-mul-le_self c.args.states 12)) c.ends_by_region.ensures
 
 pub returns-clause-shows_nothing : goal.returns-clause-shows_nothing
 returns-clause-shows_nothing c =
-    nothing_given c.args.hosts.now c.args.sets.now c.min-most.result c.args.query.now c.ends_by_region.result c.ends_by_region.ensures
+    nothing_given c.args.hosts.now c.args.sets.now c.args.rewrites c.min-most.result c.args.query.now c.ends_by_region.result c.ends_by_region.ensures
 
 pub returns-clause-bounded : goal.returns-clause-bounded
 returns-clause-bounded c =
-    bounded_given c.args.hosts.now c.args.sets.now c.min-most.result c.args.query.now c.ends_by_region.result c.ends_by_region.ensures
+    bounded_given c.args.hosts.now c.args.sets.now c.args.rewrites c.min-most.result c.args.query.now c.ends_by_region.result c.ends_by_region.ensures
 
 pub returns-clause-outcomes : goal.returns-clause-outcomes
 returns-clause-outcomes c =
-    outcomes_given c.args.hosts.now c.args.sets.now c.min-most.result c.args.query.now c.ends_by_region.result c.ends_by_region.ensures
+    outcomes_given c.args.hosts.now c.args.sets.now c.args.rewrites c.min-most.result c.args.query.now c.ends_by_region.result c.ends_by_region.ensures
