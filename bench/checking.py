@@ -7,7 +7,8 @@ GROOT is the built program, crates/groot/out/groot if none is given. It makes
 - a mixed zone of 16 MiB as a hosting firm has it,
 - 2,000 DNAME records onto a tree of 40 names, and a chain of 5,000 aliases,
 - 10,000 rows: 9,000 hosted zones, of which 999 have a second server, and the zone above them (899,915 records), and a
-  ninth of that.
+  ninth of that,
+- a zone of four records on 4,000 servers, all of them top servers, and on a fourth of that.
 
 For each it prints the processor seconds and the peak memory of `check` with one worker, the processor seconds of `ask` of
 one name on the same files (reading and trees) and of kzonecheck on the same zone where it is one zone and kzonecheck is
@@ -37,8 +38,8 @@ MOST_MORE_MEMORY = 1.2
 
 class Input(NamedTuple):
     """What is checked: what writes its files and gives the rows of its metadata; the name of its zone, where it is one; the
-    title of a smaller input; and at most what of check is wanted, in ratio to ask, to kzonecheck, to the smaller input, and in
-    MiB."""
+    title of a smaller input; at most what of check is wanted, in ratio to ask, to kzonecheck, to the smaller input, in MiB and in
+    seconds; and whether all servers are top servers, or the first alone."""
 
     title: str
     write: Callable
@@ -48,6 +49,8 @@ class Input(NamedTuple):
     ask: Optional[float] = None
     stock: Optional[float] = None
     memory: float = MOST_MEMORY
+    seconds: Optional[float] = None
+    all_top: bool = False
 
 
 def one_zone(lines, count):
@@ -58,6 +61,11 @@ def one_zone(lines, count):
 def hosted(zones, second, records):
     """What writes hosted zones."""
     return lambda folder: make_zone.write_hosted(zones, second, records, folder)
+
+
+def on_many(servers):
+    """What writes a small zone on many servers."""
+    return lambda folder: make_zone.write_on_many(servers, folder)
 
 
 def mixed(octets):
@@ -86,6 +94,8 @@ def inputs(part):
         Input("chain of aliases", one_zone(make_zone.aliases, 5_000 // part), "example.", "aliases, a tenth", 12),
         Input("rows, a ninth", hosted(1_000 // part, 111 // part, 89)),
         Input("10,000 rows", hosted(9_000 // part, 999 // part, 89), None, "rows, a ninth", 11),
+        Input("tops, a fourth", on_many(1_000 // part), all_top=True),
+        Input("4,000 top servers", on_many(4_000 // part), None, "tops, a fourth", 5, seconds=3, all_top=True),
     ]
 
 
@@ -138,16 +148,18 @@ def check_one(groot, given, taken, runs):
     """Checks one input, and prints what that takes, beside ask and kzonecheck."""
     with tempfile.TemporaryDirectory() as folder:
         rows = given.write(folder)
-        top = rows[0]["NameServer"]
-        meta = metadata(folder, rows, top)
+        tops = [row["NameServer"] for row in (rows if given.all_top else rows[:1])]
+        meta = metadata(folder, rows, *tops)
         words = [groot, "check", meta, "--classes", "1000000", "--workers"]
         check = measured([*words, "1"], (0, 1), runs)
-        ask = measured([groot, "ask", meta, top, "A"], (0,), runs)
+        # With more than 1,000 top servers a query has more walks than are written.
+        ask = measured([groot, "ask", meta, tops[0], "A"], (0, 4) if given.all_top else (0,), runs)
         if check is None or ask is None:
             print(f"{given.title:>18} the program ended in another way")
             return
         taken[given.title] = check.processor
-        line = f"{given.title:>18} check {check.processor:.3f} s, {told(check.memory, given.memory)} MiB"
+        seconds = f" (at most {given.seconds:g})" if given.seconds else ""
+        line = f"{given.title:>18} check {check.processor:.3f}{seconds} s, {told(check.memory, given.memory)} MiB"
         line += f"; ask {ask.processor:.3f} s, ratio {told(ratio(check.processor, ask.processor), given.ask)}"
         if given.origin and shutil.which("kzonecheck"):
             stock = measured(["kzonecheck", "-o", given.origin, os.path.join(folder, "own.zone")], (0,), runs)

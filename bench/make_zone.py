@@ -103,6 +103,12 @@ def write_example(lines, folder):
     return [{"FileName": "own.zone", "NameServer": "ns1.example."}]
 
 
+def write_on_many(servers, folder):
+    """The zone example. with an address for each name on so many servers, and the rows of the metadata for it."""
+    rows = write_example(["* A 192.0.2.2\n"], folder)
+    return rows + [{"FileName": "own.zone", "NameServer": f"s{number}.example."} for number in range(1, servers)]
+
+
 def write_empty(folder, server):
     """An empty zone file, for which a run is refused once it has read the rows before, and the row of the metadata for it."""
     with open(os.path.join(folder, "empty.zone"), "w"):

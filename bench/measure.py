@@ -66,11 +66,11 @@ def ratio(own, other):
     return own / max(other, 1e-3)
 
 
-def metadata(folder, rows, top):
-    """The name of a metadata file of these rows, which is written to the folder, with one top server."""
+def metadata(folder, rows, *tops):
+    """The name of a metadata file of these rows, which is written to the folder, with these top servers."""
     path = os.path.join(folder, "m.json")
     with open(path, "w") as into:
-        json.dump({"TopNameServers": [top], "ZoneFiles": rows}, into)
+        json.dump({"TopNameServers": tops, "ZoneFiles": rows}, into)
     return path
 
 

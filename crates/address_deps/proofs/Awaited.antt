@@ -20,25 +20,28 @@ use Rattle.graph_form.specs.declared.node.Branch.{Branch}
 use Rattle.graph_form.specs.declared.node.Branch.TheVariants.{Go, End}
 use Rattle.graph_form.specs.declared.node.Node.{Node}
 use Rattle.graph_form.proofs.TypedBranches.{typed_for}
-use Rattle.address_deps.specs.Dependents.{branch_awaits, graph_awaits}
+use Rattle.address_deps.specs.Dependents.{branch_awaits, graph_awaits, told_awaits}
+use Rattle.address_deps.specs.Told.{IsToldOf}
+use Rattle.address_deps.specs.declared.told.AddressTold.{AddressTold}
+use Rattle.address_deps.specs.declared.told.AddressTold.TheVariants.{Known, ByGraph}
 use Rattle.address_deps.specs.Giving.{gives_by, gives_from, may_take, node_gives}
 use Rattle.zone_lookup.specs.LearntSets.{is_among}
 use Rattle.address_deps.specs.Sets.{AreServers}
 use Rattle.address_deps.proofs.GivingNodes.{learns_path, path_learns}
 
--- two sets of servers that are one but for this name, for which the graph doesn't wait
-pub record AreAlike (config : Config) (graph : PlainGraph) (one other : List Labels) : Type 0 where
+-- two sets of servers that are one but for this name, which isn't among those that are waited for
+pub record AreAlike (awaited one other : List Labels) : Type 0 where
   pub name : Labels
   pub apart : (server : Labels) → name_eq name server ≡ false → is_among one server ≡ is_among other server
-  pub not_awaited : Contains (graph_awaits config graph) name → ⊥
+  pub not_awaited : Contains awaited name → ⊥
 
 -- the other way round
-pub alike_back : (config : Config) (graph : PlainGraph) (one other : List Labels) → AreAlike config graph one other → AreAlike config graph other one
-alike_back config graph one other alike =
+pub alike_back : (awaited one other : List Labels) → AreAlike awaited one other → AreAlike awaited other one
+alike_back awaited one other alike =
     record { name = alike.name; apart = λ server differs. sym (alike.apart server differs); not_awaited = alike.not_awaited }
 
 module _ (rewrites : ℕ) (config : Config) (query : Labels) (graph : PlainGraph) (is : IsGraphOf (following config rewrites (server_names config)) query graph)
-    (one other : List Labels) (alike : AreAlike config graph one other) where
+    (one other : List Labels) (alike : AreAlike (graph_awaits config graph) one other) where
   -- a hop of the graph may be taken in both
   same_taken : (rtype : RrType) (at number : ℕ) (node : Node) (hop : Hop) (to : ℕ) → HasBranch graph rtype at number node (Go hop to)
       → may_take config one hop ≡ may_take config other hop
@@ -92,3 +95,11 @@ module _ (rewrites : ℕ) (config : Config) (query : Labels) (graph : PlainGraph
     -- and the same is learnt
     pub same_learnt : Learns (following config rewrites one) query → Learns (following config rewrites other) query
     same_learnt learns = elim learns [ inl four ↦ inl (same_learnt_by types.A four) | inr six ↦ inr (same_learnt_by types.Aaaa six) ]
+
+-- so it is of a server's name, by what is told of it, where the server doesn't wait for this one
+pub same_told : (rewrites : ℕ) (config : Config) (name : Labels) (told : AddressTold) → IsToldOf config rewrites name told → (one other : List Labels)
+    → AreAlike (told_awaits config told) one other → AreServers config one → AreServers config other
+    → Learns (following config rewrites one) name → Learns (following config rewrites other) name
+same_told rewrites config name (Known learnt) is one other alike of_one of_other learns = (is other).0 ((is one).1 learns)
+same_told rewrites config name (ByGraph graph) is one other alike of_one of_other learns =
+    same_learnt rewrites config name graph is one other alike of_one of_other learns

@@ -15,12 +15,13 @@ use Rattle.net_model.specs.declared.config.Server.{Server}
 use Rattle.net_model.specs.Learnt.{Learns, IsLeast, IsGreatest}
 use Rattle.net_model.specs.Nearest.{server_names}
 use Rattle.net_model.specs.Step.{following}
-use Rattle.graph_form.specs.Graph.{PlainGraph}
+use Rattle.address_deps.specs.declared.told.AddressTold.{AddressTold}
 use Rattle.graph_form.proofs.Places.{place_of_item}
 use Rattle.address_deps.specs.Giving.{unset}
 use Rattle.zone_lookup.specs.LearntSets.{is_among}
 use Rattle.zone_lookup.proofs.ZonesTell.{among_has, has_among}
-use Rattle.address_deps.specs.Sets.{AreServerGraphs, absent, present, AreServers, IsGrowing, NoneMoreLearnt, IsShrinking, AreLearnt, NoneMoreLearntAt, IsLearntAt}
+use Rattle.address_deps.specs.Told.{AreTold}
+use Rattle.address_deps.specs.Sets.{absent, present, AreServers, IsGrowing, NoneMoreLearnt, IsShrinking, AreLearnt, NoneMoreLearntAt, IsLearntAt}
 use Rattle.address_deps.proofs.Waking.{gone_fewer, gone_there, put_more, put_there}
 use Rattle.address_deps.proofs.TwoSets.{none_below, one_below, is_least, all_above, one_above, is_greatest}
 
@@ -75,9 +76,9 @@ unset_at_most (server ∷ servers) test =
 
 -- ---- the search for the least set
 
-module _ (config : Config) (graphs : List PlainGraph) where
+module _ (config : Config) (told : List AddressTold) where
   -- before any server is added the search for the least set is fair
-  pub grows_from_none : IsGrowing config graphs []
+  pub grows_from_none : IsGrowing config told []
   grows_from_none =
       record {
         servers = λ name h. cc;
@@ -91,8 +92,8 @@ module _ (config : Config) (graphs : List PlainGraph) where
     grown_less = count_less (is_among learnt) (is_among more) (put_more name learnt more put) config.servers name among missing (put_there name learnt more put)
 
     -- the search for the least set stays fair when a server is added whose address is learnt
-    pub grown : IsGrowing config graphs learnt → ((rewrites : ℕ) → AreServerGraphs config rewrites graphs → Learns (following config rewrites learnt) name)
-        → IsGrowing config graphs more
+    pub grown : IsGrowing config told learnt → ((rewrites : ℕ) → AreTold config rewrites told → Learns (following config rewrites learnt) name)
+        → IsGrowing config told more
     grown growing learns =
         record {
           servers = λ other h.
@@ -113,7 +114,7 @@ module _ (config : Config) (graphs : List PlainGraph) where
         }
 
   -- where no server more can be learnt, those that the search added are the least set, in the order of the servers
-  pub least_told : (learnt : List Labels) → IsGrowing config graphs learnt → NoneMoreLearnt config graphs learnt → (rewrites : ℕ) → AreServerGraphs config rewrites graphs
+  pub least_told : (learnt : List Labels) → IsGrowing config told learnt → NoneMoreLearnt config told learnt → (rewrites : ℕ) → AreTold config rewrites told
       → IsLeast config rewrites (filter (is_among learnt) (server_names config))
   least_told learnt growing closed rewrites are =
       let below = growing.below rewrites are in
@@ -123,10 +124,10 @@ module _ (config : Config) (graphs : List PlainGraph) where
 
 -- ---- the search for the greatest set
 
-module _ (config : Config) (graphs : List PlainGraph) where
+module _ (config : Config) (told : List AddressTold) where
   -- before any server is taken away the search for the greatest set is fair
   pub shrinks_from_all : (known : List Labels) → AreServers config known → ((name : Labels) → Contains (server_names config) name → is_among known name ≡ true)
-      → IsShrinking config graphs known
+      → IsShrinking config told known
   shrinks_from_all known servers all =
       record {
         servers = servers;
@@ -151,8 +152,8 @@ module _ (config : Config) (graphs : List PlainGraph) where
         count_less (λ (n : Labels). not (is_among known n)) (λ (n : Labels). not (is_among fewer n)) turned config.servers name among (ap not there) (ap not (gone_there name known fewer taken))
 
     -- the search for the greatest set stays fair when a server is taken away whose address isn't learnt
-    pub shrunk : IsShrinking config graphs known → ((rewrites : ℕ) → AreServerGraphs config rewrites graphs → Learns (following config rewrites known) name → ⊥)
-        → IsShrinking config graphs fewer
+    pub shrunk : IsShrinking config told known → ((rewrites : ℕ) → AreTold config rewrites told → Learns (following config rewrites known) name → ⊥)
+        → IsShrinking config told fewer
     shrunk shrinking fails =
         record {
           servers = λ other h. shrinking.servers other (gone_fewer name known fewer taken other h);
@@ -170,7 +171,7 @@ module _ (config : Config) (graphs : List PlainGraph) where
         by other false e has = inl (among_has fewer other (taken other ∙ ap (λ (b : Bool). not b && is_among known other) e ∙ has))
 
   -- where each server that is left can be learnt, those that are left are the greatest set, in the order of the servers
-  pub greatest_told : (known : List Labels) → IsShrinking config graphs known → AreLearnt config graphs known → (rewrites : ℕ) → AreServerGraphs config rewrites graphs
+  pub greatest_told : (known : List Labels) → IsShrinking config told known → AreLearnt config told known → (rewrites : ℕ) → AreTold config rewrites told
       → IsGreatest config rewrites (filter (is_among known) (server_names config))
   greatest_told known shrinking each rewrites are =
       let above = shrinking.above rewrites are in
@@ -182,9 +183,9 @@ module _ (config : Config) (graphs : List PlainGraph) where
 
 -- ---- each server
 
-module _ (config : Config) (graphs : List PlainGraph) (names : List Labels) where
+module _ (config : Config) (told : List AddressTold) (names : List Labels) where
   -- where it is so of each server, it is so of all
-  pub none_more_in_all : ((place : ℕ) → place < length config.servers → NoneMoreLearntAt config graphs names place) → NoneMoreLearnt config graphs names
+  pub none_more_in_all : ((place : ℕ) → place < length config.servers → NoneMoreLearntAt config told names place) → NoneMoreLearnt config told names
   none_more_in_all each = λ rewrites are name among learns.
       let found = from_map (λ (s : Server). s.name) config.servers name among in
       let place = place_of_item config.servers found.0 found.1 in
@@ -193,7 +194,7 @@ module _ (config : Config) (graphs : List PlainGraph) (names : List Labels) wher
       (subst (Learns (following config rewrites names)) (sym found.2) learns))
 
   -- where the server at each place is learnt if it is in the list, each server of the list is learnt
-  pub all_learnt : ((place : ℕ) → place < length config.servers → IsLearntAt config graphs names place) → AreLearnt config graphs names
+  pub all_learnt : ((place : ℕ) → place < length config.servers → IsLearntAt config told names place) → AreLearnt config told names
   all_learnt each = λ rewrites are name among has.
       let found = from_map (λ (s : Server). s.name) config.servers name among in
       let place = place_of_item config.servers found.0 found.1 in

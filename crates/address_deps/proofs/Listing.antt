@@ -12,9 +12,9 @@ use Rattle.dns_data.specs.Name.{Labels, name_cmp, name_eq}
 use Rattle.dns_data.proofs.Membership.{first_or_later, has_first, none_in_nil}
 use Rattle.dns_data.proofs.Names.{name_eq_decides}
 use Rattle.net_model.specs.declared.config.Config.{Config}
-use Rattle.graph_form.specs.Graph.{PlainGraph}
+use Rattle.address_deps.specs.declared.told.AddressTold.{AddressTold}
 use Rattle.graph_form.proofs.Paths.{same_item}
-use Rattle.address_deps.specs.Dependents.{AreAllPlaces, AreDependents, IsListedFor, graph_awaits, places_of}
+use Rattle.address_deps.specs.Dependents.{AreAllPlaces, AreDependents, IsListedFor, places_of, told_awaits}
 
 -- the names to which references lead
 abbrev pub names_of : List (Bor Labels) → List Labels
@@ -99,28 +99,28 @@ module _ (place : ℕ) where
         only = λ other k has. elim (one.only other k has) [ inl before ↦ some.only other k before | inr new_one ↦ inr new_one ];
       }
 
-module _ (config : Config) (graphs : List PlainGraph) where
+module _ (config : Config) (told : List AddressTold) where
   -- where no place is listed for any name, all is listed for the servers before the first, for there are none
-  pub no_dependents : (places : Places) → ((name : Labels) → places_of places name ≡ []) → AreDependents config graphs 0 places
+  pub no_dependents : (places : Places) → ((name : Labels) → places_of places name ≡ []) → AreDependents config told 0 places
   no_dependents places none =
       record {
-        listed = λ place graph within here name awaited. absurd (omega (arith, within));
+        listed = λ place one within here name awaited. absurd (omega (arith, within));
         within = λ name place has. absurd (none_in_nil place (subst (λ (xs : List ℕ). Contains xs place) (none name) has));
       }
 
-  -- where all is listed for the servers before one, and its place for the names for whose addresses its graph waits, all is
+  -- where all is listed for the servers before one, and its place for the names for whose addresses it waits, all is
   -- listed for the servers up to it
-  pub more_dependents : (bound : ℕ) (graph : PlainGraph) (old new : Places) → slice_get graphs bound ≡ Some graph → AreDependents config graphs bound old
-      → IsListedFor bound (graph_awaits config graph) old new → AreDependents config graphs (bound + 1) new
-  more_dependents bound graph old new here before put =
+  pub more_dependents : (bound : ℕ) (one : AddressTold) (old new : Places) → slice_get told bound ≡ Some one → AreDependents config told bound old
+      → IsListedFor bound (told_awaits config one) old new → AreDependents config told (bound + 1) new
+  more_dependents bound one old new here before put =
       record {
         listed = λ place other within there name awaited. elim (cases_lt place bound) [
           | inl less ↦ put.stays name place (before.listed place other less there name awaited)
           | inr past ↦
               let same : place ≡ bound = omega (arith, within, past) in
-              let one : other ≡ graph = same_item (slice_get graphs bound) other graph (ap (slice_get graphs) (sym same) ∙ there) here in
+              let is : other ≡ one = same_item (slice_get told bound) other one (ap (slice_get told) (sym same) ∙ there) here in
               subst (Contains (places_of new name)) (sym same)
-              (put.listed name (subst (λ (g : PlainGraph). Contains (graph_awaits config g) name) one awaited))
+              (put.listed name (subst (λ (t : AddressTold). Contains (told_awaits config t) name) is awaited))
         ];
         within = λ name place has. elim (put.only name place has) [
           | inl old_one ↦ (let less = before.within name place old_one in omega (arith, less))

@@ -13,22 +13,22 @@ use Rattle.net_model.specs.Nearest.{server_names}
 use Rattle.net_model.specs.Step.{following}
 use Rattle.net_model.specs.declared.config.Config.{Config}
 use Rattle.net_model.specs.declared.config.Server.{Server}
-use Rattle.graph_form.specs.Graph.{PlainGraph}
-use Rattle.graph_form.specs.GraphOf.{IsGraphOf}
+use Rattle.address_deps.specs.declared.told.AddressTold.{AddressTold}
 use Rattle.graph_form.proofs.Paths.{same_item}
 use Rattle.zone_lookup.specs.LearntSets.{is_among}
 use Rattle.address_deps.specs.declared.direction.Direction.{Direction}
 use Rattle.address_deps.specs.declared.direction.Direction.TheVariants.{Adding, Dropping}
 use Rattle.address_deps.specs.Dependents.{AreDependents, places_of}
 use Rattle.address_deps.specs.Direction.{IsFair, IsMoved, IsSettledAt, adds, unmoved}
-use Rattle.address_deps.specs.Sets.{AreServerGraphs, AreServers}
+use Rattle.address_deps.specs.Told.{AreTold, IsToldOf}
+use Rattle.address_deps.specs.Sets.{AreServers}
 use Rattle.address_deps.proofs.Growing.{grown, grown_less, shrunk, shrunk_less}
-use Rattle.address_deps.proofs.Waking.{gone_apart, gone_fewer, gone_there, graph_at, put_apart, put_more, put_there, still_none_more, still_learnt}
+use Rattle.address_deps.proofs.Waking.{gone_apart, gone_fewer, gone_there, told_at, put_apart, put_more, put_there, still_none_more, still_learnt}
 
 -- in a fair search, in either direction, each name of the list is a configured server's
-pub are_servers : (direction : Direction) (config : Config) (graphs : List PlainGraph) (names : List Labels) → IsFair direction config graphs names → AreServers config names
-are_servers Adding config graphs names fair = fair.servers
-are_servers Dropping config graphs names fair = fair.servers
+pub are_servers : (direction : Direction) (config : Config) (told : List AddressTold) (names : List Labels) → IsFair direction config told names → AreServers config names
+are_servers Adding config told names fair = fair.servers
+are_servers Dropping config told names fair = fair.servers
 
 -- of two answers that aren't one each is the other's contrary
 pub contrary : (a b : Bool) → beq a b ≡ false → a ≡ not b
@@ -37,34 +37,34 @@ contrary true false e = refl
 contrary false true e = refl
 contrary false false e = cc
 
-module _ (config : Config) (graphs : List PlainGraph) (names : List Labels) (place : ℕ) (server : Server) (here : slice_get config.servers place ≡ Some server) where
+module _ (config : Config) (told : List AddressTold) (names : List Labels) (place : ℕ) (server : Server) (here : slice_get config.servers place ≡ Some server) where
   same : (other : Server) → slice_get config.servers place ≡ Some other → server ≡ other
   same other there = same_item (slice_get config.servers place) server other here there
 
   -- whether the server can be learnt while these are followed
   abbrev pub TellsLearnt : Bool → Type 0
-  TellsLearnt learnt = (rewrites : ℕ) → AreServerGraphs config rewrites graphs → (learnt ≡ true) ↔ Learns (following config rewrites names) server.name
+  TellsLearnt learnt = (rewrites : ℕ) → AreTold config rewrites told → (learnt ≡ true) ↔ Learns (following config rewrites names) server.name
 
-  -- which its graph tells
-  pub by_graph : (graph : PlainGraph) (learnt : Bool) → slice_get graphs place ≡ Some graph → AreServers config names
-      → ((rewrites : ℕ) (query : Labels) → AreServers config names → IsGraphOf (following config rewrites (server_names config)) query graph
-      → (learnt ≡ true) ↔ Learns (following config rewrites names) query)
+  -- by what is told of its name
+  pub by_told : (one : AddressTold) (learnt : Bool) → slice_get told place ≡ Some one → AreServers config names
+      → ((rewrites : ℕ) (name : Labels) → AreServers config names → IsToldOf config rewrites name one
+      → (learnt ≡ true) ↔ Learns (following config rewrites names) name)
       → TellsLearnt learnt
-  by_graph graph learnt at servers tells rewrites are =
-      let told = graph_at config rewrites graphs place server are here in
+  by_told one learnt at servers tells rewrites are =
+      let stands = told_at config rewrites told place server are here in
       tells rewrites server.name servers
-      (subst (λ (g : PlainGraph). IsGraphOf (following config rewrites (server_names config)) server.name g) (same_item (slice_get graphs place) told.graph graph told.here at) told.is_graph)
+      (subst (IsToldOf config rewrites server.name) (same_item (slice_get told place) stands.one one stands.here at) stands.is_told)
 
   -- ---- it isn't added or dropped
 
   -- it is there, or isn't there to be dropped
-  pub kept_settled : (direction : Direction) → is_among names server.name ≡ adds direction → IsSettledAt direction config graphs names place
+  pub kept_settled : (direction : Direction) → is_among names server.name ≡ adds direction → IsSettledAt direction config told names place
   kept_settled Adding has = λ rewrites other are there learns. subst (λ (s : Server). is_among names s.name ≡ true) (same other there) has
   kept_settled Dropping lacks = λ rewrites other are there has.
       absurd (true≢false (sym has ∙ subst (λ (s : Server). is_among names s.name ≡ false) (same other there) lacks))
 
   -- it can't be learnt, or can where it would be dropped
-  pub told_settled : (direction : Direction) (learnt : Bool) → TellsLearnt learnt → learnt ≡ not (adds direction) → IsSettledAt direction config graphs names place
+  pub told_settled : (direction : Direction) (learnt : Bool) → TellsLearnt learnt → learnt ≡ not (adds direction) → IsSettledAt direction config told names place
   told_settled Adding learnt tells is = λ rewrites other are there learns.
       absurd (true≢false (sym ((tells rewrites are).1 (subst (λ (s : Server). Learns (following config rewrites names) s.name) (sym (same other there)) learns)) ∙ is))
   told_settled Dropping learnt tells is = λ rewrites other are there has.
@@ -81,16 +81,16 @@ module _ (config : Config) (graphs : List PlainGraph) (names : List Labels) (pla
   -- fewer are left
   pub fewer_unmoved : (direction : Direction) (new : List Labels) → is_among names server.name ≡ not (adds direction) → IsMoved direction server.name names new
       → unmoved direction config.servers new < unmoved direction config.servers names
-  fewer_unmoved Adding new lacks moved = grown_less config graphs names new server.name among lacks moved
-  fewer_unmoved Dropping new has moved = shrunk_less config graphs names new server.name among has moved
+  fewer_unmoved Adding new lacks moved = grown_less config told names new server.name among lacks moved
+  fewer_unmoved Dropping new has moved = shrunk_less config told names new server.name among has moved
 
   -- and it was time
   pub still_fair : (direction : Direction) (new : List Labels) (learnt : Bool) → is_among names server.name ≡ not (adds direction) → IsMoved direction server.name names new
-      → TellsLearnt learnt → learnt ≡ adds direction → IsFair direction config graphs names → IsFair direction config graphs new
+      → TellsLearnt learnt → learnt ≡ adds direction → IsFair direction config told names → IsFair direction config told new
   still_fair Adding new learnt lacks moved tells is fair =
-      grown config graphs names new server.name among lacks moved fair (λ rewrites are. (tells rewrites are).0 is)
+      grown config told names new server.name among lacks moved fair (λ rewrites are. (tells rewrites are).0 is)
   still_fair Dropping new learnt has moved tells is fair =
-      shrunk config graphs names new server.name among has moved fair (λ rewrites are learns. true≢false (sym ((tells rewrites are).1 learns) ∙ is))
+      shrunk config told names new server.name among has moved fair (λ rewrites are learns. true≢false (sym ((tells rewrites are).1 learns) ∙ is))
 
 -- the server is there, or is gone
 moved_there : (direction : Direction) (name : Labels) (old new : List Labels) → IsMoved direction name old new → is_among new name ≡ adds direction
@@ -98,15 +98,15 @@ moved_there Adding name old new moved = put_there name old new moved
 moved_there Dropping name old new moved = gone_there name old new moved
 
 -- so it is settled
-pub moved_settled : (direction : Direction) (config : Config) (graphs : List PlainGraph) (place : ℕ) (server : Server) (old new : List Labels)
-    → slice_get config.servers place ≡ Some server → IsMoved direction server.name old new → IsSettledAt direction config graphs new place
-moved_settled direction config graphs place server old new here moved =
-    kept_settled config graphs new place server here direction (moved_there direction server.name old new moved)
+pub moved_settled : (direction : Direction) (config : Config) (told : List AddressTold) (place : ℕ) (server : Server) (old new : List Labels)
+    → slice_get config.servers place ≡ Some server → IsMoved direction server.name old new → IsSettledAt direction config told new place
+moved_settled direction config told place server old new here moved =
+    kept_settled config told new place server here direction (moved_there direction server.name old new moved)
 
-module _ (config : Config) (graphs : List PlainGraph) (places : map.BTreeMap Labels (List ℕ)) (dependents : AreDependents config graphs (length graphs) places)
+module _ (config : Config) (told : List AddressTold) (places : map.BTreeMap Labels (List ℕ)) (dependents : AreDependents config told (length told) places)
     (old new : List Labels) (of_old : AreServers config old) (of_new : AreServers config new) (name : Labels) where
   -- and those that were before and don't wait for it
-  pub still_settled : (direction : Direction) → IsMoved direction name old new → (place : ℕ) → place < length graphs
-      → IsSettledAt direction config graphs old place → Contains (places_of places name) place ⊎ IsSettledAt direction config graphs new place
-  still_settled Adding moved = still_none_more config graphs places dependents old new of_old of_new name (put_apart name old new moved) (put_more name old new moved)
-  still_settled Dropping moved = still_learnt config graphs places dependents old new of_old of_new name (gone_apart name old new moved) (gone_fewer name old new moved)
+  pub still_settled : (direction : Direction) → IsMoved direction name old new → (place : ℕ) → place < length told
+      → IsSettledAt direction config told old place → Contains (places_of places name) place ⊎ IsSettledAt direction config told new place
+  still_settled Adding moved = still_none_more config told places dependents old new of_old of_new name (put_apart name old new moved) (put_more name old new moved)
+  still_settled Dropping moved = still_learnt config told places dependents old new of_old of_new name (gone_apart name old new moved) (gone_fewer name old new moved)

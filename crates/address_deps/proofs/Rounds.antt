@@ -7,7 +7,7 @@ use Rattle.std.proofs.lemmas.List.Elements.{Contains-append_cases, Contains-appe
 use Rattle.dns_data.specs.Name.{Labels}
 use Rattle.dns_data.proofs.Membership.{first_or_later, none_in_nil}
 use Rattle.dns_data.proofs.Searches.{any_has, from_any}
-use Rattle.graph_form.specs.Graph.{PlainGraph}
+use Rattle.address_deps.specs.declared.told.AddressTold.{AddressTold}
 use Rattle.address_deps.specs.Dependents.{AreWithin, IsSearchRound}
 use Rattle.address_deps.specs.Giving.{unset}
 
@@ -31,17 +31,17 @@ falls waiting next before after some fewer no_more =
     by true e was = omega (arith, no_more, was)
     by false e was = let less = fewer e in omega (arith, less, was)
 
-module _ (Good : List Labels → Type 0) (At : List Labels → ℕ → Type 0) (count : List Labels → ℕ) (graphs : List PlainGraph) (waiting : List ℕ) (first : List Labels) where
+module _ (Good : List Labels → Type 0) (At : List Labels → ℕ → Type 0) (count : List Labels → ℕ) (told : List AddressTold) (waiting : List ℕ) (first : List Labels) where
   -- the places before this one were looked at
   pub record IsRoundAt (at : ℕ) (names : List Labels) (next : List ℕ) : Type 0 where
     pub good : Good names
-    pub others : (place : ℕ) → place < length graphs → Contains (drop at waiting) place ⊎ (Contains next place ⊎ At names place)
-    pub within : AreWithin graphs next
+    pub others : (place : ℕ) → place < length told → Contains (drop at waiting) place ⊎ (Contains next place ⊎ At names place)
+    pub within : AreWithin told next
     pub fewer : (length next == 0) ≡ false → count names < count first
     pub no_more : count names ≤ count first
 
   -- at the beginning of a round no place was looked at, and none waits for the next
-  pub round_begins : IsSearchRound Good At graphs first waiting → IsRoundAt 0 first []
+  pub round_begins : IsSearchRound Good At told first waiting → IsRoundAt 0 first []
   round_begins round =
       record {
         good = round.good;
@@ -52,7 +52,7 @@ module _ (Good : List Labels → Type 0) (At : List Labels → ℕ → Type 0) (
       }
 
   -- where all waiting places were looked at, the names and the places that wait next stand between two rounds
-  pub round_ends : (at : ℕ) (names : List Labels) (next : List ℕ) → length waiting ≤ at → IsRoundAt at names next → IsSearchRound Good At graphs names next
+  pub round_ends : (at : ℕ) (names : List Labels) (next : List ℕ) → length waiting ≤ at → IsRoundAt at names next → IsSearchRound Good At told names next
   round_ends at names next past on =
       record {
         good = on.good;
@@ -88,7 +88,7 @@ module _ (Good : List Labels → Type 0) (At : List Labels → ℕ → Type 0) (
 
     -- it changes the set, and others wait for it
     pub round_changed : (new : List Labels) (listed : List ℕ) → Good new → count new < count names → At new item
-        → ((place : ℕ) → place < length graphs → At names place → Contains listed place ⊎ At new place) → AreWithin graphs listed
+        → ((place : ℕ) → place < length told → At names place → Contains listed place ⊎ At new place) → AreWithin told listed
         → IsRoundAt (at + 1) new (next ++ listed)
     round_changed new listed good less told still within_listed =
         record {

@@ -5,75 +5,73 @@ use Rattle.std.specs.BTreeMap as map
 use Rattle.std.proofs.lemmas.Option.{slice_get_cases}
 use Rattle.dns_data.specs.Name.{Labels, name_eq}
 use Rattle.dns_data.proofs.Names.{name_eq_decides}
-use Rattle.net_model.specs.Nearest.{server_names}
-use Rattle.net_model.specs.Step.{following}
 use Rattle.net_model.specs.declared.config.Config.{Config}
 use Rattle.net_model.specs.declared.config.Server.{Server}
-use Rattle.graph_form.specs.Graph.{PlainGraph}
-use Rattle.graph_form.specs.GraphOf.{IsGraphOf}
+use Rattle.address_deps.specs.declared.told.AddressTold.{AddressTold}
 use Rattle.graph_form.proofs.Paths.{same_item}
 use Rattle.graph_form.proofs.Places.{PairAt, pair_at}
-use Rattle.address_deps.specs.Dependents.{AreDependents, places_of}
+use Rattle.address_deps.specs.Dependents.{AreDependents, places_of, told_awaits}
 use Rattle.zone_lookup.specs.LearntSets.{is_among}
-use Rattle.address_deps.specs.Sets.{AreServerGraphs, AreServers, NoneMoreLearntAt, IsLearntAt}
-use Rattle.address_deps.proofs.Awaited.{AreAlike, alike_back, same_learnt}
+use Rattle.address_deps.specs.Told.{AreTold, IsToldOf}
+use Rattle.address_deps.specs.Sets.{AreServers, NoneMoreLearntAt, IsLearntAt}
+use Rattle.address_deps.proofs.Awaited.{AreAlike, alike_back, same_told}
 use Rattle.address_deps.proofs.Rounds.{there_or_not}
 
--- the graph is that of the server's name
-abbrev GraphFor : Config → ℕ → Server → PlainGraph → Type 0
-GraphFor config rewrites server graph = IsGraphOf (following config rewrites (server_names config)) server.name graph
+-- what is told of the server's name is so
+abbrev ToldFor : Config → ℕ → Server → AddressTold → Type 0
+ToldFor config rewrites server one = IsToldOf config rewrites server.name one
 
--- the graph of the server at a place
-pub record GraphAt (config : Config) (rewrites : ℕ) (graphs : List PlainGraph) (place : ℕ) (server : Server) : Type 0 where
-  pub graph : PlainGraph
-  pub here : slice_get graphs place ≡ Some graph
-  pub is_graph : IsGraphOf (following config rewrites (server_names config)) server.name graph
+-- what is told of the name of the server at a place
+pub record ToldAt (config : Config) (rewrites : ℕ) (told : List AddressTold) (place : ℕ) (server : Server) : Type 0 where
+  pub one : AddressTold
+  pub here : slice_get told place ≡ Some one
+  pub is_told : IsToldOf config rewrites server.name one
 
--- at the place of each server stands the graph of its name
-pub graph_at : (config : Config) (rewrites : ℕ) (graphs : List PlainGraph) (place : ℕ) (server : Server) → AreServerGraphs config rewrites graphs
-    → slice_get config.servers place ≡ Some server → GraphAt config rewrites graphs place server
-graph_at config rewrites graphs place server are here = by (pair_at (GraphFor config rewrites) config.servers graphs are place) where
-  by : ((slice_get config.servers place ≡ None) × (slice_get graphs place ≡ None)) ⊎ PairAt (GraphFor config rewrites) config.servers graphs place
-      → GraphAt config rewrites graphs place server
+-- at the place of each server stands what is told of its name
+pub told_at : (config : Config) (rewrites : ℕ) (told : List AddressTold) (place : ℕ) (server : Server) → AreTold config rewrites told
+    → slice_get config.servers place ≡ Some server → ToldAt config rewrites told place server
+told_at config rewrites told place server are here = by (pair_at (ToldFor config rewrites) config.servers told are place) where
+  by : ((slice_get config.servers place ≡ None) × (slice_get told place ≡ None)) ⊎ PairAt (ToldFor config rewrites) config.servers told place
+      → ToldAt config rewrites told place server
   by (inl none) = let no : None ≡ Some server = sym none.0 ∙ here in cc
   by (inr pair) =
       let same : pair.one ≡ server = same_item (slice_get config.servers place) pair.one server pair.at_one here in
       record {
-        graph = pair.other;
+        one = pair.other;
         here = pair.at_other;
-        is_graph = subst (λ (s : Server). GraphFor config rewrites s pair.other) same pair.paired;
+        is_told = subst (λ (s : Server). ToldFor config rewrites s pair.other) same pair.paired;
       }
 
-module _ (config : Config) (graphs : List PlainGraph) (places : map.BTreeMap Labels (List ℕ)) (dependents : AreDependents config graphs (length graphs) places)
+module _ (config : Config) (told : List AddressTold) (places : map.BTreeMap Labels (List ℕ)) (dependents : AreDependents config told (length told) places)
     (one other : List Labels) (of_one : AreServers config one) (of_other : AreServers config other)
     (name : Labels) (apart : (server : Labels) → name_eq name server ≡ false → is_among one server ≡ is_among other server) where
-  alike : (place : ℕ) → place < length graphs → (Contains (places_of places name) place → ⊥) → (graph : PlainGraph) → slice_get graphs place ≡ Some graph
-      → AreAlike config graph one other
-  alike place within not_listed graph here =
-      record { name = name; apart = apart; not_awaited = λ awaited. not_listed (dependents.listed place graph within here name awaited) }
+  alike : (place : ℕ) → place < length told → (Contains (places_of places name) place → ⊥) → (what : AddressTold) → slice_get told place ≡ Some what
+      → AreAlike (told_awaits config what) one other
+  alike place within not_listed what here =
+      record { name = name; apart = apart; not_awaited = λ awaited. not_listed (dependents.listed place what within here name awaited) }
 
   -- where the other has more, who can't be learnt still can't be
-  pub still_none_more : ((server : Labels) → is_among one server ≡ true → is_among other server ≡ true) → (place : ℕ) → place < length graphs
-      → NoneMoreLearntAt config graphs one place → Contains (places_of places name) place ⊎ NoneMoreLearntAt config graphs other place
+  pub still_none_more : ((server : Labels) → is_among one server ≡ true → is_among other server ≡ true) → (place : ℕ) → place < length told
+      → NoneMoreLearntAt config told one place → Contains (places_of places name) place ⊎ NoneMoreLearntAt config told other place
   still_none_more more place within closed =
       elim (there_or_not (places_of places name) place) [
         | inl listed ↦ inl listed
         | inr not_listed ↦ inr (λ rewrites server are here learns.
-            let at = graph_at config rewrites graphs place server are here in
+            let at = told_at config rewrites told place server are here in
             more server.name
             (closed rewrites server are here
-            (same_learnt rewrites config server.name at.graph at.is_graph other one (alike_back config at.graph one other (alike place within not_listed at.graph at.here)) of_other of_one learns)))
+            (same_told rewrites config server.name at.one at.is_told other one (alike_back (told_awaits config at.one) one other (alike place within not_listed at.one at.here)) of_other of_one learns)))
       ]
 
   -- where the other has fewer, who can be learnt still can
-  pub still_learnt : ((server : Labels) → is_among other server ≡ true → is_among one server ≡ true) → (place : ℕ) → place < length graphs
-      → IsLearntAt config graphs one place → Contains (places_of places name) place ⊎ IsLearntAt config graphs other place
+  pub still_learnt : ((server : Labels) → is_among other server ≡ true → is_among one server ≡ true) → (place : ℕ) → place < length told
+      → IsLearntAt config told one place → Contains (places_of places name) place ⊎ IsLearntAt config told other place
   still_learnt fewer place within learnt =
       elim (there_or_not (places_of places name) place) [
         | inl listed ↦ inl listed
         | inr not_listed ↦ inr (λ rewrites server are here has.
-            let at = graph_at config rewrites graphs place server are here in
-            same_learnt rewrites config server.name at.graph at.is_graph one other (alike place within not_listed at.graph at.here) of_one of_other
+            let at = told_at config rewrites told place server are here in
+            same_told rewrites config server.name at.one at.is_told one other (alike place within not_listed at.one at.here) of_one of_other
             (learnt rewrites server are here (fewer server.name has)))
       ]
 

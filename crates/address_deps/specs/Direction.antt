@@ -3,10 +3,10 @@ use Rattle.std.specs.Prelude.{◌≡◌, ℕ, Bool, true, false, ◌||◌, ◌&&
 use Rattle.dns_data.specs.Name.{Labels, name_eq}
 use Rattle.net_model.specs.declared.config.Config.{Config}
 use Rattle.net_model.specs.declared.config.Server.{Server}
-use Rattle.graph_form.specs.Graph.{PlainGraph}
 use Rattle.zone_lookup.specs.LearntSets.{is_among}
 use Rattle.address_deps.specs.declared.direction.Direction.{Direction}
 use Rattle.address_deps.specs.declared.direction.Direction.TheVariants.{Adding, Dropping}
+use Rattle.address_deps.specs.declared.told.AddressTold.{AddressTold}
 use Rattle.address_deps.specs.Dependents.{IsSearchRound}
 use Rattle.address_deps.specs.Sets.{NoneMoreLearntAt, IsGrowing, IsLearntAt, IsShrinking, absent, present}
 
@@ -16,14 +16,14 @@ adds Adding = true
 adds Dropping = false
 
 -- no server was added or dropped before its time
-abbrev pub IsFair : Direction → Config → List PlainGraph → List Labels → Type 0
-IsFair Adding config graphs names = IsGrowing config graphs names
-IsFair Dropping config graphs names = IsShrinking config graphs names
+abbrev pub IsFair : Direction → Config → List AddressTold → List Labels → Type 0
+IsFair Adding config told names = IsGrowing config told names
+IsFair Dropping config told names = IsShrinking config told names
 
 -- the server at the place isn't to be added or dropped
-abbrev pub IsSettledAt : Direction → Config → List PlainGraph → List Labels → ℕ → Type 0
-IsSettledAt Adding config graphs names place = NoneMoreLearntAt config graphs names place
-IsSettledAt Dropping config graphs names place = IsLearntAt config graphs names place
+abbrev pub IsSettledAt : Direction → Config → List AddressTold → List Labels → ℕ → Type 0
+IsSettledAt Adding config told names place = NoneMoreLearntAt config told names place
+IsSettledAt Dropping config told names place = IsLearntAt config told names place
 
 -- how many servers may still be added or dropped
 abbrev pub unmoved : Direction → List Server → List Labels → ℕ
@@ -36,5 +36,5 @@ IsMoved Adding server old new = (name : Labels) → is_among new name ≡ (name_
 IsMoved Dropping server old new = (name : Labels) → is_among new name ≡ (not (name_eq server name) && is_among old name)
 
 -- between two rounds each server that doesn't wait is settled
-abbrev pub IsRoundOf : Direction → Config → List PlainGraph → List Labels → List ℕ → Type 0
-IsRoundOf direction config graphs names waiting = IsSearchRound (IsFair direction config graphs) (IsSettledAt direction config graphs) graphs names waiting
+abbrev pub IsRoundOf : Direction → Config → List AddressTold → List Labels → List ℕ → Type 0
+IsRoundOf direction config told names waiting = IsSearchRound (IsFair direction config told) (IsSettledAt direction config told) told names waiting

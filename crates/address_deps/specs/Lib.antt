@@ -4,3 +4,4 @@ pub mod Dependents
 pub mod Direction
 pub mod Giving
 pub mod Sets
+pub mod Told

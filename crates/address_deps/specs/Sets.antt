@@ -1,21 +1,16 @@
--- The graphs of the servers' names, and how many servers are in a list. The contracts of inner calls cite the latter.
+-- The searches for the two sets of learnt addresses. The contracts of inner calls alone cite it.
 use Rattle.std.specs.Prelude.{◌≡◌, ℕ, ◌+◌, ◌≤◌, true, not, List, [], length, Some, Contains, slice_get}
-use Rattle.std.specs.List.{AllZip, sum_by}
+use Rattle.std.specs.List.{sum_by}
 use Rattle.dns_data.specs.Name.{Labels}
 use Rattle.net_model.specs.declared.config.Config.{Config}
 use Rattle.net_model.specs.declared.config.Server.{Server}
 use Rattle.net_model.specs.Learnt.{AfterRounds, Learns}
 use Rattle.net_model.specs.Nearest.{server_names}
 use Rattle.net_model.specs.Step.{following}
-use Rattle.graph_form.specs.Graph.{PlainGraph}
-use Rattle.graph_form.specs.GraphOf.{IsGraphOf}
 use Rattle.zone_lookup.specs.LearntSets.{is_among}
 use Rattle.address_deps.specs.Giving.{unset}
-
--- one graph for each server, in order, of the walks of its name while all configured servers are followed
-abbrev pub AreServerGraphs : Config → ℕ → List PlainGraph → Type 0
-AreServerGraphs config rewrites graphs =
-    AllZip (λ server graph. IsGraphOf (following config rewrites (server_names config)) server.name graph) config.servers graphs
+use Rattle.address_deps.specs.Told.{AreTold}
+use Rattle.address_deps.specs.declared.told.AddressTold.{AddressTold}
 
 -- how many servers aren't in the list
 abbrev pub absent : List Server → List Labels → ℕ
@@ -43,37 +38,37 @@ abbrev pub AreServers : Config → List Labels → Type 0
 AreServers config names = (name : Labels) → is_among names name ≡ true → is_among (server_names config) name ≡ true
 
 -- The search for the least set: each name is learnt after as many rounds as servers were added.
-pub record IsGrowing (config : Config) (graphs : List PlainGraph) (learnt : List Labels) : Type 0 where
+pub record IsGrowing (config : Config) (told : List AddressTold) (learnt : List Labels) : Type 0 where
   pub servers : AreServers config learnt
-  pub below : (rewrites : ℕ) → AreServerGraphs config rewrites graphs
+  pub below : (rewrites : ℕ) → AreTold config rewrites told
       → (rounds : ℕ) × (rounds + absent config.servers learnt ≤ length config.servers) × AreBelow config rewrites rounds learnt
 
 -- no server more can be learnt
-abbrev pub NoneMoreLearnt : Config → List PlainGraph → List Labels → Type 0
-NoneMoreLearnt config graphs learnt =
-    (rewrites : ℕ) → AreServerGraphs config rewrites graphs → (name : Labels) → Contains (server_names config) name
+abbrev pub NoneMoreLearnt : Config → List AddressTold → List Labels → Type 0
+NoneMoreLearnt config told learnt =
+    (rewrites : ℕ) → AreTold config rewrites told → (name : Labels) → Contains (server_names config) name
     → Learns (following config rewrites learnt) name → is_among learnt name ≡ true
 
 -- The search for the greatest set: after as many rounds as servers were taken away what is learnt is among the names.
-pub record IsShrinking (config : Config) (graphs : List PlainGraph) (known : List Labels) : Type 0 where
+pub record IsShrinking (config : Config) (told : List AddressTold) (known : List Labels) : Type 0 where
   pub servers : AreServers config known
-  pub above : (rewrites : ℕ) → AreServerGraphs config rewrites graphs
+  pub above : (rewrites : ℕ) → AreTold config rewrites told
       → (rounds : ℕ) × (rounds + present config.servers known ≤ length config.servers) × AreAbove config rewrites rounds known
 
 -- each can be learnt
-abbrev pub AreLearnt : Config → List PlainGraph → List Labels → Type 0
-AreLearnt config graphs known =
-    (rewrites : ℕ) → AreServerGraphs config rewrites graphs → (name : Labels) → Contains (server_names config) name
+abbrev pub AreLearnt : Config → List AddressTold → List Labels → Type 0
+AreLearnt config told known =
+    (rewrites : ℕ) → AreTold config rewrites told → (name : Labels) → Contains (server_names config) name
     → is_among known name ≡ true → Learns (following config rewrites known) name
 
 -- the server at the place is in the list, or can't be learnt
-abbrev pub NoneMoreLearntAt : Config → List PlainGraph → List Labels → ℕ → Type 0
-NoneMoreLearntAt config graphs names place =
-    (rewrites : ℕ) (server : Server) → AreServerGraphs config rewrites graphs → slice_get config.servers place ≡ Some server
+abbrev pub NoneMoreLearntAt : Config → List AddressTold → List Labels → ℕ → Type 0
+NoneMoreLearntAt config told names place =
+    (rewrites : ℕ) (server : Server) → AreTold config rewrites told → slice_get config.servers place ≡ Some server
     → Learns (following config rewrites names) server.name → is_among names server.name ≡ true
 
 -- the server at the place isn't in the list, or can be learnt
-abbrev pub IsLearntAt : Config → List PlainGraph → List Labels → ℕ → Type 0
-IsLearntAt config graphs names place =
-    (rewrites : ℕ) (server : Server) → AreServerGraphs config rewrites graphs → slice_get config.servers place ≡ Some server
+abbrev pub IsLearntAt : Config → List AddressTold → List Labels → ℕ → Type 0
+IsLearntAt config told names place =
+    (rewrites : ℕ) (server : Server) → AreTold config rewrites told → slice_get config.servers place ≡ Some server
     → is_among names server.name ≡ true → Learns (following config rewrites names) server.name

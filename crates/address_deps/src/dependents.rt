@@ -9,8 +9,10 @@ ghost use Rattle.address_deps.specs.Dependents.{
   graph_awaits,
   hop_awaits,
   places_of,
+  told_awaits,
 };
 
+use crate::told::AddressTold;
 use dns_data::{List, Name, NoMemory};
 use graph_form::{Branch, Graph, typed_branches};
 use net_model::Hop;
@@ -26,15 +28,20 @@ pub(crate) struct Dependents {
 }
 
 impl Dependents {
-    /// Who waits for each name server's address, by the graphs of the servers' names. Each branch is passed over once.
-    pub fn of(alloc: Global, hosts: &Hosts<'_>, graphs: &[Graph]) -> Result<Dependents, NoMemory>
-        ensures { IfOk result (λ dependents. AreDependents hosts.now graphs.now (length graphs.now) dependents.places) }
+    /// Who waits for each name server's address, by what tells whether the servers' own are learnt. Each branch of a graph is
+    /// passed over once.
+    pub fn of(
+        alloc: Global,
+        hosts: &Hosts<'_>,
+        told: &[AddressTold],
+    ) -> Result<Dependents, NoMemory>
+        ensures { IfOk result (λ dependents. AreDependents hosts.now told.now (length told.now) dependents.places) }
     {
         let mut dependents = Dependents {
             places: BTreeMap::new(alloc),
         };
-        for place in 0..graphs.len() {
-            let names = names_awaited(alloc, hosts, &graphs[place])?;
+        for place in 0..told.len() {
+            let names = names_for(alloc, hosts, &told[place])?;
             dependents.put_all(alloc, names.as_slice(), place)?;
         }
         Ok(dependents)
@@ -101,6 +108,20 @@ fn is_last(listed: &[usize], place: usize) -> bool
     match listed.last() {
         Some(last) => *last == place,
         None => false,
+    }
+}
+
+/// The names of the name servers for whose addresses a server waits, by what tells whether its own is learnt.
+fn names_for<'g>(
+    alloc: Global,
+    hosts: &Hosts<'_>,
+    told: &'g AddressTold,
+) -> Result<Vec<&'g Name>, NoMemory>
+    ensures { IfOk result (λ names. map (λ name. name.now) names.items ≡ told_awaits hosts.now told.now) }
+{
+    match told {
+        AddressTold::Known(_) => Ok(Vec::new(alloc)),
+        AddressTold::ByGraph(graph) => names_awaited(alloc, hosts, graph),
     }
 }
 

@@ -8,8 +8,8 @@ ghost use Rattle.address_deps.specs.Direction.{IsFair, IsMoved, IsRoundOf, IsSet
 use crate::dependents::Dependents;
 use crate::giving::learns;
 use crate::server_set::ServerSet;
+use crate::told::AddressTold;
 use dns_data::{List, Name, NoMemory};
-use graph_form::Graph;
 use std::alloc::Global;
 use zone_lookup::Hosts;
 
@@ -50,24 +50,24 @@ impl Direction {
 pub(crate) fn settled(
     alloc: Global,
     hosts: &Hosts<'_>,
-    graphs: &[Graph],
+    told: &[AddressTold],
     dependents: &Dependents,
     direction: Direction,
     begun: ServerSet,
 ) -> Result<ServerSet, NoMemory>
-    requires many { length graphs.now ≡ length hosts.now.servers }
-    requires dependents { AreDependents hosts.now graphs.now (length graphs.now) dependents.now.places }
-    requires fair { IsFair direction hosts.now graphs.now begun }
-    ensures fair { IfOk result (IsFair direction hosts.now graphs.now) }
-    ensures settled { IfOk result (λ names. (place : ℕ) → place < length graphs.now → IsSettledAt direction hosts.now graphs.now names place) }
+    requires many { length told.now ≡ length hosts.now.servers }
+    requires dependents { AreDependents hosts.now told.now (length told.now) dependents.now.places }
+    requires fair { IsFair direction hosts.now told.now begun }
+    ensures fair { IfOk result (IsFair direction hosts.now told.now) }
+    ensures settled { IfOk result (λ names. (place : ℕ) → place < length told.now → IsSettledAt direction hosts.now told.now names place) }
 {
     let mut names = begun;
-    let mut waiting = all_places(alloc, graphs)?;
+    let mut waiting = all_places(alloc, told)?;
     while !waiting.items().is_empty() {
         waiting = round(
             alloc,
             hosts,
-            graphs,
+            told,
             dependents,
             direction,
             waiting.items(),
@@ -78,11 +78,11 @@ pub(crate) fn settled(
 }
 
 /// The places of all servers.
-fn all_places(alloc: Global, graphs: &[Graph]) -> Result<List<usize>, NoMemory>
-    ensures { IfOk result (AreAllPlaces (length graphs.now)) }
+fn all_places(alloc: Global, told: &[AddressTold]) -> Result<List<usize>, NoMemory>
+    ensures { IfOk result (AreAllPlaces (length told.now)) }
 {
     let mut places = List::new(alloc);
-    for place in 0..graphs.len() {
+    for place in 0..told.len() {
         places.push(place)?;
     }
     Ok(places)
@@ -92,22 +92,22 @@ fn all_places(alloc: Global, graphs: &[Graph]) -> Result<List<usize>, NoMemory>
 fn round(
     alloc: Global,
     hosts: &Hosts<'_>,
-    graphs: &[Graph],
+    told: &[AddressTold],
     dependents: &Dependents,
     direction: Direction,
     waiting: &[usize],
     names: &mut ServerSet,
 ) -> Result<List<usize>, NoMemory>
-    requires many { length graphs.now ≡ length hosts.now.servers }
-    requires dependents { AreDependents hosts.now graphs.now (length graphs.now) dependents.now.places }
-    requires round { IsRoundOf direction hosts.now graphs.now names.old waiting.now }
-    ensures round { IfOk result (IsRoundOf direction hosts.now graphs.now names.new) }
+    requires many { length told.now ≡ length hosts.now.servers }
+    requires dependents { AreDependents hosts.now told.now (length told.now) dependents.now.places }
+    requires round { IsRoundOf direction hosts.now told.now names.old waiting.now }
+    ensures round { IfOk result (IsRoundOf direction hosts.now told.now names.new) }
     ensures fewer { IfOk result (λ next. (length next == 0) ≡ false → unmoved direction hosts.now.servers names.new < unmoved direction hosts.now.servers names.old) }
     ensures no_more { OnOk result (unmoved direction hosts.now.servers names.new ≤ unmoved direction hosts.now.servers names.old) }
 {
     let mut next = List::new(alloc);
     for place in waiting {
-        if move_at(alloc, hosts, graphs, direction, *place, names)? {
+        if move_at(alloc, hosts, told, direction, *place, names)? {
             wake(hosts, dependents, *place, &mut next)?;
         }
     }
@@ -118,18 +118,18 @@ fn round(
 fn move_at(
     alloc: Global,
     hosts: &Hosts<'_>,
-    graphs: &[Graph],
+    told: &[AddressTold],
     direction: Direction,
     place: usize,
     names: &mut ServerSet,
 ) -> Result<bool, NoMemory>
-    requires many { length graphs.now ≡ length hosts.now.servers }
-    requires within { place < length graphs.now }
-    requires fair { IsFair direction hosts.now graphs.now names.old }
-    ensures fair { OnOk result (IsFair direction hosts.now graphs.now names.new) }
+    requires many { length told.now ≡ length hosts.now.servers }
+    requires within { place < length told.now }
+    requires fair { IsFair direction hosts.now told.now names.old }
+    ensures fair { OnOk result (IsFair direction hosts.now told.now names.new) }
     ensures fewer { IfOk result (λ moved. moved ≡ true → unmoved direction hosts.now.servers names.new < unmoved direction hosts.now.servers names.old) }
     ensures same { IfOk result (λ moved. moved ≡ false → names.new ≡ names.old) }
-    ensures settled { IfOk result (λ moved. moved ≡ false → IsSettledAt direction hosts.now graphs.now names.old place) }
+    ensures settled { IfOk result (λ moved. moved ≡ false → IsSettledAt direction hosts.now told.now names.old place) }
     ensures moved { IfOk result (λ moved. moved ≡ true → (server : Server) → slice_get hosts.now.servers place ≡ Some server
         → IsMoved direction server.name names.old names.new) }
 {
@@ -137,7 +137,7 @@ fn move_at(
     if names.has(name) == direction.adds() {
         return Ok(false);
     }
-    if learns(alloc, hosts, &graphs[place], names)? != direction.adds() {
+    if learns(alloc, hosts, &told[place], names)? != direction.adds() {
         return Ok(false);
     }
     direction.change(alloc, name, names)?;

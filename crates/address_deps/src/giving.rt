@@ -9,17 +9,37 @@ ghost use Rattle.net_model.specs.Step.{following};
 ghost use Rattle.graph_form.specs.Graph.{branches_of};
 ghost use Rattle.graph_form.specs.GraphOf.{IsGraphOf};
 ghost use Rattle.graph_form.specs.declared.node.Node.{Node};
+ghost use Rattle.address_deps.specs.Told.{IsToldOf};
 ghost use Rattle.address_deps.specs.Giving.{may_take, is_marked, branch_gives, unmarked, AreGiving, AreComplete};
 
 use crate::server_set::ServerSet;
+use crate::told::AddressTold;
 use dns_data::{NoMemory, RrType};
 use graph_form::{Branch, Graph};
 use net_model::Hop;
 use std::alloc::Global;
 use zone_lookup::{Hosts, gives_address};
 
-/// Whether an address of the graph's query can be learnt while these servers are followed.
+/// Whether an address of a server's name can be learnt while these servers are followed, by what tells it of the name.
 pub(crate) fn learns(
+    alloc: Global,
+    hosts: &Hosts<'_>,
+    told: &AddressTold,
+    followed: &ServerSet,
+) -> Result<bool, NoMemory>
+    ensures { IfOk result (λ learns. (rewrites : ℕ) (name : Labels)
+        → ((other : Labels) → list_any (name_eq other) followed.now ≡ true → list_any (name_eq other) (server_names hosts.now) ≡ true)
+        → IsToldOf hosts.now rewrites name told.now
+        → (learns ≡ true) ↔ Learns (following hosts.now rewrites followed.now) name) }
+{
+    match told {
+        AddressTold::Known(learnt) => Ok(*learnt),
+        AddressTold::ByGraph(graph) => learns_in(alloc, hosts, graph, followed),
+    }
+}
+
+/// Whether an address of the graph's query can be learnt while these servers are followed.
+fn learns_in(
     alloc: Global,
     hosts: &Hosts<'_>,
     graph: &Graph,

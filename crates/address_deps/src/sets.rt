@@ -6,45 +6,50 @@ ghost use Rattle.dns_data.specs.Name.{Labels};
 ghost use Rattle.net_model.specs.Learnt.{IsLeast, IsGreatest};
 ghost use Rattle.net_model.specs.Nearest.{server_names};
 ghost use Rattle.address_deps.specs.Dependents.{AreDependents};
-ghost use Rattle.address_deps.specs.Sets.{AreServerGraphs};
+ghost use Rattle.address_deps.specs.Told.{AreTold};
 ghost use Rattle.zone_lookup.specs.LearntSets.{is_among};
 
 use crate::dependents::Dependents;
 use crate::direction::{Direction, settled};
 use crate::server_set::ServerSet;
+use crate::told::AddressTold;
 use dns_data::{List, Name, NoMemory};
-use graph_form::{Deps, Graph};
+use graph_form::Deps;
 use net_model::Config;
 use std::alloc::Global;
 use zone_lookup::Hosts;
 
-/// The least and the greatest set of learnt addresses of a configuration, each in the order of the configured servers, where
-/// the graphs are those of the servers' names, in their order. The trees of all zones are built for it: where they are built
-/// already, call `dependencies_among`.
-pub fn dependencies(alloc: Global, config: &Config, graphs: &[Graph]) -> Result<Deps, NoMemory>
-    requires { length graphs.now ≡ length config.now.servers }
-    ensures least { IfOk result (λ deps. (rewrites : ℕ) → AreServerGraphs config.now rewrites graphs.now → IsLeast config.now rewrites deps.least) }
-    ensures greatest { IfOk result (λ deps. (rewrites : ℕ) → AreServerGraphs config.now rewrites graphs.now → IsGreatest config.now rewrites deps.greatest) }
+/// The least and the greatest set of learnt addresses of a configuration, each in the order of the configured servers, by what
+/// is told of the servers' names, in their order. The trees of all zones are built for it: where they are built already, call
+/// `dependencies_among`.
+pub fn dependencies(
+    alloc: Global,
+    config: &Config,
+    told: &[AddressTold],
+) -> Result<Deps, NoMemory>
+    requires { length told.now ≡ length config.now.servers }
+    ensures least { IfOk result (λ deps. (rewrites : ℕ) → AreTold config.now rewrites told.now → IsLeast config.now rewrites deps.least) }
+    ensures greatest { IfOk result (λ deps. (rewrites : ℕ) → AreTold config.now rewrites told.now → IsGreatest config.now rewrites deps.greatest) }
 {
     let hosts = Hosts::build(alloc, config)?;
-    dependencies_among(alloc, &hosts, graphs)
+    dependencies_among(alloc, &hosts, told)
 }
 
-/// The least and the greatest set of learnt addresses among these servers, each in the order of the configured servers, where
-/// the graphs are those of the servers' names, in their order.
+/// The least and the greatest set of learnt addresses among these servers, each in the order of the configured servers, by what
+/// is told of the servers' names, in their order.
 pub fn dependencies_among(
     alloc: Global,
     hosts: &Hosts<'_>,
-    graphs: &[Graph],
+    told: &[AddressTold],
 ) -> Result<Deps, NoMemory>
-    requires { length graphs.now ≡ length hosts.now.servers }
-    ensures least { IfOk result (λ deps. (rewrites : ℕ) → AreServerGraphs hosts.now rewrites graphs.now → IsLeast hosts.now rewrites deps.least) }
-    ensures greatest { IfOk result (λ deps. (rewrites : ℕ) → AreServerGraphs hosts.now rewrites graphs.now → IsGreatest hosts.now rewrites deps.greatest) }
+    requires { length told.now ≡ length hosts.now.servers }
+    ensures least { IfOk result (λ deps. (rewrites : ℕ) → AreTold hosts.now rewrites told.now → IsLeast hosts.now rewrites deps.least) }
+    ensures greatest { IfOk result (λ deps. (rewrites : ℕ) → AreTold hosts.now rewrites told.now → IsGreatest hosts.now rewrites deps.greatest) }
 {
-    let dependents = Dependents::of(alloc, hosts, graphs)?;
+    let dependents = Dependents::of(alloc, hosts, told)?;
     Ok(Deps {
-        least: least(alloc, hosts, graphs, &dependents)?,
-        greatest: greatest(alloc, hosts, graphs, &dependents)?,
+        least: least(alloc, hosts, told, &dependents)?,
+        greatest: greatest(alloc, hosts, told, &dependents)?,
     })
 }
 
@@ -52,15 +57,15 @@ pub fn dependencies_among(
 fn least(
     alloc: Global,
     hosts: &Hosts<'_>,
-    graphs: &[Graph],
+    told: &[AddressTold],
     dependents: &Dependents,
 ) -> Result<List<Name>, NoMemory>
-    requires many { length graphs.now ≡ length hosts.now.servers }
-    requires dependents { AreDependents hosts.now graphs.now (length graphs.now) dependents.now.places }
-    ensures { IfOk result (λ least. (rewrites : ℕ) → AreServerGraphs hosts.now rewrites graphs.now → IsLeast hosts.now rewrites least) }
+    requires many { length told.now ≡ length hosts.now.servers }
+    requires dependents { AreDependents hosts.now told.now (length told.now) dependents.now.places }
+    ensures { IfOk result (λ least. (rewrites : ℕ) → AreTold hosts.now rewrites told.now → IsLeast hosts.now rewrites least) }
 {
     let none = ServerSet::new(alloc);
-    let learnt = settled(alloc, hosts, graphs, dependents, Direction::Adding, none)?;
+    let learnt = settled(alloc, hosts, told, dependents, Direction::Adding, none)?;
     in_order(alloc, hosts, &learnt)
 }
 
@@ -68,15 +73,15 @@ fn least(
 fn greatest(
     alloc: Global,
     hosts: &Hosts<'_>,
-    graphs: &[Graph],
+    told: &[AddressTold],
     dependents: &Dependents,
 ) -> Result<List<Name>, NoMemory>
-    requires many { length graphs.now ≡ length hosts.now.servers }
-    requires dependents { AreDependents hosts.now graphs.now (length graphs.now) dependents.now.places }
-    ensures { IfOk result (λ greatest. (rewrites : ℕ) → AreServerGraphs hosts.now rewrites graphs.now → IsGreatest hosts.now rewrites greatest) }
+    requires many { length told.now ≡ length hosts.now.servers }
+    requires dependents { AreDependents hosts.now told.now (length told.now) dependents.now.places }
+    ensures { IfOk result (λ greatest. (rewrites : ℕ) → AreTold hosts.now rewrites told.now → IsGreatest hosts.now rewrites greatest) }
 {
     let all = all_servers(alloc, hosts)?;
-    let known = settled(alloc, hosts, graphs, dependents, Direction::Dropping, all)?;
+    let known = settled(alloc, hosts, told, dependents, Direction::Dropping, all)?;
     in_order(alloc, hosts, &known)
 }
 

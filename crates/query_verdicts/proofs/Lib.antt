@@ -22,7 +22,7 @@ pub mod ReportEntry
 pub mod ReportPassed
 pub mod ReportSize
 pub mod Rising
-pub mod ServerGraphs
+pub mod ServersTold
 pub mod ShowsDecided
 pub mod StraightVerdicts
 pub mod TreeValues

@@ -1,8 +1,8 @@
 -- What is learnt of a configuration before its queries are judged: for the contracts of inner calls alone.
 use Rattle.std.specs.Prelude.{◌≡◌, ℕ, true, List, Result, Ok, Err}
 use Rattle.dns_data.specs.Name.{Labels}
-use Rattle.address_deps.specs.Sets.{AreServerGraphs}
-use Rattle.graph_form.specs.Graph.{PlainGraph}
+use Rattle.address_deps.specs.Told.{AreTold}
+use Rattle.address_deps.specs.declared.told.AddressTold.{AddressTold}
 use Rattle.net_model.specs.declared.config.Config.{Config}
 use Rattle.net_model.specs.declared.place.Cut.{Cut}
 use Rattle.net_model.specs.Nearest.{is_configured}
@@ -29,11 +29,11 @@ pub record AreLearnt (config : Config) (rewrites states : ℕ) (learnt : Learnt)
   pub regions : AreRegionsFor config learnt.sets learnt.regions
   pub all_followed : learnt.all_followed ≡ true → FollowsAll config learnt.sets.least
 
--- the graphs of the servers' names, none of which reaches too many pairs, or else the first that does
-abbrev pub AreGraphsOrPassed : Config → ℕ → ℕ → Result (List PlainGraph) Labels → Type 0
-AreGraphsOrPassed config rewrites states (Ok graphs) =
-    AreServerGraphs config rewrites graphs × (SomeServerPasses config rewrites states → ⊥)
-AreGraphsOrPassed config rewrites states (Err server) = IsFirstServerPassed config rewrites states server
+-- what is told of the servers' names, none of which reaches too many pairs, or else the first that does
+abbrev pub AreToldOrPassed : Config → ℕ → ℕ → Result (List AddressTold) Labels → Type 0
+AreToldOrPassed config rewrites states (Ok told) =
+    AreTold config rewrites told × (SomeServerPasses config rewrites states → ⊥)
+AreToldOrPassed config rewrites states (Err server) = IsFirstServerPassed config rewrites states server
 
 -- what is learnt, or else the first server whose name reaches too many pairs
 abbrev pub IsLearntOf : Config → ℕ → ℕ → Result Learnt Labels → Type 0

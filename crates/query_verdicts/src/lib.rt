@@ -8,7 +8,8 @@
 //! queries. A subject is a configuration with its limits, the names that are told apart in it, and the name at or below
 //! which queries are looked at.
 //!
-//! Costs: `prepare` makes the trees of all zones and a graph of each server's name, once. A name of the tree keeps its own
+//! Costs: `prepare` makes the trees of all zones and, where walks of a server's name may lead on from the top servers or these are
+//! few, a graph of that name, once. A name of the tree keeps its own
 //! live set, found once, one label on from that of the name above it: none is walked to from the root to be judged, and judging
 //! copies neither the name nor its live set. Judging a name makes a graph for each of its classes, which is dropped when its
 //! faults are found: a verdict keeps no walk, and takes no memory of its own where no class of the name shows a fault. No graph
@@ -27,6 +28,7 @@ mod own_class;
 mod passed;
 mod queries;
 mod report;
+mod servers;
 mod subject;
 mod verdict;
 mod verdicts;

@@ -3,9 +3,8 @@
 ghost use Rattle.std.specs.Prelude.{◌≡◌, IfOk, length};
 
 use super::configs::{graph_of, loaded, name, spells};
-use address_deps::dependencies;
+use address_deps::{AddressTold, dependencies};
 use dns_data::{List, Name, NameFault};
-use graph_form::Graph;
 use interp_graph::GraphFault;
 use net_model::Config;
 use plain_resolver::{LearntFault, learnt};
@@ -82,23 +81,24 @@ fn are_both(alloc: Global, found: &[Name]) -> bool {
 /// Whether by the graphs of the servers' names the least set is empty, and the greatest has both firms' servers.
 fn graphs_give_both_sets(alloc: Global, config: &Config) -> Result<bool, GraphFault> {
     let hosts = Hosts::build(alloc, config)?;
-    let graphs = server_graphs(alloc, config, &hosts)?;
-    let deps = dependencies(alloc, config, graphs.items())?;
+    let told = told_by_graphs(alloc, config, &hosts)?;
+    let deps = dependencies(alloc, config, told.items())?;
     Ok(deps.least.is_empty() && are_both(alloc, deps.greatest.items()))
 }
 
-/// The graph of each server's name, in their order.
-fn server_graphs(
+/// What the graphs of the servers' names tell, in their order.
+fn told_by_graphs(
     alloc: Global,
     config: &Config,
     hosts: &Hosts<'_>,
-) -> Result<List<Graph>, GraphFault>
-    ensures { IfOk result (λ graphs. length graphs ≡ length config.now.servers) }
+) -> Result<List<AddressTold>, GraphFault>
+    ensures { IfOk result (λ told. length told ≡ length config.now.servers) }
 {
-    let mut graphs = List::new(alloc);
+    let mut told = List::new(alloc);
     for server in config.servers.items() {
         let query = server.name.copy(alloc)?;
-        graphs.push(graph_of(alloc, hosts, query)?)?;
+        let graph = graph_of(alloc, hosts, query)?;
+        told.push(AddressTold::ByGraph(graph))?;
     }
-    Ok(graphs)
+    Ok(told)
 }

@@ -1,13 +1,13 @@
-use Rattle.std.proofs.Common.{◌≡◌, true, false, sym, ◌∙◌, inl, inr}
+use Rattle.std.proofs.Common.{subst}
+use Rattle.std.proofs.lemmas.Result.{IfOk-weaker}
+use Rattle.address_deps.specs.Told.{IsToldOf}
 use Rattle.address_deps.proofs.giving.learns.Goals as goal
 
-pub returns-else-four : goal.returns-else-four
-returns-else-four c = λ rewrites query within is.
-    let four = c.in_ok-four.ensures rewrites query within is in
-    let six = c.in_ok-six.ensures rewrites query within is in (
-      λ h. inr (six.0 h),
-      λ learns. elim learns [
-        | inl one ↦ (let no : false ≡ true = sym c.if-four.false ∙ four.1 one in cc)
-        | inr other ↦ six.1 other
-      ],
-    )
+pub returns-in-Known : goal.returns-in-Known
+returns-in-Known c = λ rewrites name within is. subst (IsToldOf c.args.hosts.now rewrites name) c.in-Known.is is c.args.followed.now
+
+pub returns-in-ByGraph : goal.returns-in-ByGraph
+returns-in-ByGraph c =
+    IfOk-weaker c.learns_in.result _ _
+    (λ learns so rewrites name within is. so rewrites name within (subst (IsToldOf c.args.hosts.now rewrites name) c.in-ByGraph.is is))
+    c.learns_in.ensures

@@ -10,7 +10,7 @@ pub settled-requires : goal.settled-requires
 settled-requires c = record {
   many = c.requires.many;
   dependents = c.requires.dependents;
-  fair = shrinks_from_all c.args.hosts.now c.args.graphs.now c.in_ok-all.all
+  fair = shrinks_from_all c.args.hosts.now c.args.told.now c.in_ok-all.all
       (λ name has. sym (c.in_ok-all.ensures name) ∙ has)
       (λ name among. c.in_ok-all.ensures name ∙ has_among (server_names c.args.hosts.now) name among);
 }
@@ -18,12 +18,12 @@ settled-requires c = record {
 pub returns : goal.returns
 returns c =
     let config = c.args.hosts.now in
-    let graphs = c.args.graphs.now in
+    let told = c.args.told.now in
     let names = c.in_ok-known.known in
     IfOk-weaker c.in_order.result _ _
     (λ list are rewrites of_servers.
     subst (IsGreatest config rewrites) (sym are)
-    (greatest_told config graphs names c.in_ok-known.ensures.fair
-    (all_learnt config graphs names (λ place within. c.in_ok-known.ensures.settled place (omega (arith, within, c.requires.many))))
+    (greatest_told config told names c.in_ok-known.ensures.fair
+    (all_learnt config told names (λ place within. c.in_ok-known.ensures.settled place (omega (arith, within, c.requires.many))))
     rewrites of_servers))
     c.in_order.ensures

@@ -9,18 +9,18 @@ pub settled-requires : goal.settled-requires
 settled-requires c = record {
   many = c.requires.many;
   dependents = c.requires.dependents;
-  fair = subst (IsGrowing c.args.hosts.now c.args.graphs.now) (sym c.new-none.ensures) (grows_from_none c.args.hosts.now c.args.graphs.now);
+  fair = subst (IsGrowing c.args.hosts.now c.args.told.now) (sym c.new-none.ensures) (grows_from_none c.args.hosts.now c.args.told.now);
 }
 
 pub returns : goal.returns
 returns c =
     let config = c.args.hosts.now in
-    let graphs = c.args.graphs.now in
+    let told = c.args.told.now in
     let names = c.in_ok-learnt.learnt in
     IfOk-weaker c.in_order.result _ _
     (λ list are rewrites of_servers.
     subst (IsLeast config rewrites) (sym are)
-    (least_told config graphs names c.in_ok-learnt.ensures.fair
-    (none_more_in_all config graphs names (λ place within. c.in_ok-learnt.ensures.settled place (omega (arith, within, c.requires.many))))
+    (least_told config told names c.in_ok-learnt.ensures.fair
+    (none_more_in_all config told names (λ place within. c.in_ok-learnt.ensures.settled place (omega (arith, within, c.requires.many))))
     rewrites of_servers))
     c.in_order.ensures

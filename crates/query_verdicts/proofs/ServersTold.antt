@@ -1,44 +1,39 @@
--- The graphs of the servers' names, made one after another: none of those names reaches too many pairs of state and type.
+-- What is told of the servers' names, one after another: none of those names reaches too many pairs of state and type.
 use Rattle.std.proofs.Common.{◌≡◌, ◌∙◌, ℕ, ◌+◌, ◌<◌, ◌≤◌, List, [], ◌∷◌, ◌++◌, take, drop, map, length, get_or, Contains, sym, ap, subst, inl, inr}
 use Rattle.std.specs.List.{AllZip}
 use Rattle.std.proofs.lemmas.List.{at_drop_more, map-append, take-append-drop, take_all, take_more}
 use Rattle.std.proofs.lemmas.List.Elements.{Contains-append_cases}
-use Rattle.std.proofs.lemmas.Slice.Zip.{AllZip-long}
+use Rattle.std.proofs.lemmas.Slice.Zip.{AllZip-long, all_zipped_more}
 use Rattle.dns_data.proofs.Membership.{none_in_nil, first_or_later, from_map}
-use Rattle.address_deps.specs.Sets.{AreServerGraphs}
-use Rattle.graph_form.specs.Graph.{PlainGraph}
-use Rattle.graph_form.specs.GraphOf.{IsGraphOf}
-use Rattle.interp_graph.specs.Asked.{IsBuilt}
-use Rattle.interp_graph.proofs.ItemsByNumber.{beside_pushed}
+use Rattle.address_deps.specs.Told.{AreTold, IsToldOf}
+use Rattle.address_deps.specs.declared.told.AddressTold.{AddressTold}
 use Rattle.net_model.specs.declared.config.Config.{Config}
 use Rattle.net_model.specs.declared.config.Server.{Server}
-use Rattle.net_model.specs.Nearest.{server_names}
-use Rattle.net_model.specs.Step.{following}
 use Rattle.dns_data.specs.Name.{IsName}
 use Rattle.query_verdicts.specs.Passed.{IsFirstServerPassed}
 use Rattle.query_verdicts.specs.Verdict.{PassesStates, SomeServerPasses}
 
 module _ (config : Config) (rewrites states : ℕ) where
-  abbrev IsServerGraph : Server → PlainGraph → Type 0
-  IsServerGraph server graph = IsGraphOf (following config rewrites (server_names config)) server.name graph
+  abbrev IsTold : Server → AddressTold → Type 0
+  IsTold server told = IsToldOf config rewrites server.name told
 
-  -- these servers have these graphs, and none of their names passes
-  pub record AreSoFar (servers : List Server) (graphs : List PlainGraph) : Type 0 where
-    pub beside : AllZip IsServerGraph servers graphs
+  -- this is told of these servers' names, none of which passes
+  pub record AreSoFar (servers : List Server) (told : List AddressTold) : Type 0 where
+    pub beside : AllZip IsTold servers told
     pub few : (server : Server) → Contains servers server → PassesStates config rewrites states server.name → ⊥
 
-  -- before the first server there is no graph
+  -- before the first server nothing is told
   pub none_so_far : AreSoFar [] []
   none_so_far = record { beside = tt; few = λ server has. absurd (none_in_nil server has) }
 
-  -- when the next server's name has its graph and doesn't pass the limit, the servers up to it have theirs
-  pub one_more_graph : (servers : List Server) (i : ℕ) (graphs : List PlainGraph) (server : Server) (graph : PlainGraph) → i < length servers
-      → get_or servers i server ≡ server → AreSoFar (take i servers) graphs → IsBuilt config rewrites server.name graph
-      → (PassesStates config rewrites states server.name → ⊥) → AreSoFar (take (i + 1) servers) (graphs ++ graph ∷ [])
-  one_more_graph servers i graphs server graph within is so_far built few =
-      subst (λ (l : List Server). AreSoFar l (graphs ++ graph ∷ [])) (sym (take_more servers i server within ∙ ap (λ (s : Server). take i servers ++ s ∷ []) is))
+  -- when it is told of the next server's name, which doesn't pass the limit, it is told of the servers up to it
+  pub one_more_told : (servers : List Server) (i : ℕ) (told : List AddressTold) (server : Server) (one : AddressTold) → i < length servers
+      → get_or servers i server ≡ server → AreSoFar (take i servers) told → IsToldOf config rewrites server.name one
+      → (PassesStates config rewrites states server.name → ⊥) → AreSoFar (take (i + 1) servers) (told ++ one ∷ [])
+  one_more_told servers i told server one within is so_far is_told few =
+      subst (λ (l : List Server). AreSoFar l (told ++ one ∷ [])) (sym (take_more servers i server within ∙ ap (λ (s : Server). take i servers ++ s ∷ []) is))
       (record {
-        beside = beside_pushed IsServerGraph (take i servers) graphs server graph so_far.beside built.is_graph;
+        beside = all_zipped_more IsTold (take i servers) told server one so_far.beside is_told;
         few = λ other has. elim (Contains-append_cases (take i servers) (server ∷ []) other has) [
           | inl old ↦ so_far.few other old
           | inr new ↦ elim (first_or_later server [] other new) [
@@ -48,23 +43,23 @@ module _ (config : Config) (rewrites states : ℕ) where
         ];
       })
 
-  -- when all servers have had their turn, the graphs are those of the configured servers' names
-  pub all_graphs : (n : ℕ) (graphs : List PlainGraph) → length config.servers ≤ n → AreSoFar (take n config.servers) graphs → AreServerGraphs config rewrites graphs
-  all_graphs n graphs long so_far = subst (λ (servers : List Server). AllZip IsServerGraph servers graphs) (take_all n config.servers long) so_far.beside
+  -- when all servers have had their turn, it is told of the configured servers' names
+  pub all_told : (n : ℕ) (told : List AddressTold) → length config.servers ≤ n → AreSoFar (take n config.servers) told → AreTold config rewrites told
+  all_told n told long so_far = subst (λ (servers : List Server). AllZip IsTold servers told) (take_all n config.servers long) so_far.beside
 
   -- when all servers have had their turn, none of their names reaches too many pairs
-  pub none_passes : (n : ℕ) (graphs : List PlainGraph) → length config.servers ≤ n → AreSoFar (take n config.servers) graphs
+  pub none_passes : (n : ℕ) (told : List AddressTold) → length config.servers ≤ n → AreSoFar (take n config.servers) told
       → SomeServerPasses config rewrites states → ⊥
-  none_passes n graphs long so_far (name, has, passes) =
+  none_passes n told long so_far (name, has, passes) =
       let (server, among, same) = from_map (λ (s : Server). s.name) config.servers name has in
       so_far.few server (subst (λ (l : List Server). Contains l server) (sym (take_all n config.servers long)) among)
       (subst (PassesStates config rewrites states) (sym same) passes)
 
   -- the next one passes, and none of those before it: it is the first
-  pub first_server : (i : ℕ) (graphs : List PlainGraph) (server : Server) → i < length config.servers → get_or config.servers i server ≡ server
-      → AreSoFar (take i config.servers) graphs → IsName server.name → PassesStates config rewrites states server.name
+  pub first_server : (i : ℕ) (told : List AddressTold) (server : Server) → i < length config.servers → get_or config.servers i server ≡ server
+      → AreSoFar (take i config.servers) told → IsName server.name → PassesStates config rewrites states server.name
       → IsFirstServerPassed config rewrites states server.name
-  first_server i graphs server within is so_far is_name passes =
+  first_server i told server within is so_far is_name passes =
       record {
         before = map (λ (s : Server). s.name) (take i config.servers);
         after = map (λ (s : Server). s.name) (drop (i + 1) config.servers);
@@ -81,6 +76,6 @@ module _ (config : Config) (rewrites states : ℕ) where
             so_far.few before among (subst (PassesStates config rewrites states) (sym same) other_passes);
       }
 
-  -- they are as many as the servers
-  pub as_many : (graphs : List PlainGraph) → AreServerGraphs config rewrites graphs → length graphs ≡ length config.servers
-  as_many graphs are = AllZip-long IsServerGraph config.servers graphs are
+  -- there is as much as there are servers
+  pub as_many : (told : List AddressTold) → AreTold config rewrites told → length told ≡ length config.servers
+  as_many told are = AllZip-long IsTold config.servers told are

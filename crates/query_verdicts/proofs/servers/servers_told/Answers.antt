@@ -1,0 +1,44 @@
+use Rattle.std.proofs.Common.{◌≡◌, ◌∙◌, ◌+◌, ◌≤◌, ◌<◌, List, Result, Err, take, get_or, length, sym, ap, subst}
+use Rattle.interp_graph.specs.declared.fault.GraphFault.{GraphFault}
+use Rattle.net_model.specs.declared.config.Config.{Config}
+use Rattle.net_model.specs.declared.config.Server.{Server}
+use Rattle.query_verdicts.specs.Passed.{IsFirstServerPassed}
+use Rattle.address_deps.specs.declared.told.AddressTold.{AddressTold}
+use Rattle.query_verdicts.proofs.ServersTold.{AreSoFar, all_told, first_server, none_passes, one_more_told}
+use Rattle.query_verdicts.proofs.servers.servers_told.Goals as goal
+
+pub told_of-requires : goal.told_of-requires
+told_of-requires c = c.in_ok-resting.ensures ∙ c.config-config.ensures
+
+pub loop-server-preserved : goal.loop-server-preserved
+loop-server-preserved c =
+    let queries = c.args.queries.now in
+    let servers = c.items-server-items.result.now in
+    let index = c.loop-server.server-index in
+    subst (AreSoFar queries.trees queries.rewrites queries.states (take (index + 1) servers)) (sym c.in_ok-push-in-Ok.ensures.ok)
+    (one_more_told queries.trees queries.rewrites queries.states servers index c.loop-server.told c.server-item.result c.in-Ok.one c.loop-server-test.true
+    (sym c.server-item.is) c.loop-server.invariant c.in-Ok.ensures.told c.in-Ok.ensures.few)
+
+pub returns-in-Err-StatesPassed : goal.returns-in-Err-StatesPassed
+returns-in-Err-StatesPassed c =
+    let queries = c.args.queries.now in
+    let index = c.loop-server.server-index in
+    let server = c.server-item.result in
+    let are : c.items-server-items.result.now ≡ queries.trees.servers = c.items-server-items.ensures ∙ ap (λ (x : Config). x.servers) c.config-config.ensures in
+    subst (IsFirstServerPassed queries.trees queries.rewrites queries.states) (sym c.in_ok-copy-in-Err-StatesPassed.ensures)
+    (first_server queries.trees queries.rewrites queries.states index c.loop-server.told server
+    (subst (λ (servers : List Server). index < length servers) are c.loop-server-test.true)
+    (subst (λ (servers : List Server). get_or servers index server ≡ server) are (sym c.server-item.is))
+    (subst (λ (servers : List Server). AreSoFar queries.trees queries.rewrites queries.states (take index servers) c.loop-server.told) are c.loop-server.invariant)
+    c.labels.ensures.name (c.in-Err-StatesPassed.ensures.passed (ap {B = Result AddressTold GraphFault} (λ (fault : GraphFault). Err fault) c.in-Err-StatesPassed.field-0-is)))
+
+pub returns : goal.returns
+returns c =
+    let queries = c.args.queries.now in
+    let index = c.loop-server.server-index in
+    let are : c.items-server-items.result.now ≡ queries.trees.servers = c.items-server-items.ensures ∙ ap (λ (x : Config). x.servers) c.config-config.ensures in
+    let long = subst (λ (servers : List Server). length servers ≤ index) are c.loop-server-test.false in
+    let so_far = subst (λ (servers : List Server). AreSoFar queries.trees queries.rewrites queries.states (take index servers) c.loop-server.told) are c.loop-server.invariant in (
+      all_told queries.trees queries.rewrites queries.states index c.loop-server.told long so_far,
+      none_passes queries.trees queries.rewrites queries.states index c.loop-server.told long so_far,
+    )
