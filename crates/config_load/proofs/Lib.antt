@@ -10,3 +10,5 @@ pub mod Sources
 pub mod Steady
 pub mod Steps
 mod Worked
+pub mod RowsRead
+pub mod ZonesGiven

@@ -1,6 +1,6 @@
 -- What a reading gives by what is told it gives by whatever tells more; and what follows for two readings, one after the
 -- other.
-use Rattle.std.proofs.Common.{◌≡◌, ◌≢◌, ℕ, zero, suc, ◌+◌, ◌⊎◌, List, [], ◌∷◌, ◌++◌, Result, Ok, Err, if◌then◌else◌, refl, sym, ap, ◌∙◌, subst, inl, inr, true, false, nat_eq}
+use Rattle.std.proofs.Common.{◌≡◌, ℕ, zero, suc, ◌+◌, ◌⊎◌, List, [], ◌∷◌, ◌++◌, Result, Ok, Err, if◌then◌else◌, refl, sym, ap, ◌∙◌, subst, inl, inr, true, false, nat_eq}
 use Rattle.std.specs.Prelude.{unwrap_or}
 use lib.Pointwise.{pointwise}
 use Rattle.dns_data.specs.Name.{Labels}

@@ -20,3 +20,4 @@ pub mod Sources
 pub mod Fed
 pub mod ReadFiles
 pub mod Hosted
+pub mod RowZones

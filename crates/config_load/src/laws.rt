@@ -4,7 +4,9 @@ ghost use Rattle.std.specs.Prelude.{◌≡◌, ◌≢◌, ℕ, List};
 ghost use Rattle.io_edges.specs.Files.{FilesTold};
 ghost use Rattle.config_load.specs.Conf.{conf, config_of, loaded};
 ghost use Rattle.config_load.specs.Load.{IsSteady};
-ghost use Rattle.config_load.specs.Reading.{Refuses, file_octets};
+ghost use Rattle.config_load.specs.Reading.{Reads, Refuses, file_octets};
+ghost use Rattle.config_load.specs.RowZones.{RowsHaveZones};
+ghost use Rattle.config_load.specs.declared.loaded.Loaded.{Loaded};
 
 use crate::fault::LoadFault;
 
@@ -25,4 +27,10 @@ pub fn readings_stay()
 /// What the files give with the names of files is what they give without these.
 pub fn rows_tell_files()
     ensures config { (meta : List ℕ) (told : FilesTold) → conf meta told ≡ config_of (loaded meta told) }
+{}
+
+/// In what files give, each row has the zone that was read from its files, and each zone of the configuration is that of one
+/// row. So the records of the rows are those of the configuration.
+pub fn rows_have_zones()
+    ensures { (meta : List ℕ) (told : FilesTold) (all : Loaded) → loaded meta told ≡ Reads all → RowsHaveZones meta told all }
 {}

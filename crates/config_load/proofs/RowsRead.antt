@@ -1,0 +1,168 @@
+-- Rows and zones, as rows are read one by one.
+use Rattle.std.proofs.Common.{◌≡◌, ℕ, ◌+◌, Bool, true, false, cond, List, [], ◌∷◌, ◌++◌, Some, None, Ok, Err, refl, sym, ap, ◌∙◌, subst, inl, inr, arith}
+use Rattle.std.specs.Prelude.{◌&&◌}
+use Rattle.std.proofs.lemmas.List.Elements.{Contains-append_cases, Contains-append_left, Contains-append_right}
+use Rattle.dns_data.specs.Name.{Labels, name_eq}
+use Rattle.dns_data.proofs.Membership.{first_or_later, has_first, none_in_nil, pairs_more}
+use Rattle.dns_data.proofs.Names.{name_eq_decides}
+use Rattle.io_edges.specs.Files.{FilesTold}
+use Rattle.meta_read.specs.declared.meta.Meta.{Meta as Metadata}
+use Rattle.meta_read.specs.declared.meta.MetaRow.{MetaRow}
+use Rattle.net_model.specs.declared.config.Server.{Server}
+use Rattle.net_model.specs.declared.config.Zone.{Zone}
+use Rattle.config_load.specs.Conf.{loaded, metadata, no_rows, row_files, with_row, with_rows, zone_read}
+use Rattle.config_load.specs.Reading.{Reading, Reads, Refuses, Misses, Unknown, ◌>>=◌, unless_refused}
+use Rattle.config_load.specs.Servers.{given, has_zone, with_zone}
+use Rattle.config_load.specs.declared.fault.LoadFault.{LoadFault}
+use Rattle.config_load.specs.declared.fault.LoadFault.TheVariants.{ZoneTwice}
+use Rattle.config_load.specs.declared.loaded.Loaded.{Loaded}
+use Rattle.config_load.specs.declared.loaded.RowFiles.{RowFiles}
+use Rattle.config_load.specs.declared.rows.ReadRows.{ReadRows}
+use Rattle.config_load.specs.declared.zone.ReadZone.{ReadZone}
+use Rattle.config_load.specs.RowZones.{HoldsRow, RowsHaveZones}
+use Rattle.config_load.proofs.ZonesGiven.{from_more, held_in, held_more, none_held}
+
+-- what was read is what the next step goes on with
+read_on : {A B : Type 0} (reading : Reading A) (next : A → Reading B) (value : B) → (reading >>= next) ≡ Reads value
+    → (one : A) × (reading ≡ Reads one) × (next one ≡ Reads value)
+read_on (Reads one) next value is = (one, refl, is)
+read_on (Refuses fault) next value is = absurd cc
+read_on (Misses file) next value is = absurd cc
+read_on (Unknown file) next value is = absurd cc
+
+-- how the reading goes on behind the zone of a row, and behind the servers that have it
+abbrev behind_servers : MetaRow → ReadRows → ReadZone → List Server → Reading ReadRows
+behind_servers row rows read servers = Reads (record { left = read.left; servers = servers; rows = rows.rows ++ row_files row.server read ∷ [] })
+
+abbrev behind_zone : ℕ → MetaRow → ReadRows → ReadZone → Reading ReadRows
+behind_zone number row rows read =
+    unless_refused (λ (fault : LoadFault). fault) (given number row.server read.zone rows.servers) >>= behind_servers row rows read
+
+-- and behind the metadata and the rows
+abbrev behind_rows : Metadata → ReadRows → Reading Loaded
+behind_rows found rows = Reads (record { config = record { tops = found.tops; servers = rows.servers }; rows = rows.rows })
+
+module _ (meta : List ℕ) (told : FilesTold) where
+  -- so far rows and zones stand so
+  abbrev Stand : List Labels → ReadRows → Type 0
+  Stand tops read = RowsHaveZones meta told (record { config = record { tops = tops; servers = read.servers }; rows = read.rows })
+
+  module _ (tops : List Labels) (rows : ReadRows) (stand : Stand tops rows) (row : MetaRow) (read : ReadZone)
+      (reads : zone_read meta row rows.left told ≡ Reads read) (new : has_zone row.server read.zone.origin rows.servers ≡ false) where
+    abbrev servers' : List Server
+    servers' = with_zone row.server read.zone rows.servers
+
+    abbrev more : RowFiles
+    more = row_files row.server read
+
+    none : held_in rows.servers row.server read.zone.origin ≡ None
+    none = none_held rows.servers row.server read.zone.origin new
+
+    -- what was found is found still
+    stays : (name origin : Labels) (zone : Zone) → held_in rows.servers name origin ≡ Some zone → held_in servers' name origin ≡ Some zone
+    stays name origin zone is =
+        held_more row.server read.zone rows.servers name origin none ∙ by (name_eq row.server name) refl (name_eq read.zone.origin origin) refl
+      where
+        by : (a : Bool) → name_eq row.server name ≡ a → (b : Bool) → name_eq read.zone.origin origin ≡ b
+            → cond (name_eq row.server name && name_eq read.zone.origin origin) (Some read.zone) (held_in rows.servers name origin) ≡ Some zone
+        by true e true f =
+            let here : None ≡ Some zone =
+            sym none ∙ (λ i. held_in rows.servers ((name_eq_decides row.server name).0 e i) ((name_eq_decides read.zone.origin origin).0 f i)) ∙ is in
+            absurd cc
+        by true e false f = (λ i. cond (e i && f i) (Some read.zone) (held_in rows.servers name origin)) ∙ is
+        by false e b f = (λ i. cond (e i && name_eq read.zone.origin origin) (Some read.zone) (held_in rows.servers name origin)) ∙ is
+
+    -- the new zone is found
+    there : held_in servers' row.server read.zone.origin ≡ Some read.zone
+    there =
+        held_more row.server read.zone rows.servers row.server read.zone.origin none
+        ∙ (λ i. cond ((name_eq_decides row.server row.server).1 refl i && (name_eq_decides read.zone.origin read.zone.origin).1 refl i) (Some read.zone) (held_in rows.servers row.server read.zone.origin))
+
+    one_more : Stand tops (record { left = read.left; servers = servers'; rows = rows.rows ++ more ∷ [] })
+    one_more =
+        record {
+          rows = λ other has.
+              elim (Contains-append_cases rows.rows (more ∷ []) other has) [
+                | inl before ↦
+                    let old = stand.rows other before in
+                    record { given = old.given; left = old.left; read = old.read; reads = old.reads; is = old.is; held = stays other.server other.origin old.read.zone old.held }
+                | inr last ↦
+                    elim (first_or_later more [] other last) [
+                      | inl same ↦ subst (HoldsRow meta told (record { tops = tops; servers = servers' })) same (record { given = row; left = rows.left; read = read; reads = reads; is = refl; held = there })
+                      | inr never ↦ absurd (none_in_nil other never)
+                    ]
+              ];
+          found = λ server zone has among.
+              elim (from_more row.server read.zone rows.servers server zone has among) [
+                | inl new_one ↦
+                    subst (λ (z : Zone). held_in servers' server.name z.origin ≡ Some z) (sym new_one.1)
+                    (subst (λ (n : Labels). held_in servers' n read.zone.origin ≡ Some read.zone) (sym new_one.0) there)
+                | inr old ↦
+                    subst (λ (n : Labels). held_in servers' n zone.origin ≡ Some zone) old.2
+                    (stays old.0.name zone.origin zone (stand.found old.0 zone old.1 old.3))
+              ];
+          zones = λ server zone has among.
+              elim (from_more row.server read.zone rows.servers server zone has among) [
+                | inl new_one ↦ (
+                  more,
+                  Contains-append_right rows.rows (more ∷ []) more (has_first more []),
+                  record { server_is = sym new_one.0; origin_is = ap (λ (z : Zone). z.origin) (sym new_one.1) },
+                )
+                | inr old ↦ (
+                    let found = stand.zones old.0 zone old.1 old.3 in (
+                      found.0,
+                      Contains-append_left rows.rows (more ∷ []) found.0 found.1,
+                      record { server_is = found.2.server_is ∙ old.2; origin_is = found.2.origin_is },
+                    ))
+              ];
+          once = pairs_more (λ (a b : RowFiles). a.server ≡ b.server → a.origin ≡ b.origin → ⊥) rows.rows more stand.once
+              (λ other before named at.
+              let held = (stand.rows other before).held in
+              let here : None ≡ Some (stand.rows other before).read.zone = sym none ∙ sym (λ i. held_in rows.servers (named i) (at i)) ∙ held in
+              absurd cc);
+        }
+
+  -- one row more
+  row_stands : (tops : List Labels) (number : ℕ) (row : MetaRow) (rows after : ReadRows) → Stand tops rows → with_row meta number row rows told ≡ Reads after → Stand tops after
+  unfolding with_row
+  row_stands tops number row rows after stand is =
+      let zone = read_on (zone_read meta row rows.left told) (behind_zone number row rows) after is in
+      let servers = read_on (unless_refused (λ fault. fault) (given number row.server zone.0.zone rows.servers)) (behind_servers row rows zone.0) after zone.2 in
+      by zone.0 zone.1 servers.0 (has_zone row.server zone.0.zone.origin rows.servers) refl servers.1 servers.2
+    where
+      by : (read : ReadZone) → zone_read meta row rows.left told ≡ Reads read → (servers : List Server) → (b : Bool) → has_zone row.server read.zone.origin rows.servers ≡ b
+          → unless_refused (λ fault. fault) (cond b (Err (ZoneTwice number)) (Ok (with_zone row.server read.zone rows.servers))) ≡ Reads servers
+          → Reads (record { left = read.left; servers = servers; rows = rows.rows ++ row_files row.server read ∷ [] }) ≡ Reads after → Stand tops after
+      by read reads servers true had got made = absurd cc
+      by read reads servers false new got made =
+          let are : with_zone row.server read.zone rows.servers ≡ servers = cc in
+          let last : record { left = read.left; servers = servers; rows = rows.rows ++ row_files row.server read ∷ [] } ≡ after = cc in
+          subst (Stand tops) last
+          (subst (λ (all : List Server). Stand tops (record { left = read.left; servers = all; rows = rows.rows ++ row_files row.server read ∷ [] })) are
+          (one_more tops rows stand row read reads new))
+
+  -- and the rows behind them
+  rows_stand : (tops : List Labels) (number : ℕ) (more : List MetaRow) (rows after : ReadRows) → Stand tops rows → with_rows meta number more rows told ≡ Reads after → Stand tops after
+  unfolding with_rows
+  rows_stand tops number [] rows after stand is = let same : rows ≡ after = cc in subst (Stand tops) same stand
+  rows_stand tops number (row ∷ more) rows after stand is =
+      let next = read_on (with_row meta number row rows told) (λ next. with_rows meta (number + 1) more next told) after is in
+      rows_stand tops (number + 1) more next.0 after (row_stands tops number row rows next.0 stand next.1) next.2
+
+  -- no row and no zone
+  none_stand : (tops : List Labels) → Stand tops no_rows
+  none_stand tops = record {
+    rows = λ row has. absurd (none_in_nil row has);
+    found = λ server zone has among. absurd (none_in_nil server has);
+    zones = λ server zone has among. absurd (none_in_nil server has);
+    once = λ i j d before within. absurd (omega arith);
+  }
+
+  -- so each row has its zone, and each zone its row, in all that the files give
+  pub rows_read : (all : Loaded) → loaded meta told ≡ Reads all → RowsHaveZones meta told all
+  unfolding loaded
+  rows_read all is =
+      let found = read_on (metadata meta told) (λ found. with_rows meta 1 found.rows no_rows told >>= behind_rows found) all is in
+      let rows = read_on (with_rows meta 1 found.0.rows no_rows told) (behind_rows found.0) all found.2 in
+      let last : record { config = record { tops = found.0.tops; servers = rows.0.servers }; rows = rows.0.rows } ≡ all = cc in
+      subst (RowsHaveZones meta told) last (rows_stand found.0.tops 1 found.0.rows no_rows rows.0 (none_stand found.0.tops) rows.1)
