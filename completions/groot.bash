@@ -83,7 +83,7 @@ _groot_map() {
     local word=${COMP_WORDS[COMP_CWORD]}
     COMPREPLY=()
     case $COMP_CWORD in
-        1) mapfile -t COMPREPLY < <(compgen -W "records targets" -- "$word") ;;
+        1) mapfile -t COMPREPLY < <(compgen -W "records reached targets" -- "$word") ;;
         2) _groot_files "$word" ;;
     esac
 }

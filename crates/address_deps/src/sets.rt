@@ -22,11 +22,7 @@ use zone_lookup::Hosts;
 /// The least and the greatest set of learnt addresses of a configuration, each in the order of the configured servers, by what
 /// is told of the servers' names, in their order. The trees of all zones are built for it: where they are built already, call
 /// `dependencies_among`.
-pub fn dependencies(
-    alloc: Global,
-    config: &Config,
-    told: &[AddressTold],
-) -> Result<Deps, NoMemory>
+pub fn dependencies(alloc: Global, config: &Config, told: &[AddressTold]) -> Result<Deps, NoMemory>
     requires { length told.now ≡ length config.now.servers }
     ensures least { IfOk result (λ deps. (rewrites : ℕ) → AreTold config.now rewrites told.now → IsLeast config.now rewrites deps.least) }
     ensures greatest { IfOk result (λ deps. (rewrites : ℕ) → AreTold config.now rewrites told.now → IsGreatest config.now rewrites deps.greatest) }

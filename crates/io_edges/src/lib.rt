@@ -1,11 +1,10 @@
-//! The outside as the program sees it: files that are read, sinks that are written to, and a gate
-//! at which a worker may wait. A layer above is generic over the three traits and rests on their
-//! clauses alone. A source of files tells name by name what it holds, and what it told it tells
-//! from then on: a reading gives octets that are told after it. Where a sink tells its bytes a
-//! writing appends exactly the front that it says. A failure is answered only where the count of
-//! failures of that very file or sink rose. The forms in memory tell all from the start, and fail
-//! exactly when they are told to. Files of a disk tell a name from its first reading on; the sink
-//! over a writer tells nothing.
+//! The outside as the program sees it: files that are read, sinks that are written to, a gate at which a worker may wait,
+//! and the words of the command line. A layer above is generic over the three traits and rests on their clauses alone. A
+//! source of files tells name by name what it holds, and what it told it tells from then on: a reading gives octets that
+//! are told after it. Where a sink tells its bytes a writing appends exactly the front that it says. A failure is
+//! answered only where the count of failures of that very file or sink rose. The forms in memory tell all from the
+//! start, and fail exactly when they are told to. Files of a disk tell a name from its first reading on; the sink over a
+//! writer tells nothing.
 //!
 //! Costs: a file of a disk is read once, and its octets stay in memory as long as the source.
 #![tactic(auto)]
@@ -23,6 +22,7 @@ mod memory_sink;
 mod named_files;
 mod out_sink;
 mod sink;
+mod words;
 
 pub use disk_files::DiskFiles;
 pub use failed::Failed;
@@ -33,3 +33,4 @@ pub use memory_files::MemoryFiles;
 pub use memory_sink::MemorySink;
 pub use out_sink::OutSink;
 pub use sink::Sink;
+pub use words::{borrowed_words, command_words};

@@ -8,7 +8,7 @@ use Rattle.dns_data.proofs.Membership.{has_first}
 use Rattle.graph_form.proofs.Places.{place_of_item}
 use Rattle.net_model.specs.declared.deps.Deps.{Deps}
 use Rattle.net_model.specs.Shown.{is_authoritative}
-use Rattle.net_model.specs.Step.{Setting, Branch, Go, End, next}
+use Rattle.net_model.specs.Step.{Setting, Branch, End, next}
 use Rattle.net_model.specs.Walk.{branched, led_on, walk_from}
 use Rattle.net_model.specs.declared.walk.Hop.{Hop}
 use Rattle.net_model.specs.declared.walk.Hop.TheVariants.{Rewrite}

@@ -1,6 +1,6 @@
 -- A query whose walks go straight shows no fault, is bounded, and has the outcomes of its ends.
 use Rattle.std.proofs.Common.{◌≡◌, ℕ, true, List, [], ◌∷◌, sym, ◌∙◌, subst, true≢false}
-use Rattle.std.specs.Prelude.{◌↔◌, Option, Some, None, option_map}
+use Rattle.std.specs.Prelude.{◌↔◌, Option, Some, option_map}
 use Rattle.std.specs.List.{AllByRecursion}
 use Rattle.dns_data.specs.Name.{Labels}
 use Rattle.dns_data.specs.declared.rr_type.RrType.{RrType}

@@ -1,6 +1,6 @@
 //! Whether the walks of a query go straight, and what they end in.
 
-ghost use Rattle.std.specs.Prelude.{◌≡◌, ◌≤◌, ◌+◌, ◌*◌, ◌↔◌, true, ℕ, Option as Optional, IfOk, IfSome};
+ghost use Rattle.std.specs.Prelude.{◌≡◌, ◌≤◌, ◌+◌, ◌*◌, ◌↔◌, Option as Optional, IfOk, IfSome};
 ghost use Rattle.dns_data.specs.declared.rr_type.RrType.{RrType as RrTypeValue};
 ghost use Rattle.net_model.specs.declared.fault.Fault.{Fault as FaultValue};
 ghost use Rattle.net_model.specs.declared.walk.Leaf.{Leaf as LeafValue};

@@ -20,6 +20,16 @@ more t x columns some s is =
     ∙ append_assoc t (separated tab columns ++ tab) x
     ∙ ap (λ r. t ++ r) (sym (separated-push tab columns x some))
 
+-- five columns
+pub five_columns : (t a b c d e : List ℕ)
+    → ((((((((t ++ a) ++ tab) ++ b) ++ tab) ++ c) ++ tab) ++ d) ++ tab) ++ e ≡ t ++ separated tab (a ∷ b ∷ c ∷ d ∷ e ∷ [])
+five_columns t a b c d e =
+    let one : t ++ a ≡ t ++ separated tab (a ∷ []) = ap (λ r. t ++ r) (sym (append-nil a)) in
+    let two = more t b (a ∷ []) (omega arith) (t ++ a) one in
+    let three = more t c (a ∷ b ∷ []) (omega arith) _ two in
+    let four = more t d (a ∷ b ∷ c ∷ []) (omega arith) _ three in
+    more t e (a ∷ b ∷ c ∷ d ∷ []) (omega arith) _ four
+
 -- seven columns, of which the fifth and the sixth are put together
 pub seven_columns : (t a b c d e f g : List ℕ)
     → ((((((((((t ++ a) ++ tab) ++ b) ++ tab) ++ c) ++ tab) ++ d) ++ tab) ++ (e ++ (tab ++ f))) ++ tab) ++ g

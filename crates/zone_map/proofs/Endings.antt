@@ -1,6 +1,7 @@
 -- How the run of a job ends is how the run of its words ends.
-use Rattle.std.proofs.Common.{◌≡◌, ◌≢◌, ℕ, List, [], ◌∷◌, Option, Some, None, Err, sym, subst, inl, inr, refl}
-use Rattle.std.specs.Prelude.{◌⊎◌, IsTrue}
+use Rattle.std.proofs.Common.{◌≡◌, ◌≢◌, ℕ, Bool, true, false, List, [], ◌∷◌, Option, Some, None, Err, sym, subst, inl, inr, refl}
+use Rattle.std.specs.Prelude.{◌⊎◌, IsTrue, if◌then◌else◌}
+use Rattle.std.specs.List.{list_all}
 use Rattle.io_edges.specs.Counts.{Rose}
 use Rattle.io_edges.specs.Files.{FilesTold}
 use Rattle.config_load.specs.Conf.{loaded}
@@ -17,9 +18,12 @@ use Rattle.run_endings.specs.declared.status.Status.{Status}
 use Rattle.run_endings.specs.declared.status.Status.TheVariants.{Clean, Faults, ReadFault, WriteFault}
 use Rattle.zone_map.specs.JobEnds.{JobEnds}
 use Rattle.zone_map.specs.Outcome.{Tells, Outcome, IsEnding, JobComesTo, NoJobReadFailed}
+use Rattle.zone_map.specs.Limits.{WithinLimits}
+use Rattle.zone_map.specs.Reached.{TellsRows, reached_text}
+use Rattle.zone_map.specs.Records.{records_text}
 use Rattle.zone_map.specs.Targets.{targets_status, targets_text}
 use Rattle.zone_map.specs.declared.words.Asked.{Asked}
-use Rattle.zone_map.specs.declared.words.Asked.TheVariants.{Records, Targets}
+use Rattle.zone_map.specs.declared.words.Asked.TheVariants.{Records, Reached, Targets}
 use Rattle.zone_map.specs.declared.words.Job.{Job}
 
 -- ---- by what the files give
@@ -69,8 +73,15 @@ module _ (told : FilesTold) (said : Option Job) (before after : List ℕ → ℕ
   abbrev SaysSo : Ending → Type 0
   SaysSo ending = Says ending.status ending.out
 
+  by_test : (test : Bool) (out : List ℕ) → Says (if test then Clean else Faults) out
+  by_test true out = tt
+  by_test false out = tt
+
   of_asked : (asked : Asked) (all : Loaded) (ending : Ending) → Tells asked all ending → SaysSo ending
   of_asked Records all ending is = subst SaysSo (sym is) tt
+  of_asked Reached all ending (inl (server, first, is)) = subst SaysSo (sym is) refl
+  of_asked Reached all ending (inr (few, inl (origin, first, is))) = subst SaysSo (sym is) refl
+  of_asked Reached all ending (inr (few, inr (none, tells))) = subst SaysSo (sym tells.as_text) (by_test (list_all (λ one. one) tells.told) (reached_text 1 tells.told all.rows))
   of_asked Targets all ending (inl (server, first, is)) = subst SaysSo (sym is) refl
   of_asked Targets all ending (inr tells) = subst SaysSo (sym tells.as_text) (by (targets_text tells.ends all) (targets_text tells.ends all)) where
     by : (text out : List ℕ) → Says (targets_status text) out
@@ -140,3 +151,11 @@ pub told_of_read : (told : FilesTold) (said : Option Job) (job : Job) (all : Loa
 told_of_read told said job all ending is reads outcome =
     subst (λ (read : Reading Loaded). OfReading job.meta (Tells job.asked) read ending) reads
     (subst (λ (other : Option Job). Outcome told other ending) is outcome)
+
+-- each thing that may be asked for is told so
+pub tells_records : (asked : Asked) (all : Loaded) (ending : Ending) → asked ≡ Records → ending ≡ with_output Clean (records_text all) → Tells asked all ending
+tells_records asked all ending same is = subst (λ (one : Asked). Tells one all ending) (sym same) is
+
+pub tells_reached : (asked : Asked) (all : Loaded) (ending : Ending) → asked ≡ Reached → WithinLimits all.config all.rows (TellsRows all.config all.rows ending) ending
+    → Tells asked all ending
+tells_reached asked all ending same is = subst (λ (one : Asked). Tells one all ending) (sym same) is

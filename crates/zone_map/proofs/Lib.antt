@@ -1,5 +1,8 @@
 pub mod ColumnTexts
 pub mod Endings
+pub mod ReachedViews
+pub mod SeenRows
+pub mod ShownOrigins
 mod Worked
 pub mod KnownTargets
 pub mod TargetWalks

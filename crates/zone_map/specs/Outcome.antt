@@ -8,16 +8,20 @@ use Rattle.config_load.specs.declared.loaded.Loaded.{Loaded}
 use Rattle.run_endings.specs.Endings.{OfReading, with_output, without_output, read_failed, no_memory}
 use Rattle.run_endings.specs.declared.ending.Ending.{Ending}
 use Rattle.run_endings.specs.declared.status.Status.TheVariants.{Clean, Usage}
+use Rattle.zone_map.specs.Limits.{WithinLimits}
+use Rattle.zone_map.specs.Reached.{TellsRows}
 use Rattle.zone_map.specs.Records.{records_text}
 use Rattle.zone_map.specs.Targets.{IsTargets}
 use Rattle.zone_map.specs.Words.{usage_line}
 use Rattle.zone_map.specs.declared.words.Asked.{Asked}
-use Rattle.zone_map.specs.declared.words.Asked.TheVariants.{Records, Targets}
+use Rattle.zone_map.specs.declared.words.Asked.TheVariants.{Records, Reached, Targets}
 use Rattle.zone_map.specs.declared.words.Job.{Job}
 
--- what is told of what was read: for `records` the lines of all records, for `targets` those of targets that lead nowhere
+-- what is told of what was read: for `records` the lines of all records, for `reached` those of all rows, for `targets` those of
+-- records whose target leads nowhere
 abbrev pub Tells : Asked → Loaded → Ending → Type 0
 Tells Records all ending = ending ≡ with_output Clean (records_text all)
+Tells Reached all ending = WithinLimits all.config all.rows (TellsRows all.config all.rows ending) ending
 Tells Targets all ending = IsTargets all ending
 
 -- what the words' job gives, by what is told of the files

@@ -3,17 +3,18 @@ use Rattle.std.specs.Prelude.{ℕ, nat_eq, Bool, ◌&&◌, not, List, [], ◌∷
 use Rattle.std.specs.List.{find, starts_with}
 use Rattle.dns_data.specs.Rdata.{octets_eq}
 use Rattle.zone_map.specs.declared.words.Asked.{Asked}
-use Rattle.zone_map.specs.declared.words.Asked.TheVariants.{Records, Targets}
+use Rattle.zone_map.specs.declared.words.Asked.TheVariants.{Records, Reached, Targets}
 use Rattle.zone_map.specs.declared.words.Job.{Job}
 
 -- the word of what may be asked for
 abbrev pub asked_word : Asked → List ℕ
 asked_word Records = codes "records"
+asked_word Reached = codes "reached"
 asked_word Targets = codes "targets"
 
 -- what may be asked for
 abbrev pub all_asked : List Asked
-all_asked = Records ∷ Targets ∷ []
+all_asked = Records ∷ Reached ∷ Targets ∷ []
 
 -- what a word asks for, which is compared as written
 abbrev pub asked_by : List ℕ → Option Asked
@@ -34,4 +35,4 @@ job_of words = None
 
 -- the line on err where the words are no job
 abbrev pub usage_line : List ℕ
-usage_line = codes "usage: groot-map records META | targets META\n"
+usage_line = codes "usage: groot-map records META | reached META | targets META\n"

@@ -11,11 +11,15 @@
 #![tactic(auto)]
 
 mod columns;
+mod reached;
+mod reached_rows;
 mod records;
 mod run;
+mod shown;
 mod target_ends;
 mod targets;
 mod words;
 
+pub use reached::Reached;
 pub use run::{groot_map, run_words};
 pub use words::{Asked, Job, read_words};

@@ -96,7 +96,7 @@ fn put_place(alloc: Global, text: &mut Octets, files: &[Text], rr: &Rr) -> Resul
 }
 
 /// The name of the file of this number.
-fn file_numbered(files: &[Text], number: u32) -> &str
+pub(crate) fn file_numbered(files: &[Text], number: u32) -> &str
     ensures { result.now ≡ name_numbered files.now number }
 {
     match files.get(number as usize) {

@@ -11,11 +11,14 @@ ghost use Rattle.run_endings.specs.Endings.{no_memory, writes_nothing};
 ghost use Rattle.run_endings.specs.Writing.{IsLeft, TookLine};
 ghost use Rattle.run_endings.specs.declared.ending.Ending.{Ending as Ended};
 ghost use Rattle.zone_map.specs.JobEnds.{JobEnds};
+ghost use Rattle.zone_map.specs.Limits.{WithinLimits};
 ghost use Rattle.zone_map.specs.Outcome.{IsEnding, JobComesTo, JobOpensNoOther, NoJobReadFailed, Outcome, Tells};
+ghost use Rattle.zone_map.specs.Reached.{TellsRows};
 ghost use Rattle.zone_map.specs.Records.{records_text};
 ghost use Rattle.zone_map.specs.Targets.{IsTargets};
 ghost use Rattle.zone_map.specs.Words.{job_of};
 
+use crate::reached_rows::reached_rows;
 use crate::records::records_text;
 use crate::targets::targets_ending;
 use crate::words::{Asked, Job, read_words, usage_line};
@@ -42,7 +45,17 @@ pub fn groot_map<F: Files, O: Sink, E: Sink>(
         (Rose (O.faults out.old) (O.faults out.new) → ⊥) →
         ((result ≡ Status.Clean) × Appends (O.taken out.old) (O.taken out.new) (records_text all)) ⊎ (result ≡ Status.NoMemory) }
 
-    // And `targets` writes exactly the records whose target leads nowhere, with the ends of its walks of type A and of type AAAA.
+    // `reached` writes the line of each row, which says whether a walk of the SOA query at the origin of its zone ends in an
+    // answer at its server, and ends with 0 exactly if one does for each row; unless a query passes the limit of states.
+    ensures reached { (meta : List ℕ) (all : Read) →
+        job_of (map (λ word. word.now) words.now) ≡ Some (record { asked = Asked.Reached; meta = meta }) →
+        loaded meta (F.told files.new) ≡ Reads all →
+        NoJobReadFailed (F.told files.new) (job_of (map (λ word. word.now) words.now)) (F.faults files.old) (F.faults files.new) →
+        (Rose (O.faults out.old) (O.faults out.new) → ⊥) →
+        ((ending : Ended) × WithinLimits all.config all.rows (TellsRows all.config all.rows ending) ending
+        × (result ≡ ending.status) × Appends (O.taken out.old) (O.taken out.new) ending.out) ⊎ (result ≡ Status.NoMemory) }
+
+    // `targets` writes exactly the records whose target leads nowhere, with the ends of its walks of type A and of type AAAA.
     ensures targets { (meta : List ℕ) (all : Read) →
         job_of (map (λ word. word.now) words.now) ≡ Some (record { asked = Asked.Targets; meta = meta }) →
         loaded meta (F.told files.new) ≡ Reads all →
@@ -134,6 +147,7 @@ fn told(alloc: Global, asked: Asked, all: &Loaded) -> Ending
 {
     match asked {
         Asked::Records => Ending::written(Status::Clean, records_text(alloc, all)),
+        Asked::Reached => reached_rows(alloc, &all.config, all.rows.items()),
         Asked::Targets => targets_ending(alloc, all),
     }
 }

@@ -11,6 +11,8 @@ use std::alloc::Global;
 pub enum Asked {
     /// Each record, and where it was read.
     Records,
+    /// Whether a query reaches each row.
+    Reached,
     /// Each record whose target leads nowhere.
     Targets,
 }
@@ -24,7 +26,7 @@ pub struct Job {
 
 impl Asked {
     /// What may be asked for.
-    const ALL: [Asked; 2] = [Asked::Records, Asked::Targets];
+    const ALL: [Asked; 3] = [Asked::Records, Asked::Reached, Asked::Targets];
 
     /// The word for what is asked for.
     fn word(&self) -> &'static str
@@ -32,6 +34,7 @@ impl Asked {
     {
         match self {
             Asked::Records => "records",
+            Asked::Reached => "reached",
             Asked::Targets => "targets",
         }
     }
@@ -84,5 +87,5 @@ fn job_over(alloc: Global, meta: &str, asked: Option<Asked>) -> Result<Option<Jo
 pub(crate) fn usage_line() -> &'static str
     ensures { result.now ≡ usage_line }
 {
-    "usage: groot-map records META | targets META\n"
+    "usage: groot-map records META | reached META | targets META\n"
 }

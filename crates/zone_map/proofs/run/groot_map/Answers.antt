@@ -15,6 +15,18 @@ returns-in-Ok-clause-records g c = λ meta all job reads none quiet.
       | inr ran_out ↦ inr (ap (λ (ending : Ending). ending.status) ran_out)
     ]
 
+pub returns-in-Ok-clause-reached : goal.returns-in-Ok-clause-reached
+returns-in-Ok-clause-reached g c = λ meta all job reads none quiet.
+    elim (c.run_words-ending.ensures.complete none) [
+      | inl outcome ↦ inl (
+        c.run_words-ending.result,
+        told_of_read _ _ _ all c.run_words-ending.result job reads outcome,
+        refl,
+        subst (λ (text : List ℕ). Appends (g.O.Sink.taken c.args.out.now) (g.O.Sink.taken c.write_all.new.sink) text) c.items.ensures c.in-Ok.ensures.ok,
+      )
+      | inr ran_out ↦ inr (ap (λ (ending : Ending). ending.status) ran_out)
+    ]
+
 pub returns-in-Ok-clause-targets : goal.returns-in-Ok-clause-targets
 returns-in-Ok-clause-targets g c = λ meta all job reads none quiet.
     elim (c.run_words-ending.ensures.complete none) [
@@ -52,6 +64,9 @@ returns-in-Ok-clause-cause g c = (
 
 pub returns-in-Err-clause-records : goal.returns-in-Err-clause-records
 returns-in-Err-clause-records g c = λ meta all job reads none quiet. absurd (quiet c.in-Err.ensures.cause)
+
+pub returns-in-Err-clause-reached : goal.returns-in-Err-clause-reached
+returns-in-Err-clause-reached g c = λ meta all job reads none quiet. absurd (quiet c.in-Err.ensures.cause)
 
 pub returns-in-Err-clause-targets : goal.returns-in-Err-clause-targets
 returns-in-Err-clause-targets g c = λ meta all job reads none quiet. absurd (quiet c.in-Err.ensures.cause)

@@ -1,13 +1,27 @@
-use Rattle.std.proofs.Common.{inl, inr, subst, sym}
+use Rattle.std.proofs.Common.{List, inl, inr, subst, sym}
+use Rattle.config_load.specs.declared.loaded.RowFiles.{RowFiles}
+use Rattle.zone_map.specs.Limits.{WithinLimits}
 use Rattle.zone_map.specs.Outcome.{Tells}
+use Rattle.zone_map.specs.Reached.{TellsRows}
 use Rattle.zone_map.specs.Records.{records_text}
 use Rattle.zone_map.specs.declared.words.Asked.{Asked}
+use Rattle.zone_map.proofs.Endings.{tells_reached}
 use Rattle.zone_map.proofs.run.told.Goals as goal
 
 pub returns-in-Records : goal.returns-in-Records
 returns-in-Records c =
     elim (c.written.ensures (records_text c.args.all.now) c.records_text.ensures) [
       | inl is ↦ inl (subst (λ (asked : Asked). Tells asked c.args.all.now c.written.result) (sym c.in-Records.is) is)
+      | inr ran_out ↦ inr ran_out
+    ]
+
+pub returns-in-Reached : goal.returns-in-Reached
+returns-in-Reached c =
+    let config = c.args.all.now.config in
+    let ending = c.reached_rows.result in
+    elim c.reached_rows.ensures [
+      | inl is ↦ inl (tells_reached c.args.asked c.args.all.now ending c.in-Reached.is
+          (subst (λ (rows : List RowFiles). WithinLimits config rows (TellsRows config rows ending) ending) c.items.ensures is))
       | inr ran_out ↦ inr ran_out
     ]
 

@@ -1,0 +1,7 @@
+use Rattle.std.proofs.Common.{◌≡◌, map, take}
+use Rattle.std.specs.String.{string_bytes}
+use Rattle.io_edges.proofs.words.borrowed_words.Given as goal
+
+-- the words so far
+abbrev pub invariant-loop-word : goal.invariant-loop-word
+invariant-loop-word l = map (λ word. word.now) l.all.items ≡ map string_bytes (take l.word-index l.words)

@@ -1,0 +1,50 @@
+-- The limit of `reached`: how many pairs of state and type a query may reach.
+use Rattle.std.specs.Prelude.{◌≡◌, ◌⊎◌, ℕ, List, ◌∷◌, ◌++◌, Contains}
+use Rattle.dns_data.specs.Name.{Labels}
+use Rattle.net_model.specs.declared.config.Config.{Config}
+use Rattle.config_load.specs.declared.loaded.RowFiles.{RowFiles}
+use Rattle.query_verdicts.specs.Passed.{IsFirstServerPassed}
+use Rattle.query_verdicts.specs.Queries.{LimitedQueries, limited_to}
+use Rattle.query_verdicts.specs.Verdict.{PassesStates, SomeServerPasses}
+use Rattle.run_endings.specs.Endings.{too_many_states}
+use Rattle.run_endings.specs.declared.ending.Ending.{Ending}
+use Rattle.zone_map.specs.Reached.{reached_rewrites}
+
+-- how many pairs of state and type a query may reach
+abbrev pub reached_states : ℕ
+reached_states = 100000
+
+-- the queries of a configuration within these limits
+abbrev pub reached_queries : Config → LimitedQueries
+reached_queries config = limited_to config reached_rewrites reached_states
+
+-- the query reaches more pairs of state and type than it may
+abbrev pub Passes : LimitedQueries → Labels → Type 0
+Passes queries query = PassesStates queries.config queries.rewrites queries.states query
+
+-- the origin of none of these rows does
+abbrev pub NoOriginPasses : LimitedQueries → List RowFiles → Type 0
+NoOriginPasses queries rows = (row : RowFiles) → Contains rows row → Passes queries row.origin → ⊥
+
+-- it is the origin of the first of these rows whose origin does
+pub record IsFirstOriginPassed (queries : LimitedQueries) (rows : List RowFiles) (query : Labels) : Type 0 where
+  pub before : List RowFiles
+  pub row : RowFiles
+  pub after : List RowFiles
+  pub among : rows ≡ before ++ row ∷ after
+  pub is_origin : query ≡ row.origin
+  pub passes : Passes queries query
+  pub first : NoOriginPasses queries before
+
+-- what is given of rows where the name of no server reaches too many pairs: where no row's origin does, the run ends so, and
+-- else the first that does is told
+abbrev pub WithinOrigins : LimitedQueries → List RowFiles → Type 0 → Ending → Type 0
+WithinOrigins queries rows EndsSo ending =
+    ((origin : Labels) × IsFirstOriginPassed queries rows origin × (ending ≡ too_many_states reached_states origin))
+    ⊎ (NoOriginPasses queries rows × EndsSo)
+
+-- what `reached` gives: where the name of some server reaches too many pairs, the first that does is told
+abbrev pub WithinLimits : Config → List RowFiles → Type 0 → Ending → Type 0
+WithinLimits config rows EndsSo ending =
+    ((server : Labels) × IsFirstServerPassed config reached_rewrites reached_states server × (ending ≡ too_many_states reached_states server))
+    ⊎ ((SomeServerPasses config reached_rewrites reached_states → ⊥) × WithinOrigins (reached_queries config) rows EndsSo ending)

@@ -1,0 +1,48 @@
+-- For the code alone, no public clause cites it: a check that is shown the views of rows' origins, and how a run ends among them.
+use Rattle.std.specs.Prelude.{◌≡◌, ◌⊎◌, ℕ, List}
+use Rattle.std.specs.List.{AllZip, fold}
+use Rattle.dns_data.specs.Name.{Labels}
+use Rattle.net_model.specs.declared.class.Class.TheVariants.{Exact}
+use Rattle.net_model.specs.Learnt.{IsInForce}
+use Rattle.net_model.specs.Step.{following}
+use Rattle.config_load.specs.declared.loaded.RowFiles.{RowFiles}
+use Rattle.query_verdicts.specs.Queries.{LimitedQueries}
+use Rattle.run_endings.specs.Endings.{no_memory, too_many_states}
+use Rattle.run_endings.specs.declared.ending.Ending.{Ending}
+use Rattle.site_checks.specs.Ends.{AreEnds}
+use Rattle.site_checks.specs.declared.views.View.{View}
+use Rattle.zone_map.specs.Limits.{IsFirstOriginPassed, NoOriginPasses, Passes, reached_states}
+
+-- the view is that of the name alone, with the ends of its walks by the set in force
+pub record IsViewOf (queries : LimitedQueries) (name : Labels) (view : View) : Type 0 where
+  pub is_class : view.class ≡ Exact name
+  pub followed : List Labels
+  pub in_force : IsInForce queries.config queries.rewrites followed
+  pub ends : AreEnds (following queries.config queries.rewrites followed) name view.ends
+
+-- the views are those of the rows' origins, in order
+abbrev pub AreViewsOf : LimitedQueries → List RowFiles → List View → Type 0
+AreViewsOf queries rows views = AllZip (λ (row : RowFiles) (view : View). IsViewOf queries row.origin view) rows views
+
+-- a check with this step was shown the view of the origin, which doesn't pass
+pub record HasSeenOrigin (step : List (List ℕ) → View → List (List ℕ)) (queries : LimitedQueries) (origin : Labels) (before after : List (List ℕ)) : Type 0 where
+  pub few : Passes queries origin → ⊥
+  pub view : View
+  pub is_view : IsViewOf queries origin view
+  pub holds : after ≡ step before view
+
+-- it was shown the views of the rows' origins, none of which passes
+pub record HasSeenOrigins (step : List (List ℕ) → View → List (List ℕ)) (queries : LimitedQueries) (rows : List RowFiles) (before after : List (List ℕ)) : Type 0 where
+  pub none_passes : NoOriginPasses queries rows
+  pub views : List View
+  pub are_views : AreViewsOf queries rows views
+  pub holds : after ≡ fold step before views
+
+-- a run ends at the origin: it passes, or memory ran out
+abbrev pub EndsAt : LimitedQueries → Labels → Ending → Type 0
+EndsAt queries origin ending = (Passes queries origin × (ending ≡ too_many_states reached_states origin)) ⊎ (ending ≡ no_memory)
+
+-- a run ends among the rows: at the first whose origin passes, or for want of memory
+abbrev pub EndsAmong : LimitedQueries → List RowFiles → Ending → Type 0
+EndsAmong queries rows ending =
+    ((origin : Labels) × IsFirstOriginPassed queries rows origin × (ending ≡ too_many_states reached_states origin)) ⊎ (ending ≡ no_memory)

@@ -1,0 +1,176 @@
+//! The lines of rows.
+
+ghost use Rattle.std.specs.Prelude.{◌≡◌, ◌⊎◌, ◌++◌, ℕ, List, codes, decimal, length, map, IfOk, OnOk};
+ghost use Rattle.std.specs.List.{list_all};
+ghost use Rattle.config_load.specs.Faults.{name_numbered};
+ghost use Rattle.dns_data.specs.DataText.{separated};
+ghost use Rattle.query_verdicts.specs.Verdict.{SomeServerPasses};
+ghost use Rattle.run_endings.specs.Endings.{no_memory, with_output};
+ghost use Rattle.site_checks.specs.declared.views.View.{View as Seen};
+ghost use Rattle.zone_map.specs.Columns.{file_text, line_of, tab};
+ghost use Rattle.zone_map.specs.Limits.{WithinLimits, WithinOrigins, reached_queries};
+ghost use Rattle.zone_map.specs.Reached.{TellsRows, after_view, reached_status, reached_text, reached_word, row_columns};
+
+use crate::columns::{put_file, put_name, put_tab};
+use crate::reached::{Reached, reached_word};
+use crate::records::file_numbered;
+use crate::shown::{MOST_STATES, show_origins};
+use config_load::RowFiles;
+use dns_data::{NoMemory, Octets, Text};
+use itoa::Buffer;
+use net_model::Config;
+use query_verdicts::QueryGraphs;
+use run_endings::{Ending, Status};
+use site_checks::SiteCheck;
+use std::alloc::Global;
+
+/// How many rewrites a query may use.
+const REWRITES: u32 = 12;
+
+/// The lines of the rows of a configuration, each with whether a query reaches it, unless some query reaches too many pairs
+/// of state and type.
+pub(crate) fn reached_rows(alloc: Global, config: &Config, rows: &[RowFiles]) -> Ending
+    ensures { WithinLimits config.now rows.now (TellsRows config.now rows.now result) result ⊎ (result ≡ no_memory) }
+{
+    match QueryGraphs::prepare(alloc, config, REWRITES, MOST_STATES) {
+        Ok(graphs) => by_graphs(alloc, &graphs, rows),
+        Err(NoMemory) => Ending::no_memory(),
+    }
+}
+
+/// The lines of rows, by the graphs of queries.
+fn by_graphs(alloc: Global, graphs: &QueryGraphs<'_>, rows: &[RowFiles]) -> Ending
+    requires limits { graphs.now ≡ reached_queries graphs.now.config }
+    ensures { WithinLimits graphs.now.config rows.now (TellsRows graphs.now.config rows.now result) result ⊎ (result ≡ no_memory) }
+{
+    match graphs.sets() {
+        Ok(_) => by_views(alloc, graphs, rows),
+        Err(server) => Ending::too_many_states(alloc, MOST_STATES, server),
+    }
+}
+
+/// The lines of rows, by the views of their origins.
+fn by_views(alloc: Global, graphs: &QueryGraphs<'_>, rows: &[RowFiles]) -> Ending
+    requires limits { graphs.now ≡ reached_queries graphs.now.config }
+    requires clear { SomeServerPasses graphs.now.config graphs.now.rewrites graphs.now.states → ⊥ }
+    ensures { WithinOrigins graphs.now rows.now (TellsRows graphs.now.config rows.now result) result ⊎ (result ≡ no_memory) }
+{
+    match Reached::of_rows(alloc, rows) {
+        Ok(mut check) => by_check(alloc, graphs, rows, &mut check),
+        Err(NoMemory) => Ending::no_memory(),
+    }
+}
+
+/// The lines of rows, by a check of them that was shown no view.
+fn by_check<'a>(
+    alloc: Global,
+    graphs: &QueryGraphs<'_>,
+    rows: &[RowFiles],
+    check: &mut Reached<'a>,
+) -> Ending
+    requires limits { graphs.now ≡ reached_queries graphs.now.config }
+    requires clear { SomeServerPasses graphs.now.config graphs.now.rewrites graphs.now.states → ⊥ }
+    requires begins { ⟦<Reached<'a> as SiteCheck>⟧.held check.old ≡ map (λ row. codes "unreached") rows.now }
+    requires step { (words : List (List ℕ)) (view : Seen) → ⟦<Reached<'a> as SiteCheck>⟧.step check.old words view ≡ after_view view rows.now words }
+    ensures { WithinOrigins graphs.now rows.now (TellsRows graphs.now.config rows.now result) result ⊎ (result ≡ no_memory) }
+{
+    match show_origins(alloc, graphs, rows, check) {
+        Ok(()) => with_lines(alloc, rows, check.told()),
+        Err(ending) => ending,
+    }
+}
+
+/// The lines of rows of which this is told.
+fn with_lines(alloc: Global, rows: &[RowFiles], told: &[bool]) -> Ending
+    requires { length told.now ≡ length rows.now }
+    ensures { (result ≡ with_output (reached_status told.now) (reached_text 1 told.now rows.now)) ⊎ (result ≡ no_memory) }
+{
+    Ending::written(status_of(told), text_of(alloc, rows, told))
+}
+
+/// The status with which the run ends.
+fn status_of(told: &[bool]) -> Status
+    ensures { result ≡ reached_status told.now }
+{
+    if are_all_reached(told) {
+        Status::Clean
+    } else {
+        Status::Faults
+    }
+}
+
+/// Whether each row is reached.
+fn are_all_reached(told: &[bool]) -> bool
+    ensures { result ≡ list_all (λ one. one) told.now }
+{
+    told.iter().all(|one| *one)
+}
+
+/// The lines of rows of which this is told.
+fn text_of(alloc: Global, rows: &[RowFiles], told: &[bool]) -> Result<Octets, NoMemory>
+    requires { length told.now ≡ length rows.now }
+    ensures { IfOk result (λ text. text ≡ reached_text 1 told.now rows.now) }
+{
+    let mut text = Octets::new();
+    for (i, row) in rows.iter().enumerate() {
+        put_row(alloc, &mut text, i + 1, told[i], row)?;
+    }
+    Ok(text)
+}
+
+/// Puts the line of a row, which has this number, at the end.
+fn put_row(
+    alloc: Global,
+    text: &mut Octets,
+    number: usize,
+    told: bool,
+    row: &RowFiles,
+) -> Result<(), NoMemory>
+    ensures { OnOk result (text.new ≡ text.old ++ line_of (row_columns number told row.now)) }
+{
+    put_columns(alloc, text, number, told, row)?;
+    text.push(alloc, b'\n')
+}
+
+/// Puts the columns of a row, which has this number, at the end.
+fn put_columns(
+    alloc: Global,
+    text: &mut Octets,
+    number: usize,
+    told: bool,
+    row: &RowFiles,
+) -> Result<(), NoMemory>
+    ensures { OnOk result (text.new ≡ text.old ++ separated tab (row_columns number told row.now)) }
+{
+    put_word(alloc, text, told)?;
+    put_tab(alloc, text)?;
+    put_row_number(alloc, text, number)?;
+    put_tab(alloc, text)?;
+    put_name(alloc, text, &row.server)?;
+    put_tab(alloc, text)?;
+    put_name(alloc, text, &row.origin)?;
+    put_tab(alloc, text)?;
+    put_first_file(alloc, text, row.files.items())
+}
+
+/// Puts the word of a row at the end.
+fn put_word(alloc: Global, text: &mut Octets, told: bool) -> Result<(), NoMemory>
+    ensures { OnOk result (text.new ≡ text.old ++ reached_word told) }
+{
+    text.extend_from_slice(alloc, reached_word(told).as_bytes())
+}
+
+/// Puts the name of a row's own file, the first of its files, at the end.
+fn put_first_file(alloc: Global, text: &mut Octets, files: &[Text]) -> Result<(), NoMemory>
+    ensures { OnOk result (text.new ≡ text.old ++ file_text (name_numbered files.now 0)) }
+{
+    put_file(alloc, text, file_numbered(files, 0))
+}
+
+/// Puts the number of a row at the end.
+fn put_row_number(alloc: Global, text: &mut Octets, number: usize) -> Result<(), NoMemory>
+    ensures { OnOk result (text.new ≡ text.old ++ decimal number) }
+{
+    let mut digits = Buffer::new();
+    text.extend_from_slice(alloc, digits.format(number).as_bytes())
+}
