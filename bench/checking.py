@@ -14,8 +14,8 @@ For each it prints the processor seconds and the peak memory of `check` with one
 one name on the same files (reading and trees) and of kzonecheck on the same zone where it is one zone and kzonecheck is
 installed, and the ratios to them. Then it prints how `check` grows from an input to the one that is larger, for the registry
 and the 10,000 rows the seconds by the clock of judging alone (seen from outside by strace, where it is installed) and the
-memory with 1, 2 and 4 workers, and what `drill` takes. The best of N runs counts, 5 if none are given; of no run longer than
-half an hour anything is told.
+memory with 1, 2 and 4 workers, what `drill` takes, and what `check` takes beside `classes` where four DNAME records make more
+names than are looked at. The best of N runs counts, 5 if none are given; of no run longer than half an hour anything is told.
 With --tenth all inputs are a tenth as large; with --only those alone whose title has the word. What is wanted of the whole
 inputs stands behind the number; of judging with several workers it is wanted on a machine with as many idle processors.
 """
@@ -32,6 +32,7 @@ from measure import GROOT, MEBIBYTE, RUNS, measured, metadata, program, ratio
 
 MOST_MEMORY = 500
 MOST_DRILL = 5
+MOST_COUNTING = 2
 LEAST_SPEED = {4: 2}
 MOST_MORE_MEMORY = 1.2
 
@@ -182,6 +183,21 @@ def drills(groot, part, runs):
     print(f"{'drill':>18} {large.processor:.3f} s, {growth} times the smaller one but for its start; {told(large.memory, MOST_MEMORY)} MiB")
 
 
+def counting(groot, runs):
+    """Prints what check takes where DNAME records make more names than the limit, beside what classes takes."""
+    with tempfile.TemporaryDirectory() as folder:
+        rows = make_zone.write_example(make_zone.crossing(), folder)
+        meta = metadata(folder, rows, rows[0]["NameServer"])
+        check, classes = (measured([groot, job, meta, "--classes", "1000000"], (4,), runs) for job in ("check", "classes"))
+    if check is None or classes is None:
+        print(f"{'names of DNAMEs':>18} the program ended in another way")
+        return
+    print(
+        f"{'names of DNAMEs':>18} check {check.processor:.3f} s, {told(check.memory, MOST_MEMORY)} MiB;"
+        f" ratio to classes {told(ratio(check.processor, classes.processor), MOST_COUNTING)}"
+    )
+
+
 def main():
     words = argparse.ArgumentParser()
     words.add_argument("groot", nargs="?", default=GROOT)
@@ -195,6 +211,8 @@ def main():
             check_one(groot, given, taken, said.runs)
     if said.only in "drill":
         drills(groot, part, said.runs)
+    if said.only in "names of DNAMEs":
+        counting(groot, said.runs)
 
 
 if __name__ == "__main__":

@@ -109,6 +109,11 @@ def write_on_many(servers, folder):
     return rows + [{"FileName": "own.zone", "NameServer": f"s{number}.example."} for number in range(1, servers)]
 
 
+def crossing():
+    """The lines of four DNAME records that multiply names."""
+    return [f"{owner} DNAME c\n" for owner in ("a", "b", "a.c", "b.c")]
+
+
 def write_empty(folder, server):
     """An empty zone file, for which a run is refused once it has read the rows before, and the row of the metadata for it."""
     with open(os.path.join(folder, "empty.zone"), "w"):

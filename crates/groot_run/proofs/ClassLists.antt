@@ -8,11 +8,12 @@ use Rattle.label_graph.specs.Pairs.{AreSame}
 use Rattle.query_classes.specs.ClassList.{ListedClass, AreListed, classes_of_row, classes_of_rows}
 use Rattle.query_classes.specs.declared.tree.ClassRow.{ClassRow}
 use Rattle.query_classes.proofs.SameGrounds.{same_back, listed_same, more_in_whole, more_same}
-use Rattle.groot_run.specs.declared.ending.Ending.{Ending}
-use Rattle.groot_run.specs.declared.status.Status.TheVariants.{Clean}
+use Rattle.run_endings.specs.declared.ending.Ending.{Ending}
+use Rattle.run_endings.specs.declared.status.Status.TheVariants.{Clean}
 use Rattle.groot_run.specs.ClassList.{class_line, class_list_text}
 use Rattle.groot_run.specs.ClassRows.{rows_text}
-use Rattle.groot_run.specs.Outcome.{with_output, listed, HasMoreNames, ListsClasses}
+use Rattle.run_endings.specs.Endings.{with_output}
+use Rattle.groot_run.specs.Outcome.{listed, HasMoreNames, ListsClasses}
 
 -- the lines of rows are those of their classes
 text_by_rows : (rows : List ClassRow) → rows_text rows ≡ class_list_text (classes_of_rows rows)

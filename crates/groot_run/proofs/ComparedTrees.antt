@@ -9,8 +9,9 @@ use Rattle.same_answers.specs.Passed.{IsFirstPassedInOne, SomeClassPassesInOne}
 use Rattle.same_answers.specs.Sameness.{IsSameness}
 use Rattle.same_answers.specs.declared.sameness.Sameness.{Sameness}
 use Rattle.verdict_book.specs.Items.{ReachesMore}
-use Rattle.groot_run.specs.declared.ending.Ending.{Ending}
-use Rattle.groot_run.specs.Outcome.{Compares, HasMoreNamesInBoth, no_memory, same_names, told_same, too_many_names, too_many_states}
+use Rattle.run_endings.specs.declared.ending.Ending.{Ending}
+use Rattle.run_endings.specs.Endings.{no_memory, too_many_names}
+use Rattle.groot_run.specs.Outcome.{Compares, HasMoreNamesInBoth, same_names, told_same, too_many_states}
 
 -- `tree` tells how many names the class tree of both has, by the items of the comparison
 module _ (two : Compared) (children_of : Labels → List Labels) (tree : (limit : ℕ) → ReachesMore [] children_of limit ↔ HasMoreThan (IsInTree (joint two)) limit) (ending : Ending) where

@@ -24,11 +24,13 @@ use Rattle.same_answers.specs.Compared.{Compared}
 use Rattle.same_answers.specs.declared.sameness.Sameness.{Sameness}
 use Rattle.same_answers.specs.declared.sameness.Sameness.TheVariants.{Same, Apart}
 use Rattle.zone_maker.specs.Source.{drill_told}
-use Rattle.groot_run.specs.declared.ending.Ending.{Ending}
-use Rattle.groot_run.specs.declared.status.Status.{Status}
-use Rattle.groot_run.specs.declared.status.Status.TheVariants.{Clean, Faults, ReadFault, WriteFault}
-use Rattle.groot_run.specs.JobEnds.{JobEnds, EndsOver, EndsWithout, IsNotLoaded}
-use Rattle.groot_run.specs.Outcome.{status_of, WithinNames, WithinStates, IsReported, Checks, ListsClasses, IsAnswerWith, Asks, IsDrilled, Drills, drill_names, drill_rewrites, AreTold, ShowsClasses, site_names, site_rewrites, answered_to, IsRechecked, Rechecks, OfReading, Outcome, IsEnding, JobComesTo, NoJobReadFailed, writes_nothing, no_memory, Compares, ComparesWith, compared_of, told_same, IsScoped, Scopes, WithinScope}
+use Rattle.run_endings.specs.declared.ending.Ending.{Ending}
+use Rattle.run_endings.specs.declared.status.Status.{Status}
+use Rattle.run_endings.specs.declared.status.Status.TheVariants.{Clean, Faults, ReadFault, WriteFault}
+use Rattle.run_endings.specs.Ends.{IsNotLoaded}
+use Rattle.groot_run.specs.JobEnds.{JobEnds, EndsOver, EndsWithout}
+use Rattle.run_endings.specs.Endings.{OfReading, writes_nothing, no_memory}
+use Rattle.groot_run.specs.Outcome.{status_of, WithinNames, WithinStates, IsReported, Checks, ListsClasses, IsAnswerWith, Asks, IsDrilled, Drills, drill_names, drill_rewrites, AreTold, ShowsClasses, site_names, site_rewrites, answered_to, IsRechecked, Rechecks, Outcome, IsEnding, JobComesTo, NoJobReadFailed, Compares, ComparesWith, compared_of, told_same, IsScoped, Scopes, WithinScope}
 
 -- ---- by what the files give
 

@@ -1,21 +1,16 @@
 -- What a job gives for checks that are handed in, whatever they are.
-use Rattle.std.proofs.Common.{◌≡◌, ℕ, List, [], map, Result, Ok, sym, subst}
+use Rattle.std.proofs.Common.{◌≡◌, List, [], map, Result, subst}
 use Rattle.std.specs.Prelude.{◌⊎◌}
 use Rattle.groot_line.specs.declared.fault.LineFault.{LineFault}
 use Rattle.groot_line.specs.declared.job.Job.{Job}
 use Rattle.io_edges.specs.Files.{FilesTold}
 use Rattle.net_model.specs.declared.config.Config.{Config}
 use Rattle.site_checks.specs.Views.{Site}
-use Rattle.groot_run.specs.declared.ending.Ending.{Ending}
-use Rattle.groot_run.specs.JobEnds.{JobEnds}
-use Rattle.groot_run.specs.Outcome.{Outcome, WithinStates, AreTold, site_rewrites, no_memory}
+use Rattle.run_endings.specs.declared.ending.Ending.{Ending}
+use Rattle.run_endings.specs.Endings.{no_memory}
+use Rattle.groot_run.specs.Outcome.{Outcome, WithinStates, AreTold, site_rewrites}
 
--- a job that is another ends as that one does
-pub of_the_job : (told : FilesTold) (job other : Job) (sites : List Site) (before after : List ℕ → ℕ) (ending : Ending) → job ≡ other
-    → JobEnds told (Ok other) sites before after ending → JobEnds told (Ok job) sites before after ending
-of_the_job told job other sites before after ending same = subst (λ (one : Job). JobEnds told (Ok one) sites before after ending) (sym same)
-
--- so it is with what is told of a configuration
+-- what is told of a configuration that is another is what is told of that one
 pub of_the_config : (config other : Config) (sites : List Site) (ending : Ending) → config ≡ other
     → WithinStates config site_rewrites (AreTold config sites ending) ending ⊎ (ending ≡ no_memory)
     → WithinStates other site_rewrites (AreTold other sites ending) ending ⊎ (ending ≡ no_memory)

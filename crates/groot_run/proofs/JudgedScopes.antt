@@ -21,9 +21,10 @@ use Rattle.site_checks.proofs.Seen.{told_after}
 use Rattle.verdict_book.specs.Items.{ReachesMore}
 use Rattle.verdict_book.specs.Lists.{IsWholeTree}
 use Rattle.verdict_book.specs.declared.filed.Filed.{Filed}
-use Rattle.groot_run.specs.declared.ending.Ending.{Ending}
-use Rattle.groot_run.specs.declared.status.Status.{Status}
-use Rattle.groot_run.specs.Outcome.{HasMoreNamesBelow, IsScoped, Scopes, WithinScope, most_states, too_many_names, too_many_states, no_memory, scope_names, scope_of, scope_rewrites, status_of, with_output}
+use Rattle.run_endings.specs.declared.ending.Ending.{Ending}
+use Rattle.run_endings.specs.declared.status.Status.{Status}
+use Rattle.run_endings.specs.Endings.{too_many_names, no_memory, with_output}
+use Rattle.groot_run.specs.Outcome.{HasMoreNamesBelow, IsScoped, Scopes, WithinScope, most_states, too_many_states, scope_names, scope_of, scope_rewrites, status_of}
 use Rattle.groot_run.specs.ScopeJudged.{IsScopeJudged}
 use Rattle.groot_run.specs.ShownClasses.{AreShown, EndsAmong}
 use Rattle.groot_run.proofs.Budgets.{no_longer}

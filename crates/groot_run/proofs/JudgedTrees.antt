@@ -15,10 +15,11 @@ use Rattle.query_classes.specs.Children.{IsInTree}
 use Rattle.verdict_book.specs.Items.{ReachesMore}
 use Rattle.verdict_book.specs.Lists.{IsWholeTree}
 use Rattle.verdict_book.specs.declared.filed.Filed.{Filed}
-use Rattle.groot_run.specs.declared.ending.Ending.{Ending}
+use Rattle.run_endings.specs.declared.ending.Ending.{Ending}
 use Rattle.groot_run.specs.declared.judging.CheckLimits.{CheckLimits}
 use Rattle.groot_run.specs.Judged.{AreLimits, IsJudged}
-use Rattle.groot_run.specs.Outcome.{HasMoreNames, WithinNames, WithinStates, most_states, too_many_names, too_many_states, no_memory}
+use Rattle.run_endings.specs.Endings.{too_many_names, no_memory}
+use Rattle.groot_run.specs.Outcome.{HasMoreNames, WithinNames, WithinStates, most_states, too_many_states}
 use Rattle.groot_run.proofs.Budgets.{no_longer}
 
 -- how many names the class tree has, by the items of its judge

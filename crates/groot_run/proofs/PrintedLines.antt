@@ -1,7 +1,8 @@
 -- Lines on limits that are passed, as they are printed.
 use Rattle.std.proofs.Common.{◌≡◌, [], ◌∷◌, codes, refl}
 use Rattle.std.specs.Fmt.{digits}
-use Rattle.groot_run.specs.Outcome.{too_many_names, too_many_states, too_many_walks, too_many_to_learn}
+use Rattle.run_endings.specs.Endings.{too_many_names}
+use Rattle.groot_run.specs.Outcome.{too_many_states, too_many_walks, too_many_to_learn}
 
 names : (too_many_names 1000000).err ≡ codes "classes: more than 1000000\n"
 unfolding digits

@@ -11,9 +11,10 @@ use Rattle.report_check.specs.Checked.{IsChecked}
 use Rattle.report_check.specs.declared.answer.Checked.{Checked}
 use Rattle.report_check.specs.declared.answer.CheckFault.{CheckFault}
 use Rattle.report_check.specs.declared.answer.CheckFault.TheVariants as check_faults
-use Rattle.groot_run.specs.JobEnds.{EndsOrFails, IsNotLoaded}
-use Rattle.groot_run.specs.Outcome.{answered_to, IsRechecked, OfReading, no_memory}
-use Rattle.groot_run.specs.declared.ending.Ending.{Ending}
+use Rattle.run_endings.specs.Ends.{EndsOrFails, IsNotLoaded}
+use Rattle.run_endings.specs.Endings.{OfReading, no_memory}
+use Rattle.groot_run.specs.Outcome.{answered_to, IsRechecked}
+use Rattle.run_endings.specs.declared.ending.Ending.{Ending}
 
 -- what is said of entries is no `NoMemory`
 pub answers : (checked : Checked) → (let answer : Result Checked CheckFault = Ok checked in answer ≢ Err check_faults.NoMemory)

@@ -19,8 +19,9 @@ use Rattle.site_checks.specs.Ends.{AreEnds}
 use Rattle.site_checks.specs.Shown.{HasSeen}
 use Rattle.site_checks.specs.declared.views.View.{View}
 use Rattle.site_checks.proofs.Seen.{nothing_seen, more_seen}
-use Rattle.groot_run.specs.declared.ending.Ending.{Ending}
-use Rattle.groot_run.specs.Outcome.{too_many_states, no_memory}
+use Rattle.run_endings.specs.declared.ending.Ending.{Ending}
+use Rattle.run_endings.specs.Endings.{no_memory}
+use Rattle.groot_run.specs.Outcome.{too_many_states}
 use Rattle.groot_run.specs.ShownClasses.{Passes, ServerPasses, NonePasses, exact_class, below_class, class_of, HasEnds, AreViewsOf, AreShown, IsFirstOf, EndsAmong}
 
 -- ---- what follows of an answer

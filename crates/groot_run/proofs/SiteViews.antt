@@ -27,9 +27,10 @@ use Rattle.site_checks.specs.declared.shown.Told.{Told}
 use Rattle.site_checks.specs.declared.views.View.{View}
 use Rattle.site_checks.proofs.OneViews.{one_view}
 use Rattle.site_checks.proofs.Seen.{told_after}
-use Rattle.groot_run.specs.declared.ending.Ending.{Ending}
-use Rattle.groot_run.specs.declared.status.Status.TheVariants.{Clean}
-use Rattle.groot_run.specs.Outcome.{WithinStates, AreTold, with_output, most_states, site_rewrites, no_memory}
+use Rattle.run_endings.specs.declared.ending.Ending.{Ending}
+use Rattle.run_endings.specs.declared.status.Status.TheVariants.{Clean}
+use Rattle.run_endings.specs.Endings.{with_output, no_memory}
+use Rattle.groot_run.specs.Outcome.{WithinStates, AreTold, most_states, site_rewrites}
 use Rattle.groot_run.specs.ShownClasses.{ServerPasses, NonePasses, class_of, AreViewsOf, AreShown, IsFirstOf, EndsAmong}
 
 module _ (subject : Subject) (states : ℕ) (classes : List ListedClass) (are : AreListed subject.ground subject.below classes) where

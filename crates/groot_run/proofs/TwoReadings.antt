@@ -8,9 +8,10 @@ use Rattle.config_load.specs.Reading.{Reading, Reads, both}
 use Rattle.io_edges.specs.Counts.{NoneFell}
 use Rattle.io_edges.specs.Files.{FilesTold, StaysTold}
 use Rattle.net_model.specs.declared.config.Config.{Config}
-use Rattle.groot_run.specs.JobEnds.{EndsOrFails, EndsWithout}
-use Rattle.groot_run.specs.Outcome.{OfReading}
-use Rattle.groot_run.specs.declared.ending.Ending.{Ending}
+use Rattle.run_endings.specs.Ends.{EndsOrFails}
+use Rattle.groot_run.specs.JobEnds.{EndsWithout}
+use Rattle.run_endings.specs.Endings.{OfReading}
+use Rattle.run_endings.specs.declared.ending.Ending.{Ending}
 
 module _ {T : Type 0} (meta : List ℕ) (second : FilesTold → Reading T) (of_config : Config → Ending → Type 0) (ending : Ending) where
   -- the second reading comes behind the configuration

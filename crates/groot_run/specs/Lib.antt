@@ -28,6 +28,8 @@ pub use Rattle.config_load.specs.Conf
 pub use Rattle.config_load.specs.Load
 pub use Rattle.config_load.specs.Reading as FileReading
 pub use Rattle.config_load.specs.Refusal
+pub use Rattle.run_endings.specs.Endings
+pub use Rattle.run_endings.specs.Writing
 pub use Rattle.groot_line.specs.Job
 pub use Rattle.report_check.specs.Checked
 pub use Rattle.groot_line.specs.LineOption
@@ -44,10 +46,9 @@ pub mod ClassList
 pub mod DrillLine
 pub mod Laws
 pub mod Outcome
-pub mod Writing
-pub mod Line
 pub mod Judged
 pub mod ClassRows
+pub mod Counted
 pub mod JobEnds
 pub mod ShownClasses
 pub mod ScopeJudged

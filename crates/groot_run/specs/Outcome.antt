@@ -1,5 +1,5 @@
 -- How a run ends: its status, the text for out and the line for err, by its job and by what is told of the files.
-use Rattle.std.specs.Prelude.{◌≡◌, ◌≢◌, ℕ, ◌⊎◌, Bool, true, false, List, [], ◌∷◌, ◌++◌, length, map, min, codes, decimal, Result, Ok, Err}
+use Rattle.std.specs.Prelude.{◌≡◌, ◌≢◌, ℕ, ◌⊎◌, List, [], ◌∷◌, ◌++◌, length, map, min, codes, decimal, Result, Ok, Err}
 use Rattle.io_edges.specs.Counts.{last_count, Rose}
 use Rattle.io_edges.specs.Files.{FilesTold}
 use Rattle.dns_data.specs.Name.{Labels}
@@ -16,9 +16,8 @@ use Rattle.query_verdicts.specs.Carried.{whole}
 use Rattle.query_verdicts.specs.Passed.{SomeClassPasses, IsFirstPassed, IsRefusedFor, NonePasses}
 use Rattle.config_load.specs.Conf.{conf}
 use Rattle.config_load.specs.Load.{Comes, ReadingComesTo}
-use Rattle.config_load.specs.Reading.{Reading, Reads, Refuses, Misses, Unknown, both, file_octets}
-use Rattle.config_load.specs.Refusal.{fields_line, refusal_line}
-use Rattle.config_load.specs.declared.fault.LoadFault.{LoadFault}
+use Rattle.config_load.specs.Reading.{both, file_octets}
+use Rattle.config_load.specs.Refusal.{fields_line}
 use Rattle.graph_form.specs.Report.{Subject, IsReport}
 use Rattle.graph_form.specs.declared.report.Report.{Report}
 use Rattle.graph_form.specs.declared.report.ReportEntry.{ReportEntry}
@@ -35,9 +34,10 @@ use Rattle.groot_line.specs.Usage.{usage_line}
 use Rattle.groot_line.specs.declared.fault.LineFault.{LineFault}
 use Rattle.groot_line.specs.declared.job.Job.{Job}
 use Rattle.groot_line.specs.declared.job.Job.TheVariants as jobs
-use Rattle.groot_run.specs.declared.ending.Ending.{Ending}
-use Rattle.groot_run.specs.declared.status.Status.{Status}
-use Rattle.groot_run.specs.declared.status.Status.TheVariants.{Clean, Faults, Usage, Refused, Classes, States, Walks, ReadFault, WriteFault, NoMemory}
+use Rattle.run_endings.specs.declared.ending.Ending.{Ending}
+use Rattle.run_endings.specs.declared.status.Status.{Status}
+use Rattle.run_endings.specs.Endings.{OfReading, with_output, without_output, read_failed, no_memory, too_many_names, too_many_states as too_many_states_than}
+use Rattle.run_endings.specs.declared.status.Status.TheVariants.{Clean, Faults, Usage, Refused, Walks}
 use Rattle.job_scope.specs.Scoped.{scoped, widened}
 use Rattle.same_answers.specs.Compared.{Compared, joint}
 use Rattle.same_answers.specs.Passed.{IsFirstPassedInOne, SomeClassPassesInOne}
@@ -54,19 +54,6 @@ use Rattle.groot_run.specs.DrillLine.{drill_line, records_of}
 use Rattle.query_classes.specs.ClassList.{ListedClass, AreListed}
 use Rattle.groot_run.specs.ClassList.{class_list_text}
 
--- the number of a status, as the program ends with it
-abbrev pub status_number : Status → ℕ
-status_number Clean = 0
-status_number Faults = 1
-status_number Usage = 2
-status_number Refused = 3
-status_number Classes = 4
-status_number States = 4
-status_number Walks = 4
-status_number (ReadFault file) = 5
-status_number WriteFault = 6
-status_number NoMemory = 7
-
 -- the status of a report that is written whole
 abbrev pub status_of : List ReportEntry → Status
 status_of [] = Clean
@@ -74,25 +61,9 @@ status_of (entry ∷ entries) = Faults
 
 -- ---- the ways to end
 
--- a text for out, and nothing for err
-abbrev pub with_output : Status → List ℕ → Ending
-with_output status text = record { status = status; out = text; err = [] }
-
--- nothing for out, and a line for err
-abbrev pub without_output : Status → List ℕ → Ending
-without_output status line = record { status = status; out = []; err = line }
-
 -- the words are no job
 abbrev pub usage : Ending
 usage = without_output Usage usage_line
-
--- the files of this metadata file are refused
-abbrev pub refused : List ℕ → LoadFault → Ending
-refused meta fault = without_output Refused (refusal_line meta fault)
-
--- the class tree has more names than this limit
-abbrev pub too_many_names : ℕ → Ending
-too_many_names limit = without_output Classes (codes "classes: more than " ++ (decimal limit ++ codes "\n"))
 
 -- how many pairs of state and type a query may reach
 abbrev pub most_states : ℕ
@@ -100,16 +71,7 @@ most_states = 100000
 
 -- the ending if the query reaches more pairs of state and type than are looked at
 abbrev pub too_many_states : Labels → Ending
-too_many_states query =
-    without_output States (codes "states: more than " ++ (decimal most_states ++ (codes " for " ++ (name_text query ++ codes "\n"))))
-
--- a file could not be read
-abbrev pub read_failed : List ℕ → Ending
-read_failed file = without_output (ReadFault file) (file ++ codes ": read failed\n")
-
--- memory ran out
-abbrev pub no_memory : Ending
-no_memory = without_output NoMemory (codes "no memory\n")
+too_many_states query = too_many_states_than most_states query
 
 -- the ending with this report: its text for standard output, and a status that says whether it has a fault
 abbrev pub reported : Report → Ending
@@ -262,14 +224,6 @@ pub record AreTold (config : Config) (sites : List Site) (ending : Ending) : Typ
 abbrev pub ShowsClasses : List Site → Config → Ending → Type 0
 ShowsClasses sites config ending =
     WithinNames config site_names (WithinStates config site_rewrites (AreTold config sites ending) ending) ending
-
--- What a command gives that reads the file of this name, and those that it names, by what it gives of what was read. Where a
--- file isn't held, or nothing is told of it, it gives nothing: such a run ends in a failed read.
-abbrev pub OfReading : {T : Type 0} → List ℕ → (T → Ending → Type 0) → Reading T → Ending → Type 0
-OfReading name of_value (Reads value) ending = of_value value ending
-OfReading name of_value (Refuses fault) ending = ending ≡ refused name fault
-OfReading name of_value (Misses file) ending = ⊥
-OfReading name of_value (Unknown file) ending = ⊥
 
 -- ---- a report that is checked
 
@@ -446,10 +400,3 @@ JobOpensNoOther before after job = (file : List ℕ) → (after file ≡ before 
 -- no count of a file rose to which the job comes
 abbrev pub NoJobReadFailed : FilesTold → Result Job LineFault → (List ℕ → ℕ) → (List ℕ → ℕ) → Type 0
 NoJobReadFailed told job before after = (file : List ℕ) → JobComesTo told job file → Rose (before file) (after file) → ⊥
-
--- a status that says that nothing was written to out
-abbrev pub writes_nothing : Status → Bool
-writes_nothing Clean = false
-writes_nothing Faults = false
-writes_nothing WriteFault = false
-writes_nothing answer = true

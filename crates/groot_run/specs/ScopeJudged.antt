@@ -5,8 +5,9 @@ use Rattle.graph_form.specs.Report.{IsReport}
 use Rattle.graph_form.specs.declared.report.Report.{Report}
 use Rattle.net_model.specs.declared.config.Config.{Config}
 use Rattle.query_verdicts.specs.Passed.{NonePasses}
-use Rattle.groot_run.specs.declared.ending.Ending.{Ending}
-use Rattle.groot_run.specs.Outcome.{HasMoreNamesBelow, WithinScope, most_states, no_memory, scope_names, scope_of}
+use Rattle.run_endings.specs.declared.ending.Ending.{Ending}
+use Rattle.run_endings.specs.Endings.{no_memory}
+use Rattle.groot_run.specs.Outcome.{HasMoreNamesBelow, WithinScope, most_states, scope_names, scope_of}
 
 -- The report of the scope; or how a run ends that has none, since the scope has more names than the limit, or else a
 -- representative in it or the name of a server reaches too many pairs.

@@ -11,8 +11,9 @@ use Rattle.query_verdicts.specs.Verdict.{PassesStates, SomeServerPasses}
 use Rattle.site_checks.specs.Ends.{AreEnds}
 use Rattle.site_checks.specs.Shown.{HasSeen}
 use Rattle.site_checks.specs.declared.views.View.{View}
-use Rattle.groot_run.specs.declared.ending.Ending.{Ending}
-use Rattle.groot_run.specs.Outcome.{too_many_states, no_memory}
+use Rattle.run_endings.specs.declared.ending.Ending.{Ending}
+use Rattle.run_endings.specs.Endings.{no_memory}
+use Rattle.groot_run.specs.Outcome.{too_many_states}
 
 -- the query reaches more pairs of state and type than it may
 abbrev pub Passes : LimitedQueries → Labels → Type 0

@@ -1,15 +1,16 @@
 //! The walks of a query.
 
 ghost use Rattle.std.specs.Prelude.{◌≡◌, ◌⊎◌};
-ghost use Rattle.groot_run.specs.Outcome.{Asks, IsAnswerWith, no_memory};
+ghost use Rattle.run_endings.specs.Endings.{no_memory};
+ghost use Rattle.groot_run.specs.Outcome.{Asks, IsAnswerWith};
 
-use crate::ending::Ending;
-use crate::status::Status;
+use crate::ending::{too_many_to_learn, too_many_walks};
 use dns_data::{List, Name, NoMemory, RrType};
 use groot_line::USUAL_REWRITES;
 use net_model::Config;
 use plain_resolver::{LearntFault, ResolveFault, learnt_at, resolve_at};
 use report_json::ask_text;
+use run_endings::{Ending, Status};
 use std::alloc::Global;
 use zone_lookup::Hosts;
 
@@ -37,7 +38,7 @@ fn ask_at(alloc: Global, hosts: &Hosts<'_>, name: &Name, rtype: RrType) -> Endin
     let none = List::new(alloc);
     match learnt_at(alloc, hosts, USUAL_REWRITES, &none, MOST_LEARNING_WALKS) {
         Ok(followed) => answer(alloc, hosts, followed.items(), name, rtype),
-        Err(LearntFault::WalksPassed(server)) => Ending::too_many_to_learn(alloc, &server),
+        Err(LearntFault::WalksPassed(server)) => too_many_to_learn(alloc, &server),
         Err(LearntFault::NoMemory) => Ending::no_memory(),
     }
 }
@@ -56,7 +57,7 @@ fn answer(alloc: Global, hosts: &Hosts<'_>, followed: &[Name], name: &Name, rtyp
         MOST_WALKS,
     ) {
         Ok(walks) => Ending::written(Status::Clean, ask_text(alloc, name, rtype, walks.items())),
-        Err(ResolveFault::WalksPassed) => Ending::too_many_walks(alloc),
+        Err(ResolveFault::WalksPassed) => too_many_walks(alloc),
         Err(ResolveFault::NoMemory) => Ending::no_memory(),
     }
 }

@@ -2,15 +2,15 @@
 
 ghost use Rattle.std.specs.Prelude.{◌≡◌, ◌⊎◌};
 ghost use Rattle.groot_run.specs.Judged.{AreLimits};
-ghost use Rattle.groot_run.specs.Outcome.{Checks, status_of, no_memory};
+ghost use Rattle.run_endings.specs.Endings.{no_memory};
+ghost use Rattle.groot_run.specs.Outcome.{Checks, status_of};
 
-use crate::ending::Ending;
 use crate::judging::{CheckLimits, report_of};
-use crate::status::Status;
 use graph_form::Report;
 use io_edges::Gate;
 use net_model::Config;
 use report_json::report_text;
+use run_endings::{Ending, Status};
 use std::alloc::Global;
 use std::sync::Wait;
 use std::thread::Threads;

@@ -6,14 +6,14 @@ ghost use Rattle.groot_run.specs.ClassList.{class_line, class_list_text};
 ghost use Rattle.groot_run.specs.ClassRows.{rows_text};
 ghost use Rattle.net_model.specs.Reading.{ground_of};
 ghost use Rattle.query_classes.specs.ClassList.{AreListed, classes_of_row, classes_of_rows};
-ghost use Rattle.groot_run.specs.Outcome.{HasMoreNames, ListsClasses, WithinNames, no_memory};
+ghost use Rattle.run_endings.specs.Endings.{no_memory};
+ghost use Rattle.groot_run.specs.Outcome.{HasMoreNames, ListsClasses, WithinNames};
 
-use crate::ending::Ending;
-use crate::status::Status;
 use dns_data::{List, Name, NoMemory, Octets};
 use label_graph::LabelGraph;
 use net_model::Config;
 use query_classes::{ClassRow, TreeFault, class_tree};
+use run_endings::{Ending, Status};
 use std::alloc::Global;
 
 /// The list of the configuration's classes, unless its class tree has more names than the limit.

@@ -3,13 +3,13 @@
 ghost use Rattle.std.specs.Prelude.{◌≡◌, ◌⊎◌, ◌≤◌, ◌+◌, codes, length, min, IfOk};
 ghost use Rattle.config_load.specs.Conf.{conf};
 ghost use Rattle.groot_run.specs.DrillLine.{drill_line, records_of, zone_records};
-ghost use Rattle.groot_run.specs.Outcome.{Drills, OfReading, drilled, no_memory};
+ghost use Rattle.run_endings.specs.Endings.{OfReading, no_memory};
+ghost use Rattle.groot_run.specs.Outcome.{Drills, drilled};
 ghost use Rattle.io_edges.specs.Counts.{last_count};
 ghost use Rattle.zone_maker.specs.Source.{drill_told};
 
 use crate::check::status_of;
 use crate::counts::put_count;
-use crate::ending::Ending;
 use crate::judging::{CheckLimits, report_of};
 use crate::load::configuration;
 use dns_data::{NoMemory, Octets};
@@ -17,6 +17,7 @@ use graph_form::Report;
 use groot_line::{USUAL_NAMES, USUAL_REWRITES};
 use io_edges::Gate;
 use net_model::{Config, Server, Zone};
+use run_endings::Ending;
 use std::alloc::Global;
 use std::sync::Wait;
 use std::thread::Threads;

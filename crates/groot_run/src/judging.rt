@@ -6,12 +6,14 @@ ghost use Rattle.query_verdicts.specs.Values.{AreValues};
 ghost use Rattle.groot_run.specs.Judged.{AreLimits, IsJudged};
 ghost use Rattle.groot_run.specs.Outcome.{most_states};
 
-use crate::ending::Ending;
+use crate::counted::count_redirected;
+use crate::ending::too_many_states;
 use class_judge::{Judge, Naming, ReportFault, laws};
 use dns_data::NoMemory;
 use graph_form::Report;
 use io_edges::Gate;
 use net_model::Config;
+use run_endings::Ending;
 use std::alloc::Global;
 use std::marker::Brand;
 use std::sync::Wait;
@@ -42,7 +44,10 @@ pub(crate) fn report_of<G: Gate + Sync, R: Threads + Wait + Sync>(
     requires { AreLimits limits }
     ensures { IsJudged limits.classes limits.rewrites config.now result }
 {
-    judged::<Brand, G, R>(rt, alloc, config, limits, gate)
+    match count_redirected(alloc, config, limits.classes) {
+        Ok(()) => judged::<Brand, G, R>(rt, alloc, config, limits, gate),
+        Err(ending) => Err(ending),
+    }
 }
 
 /// What the judge of this name tells of the configuration.
@@ -81,7 +86,7 @@ fn told<N: Naming + Send + Sync, G: Gate + Sync, R: Threads + Wait + Sync>(
     match run_tree(rt, alloc, judge, limits.workers, limits.classes, gate) {
         Ok(filed) => match judge.report(filed) {
             Ok(report) => Ok(report),
-            Err(ReportFault::StatesPassed(query)) => Err(Ending::too_many_states(alloc, &query)),
+            Err(ReportFault::StatesPassed(query)) => Err(too_many_states(alloc, &query)),
             Err(ReportFault::NoMemory) => Err(Ending::no_memory()),
         },
         Err(PoolFault::TooMany(_)) => Err(Ending::too_many_names(alloc, limits.classes)),

@@ -6,7 +6,7 @@ ghost use Rattle.net_model.specs.declared.config.Config.{Config};
 ghost use Rattle.groot_line.specs.declared.fault.LineFault.{LineFault};
 ghost use Rattle.groot_line.specs.declared.job.Job.{Job};
 ghost use Rattle.groot_line.specs.declared.job.Job.TheVariants as jobs;
-ghost use Rattle.groot_run.specs.declared.ending.Ending.{Ending};
+ghost use Rattle.run_endings.specs.declared.ending.Ending.{Ending};
 ghost use Rattle.groot_run.specs.Laws.{HasClasses};
 ghost use Rattle.groot_run.specs.Outcome.{Drills, Outcome};
 ghost use Rattle.graph_form.specs.declared.report.Report.{Report};

@@ -7,25 +7,21 @@
 mod ask;
 mod check;
 mod classes;
+mod counted;
 mod counts;
 mod drill;
 mod ending;
 mod job;
 mod judging;
 mod laws;
-mod line;
 mod load;
-mod output;
 mod recheck;
 mod run;
 mod same;
 mod scope;
 mod shown;
 mod site;
-mod status;
 
-pub use ending::Ending;
 pub use laws::{drills_read, one_outcome, one_report, query_classes};
-pub use line::Line;
 pub use run::{groot, groot_with_sites, run_words};
-pub use status::Status;
+pub use run_endings::{Ending, Line, Status};

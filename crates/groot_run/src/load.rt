@@ -1,18 +1,17 @@
 //! The configuration of files, or how a run ends without one.
 
-ghost use Rattle.std.specs.Prelude.{◌≡◌, ◌⊎◌, IfOk, IfErr};
+ghost use Rattle.std.specs.Prelude.{◌≡◌, IfOk, IfErr};
 ghost use Rattle.io_edges.specs.Counts.{NoneFell};
 ghost use Rattle.io_edges.specs.Files.{StaysTold, TellsAll};
 ghost use Rattle.config_load.specs.Conf.{conf};
 ghost use Rattle.config_load.specs.Load.{OpensNoOther};
 ghost use Rattle.config_load.specs.Reading.{Reads};
-ghost use Rattle.groot_run.specs.JobEnds.{EndsWithout, IsNotLoaded};
-ghost use Rattle.groot_run.specs.Outcome.{no_memory};
+ghost use Rattle.groot_run.specs.JobEnds.{EndsWithout};
 
-use crate::ending::Ending;
-use config_load::{LoadFault, load};
+use config_load::load;
 use io_edges::Files;
 use net_model::Config;
+use run_endings::Ending;
 use std::alloc::Global;
 
 /// The configuration of the metadata file of this name, or how a run ends over files that give none.
@@ -30,17 +29,6 @@ pub(crate) fn configuration<F: Files>(
 {
     match load(alloc, files, meta) {
         Ok(config) => Ok(config),
-        Err(fault) => Err(not_loaded(alloc, meta, fault)),
-    }
-}
-
-/// How a run ends over files that give no configuration.
-pub(crate) fn not_loaded(alloc: Global, meta: &str, fault: LoadFault) -> Ending
-    ensures { IsNotLoaded meta.now fault result ⊎ (result ≡ no_memory) }
-{
-    match fault {
-        LoadFault::Read { file } => Ending::read_failed(alloc, file),
-        LoadFault::NoMemory => Ending::no_memory(),
-        fault => Ending::refused(alloc, meta, &fault),
+        Err(fault) => Err(Ending::not_loaded(alloc, meta, fault)),
     }
 }

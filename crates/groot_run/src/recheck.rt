@@ -5,18 +5,19 @@ ghost use Rattle.io_edges.specs.Files.{StaysTold, TellsAll};
 ghost use Rattle.config_load.specs.Conf.{conf};
 ghost use Rattle.config_load.specs.Load.{Comes, OpensNoOther};
 ghost use Rattle.config_load.specs.Reading.{both, file_octets};
-ghost use Rattle.groot_run.specs.JobEnds.{EndsOrFails};
-ghost use Rattle.groot_run.specs.Outcome.{IsRechecked, OfReading, Rechecks, no_memory};
+ghost use Rattle.run_endings.specs.Ends.{EndsOrFails};
+ghost use Rattle.run_endings.specs.Endings.{OfReading, no_memory};
+ghost use Rattle.groot_run.specs.Outcome.{IsRechecked, Rechecks};
 
 use crate::counts::put_count;
-use crate::ending::Ending;
-use crate::load::{configuration, not_loaded};
-use crate::status::Status;
+use crate::ending::{not_report, too_many_to_check};
+use crate::load::configuration;
 use config_load::read_file;
 use dns_data::{NoMemory, Octets};
 use io_edges::Files;
 use net_model::Config;
 use report_check::{CheckFault, Checked, check_report};
+use run_endings::{Ending, Status};
 use std::alloc::Global;
 
 /// Whether the entries of the report in a file are right, by the walks of the configuration of a metadata file. The
@@ -43,7 +44,7 @@ fn of_config<F: Files>(alloc: Global, files: &mut F, config: &Config, report: &s
 {
     match read_file(alloc, files, report) {
         Ok(octets) => of_octets(alloc, config, report, octets.items()),
-        Err(fault) => not_loaded(alloc, report, fault),
+        Err(fault) => Ending::not_loaded(alloc, report, fault),
     }
 }
 
@@ -57,8 +58,8 @@ fn of_octets(alloc: Global, config: &Config, report: &str, octets: &[u8]) -> End
             right_line(alloc, entries),
         ),
         Ok(Checked::Wrong { entry }) => Ending::written(Status::Faults, wrong_line(alloc, entry)),
-        Err(CheckFault::NotReport) => Ending::not_report(alloc, report),
-        Err(CheckFault::Walks { entry }) => Ending::too_many_to_check(alloc, entry),
+        Err(CheckFault::NotReport) => not_report(alloc, report),
+        Err(CheckFault::Walks { entry }) => too_many_to_check(alloc, entry),
         Err(CheckFault::NoMemory) => Ending::no_memory(),
     }
 }

@@ -10,18 +10,18 @@ ghost use Rattle.config_load.specs.Load.{NoReadFailed};
 ghost use Rattle.config_load.specs.Reading.{Reads};
 ghost use Rattle.groot_line.specs.declared.job.Job.TheVariants.{Check};
 ghost use Rattle.groot_line.specs.Job.{job_of};
-ghost use Rattle.groot_run.specs.declared.ending.Ending.{Ending as Ended};
+ghost use Rattle.run_endings.specs.declared.ending.Ending.{Ending as Ended};
 ghost use Rattle.groot_run.specs.Laws.{HasClasses};
-ghost use Rattle.groot_run.specs.Outcome.{Outcome, Checks, IsEnding, JobComesTo, JobOpensNoOther, NoJobReadFailed, writes_nothing, no_memory};
-ghost use Rattle.groot_run.specs.Writing.{IsLeft, TookLine};
+ghost use Rattle.run_endings.specs.Endings.{writes_nothing, no_memory};
+ghost use Rattle.groot_run.specs.Outcome.{Outcome, Checks, IsEnding, JobComesTo, JobOpensNoOther, NoJobReadFailed};
+ghost use Rattle.run_endings.specs.Writing.{IsLeft, TookLine};
 
-use crate::ending::Ending;
+use crate::ending::usage;
 use crate::job::of_job;
 use crate::laws;
-use crate::output::{tell, write_all};
-use crate::status::Status;
 use groot_line::{LineFault, read_words};
 use io_edges::{Failed, Files, Gate, Sink};
+use run_endings::{Ending, Status, tell, write_all};
 use site_checks::SiteCheck;
 use std::alloc::Global;
 use std::sync::Wait;
@@ -182,7 +182,7 @@ pub fn run_words<F: Files, G: Gate + Sync, R: Threads + Wait + Sync>(
     let mut sites = sites;
     match read_words(alloc, words) {
         Ok(job) => of_job(rt, alloc, files, &job, gate, &mut sites),
-        Err(LineFault::Usage) => Ending::usage(),
+        Err(LineFault::Usage) => usage(),
         Err(LineFault::NoMemory) => Ending::no_memory(),
     }
 }

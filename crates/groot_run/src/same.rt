@@ -8,18 +8,19 @@ ghost use Rattle.config_load.specs.Conf.{conf};
 ghost use Rattle.config_load.specs.Load.{Comes, OpensNoOther};
 ghost use Rattle.config_load.specs.Reading.{both};
 ghost use Rattle.same_answers.specs.Values.{ArePairValues};
-ghost use Rattle.groot_run.specs.JobEnds.{EndsOrFails};
-ghost use Rattle.groot_run.specs.Outcome.{Compares, ComparesWith, OfReading, compared_of, most_states, no_memory, same_rewrites, told_same};
+ghost use Rattle.run_endings.specs.Ends.{EndsOrFails};
+ghost use Rattle.run_endings.specs.Endings.{OfReading, no_memory};
+ghost use Rattle.groot_run.specs.Outcome.{Compares, ComparesWith, compared_of, most_states, same_rewrites, told_same};
 
 use crate::counts::put_count;
-use crate::ending::Ending;
+use crate::ending::too_many_states;
 use crate::judging::MOST_STATES;
 use crate::load::configuration;
-use crate::status::Status;
 use dns_data::{Name, NoMemory, Octets, RrType};
 use groot_line::{USUAL_NAMES, USUAL_REWRITES, USUAL_WORKERS};
 use io_edges::{Files, Gate};
 use net_model::Config;
+use run_endings::{Ending, Status};
 use same_answers::{PairNaming, Pairing, SameFault, Sameness, laws};
 use std::alloc::Global;
 use std::marker::Brand;
@@ -124,7 +125,7 @@ fn told_by<N: PairNaming + Send + Sync, G: Gate + Sync, R: Threads + Wait + Sync
     match run_tree(rt, alloc, pairing, workers, USUAL_NAMES, gate) {
         Ok(filed) => match pairing.outcome(filed) {
             Ok(sameness) => told(alloc, &sameness),
-            Err(SameFault::StatesPassed(query)) => Ending::too_many_states(alloc, &query),
+            Err(SameFault::StatesPassed(query)) => too_many_states(alloc, &query),
             Err(SameFault::NoMemory) => Ending::no_memory(),
         },
         Err(PoolFault::TooMany(_)) => Ending::too_many_names(alloc, USUAL_NAMES),

@@ -7,11 +7,12 @@ ghost use Rattle.query_classes.specs.ClassList.{AreListed, classes_of_rows};
 ghost use Rattle.query_verdicts.specs.Passed.{NonePasses};
 ghost use Rattle.query_verdicts.specs.Values.{AreValues};
 ghost use Rattle.report_json.specs.Sites.{scope_text};
-ghost use Rattle.groot_run.specs.Outcome.{HasMoreNamesBelow, IsScoped, Scopes, most_states, no_memory, scope_names, scope_of, scope_rewrites};
+ghost use Rattle.run_endings.specs.Endings.{no_memory};
+ghost use Rattle.groot_run.specs.Outcome.{HasMoreNamesBelow, IsScoped, Scopes, most_states, scope_names, scope_of, scope_rewrites};
 ghost use Rattle.groot_run.specs.ScopeJudged.{IsScopeJudged};
 
 use crate::check::status_of;
-use crate::ending::Ending;
+use crate::ending::too_many_states;
 use crate::judging::MOST_STATES;
 use crate::site::show_rows;
 use dns_data::{List, Name, NoMemory, Octets};
@@ -22,6 +23,7 @@ use job_scope::{ScopeFault, ScopeJudge, ScopeNaming, laws};
 use net_model::Config;
 use query_classes::{ClassRow, TreeFault, class_tree};
 use report_json::scope_text;
+use run_endings::Ending;
 use site_checks::{SiteCheck, tell};
 use std::alloc::Global;
 use std::marker::Brand;
@@ -87,7 +89,7 @@ fn report_of<N: ScopeNaming + Send + Sync, G: Gate + Sync, R: Threads + Wait + S
     match run_tree(rt, alloc, judge, USUAL_WORKERS, USUAL_NAMES, gate) {
         Ok(filed) => match judge.report(filed) {
             Ok(report) => Ok(report),
-            Err(ScopeFault::StatesPassed(query)) => Err(Ending::too_many_states(alloc, &query)),
+            Err(ScopeFault::StatesPassed(query)) => Err(too_many_states(alloc, &query)),
             Err(ScopeFault::NoMemory) => Err(Ending::no_memory()),
         },
         Err(PoolFault::TooMany(_)) => Err(Ending::too_many_names(alloc, USUAL_NAMES)),

@@ -5,14 +5,14 @@ ghost use Rattle.net_model.specs.Reading.{ground_of};
 ghost use Rattle.query_classes.specs.ClassList.{AreListed, classes_of_row, classes_of_rows};
 ghost use Rattle.query_verdicts.specs.Queries.{limited_to};
 ghost use Rattle.report_json.specs.Sites.{sites_text};
-ghost use Rattle.groot_run.specs.Outcome.{AreTold, ShowsClasses, WithinStates, most_states, no_memory, site_rewrites};
+ghost use Rattle.run_endings.specs.Endings.{no_memory};
+ghost use Rattle.groot_run.specs.Outcome.{AreTold, ShowsClasses, WithinStates, most_states, site_rewrites};
 ghost use Rattle.groot_run.specs.ShownClasses.{AreShown, EndsAmong, below_class, exact_class};
 
 use crate::classes::rows_within;
-use crate::ending::Ending;
+use crate::ending::too_many_states;
 use crate::judging::MOST_STATES;
 use crate::shown::show;
-use crate::status::Status;
 use dns_data::{Name, NoMemory, Octets};
 use groot_line::{USUAL_NAMES, USUAL_REWRITES};
 use interp_graph::GraphFault;
@@ -20,6 +20,7 @@ use net_model::{Class, Config};
 use query_classes::ClassRow;
 use query_verdicts::QueryGraphs;
 use report_json::sites_text;
+use run_endings::{Ending, Status};
 use site_checks::{SiteCheck, tell, view};
 use std::alloc::Global;
 
@@ -170,7 +171,7 @@ fn show_class(
             Ok(())
         }
         Ok(None) => Ok(()),
-        Err(GraphFault::StatesPassed) => Err(Ending::too_many_states(alloc, query)),
+        Err(GraphFault::StatesPassed) => Err(too_many_states(alloc, query)),
         Err(GraphFault::NoMemory) => Err(Ending::no_memory()),
     }
 }

@@ -36,18 +36,29 @@ impl Ending {
         }
     }
 
+    /// A line for err and no text for out.
+    pub fn without_output(status: Status, err: Line) -> Ending
+        ensures { result ≡ endings.without_output status err }
+    {
+        Ending {
+            status,
+            out: Octets::new(),
+            err,
+        }
+    }
+
     /// The words ask for nothing that the program does. The line says what it does.
     pub fn usage(line: &'static str) -> Ending
         ensures { result ≡ endings.without_output Status.Usage line.now }
     {
-        without_output(Status::Usage, Line::fixed(line))
+        Ending::without_output(Status::Usage, Line::fixed(line))
     }
 
     /// Memory ran out.
     pub fn no_memory() -> Ending
         ensures { result ≡ endings.no_memory }
     {
-        without_output(Status::NoMemory, Line::fixed("no memory\n"))
+        Ending::without_output(Status::NoMemory, Line::fixed("no memory\n"))
     }
 
     /// A run over the files of this metadata file that aren't loaded.
@@ -65,8 +76,8 @@ impl Ending {
     pub fn too_many_names(alloc: Global, limit: u32) -> Ending
         ensures { (result ≡ endings.too_many_names limit) ⊎ (result ≡ endings.no_memory) }
     {
-        match more_than(alloc, limit) {
-            Ok(line) => without_output(Status::Classes, line),
+        match more_than(alloc, b"classes: more than ", limit) {
+            Ok(line) => Ending::without_output(Status::Classes, line),
             Err(NoMemory) => Ending::no_memory(),
         }
     }
@@ -75,8 +86,8 @@ impl Ending {
     pub fn too_many_states(alloc: Global, limit: u32, query: &Name) -> Ending
         ensures { (result ≡ endings.too_many_states limit query.now) ⊎ (result ≡ endings.no_memory) }
     {
-        match more_than_for(alloc, limit, query) {
-            Ok(line) => without_output(Status::States, line),
+        match more_than_for(alloc, b"states: more than ", limit, query) {
+            Ok(line) => Ending::without_output(Status::States, line),
             Err(NoMemory) => Ending::no_memory(),
         }
     }
@@ -90,23 +101,12 @@ impl From<NoMemory> for Ending {
     }
 }
 
-/// An ending with nothing for out.
-fn without_output(status: Status, err: Line) -> Ending
-    ensures { result ≡ endings.without_output status err }
-{
-    Ending {
-        status,
-        out: Octets::new(),
-        err,
-    }
-}
-
 /// A file could not be read.
 fn read_failed(alloc: Global, file: Text) -> Ending
     ensures { (result ≡ endings.read_failed file) ⊎ (result ≡ endings.no_memory) }
 {
     match Line::of_pieces(alloc, &[file.as_str().as_bytes(), b": read failed\n"]) {
-        Ok(line) => without_output(Status::ReadFault(file), line),
+        Ok(line) => Ending::without_output(Status::ReadFault(file), line),
         Err(NoMemory) => Ending::no_memory(),
     }
 }
@@ -116,36 +116,36 @@ fn refused(alloc: Global, meta: &str, fault: &LoadFault) -> Ending
     ensures { (result ≡ endings.refused meta.now fault.now) ⊎ (result ≡ endings.no_memory) }
 {
     match refusal_line(alloc, fault.file(meta), fault.line(), fault.code()) {
-        Ok(line) => without_output(Status::Refused, line),
+        Ok(line) => Ending::without_output(Status::Refused, line),
         Err(NoMemory) => Ending::no_memory(),
     }
 }
 
-/// The line of more names than a limit.
-fn more_than(alloc: Global, limit: u32) -> Result<Line, NoMemory>
-    ensures { IfOk result (λ line. line ≡ codes "classes: more than " ++ (decimal limit ++ codes "\n")) }
+/// The line that says what there is more of than a limit: what stands in front, the limit in digits, and a line feed. An
+/// error is want of memory.
+pub fn more_than<'a>(alloc: Global, front: &'a [u8], limit: u32) -> Result<Line, NoMemory>
+    ensures { IfOk result (λ line. line ≡ front.now ++ (decimal limit ++ codes "\n")) }
 {
     let mut digits = Buffer::new();
-    Line::of_pieces(
-        alloc,
-        &[
-            b"classes: more than ",
-            digits.format(limit).as_bytes(),
-            b"\n",
-        ],
-    )
+    Line::of_pieces(alloc, &[front, digits.format(limit).as_bytes(), b"\n"])
 }
 
-/// The line of more pairs of state and type than a limit, which the query of this name reaches.
-fn more_than_for(alloc: Global, limit: u32, name: &Name) -> Result<Line, NoMemory>
-    ensures { IfOk result (λ line. line ≡ codes "states: more than " ++ (decimal limit ++ (codes " for " ++ (name_text name.now ++ codes "\n")))) }
+/// The line that says what there is more of than a limit for this name: what stands in front, the limit in digits, `for`,
+/// the name's text, and a line feed. An error is want of memory.
+pub fn more_than_for<'a>(
+    alloc: Global,
+    front: &'a [u8],
+    limit: u32,
+    name: &Name,
+) -> Result<Line, NoMemory>
+    ensures { IfOk result (λ line. line ≡ front.now ++ (decimal limit ++ (codes " for " ++ (name_text name.now ++ codes "\n")))) }
 {
     let mut digits = Buffer::new();
     let name = name.to_text(alloc)?;
     Line::of_pieces(
         alloc,
         &[
-            b"states: more than ",
+            front,
             digits.format(limit).as_bytes(),
             b" for ",
             name.as_str().as_bytes(),
@@ -154,8 +154,9 @@ fn more_than_for(alloc: Global, limit: u32, name: &Name) -> Result<Line, NoMemor
     )
 }
 
-/// The line of a refusal.
-fn refusal_line<'a>(
+/// The line of a refusal: the file, a line in it, counted from 1 or 0 for the file as a whole, and the refusal's code. An
+/// error is want of memory.
+pub fn refusal_line<'a>(
     alloc: Global,
     file: &'a str,
     line: u32,

@@ -1,7 +1,7 @@
-//! Names, records and texts.
+//! Names and records.
 
 use super::configs::{alone, first_zone, spells};
-use dns_data::{Label, Name, NameFault, Rr, Text};
+use dns_data::{Label, Name, NameFault, Rr};
 use net_model::Config;
 use std::alloc::Global;
 use std::test::Fail;
@@ -47,12 +47,4 @@ fn has_copy(alloc: Global, rr: &Rr) -> bool {
         Ok(copy) => spells(alloc, "t.", &copy.owner),
         Err(_) => false,
     }
-}
-
-#[test]
-fn a_text_has_a_copy(rt: HostRuntime) -> Result<(), Fail> {
-    let text = Text::from_str(rt.alloc(), "t.zone")?;
-    let copy = text.copy(rt.alloc())?;
-    assert!(rt; copy.as_str() == "t.zone");
-    Ok(())
 }

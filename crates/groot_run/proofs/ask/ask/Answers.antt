@@ -1,6 +1,7 @@
 use Rattle.std.proofs.Common.{◌≡◌, ◌⊎◌, subst}
 use Rattle.net_model.specs.declared.config.Config.{Config}
-use Rattle.groot_run.specs.Outcome.{Asks, no_memory}
+use Rattle.run_endings.specs.Endings.{no_memory}
+use Rattle.groot_run.specs.Outcome.{Asks}
 use Rattle.groot_run.proofs.ask.ask.Goals as goal
 
 pub returns-in-Ok : goal.returns-in-Ok

@@ -1,7 +1,8 @@
 use Rattle.std.proofs.Common.{◌∙◌, ap, inl, inr}
 use Rattle.report_json.specs.Report.{report_text}
-use Rattle.groot_run.specs.declared.status.Status.{Status}
-use Rattle.groot_run.specs.Outcome.{IsReported, with_output}
+use Rattle.run_endings.specs.declared.status.Status.{Status}
+use Rattle.run_endings.specs.Endings.{with_output}
+use Rattle.groot_run.specs.Outcome.{IsReported}
 use Rattle.groot_run.proofs.JudgedTrees.{without_report}
 use Rattle.groot_run.proofs.check.check.Goals as goal
 

@@ -7,8 +7,9 @@ use Rattle.zone_maker.specs.Drill.{drill}
 use Rattle.zone_maker.specs.Source.{drill_told, no_failures, told_of}
 use Rattle.zone_maker.proofs.UnfailingFiles.{drill_tells_all}
 use Rattle.groot_run.specs.JobEnds.{EndsOver}
-use Rattle.groot_run.specs.Outcome.{Drills, OfReading, no_memory}
-use Rattle.groot_run.specs.declared.ending.Ending.{Ending}
+use Rattle.run_endings.specs.Endings.{OfReading, no_memory}
+use Rattle.groot_run.specs.Outcome.{Drills}
+use Rattle.run_endings.specs.declared.ending.Ending.{Ending}
 use Rattle.groot_run.proofs.Endings.{over_config, over_none}
 use Rattle.groot_run.proofs.drill.drill.Goals as goal
 

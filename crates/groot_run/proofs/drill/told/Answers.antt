@@ -4,8 +4,9 @@ use Rattle.graph_form.specs.declared.report.Report.{Report}
 use Rattle.io_edges.specs.Counts.{last_count}
 use Rattle.net_model.specs.declared.config.Config.{Config}
 use Rattle.groot_run.specs.DrillLine.{drill_line, records_of}
-use Rattle.groot_run.specs.declared.status.Status.{Status}
-use Rattle.groot_run.specs.Outcome.{drilled, status_of, with_output}
+use Rattle.run_endings.specs.declared.status.Status.{Status}
+use Rattle.run_endings.specs.Endings.{with_output}
+use Rattle.groot_run.specs.Outcome.{drilled, status_of}
 use Rattle.groot_run.proofs.drill.told.Goals as goal
 
 -- an ending with a report's status and a drill's line

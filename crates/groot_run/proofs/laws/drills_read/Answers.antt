@@ -2,7 +2,8 @@
 use Rattle.std.proofs.Common.{codes, subst}
 use Rattle.net_model.specs.declared.config.Config.{Config}
 use Rattle.config_load.specs.Reading.{Reading}
-use Rattle.groot_run.specs.Outcome.{Drills, OfReading}
+use Rattle.run_endings.specs.Endings.{OfReading}
+use Rattle.groot_run.specs.Outcome.{Drills}
 use Rattle.groot_run.proofs.laws.drills_read.Goals as goal
 
 pub returns : goal.returns

@@ -1,5 +1,6 @@
 use Rattle.std.proofs.Common.{◌≡◌, ◌⊎◌, ℕ, List, subst}
-use Rattle.groot_run.specs.Outcome.{IsRechecked, no_memory}
+use Rattle.run_endings.specs.Endings.{no_memory}
+use Rattle.groot_run.specs.Outcome.{IsRechecked}
 use Rattle.groot_run.proofs.Rechecked.{over_file, over_no_file}
 use Rattle.groot_run.proofs.recheck.of_config.Goals as goal
 
