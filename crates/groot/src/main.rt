@@ -3,10 +3,9 @@
 
 use dns_data::NoMemory;
 use groot_run::{Status, groot_with_sites};
-use io_edges::{DiskFiles, Files, FreeGate, OutSink, Sink};
+use io_edges::{DiskFiles, Files, FreeGate, OutSink, Sink, borrowed_words, command_words};
 use site_checks::{AOnly, Answering, SiteCheck};
-use std::alloc::{AllocError, Global};
-use std::io::{self, ErrorKind};
+use std::alloc::Global;
 use std::process::ExitCode;
 use std::sync::Wait;
 use std::thread::Threads;
@@ -29,7 +28,7 @@ fn main(rt: HostRuntime) -> ExitCode {
     let mut files = DiskFiles::new(&rt);
     let mut out = OutSink::new(rt.stdout());
     let mut err = OutSink::new(rt.stderr());
-    let status = match words(&rt) {
+    let status = match command_words(&rt) {
         Ok(words) => run(
             &rt,
             alloc,
@@ -59,40 +58,11 @@ fn run<F: Files, O: Sink, E: Sink, R: Threads + Wait + Sync>(
     err: &mut E,
     sites: Vec<Box<dyn SiteCheck>>,
 ) -> Status {
-    match borrowed(alloc, words) {
+    match borrowed_words(alloc, words) {
         Ok(words) => {
             let words = words.as_slice();
             groot_with_sites(rt, alloc, words, files, out, err, &FreeGate, sites)
         }
-        Err(AllocError) => Status::NoMemory,
+        Err(NoMemory) => Status::NoMemory,
     }
-}
-
-/// The words of a job: those after the program's name, or none where one of them isn't UTF-8.
-fn words(rt: &HostRuntime) -> Result<Vec<String>, NoMemory> {
-    match all_words(rt) {
-        Ok(words) => Ok(words),
-        Err(error) => match error.kind() {
-            ErrorKind::OutOfMemory => Err(NoMemory),
-            _ => Ok(Vec::new(rt.alloc())),
-        },
-    }
-}
-
-/// The words after the program's name. A word that isn't UTF-8 is an error.
-fn all_words(rt: &HostRuntime) -> io::Result<Vec<String>> {
-    let mut words = Vec::new(rt.alloc());
-    for word in std::env::args(rt)?.skip(1) {
-        words.push(word)?;
-    }
-    Ok(words)
-}
-
-/// The words, borrowed.
-fn borrowed<'a>(alloc: Global, words: &'a [String]) -> Result<Vec<&'a str>, AllocError> {
-    let mut all = Vec::new(alloc);
-    for word in words {
-        all.push(word.as_str())?;
-    }
-    Ok(all)
 }
