@@ -18,9 +18,7 @@ use Rattle.run_endings.specs.declared.status.Status.{Status}
 use Rattle.run_endings.specs.declared.status.Status.TheVariants.{Clean, Faults, ReadFault, WriteFault}
 use Rattle.zone_map.specs.JobEnds.{JobEnds}
 use Rattle.zone_map.specs.Outcome.{Tells, Outcome, IsEnding, JobComesTo, NoJobReadFailed}
-use Rattle.zone_map.specs.Limits.{WithinLimits}
-use Rattle.zone_map.specs.Reached.{TellsRows, reached_text}
-use Rattle.zone_map.specs.Records.{records_text}
+use Rattle.zone_map.specs.Reached.{reached_text}
 use Rattle.zone_map.specs.Targets.{targets_status, targets_text}
 use Rattle.zone_map.specs.declared.words.Asked.{Asked}
 use Rattle.zone_map.specs.declared.words.Asked.TheVariants.{Records, Reached, Targets}
@@ -151,11 +149,3 @@ pub told_of_read : (told : FilesTold) (said : Option Job) (job : Job) (all : Loa
 told_of_read told said job all ending is reads outcome =
     subst (λ (read : Reading Loaded). OfReading job.meta (Tells job.asked) read ending) reads
     (subst (λ (other : Option Job). Outcome told other ending) is outcome)
-
--- each thing that may be asked for is told so
-pub tells_records : (asked : Asked) (all : Loaded) (ending : Ending) → asked ≡ Records → ending ≡ with_output Clean (records_text all) → Tells asked all ending
-tells_records asked all ending same is = subst (λ (one : Asked). Tells one all ending) (sym same) is
-
-pub tells_reached : (asked : Asked) (all : Loaded) (ending : Ending) → asked ≡ Reached → WithinLimits all.config all.rows (TellsRows all.config all.rows ending) ending
-    → Tells asked all ending
-tells_reached asked all ending same is = subst (λ (one : Asked). Tells one all ending) (sym same) is

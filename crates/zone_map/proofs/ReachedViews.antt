@@ -1,7 +1,7 @@
 -- A row is reached exactly where the view of its origin shows it.
 use Rattle.std.proofs.Common.{◌≡◌, Bool, true, false, ◌&&◌, cond, List, [], ◌∷◌, ◌++◌, map, Contains, Some, refl, sym, ap, subst, inl, inr, true≢false}
 use Rattle.std.specs.Prelude.{◌↔◌, ◌⊎◌, Option, is_some}
-use Rattle.std.specs.List.{AllZip, flat_map, list_any}
+use Rattle.std.specs.List.{flat_map, list_any}
 use Rattle.std.proofs.lemmas.Bool.{and_parts, and_from, eqb-true, or_left, or_right}
 use Rattle.std.proofs.lemmas.List.Elements.{Contains-append_cases}
 use Rattle.dns_data.specs.Distinct.{distinct, distinct_behind}
@@ -181,37 +181,15 @@ module _ (config : Config) (row : RowFiles) where
 
 -- ---- rows and their views
 
-module _ {A B : Type 0} (R : A → B → Type 0) where
-  -- an item of the one list has one of the other
-  right_of : (xs : List A) (ys : List B) → AllZip R xs ys → (x : A) → Contains xs x → (y : B) × Contains ys y × R x y
-  right_of [] [] all x has = absurd (none_in_nil x has)
-  right_of [] (b ∷ ys) all x has = absurd all
-  right_of (a ∷ xs) [] all x has = absurd all
-  right_of (a ∷ xs) (b ∷ ys) all x has =
-      elim (first_or_later a xs x has) [
-        | inl same ↦ (b, has_first b ys, subst (λ (z : A). R z b) same all.0)
-        | inr later ↦ (let rest = right_of xs ys all.1 x later in (rest.0, has_later b ys rest.0 rest.1, rest.2))
-      ]
-
-  left_of : (xs : List A) (ys : List B) → AllZip R xs ys → (y : B) → Contains ys y → (x : A) × Contains xs x × R x y
-  left_of [] [] all y has = absurd (none_in_nil y has)
-  left_of [] (b ∷ ys) all y has = absurd all
-  left_of (a ∷ xs) [] all y has = absurd all
-  left_of (a ∷ xs) (b ∷ ys) all y has =
-      elim (first_or_later b ys y has) [
-        | inl same ↦ (a, has_first a xs, subst (λ (z : B). R a z) same all.0)
-        | inr later ↦ (let rest = left_of xs ys all.1 y later in (rest.0, has_later a xs rest.0 rest.1, rest.2))
-      ]
-
 -- a row is reached exactly where some view of the rows' origins shows it
 pub seen_means : (config : Config) (rows : List RowFiles) (views : List View) → AreViewsOf (reached_queries config) rows views
     → (row : RowFiles) → Contains rows row → (is_seen views row ≡ true) ↔ IsReached config row
 seen_means config rows views are row has = (
   λ seen.
       let (view, among, shown) = from_any (λ (v : View). shows_reached v row) views seen in
-      let (other, of_rows, is) = left_of (λ (r : RowFiles) (v : View). IsViewOf (reached_queries config) r.origin v) rows views are view among in
+      let (other, of_rows, is) = are.of_rows view among in
       by_view config row other.origin view is shown,
   λ reached.
-      let (view, among, is) = right_of (λ (r : RowFiles) (v : View). IsViewOf (reached_queries config) r.origin v) rows views are row has in
+      let (view, among, is) = are.for_rows row has in
       any_has (λ (v : View). shows_reached v row) views view among (by_walk config row view is reached),
 )

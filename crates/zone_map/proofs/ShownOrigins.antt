@@ -1,13 +1,12 @@
 -- The views of rows' origins, shown one after the other: what a check has seen, and how a run ends among them.
-use Rattle.std.proofs.Common.{◌≡◌, ℕ, suc, ◌+◌, ◌<◌, ◌≤◌, List, [], ◌∷◌, ◌++◌, length, take, drop, get_or, Result, Ok, Err, IfErr, refl, sym, ap, subst, ◌∙◌, inl, inr, arith}
-use Rattle.std.specs.Prelude.{IsErrAnd}
+use Rattle.std.proofs.Common.{◌≡◌, ℕ, suc, ◌+◌, ◌<◌, ◌≤◌, List, [], ◌∷◌, ◌++◌, length, take, drop, get_or, Contains, Result, Ok, Err, IfErr, refl, sym, ap, subst, ◌∙◌, inl, inr, arith}
+use Rattle.std.specs.Prelude.{◌⊎◌, IsErrAnd}
 use Rattle.std.proofs.Math.Seq.{drop-cons}
 use Rattle.std.proofs.lemmas.List.{take-append-drop, take_more, take_all}
-use Rattle.std.proofs.lemmas.List.Elements.{Contains-append_cases}
+use Rattle.std.proofs.lemmas.List.Elements.{Contains-append_cases, Contains-append_left, Contains-append_right}
 use Rattle.std.proofs.lemmas.List.Sums.{fold_push}
-use Rattle.std.proofs.lemmas.Slice.Zip.{all_zipped_more}
 use Rattle.dns_data.specs.Name.{Labels}
-use Rattle.dns_data.proofs.Membership.{none_in_nil, first_or_later}
+use Rattle.dns_data.proofs.Membership.{none_in_nil, first_or_later, has_first}
 use Rattle.graph_form.specs.Graph.{PlainGraph}
 use Rattle.graph_form.specs.GraphOf.{IsGraphOf}
 use Rattle.net_model.specs.declared.class.Class.TheVariants.{Exact}
@@ -18,12 +17,25 @@ use Rattle.run_endings.specs.declared.ending.Ending.{Ending}
 use Rattle.site_checks.specs.Ends.{AreEnds}
 use Rattle.site_checks.specs.declared.views.View.{View}
 use Rattle.zone_map.specs.Limits.{NoOriginPasses, Passes}
-use Rattle.zone_map.specs.ShownOrigins.{EndsAmong, EndsAt, HasSeenOrigin, HasSeenOrigins, IsViewOf}
+use Rattle.zone_map.specs.ShownOrigins.{EndsAmong, EndsAt, HasSeenNew, HasSeenOrigin, HasSeenOrigins, IsViewOf}
 
 -- what holds of a fault holds of the answer that hands it on
 pub handed_on : {T E : Type 0} (P : E → Type 0) (fault : E) (result : Result T E) → IsErrAnd result (λ other. other ≡ fault) → P fault → IfErr result P
 handed_on P fault (Ok value) is holds = tt
 handed_on P fault (Err other) is holds = subst P (sym is) holds
+
+-- what a list with one item more has
+has_more : {X : Type 0} (items : List X) (item x : X) → Contains (items ++ item ∷ []) x → Contains items x ⊎ (item ≡ x)
+has_more items item x has = elim (Contains-append_cases items (item ∷ []) x has) [
+  | inl first ↦ inl first
+  | inr last ↦ elim (first_or_later item [] x last) [
+    | inl equal ↦ inr equal
+    | inr none ↦ absurd (none_in_nil x none)
+  ]
+]
+
+has_at_end : {X : Type 0} (items : List X) (item : X) → Contains (items ++ item ∷ []) item
+has_at_end items item = Contains-append_right items (item ∷ []) item (has_first item [])
 
 abbrev Step : Type 0
 Step = List (List ℕ) → View → List (List ℕ)
@@ -49,26 +61,65 @@ module _ (queries : LimitedQueries) where
 
   -- of none
   pub seen_none : (step : Step) (words : List (List ℕ)) → HasSeenOrigins step queries [] words words
-  seen_none step words = record { none_passes = λ row has. absurd (none_in_nil row has); views = []; are_views = tt; holds = refl }
+  seen_none step words = record {
+    none_passes = λ row has. absurd (none_in_nil row has);
+    views = [];
+    are_views = record { of_rows = λ view has. absurd (none_in_nil view has); for_rows = λ row has. absurd (none_in_nil row has) };
+    holds = refl;
+  }
 
-  -- of one more, by a step that does the same
+  -- of one more row, whose origin is that of one before
+  seen_again : (step : Step) (rows : List RowFiles) (row old : RowFiles) (a b c : List (List ℕ)) → Contains rows old → old.origin ≡ row.origin → c ≡ b
+      → HasSeenOrigins step queries rows a b → HasSeenOrigins step queries (rows ++ row ∷ []) a c
+  seen_again step rows row old a b c there equal same seen = record {
+    none_passes = λ one has. elim (has_more rows row one has) [
+      | inl first ↦ seen.none_passes one first
+      | inr last ↦ subst (λ (r : RowFiles). Passes queries r.origin → ⊥) last (subst (λ (name : Labels). Passes queries name → ⊥) equal (seen.none_passes old there))
+    ];
+    views = seen.views;
+    are_views = record {
+      of_rows = λ view has. (let (r, among, is) = seen.are_views.of_rows view has in (r, Contains-append_left rows (row ∷ []) r among, is));
+      for_rows = λ one has. elim (has_more rows row one has) [
+        | inl first ↦ seen.are_views.for_rows one first
+        | inr last ↦ (let (view, among, is) = seen.are_views.for_rows old there in
+            (view, among, subst (λ (r : RowFiles). IsViewOf queries r.origin view) last (subst (λ (name : Labels). IsViewOf queries name view) equal is)))
+      ];
+    };
+    holds = same ∙ seen.holds;
+  }
+
+  -- of one more row, whose origin's view was shown by a step that does the same
+  seen_next : (step other : Step) (rows : List RowFiles) (row : RowFiles) (a b c : List (List ℕ)) → ((words : List (List ℕ)) (view : View) → other words view ≡ step words view)
+      → HasSeenOrigins step queries rows a b → HasSeenOrigin other queries row.origin b c → HasSeenOrigins step queries (rows ++ row ∷ []) a c
+  seen_next step other rows row a b c same seen next = record {
+    none_passes = λ one has. elim (has_more rows row one has) [
+      | inl first ↦ seen.none_passes one first
+      | inr last ↦ subst (λ (r : RowFiles). Passes queries r.origin → ⊥) last next.few
+    ];
+    views = seen.views ++ next.view ∷ [];
+    are_views = record {
+      of_rows = λ view has. elim (has_more seen.views next.view view has) [
+        | inl first ↦ (let (r, among, is) = seen.are_views.of_rows view first in (r, Contains-append_left rows (row ∷ []) r among, is))
+        | inr last ↦ (row, has_at_end rows row, subst (λ (v : View). IsViewOf queries row.origin v) last next.is_view)
+      ];
+      for_rows = λ one has. elim (has_more rows row one has) [
+        | inl first ↦ (let (view, among, is) = seen.are_views.for_rows one first in (view, Contains-append_left seen.views (next.view ∷ []) view among, is))
+        | inr last ↦ (next.view, has_at_end seen.views next.view, subst (λ (r : RowFiles). IsViewOf queries r.origin next.view) last next.is_view)
+      ];
+    };
+    holds = next.holds ∙ same b next.view ∙ ap (λ words. step words next.view) seen.holds ∙ sym (fold_push step a seen.views next.view);
+  }
+
+  -- of one more row
   pub seen_more : (step other : Step) (rows : List RowFiles) (i : ℕ) (row : RowFiles) (a b c : List (List ℕ)) → i < length rows → row ≡ get_or rows i row
       → ((words : List (List ℕ)) (view : View) → other words view ≡ step words view)
-      → HasSeenOrigins step queries (take i rows) a b → HasSeenOrigin other queries row.origin b c → HasSeenOrigins step queries (take (i + 1) rows) a c
-  seen_more step other rows i row a b c there is same seen next =
+      → HasSeenOrigins step queries (take i rows) a b → HasSeenNew other queries (take i rows) row.origin b c → HasSeenOrigins step queries (take (i + 1) rows) a c
+  seen_more step other rows i row a b c there is same seen new =
       subst (λ (some : List RowFiles). HasSeenOrigins step queries some a c) (sym (take_more rows i row there ∙ ap (λ r. take i rows ++ r ∷ []) (sym is)))
-      (record {
-        none_passes = λ one has. elim (Contains-append_cases (take i rows) (row ∷ []) one has) [
-          | inl first ↦ seen.none_passes one first
-          | inr last ↦ elim (first_or_later row [] one last) [
-            | inl equal ↦ subst (λ (r : RowFiles). Passes queries r.origin → ⊥) equal next.few
-            | inr none ↦ absurd (none_in_nil one none)
-          ]
-        ];
-        views = seen.views ++ next.view ∷ [];
-        are_views = all_zipped_more (λ (r : RowFiles) (v : View). IsViewOf queries r.origin v) (take i rows) seen.views row next.view seen.are_views next.is_view;
-        holds = next.holds ∙ same b next.view ∙ ap (λ words. step words next.view) seen.holds ∙ sym (fold_push step a seen.views next.view);
-      })
+      (elim new [
+        | inl (old, among, equal, stays) ↦ seen_again step (take i rows) row old a b c among equal stays seen
+        | inr next ↦ seen_next step other (take i rows) row a b c same seen next
+      ])
 
   -- of all
   pub seen_all : (step : Step) (rows : List RowFiles) (i : ℕ) (a b : List (List ℕ)) → length rows ≤ i → HasSeenOrigins step queries (take i rows) a b → HasSeenOrigins step queries rows a b

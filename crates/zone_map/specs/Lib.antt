@@ -10,7 +10,7 @@ pub use Rattle.net_model.specs.Learnt
 pub use Rattle.net_model.specs.Nearest
 pub use Rattle.net_model.specs.Step
 pub use Rattle.net_model.specs.Walk
-pub use Rattle.plain_resolver.specs.Passed
+pub use Rattle.plain_resolver.specs.Passed as WalksPassed
 pub use Rattle.zone_lookup.specs.LearntSets
 pub use Rattle.config_load.specs.Conf
 pub use Rattle.config_load.specs.Faults

@@ -1,6 +1,6 @@
 -- For the code alone, no public clause cites it: a check that is shown the views of rows' origins, and how a run ends among them.
-use Rattle.std.specs.Prelude.{◌≡◌, ◌⊎◌, ℕ, List}
-use Rattle.std.specs.List.{AllZip, fold}
+use Rattle.std.specs.Prelude.{◌≡◌, ◌⊎◌, ℕ, List, Contains}
+use Rattle.std.specs.List.{fold}
 use Rattle.dns_data.specs.Name.{Labels}
 use Rattle.net_model.specs.declared.class.Class.TheVariants.{Exact}
 use Rattle.net_model.specs.Learnt.{IsInForce}
@@ -20,9 +20,10 @@ pub record IsViewOf (queries : LimitedQueries) (name : Labels) (view : View) : T
   pub in_force : IsInForce queries.config queries.rewrites followed
   pub ends : AreEnds (following queries.config queries.rewrites followed) name view.ends
 
--- the views are those of the rows' origins, in order
-abbrev pub AreViewsOf : LimitedQueries → List RowFiles → List View → Type 0
-AreViewsOf queries rows views = AllZip (λ (row : RowFiles) (view : View). IsViewOf queries row.origin view) rows views
+-- the views are those of the rows' origins: each is that of a row's, and each row's has one
+pub record AreViewsOf (queries : LimitedQueries) (rows : List RowFiles) (views : List View) : Type 0 where
+  pub of_rows : (view : View) → Contains views view → (row : RowFiles) × Contains rows row × IsViewOf queries row.origin view
+  pub for_rows : (row : RowFiles) → Contains rows row → (view : View) × Contains views view × IsViewOf queries row.origin view
 
 -- a check with this step was shown the view of the origin, which doesn't pass
 pub record HasSeenOrigin (step : List (List ℕ) → View → List (List ℕ)) (queries : LimitedQueries) (origin : Labels) (before after : List (List ℕ)) : Type 0 where
@@ -30,6 +31,11 @@ pub record HasSeenOrigin (step : List (List ℕ) → View → List (List ℕ)) (
   pub view : View
   pub is_view : IsViewOf queries origin view
   pub holds : after ≡ step before view
+
+-- it is the origin of one of the rows before, or the check was shown its view
+abbrev pub HasSeenNew : (List (List ℕ) → View → List (List ℕ)) → LimitedQueries → List RowFiles → Labels → List (List ℕ) → List (List ℕ) → Type 0
+HasSeenNew step queries rows origin before after =
+    ((row : RowFiles) × Contains rows row × (row.origin ≡ origin) × (after ≡ before)) ⊎ HasSeenOrigin step queries origin before after
 
 -- it was shown the views of the rows' origins, none of which passes
 pub record HasSeenOrigins (step : List (List ℕ) → View → List (List ℕ)) (queries : LimitedQueries) (rows : List RowFiles) (before after : List (List ℕ)) : Type 0 where
@@ -42,7 +48,7 @@ pub record HasSeenOrigins (step : List (List ℕ) → View → List (List ℕ)) 
 abbrev pub EndsAt : LimitedQueries → Labels → Ending → Type 0
 EndsAt queries origin ending = (Passes queries origin × (ending ≡ too_many_states reached_states origin)) ⊎ (ending ≡ no_memory)
 
--- a run ends among the rows: at the first whose origin passes, or for want of memory
+-- a run ends among the rows: at the first whose origin passes, or because memory ran out
 abbrev pub EndsAmong : LimitedQueries → List RowFiles → Ending → Type 0
 EndsAmong queries rows ending =
     ((origin : Labels) × IsFirstOriginPassed queries rows origin × (ending ≡ too_many_states reached_states origin)) ⊎ (ending ≡ no_memory)

@@ -1,13 +1,14 @@
-//! What stands beside a report: where each record of a configuration was read.
+//! What stands beside a report: where each record of a configuration was read, which rows a query reaches, and which
+//! targets lead nowhere.
 //!
-//! The layer above may rest on this: for files that read, `groot_map` writes exactly the records of their configuration, in
-//! the order of the metadata's rows, each with the file and the line from which it was read; or exactly those whose target
-//! leads nowhere, with the ends of its walks; every other ending has its cause in the words, in what the files give or in a
-//! count of failures that rose, or memory ran out. Each row has the zone that was read from its files, and each zone is that of
-//! one row (`rows_have_zones`).
+//! The layer above may rest on this: for files that read, `groot_map` writes row by row the records of each row's zone,
+//! each with the file and the line from which it was read; or each row, with whether a walk of its zone's SOA query ends
+//! in an answer at its server; or exactly the records whose target leads nowhere, with the ends of its walks. Every other
+//! ending has its cause in the words, in what the files give or in a count of failures that rose, or memory ran out.
 //!
-//! Costs: each file is read once. A row's zone is looked for among its server's zones. For targets the trees of the zones and
-//! the set of servers that are followed are made once, and each target is asked once, by following its walks.
+//! Costs: each file is read once. A row's zone is looked for among its server's zones. For rows the graph of each origin is
+//! made once, its ends are compared with each other, and each row is compared with each view. For targets the trees of the
+//! zones and the set of servers that are followed are made once, and each target is asked once, by following its walks.
 #![tactic(auto)]
 
 mod columns;

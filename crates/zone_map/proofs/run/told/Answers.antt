@@ -5,7 +5,6 @@ use Rattle.zone_map.specs.Outcome.{Tells}
 use Rattle.zone_map.specs.Reached.{TellsRows}
 use Rattle.zone_map.specs.Records.{records_text}
 use Rattle.zone_map.specs.declared.words.Asked.{Asked}
-use Rattle.zone_map.proofs.Endings.{tells_reached}
 use Rattle.zone_map.proofs.run.told.Goals as goal
 
 pub returns-in-Records : goal.returns-in-Records
@@ -20,7 +19,7 @@ returns-in-Reached c =
     let config = c.args.all.now.config in
     let ending = c.reached_rows.result in
     elim c.reached_rows.ensures [
-      | inl is ↦ inl (tells_reached c.args.asked c.args.all.now ending c.in-Reached.is
+      | inl is ↦ inl (subst (λ (asked : Asked). Tells asked c.args.all.now ending) (sym c.in-Reached.is)
           (subst (λ (rows : List RowFiles). WithinLimits config rows (TellsRows config rows ending) ending) c.items.ensures is))
       | inr ran_out ↦ inr ran_out
     ]

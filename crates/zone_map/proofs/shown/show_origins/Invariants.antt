@@ -4,8 +4,8 @@ use Rattle.zone_map.specs.ShownOrigins.{HasSeenOrigins}
 use Rattle.zone_map.proofs.shown.show_origins.Given as goal
 
 -- the check was shown the origins of the rows so far, and its step is as it was
-abbrev pub invariant-loop-row : goal.invariant-loop-row
-invariant-loop-row g l = record {
+abbrev pub invariant-loop-i : goal.invariant-loop-i
+invariant-loop-i g l = record {
   step : (words : List (List ℕ)) (view : View) → g.S.SiteCheck.step l.check words view ≡ g.S.SiteCheck.step l.fn.check words view;
-  seen : HasSeenOrigins (g.S.SiteCheck.step l.fn.check) l.graphs (take l.row-index l.rows) (g.S.SiteCheck.held l.fn.check) (g.S.SiteCheck.held l.check);
+  seen : HasSeenOrigins (g.S.SiteCheck.step l.fn.check) l.graphs (take l.i l.rows) (g.S.SiteCheck.held l.fn.check) (g.S.SiteCheck.held l.check);
 }
