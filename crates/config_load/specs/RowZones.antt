@@ -1,5 +1,5 @@
--- Rows of the metadata and zones of the configuration: each row has the zone that was read from its files, and each zone is that
--- of one row.
+-- Rows of the metadata and zones of the configuration: each row has the zone that was read from its files, and each
+-- zone is that of one row.
 use Rattle.std.specs.Prelude.{◌≡◌, List, Some, ℕ, Contains, AllPairs}
 use Rattle.io_edges.specs.Files.{FilesTold}
 use Rattle.meta_read.specs.declared.meta.MetaRow.{MetaRow}
@@ -14,7 +14,7 @@ use Rattle.config_load.specs.declared.loaded.Loaded.{Loaded}
 use Rattle.config_load.specs.declared.loaded.RowFiles.{RowFiles}
 use Rattle.config_load.specs.declared.zone.ReadZone.{ReadZone}
 
--- the row is one of the metadata, its zone was read from its files, and its server is found to hold that zone
+-- the row has the server, the origin and the files of a zone that was read, and its server is found to hold that zone
 pub record HoldsRow (meta : List ℕ) (told : FilesTold) (config : Config) (row : RowFiles) : Type 0 where
   pub given : MetaRow
   pub left : Left

@@ -29,8 +29,8 @@ pub fn rows_tell_files()
     ensures config { (meta : List ℕ) (told : FilesTold) → conf meta told ≡ config_of (loaded meta told) }
 {}
 
-/// In what files give, each row has the zone that was read from its files, and each zone of the configuration is that of one
-/// row. So the records of the rows are those of the configuration.
+/// In what files give, each row has the zone that was read from its files, and each zone of the configuration is that
+/// of one row. So the records of the rows are those of the configuration.
 pub fn rows_have_zones()
     ensures { (meta : List ℕ) (told : FilesTold) (all : Loaded) → loaded meta told ≡ Reads all → RowsHaveZones meta told all }
 {}

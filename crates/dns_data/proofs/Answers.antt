@@ -1,7 +1,7 @@
 -- Definitions that go on step by step, and the calls that answer what they say.
 use Rattle.std.proofs.Common.{◌≡◌, ◌⊎◌, Bool, true, false, Option, Some, None, Result, Ok, Err, cond, inl, inr, ap, sym, subst}
 use Rattle.std.specs.Option.{ok_or}
-use Rattle.std.specs.Result.{IfErr}
+use Rattle.std.specs.Result.{IfErr, IsErrAnd}
 use Rattle.dns_data.specs.Answers.{AnswersOr, ◌>>=◌, with_fault}
 
 -- a fault that ends the first step ends the whole
@@ -34,3 +34,8 @@ pub if_err_answered : {T E : Type 0} (P : E → Type 0) (free : E) (result said 
 if_err_answered P free (Ok value) said answered h k = tt
 if_err_answered P free (Err fault) said (inl e) h k = subst P (sym e) h
 if_err_answered {T} {E} P free (Err fault) said (inr e) h k = subst (λ (r : Result T E). IfErr r P) e k
+
+-- what holds of a fault holds of the answer that hands it on
+pub if_err_handed_on : {T E : Type 0} (P : E → Type 0) (fault : E) (result : Result T E) → IsErrAnd result (λ other. other ≡ fault) → P fault → IfErr result P
+if_err_handed_on P fault (Ok value) is holds = tt
+if_err_handed_on P fault (Err other) is holds = subst P (sym is) holds

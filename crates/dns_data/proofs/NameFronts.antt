@@ -1,6 +1,7 @@
 -- Names whose labels begin another's: those at or above it. And how many octets they have.
-use Rattle.std.proofs.Common.{◌≡◌, ℕ, ◌+◌, ◌≤◌, true, List, [], ◌∷◌, ◌++◌, ◌⊎◌, length, refl, ap, inl, inr, append-nil, arith}
+use Rattle.std.proofs.Common.{◌≡◌, ℕ, ◌+◌, ◌≤◌, true, List, [], ◌∷◌, ◌++◌, ◌⊎◌, length, refl, sym, ap, ◌∙◌, take, inl, inr, append-nil, arith}
 use Rattle.std.specs.Prelude.{sum_by}
+use Rattle.std.proofs.lemmas.List.{take_at}
 use Rattle.std.proofs.lemmas.List.Sums.{sum_by-append, sum_by-cons}
 use Rattle.dns_data.specs.Name.{Labels, wire_octets, is_prefix}
 use Rattle.dns_data.proofs.Names.{is_prefix_means}
@@ -20,6 +21,10 @@ is_prefix_told above name begins = (is_prefix_means above name (is_prefix above 
 -- a name begins itself
 pub begins_itself : (name : Labels) → is_prefix name name ≡ true
 begins_itself name = is_prefix_told name name ([], append-nil name)
+
+-- a front is so many labels of the name
+pub front_is_take : (above rest name : Labels) → above ++ rest ≡ name → take (length above) name ≡ above
+front_is_take above rest name e = ap (take (length above)) (sym e) ∙ take_at above rest (length above) refl
 
 -- of two fronts of one list one begins the other
 pub two_fronts : {X : Type 0} (a b c d : List X) → a ++ b ≡ c ++ d

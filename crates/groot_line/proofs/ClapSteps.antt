@@ -2,6 +2,7 @@
 use Rattle.std.proofs.Common.{◌≡◌, ◌∙◌, ◌&&◌, ◌==◌, ℕ, Bool, cond, codes, true, false, refl, sym, ap, ap₂, subst, List, [], ◌∷◌, Option, Some, None}
 use Rattle.std.specs.Option.{option_map_or}
 use Rattle.std.specs.Str.{bytes_eq}
+use Rattle.std.proofs.Math.Bool.{and-false}
 use Rattle.clap.specs.Faults.{bundle_fault, long_fault, settle_fault, flag_word_fault, other_fault, positional_fault, step_fault, stray_fault, turn_fault, use_fault, word_fault}
 use Rattle.clap.specs.Kinds.{Kinds, or_else}
 use Rattle.clap.specs.Lexer.{long_of, short_of}
@@ -27,10 +28,6 @@ walk_at rows pending waiting = record { held = held_at rows pending; waiting = w
 abbrev pub between : Bool → Waiting
 between true = positional
 between false = idle
-
-and_false : (b : Bool) → (b && false) ≡ false
-and_false true = refl
-and_false false = refl
 
 -- kinds with no others behind them are themselves
 pub or_else_none : (kinds : Kinds) → or_else kinds [] ≡ kinds
@@ -89,7 +86,7 @@ operand_step : (command : Command) (rows : List Row) (pending : Option (Text × 
     ≡ walk_at (settled_rows (rules command) pending rows) (Some (codes "operands", word ∷ [])) positional
 operand_step command rows pending b word =
     ap (λ found. to_positional (rules command) found word (walk_at rows pending (between b)) (held_at rows pending)) (by_index command)
-    ∙ ap (λ (same : Bool). walk_after (pushed (codes "operands") word (cond same (held_at rows pending) (settled (rules command) (held_at rows pending))))) (and_false (is_pending operands_built pending))
+    ∙ ap (λ (same : Bool). walk_after (pushed (codes "operands") word (cond same (held_at rows pending) (settled (rules command) (held_at rows pending))))) (and-false (is_pending operands_built pending))
   where
     walk_after : Held → Walk
     walk_after h = record { held = h; waiting = positional; position = 1; is_trailing = false; stopped = None }
@@ -117,7 +114,7 @@ operand_fault command rows pending b word e =
     position_fault : step_fault (line_shape (rules command)) 1 (held_at rows pending) value ≡ settle_fault (rules command) false (held_at rows pending)
     position_fault =
         ap (λ found. positional_or_stray found) (by_index command)
-        ∙ ap (λ (same : Bool). cond same [] (settle_fault (rules command) false (held_at rows pending))) (and_false (is_pending operands_built pending))
+        ∙ ap (λ (same : Bool). cond same [] (settle_fault (rules command) false (held_at rows pending))) (and-false (is_pending operands_built pending))
       where
         positional_or_stray : Option Rule → Kinds
         positional_or_stray found = option_map_or (λ a. positional_fault (rules command) false a (held_at rows pending)) found (stray_fault (line_shape (rules command)))
@@ -154,7 +151,7 @@ value_passes command o rows word has e =
 
 not_two_dashes : (word : Text) (said : Text × Option Text) → long_of word ≡ Some said → bytes_eq word (45 ∷ 45 ∷ []) ≡ false
 not_two_dashes [] said e = refl
-not_two_dashes (x ∷ []) said e = and_false (x == 45)
+not_two_dashes (x ∷ []) said e = and-false (x == 45)
 not_two_dashes (x ∷ y ∷ []) said e = by (x == 45) refl (y == 45) refl where
   by : (b : Bool) → (x == 45) ≡ b → (c : Bool) → (y == 45) ≡ c → bytes_eq (x ∷ y ∷ []) (45 ∷ 45 ∷ []) ≡ false
   by false first c second = rw first refl
@@ -165,7 +162,7 @@ not_two_dashes (x ∷ y ∷ []) said e = by (x == 45) refl (y == 45) refl where
       none_said same = cc
 not_two_dashes (x ∷ y ∷ z ∷ rest) said e = by (x == 45) where
   by : (b : Bool) → (b && ((y == 45) && false)) ≡ false
-  by true = and_false (y == 45)
+  by true = and-false (y == 45)
   by false = refl
 
 long_is_met : (c : List Rule) (rows : List Row) (pending : Option (Text × List Text)) (waiting : Waiting) (word : Text) (said : Text × Option Text) → long_of word ≡ Some said

@@ -8,7 +8,7 @@ use std::alloc::Global;
 use std::io::{self, ErrorKind};
 use std::{env, rt};
 
-/// The words behind the program's name, or none where one of them isn't UTF-8. An error is want of memory.
+/// The words behind the program's name, or none where one of them isn't UTF-8. An error means that memory ran out.
 pub fn command_words<R: rt::Env + AllocGlobal>(rt: &R) -> Result<Vec<String>, NoMemory> {
     match words_behind_name(rt) {
         Ok(words) => Ok(words),
@@ -28,7 +28,7 @@ fn words_behind_name<R: rt::Env + AllocGlobal>(rt: &R) -> io::Result<Vec<String>
     Ok(words)
 }
 
-/// The same words in the same order, borrowed. An error is want of memory.
+/// The same words in the same order, borrowed. An error means that memory ran out.
 pub fn borrowed_words<'a>(alloc: Global, words: &'a [String]) -> Result<Vec<&'a str>, NoMemory>
     ensures { IfOk result (λ all. map (λ word. word.now) all.items ≡ map string_bytes words.now) }
 {

@@ -1,3 +1,3 @@
 mod Learning
-mod Resolved
+pub mod Resolved
 mod ShownWalks

@@ -1,9 +1,8 @@
 -- A name at or above which no owner stands whose records may lead names on rests.
-use Rattle.std.proofs.Common.{◌≡◌, ◌<◌, ◌≤◌, Bool, true, false, cond, List, [], ◌∷◌, ◌++◌, length, take, map, reverse, Contains, Option, Some, None, refl, sym, ap, ◌∙◌, subst, true≢false, arith, append-nil, length-append}
+use Rattle.std.proofs.Common.{◌≡◌, ◌<◌, ◌≤◌, Bool, true, false, cond, List, [], ◌∷◌, ◌++◌, length, map, reverse, Contains, Option, Some, None, refl, sym, ap, ◌∙◌, subst, true≢false, arith, append-nil, length-append}
 use Rattle.std.specs.Prelude.{◌&&◌, nat_lt, nat_le}
 use Rattle.std.specs.List.{filter_map}
 use Rattle.std.proofs.lemmas.Bool.{and_parts, ltb-true}
-use Rattle.std.proofs.lemmas.List.{take_at}
 use Rattle.std.proofs.lemmas.List.Sorted.{IsPermutation-reverse, IsPermutation-sym, Contains-permutation}
 use Rattle.dns_data.specs.Name.{Labels, name_eq}
 use Rattle.dns_data.specs.Rdata.{has_type}
@@ -14,7 +13,7 @@ use Rattle.dns_data.specs.declared.rdata.Rr.{Rr}
 use Rattle.dns_data.specs.declared.rr_type.RrType.{RrType}
 use Rattle.dns_data.specs.declared.rr_type.RrType.TheVariants as types
 use Rattle.dns_data.proofs.Membership.{flat_map_has, from_flat_map, has_first}
-use Rattle.dns_data.proofs.NameFronts.{Begins}
+use Rattle.dns_data.proofs.NameFronts.{Begins, front_is_take}
 use Rattle.dns_data.proofs.Names.{name_eq_decides}
 use Rattle.dns_data.proofs.Searches.{any_has, filter_none, find_none, found_there, from_any}
 use Rattle.net_model.specs.declared.config.Config.{Config}
@@ -29,10 +28,6 @@ use Rattle.net_model.proofs.NearestZones.{nearest_tells}
 use Rattle.net_model.proofs.Prefixes.{from_prefixes}
 use Rattle.resting_names.specs.Leading.{IsQuiet, IsQuietAbove, data_lead, leading_of, leading_owner, leads_on, server_leading, zone_leading}
 use Rattle.resting_names.specs.Resting.{EndsIn, Rests, ended}
-
--- a front of a name is so many labels of it
-front_of : (above rest name : Labels) → above ++ rest ≡ name → take (length above) name ≡ above
-front_of above rest name e = ap (take (length above)) (sym e) ∙ take_at above rest (length above) refl
 
 -- ---- records that lead
 
@@ -152,7 +147,7 @@ module _ (config : Config) (zone : Zone) (of_config : Contains (zones config) zo
     quiet_front above has =
         let begins : Begins above name = from_prefixes name above has in
         let long : length above ≤ length name = omega (arith, ap (λ (n : Labels). length n) begins.1, length-append above begins.0) in
-        subst (IsQuiet (leading_of config)) (front_of above begins.0 name begins.1) (quiet (length above) long)
+        subst (IsQuiet (leading_of config)) (front_is_take above begins.0 name begins.1) (quiet (length above) long)
 
     no_cut : zone_cut zone name ≡ None
     no_cut = find_none (λ (above : Labels). nat_lt (length zone.origin) (length above) && owns zone above types.Ns) (prefixes name)
@@ -192,7 +187,7 @@ module _ (config : Config) (zone : Zone) (of_config : Contains (zones config) zo
       choose false = tt
 
     itself : IsQuiet (leading_of config) name
-    itself = subst (IsQuiet (leading_of config)) (front_of name [] name (append-nil name)) (quiet (length name) (omega arith))
+    itself = subst (IsQuiet (leading_of config)) (front_is_take name [] name (append-nil name)) (quiet (length name) (omega arith))
 
     undecided_above : Decides (decided zone name None)
     undecided_above = choose (exists_in zone name) where

@@ -122,7 +122,7 @@ fn refused(alloc: Global, meta: &str, fault: &LoadFault) -> Ending
 }
 
 /// The line that says what there is more of than a limit: what stands in front, the limit in digits, and a line feed. An
-/// error is want of memory.
+/// error means that memory ran out.
 pub fn more_than<'a>(alloc: Global, front: &'a [u8], limit: u32) -> Result<Line, NoMemory>
     ensures { IfOk result (λ line. line ≡ front.now ++ (decimal limit ++ codes "\n")) }
 {
@@ -131,7 +131,7 @@ pub fn more_than<'a>(alloc: Global, front: &'a [u8], limit: u32) -> Result<Line,
 }
 
 /// The line that says what there is more of than a limit for this name: what stands in front, the limit in digits, `for`,
-/// the name's text, and a line feed. An error is want of memory.
+/// the name's text, and a line feed. An error means that memory ran out.
 pub fn more_than_for<'a>(
     alloc: Global,
     front: &'a [u8],
@@ -155,7 +155,7 @@ pub fn more_than_for<'a>(
 }
 
 /// The line of a refusal: the file, a line in it, counted from 1 or 0 for the file as a whole, and the refusal's code. An
-/// error is want of memory.
+/// error means that memory ran out.
 pub fn refusal_line<'a>(
     alloc: Global,
     file: &'a str,

@@ -1,6 +1,6 @@
 -- A book whose tickets are filed in number order, those that are filed already being passed over.
 use Rattle.std.proofs.Common.{◌≡◌, ℕ, ◌+◌, ◌<◌, ◌≤◌, Bool, true, false, List, [], ◌∷◌, ◌++◌, Option, Some, None, refl, sym, ◌∙◌, ap, subst, arith, ◌⊎◌, ⊎_elim}
-use Rattle.std.specs.Prelude.{if◌then◌else◌, Result, Ok, Err, OnOk}
+use Rattle.std.specs.Prelude.{if◌then◌else◌}
 use Rattle.std.proofs.Math.Bool.{or-true}
 use Rattle.std.proofs.lemmas.Bool.{eq-eqb, lt-ltb, cases_eq}
 use Rattle.pool_core.specs.declared.history.HistoryEntry.{HistoryEntry}
@@ -15,11 +15,6 @@ use Rattle.verdict_book.specs.declared.claim.Kept.TheVariants.{Issued, Claimed, 
 use Rattle.verdict_book.specs.declared.claim.ClaimFault.{ClaimFault}
 use Rattle.verdict_book.specs.declared.claim.ClaimFault.TheVariants.{Gone, NoMemory}
 use Rattle.steal_pool.specs.Finish.{IsFiledBelow}
-
--- what follows where there is a value
-pub on_ok : {T E : Type 0} (r : Result T E) (P Q : Type 0) → OnOk r P → (P → Q) → OnOk r Q
-on_ok (Ok x) P Q p f = f p
-on_ok (Err e) P Q p f = tt
 
 -- a claim of the next ticket that was filed at once leaves one ticket more below which all are filed
 pub filed_next : (h a b : List HistoryEntry) (t n : ℕ) → IsFiledBelow h t → a ≡ h ++ Claim t ∷ [] → b ≡ a ++ File t n ∷ [] → IsFiledBelow b (t + 1)

@@ -2,7 +2,7 @@
 use Rattle.std.proofs.Common.{◌≡◌, ℕ, ◌+◌, ◌<◌, ◌≤◌, Bool, true, false, List, [], ◌∷◌, ◌++◌, reverse, length, take, drop, Contains, Option, Some, None, is_some, sym, refl, ap, ◌∙◌, arith, append_assoc, length-append}
 use Rattle.std.specs.Prelude.{option_and_then}
 use Rattle.std.specs.Option.{option_map}
-use Rattle.std.proofs.lemmas.List.{take-append-drop, take-append-le, take_all, length-take-le}
+use Rattle.std.proofs.lemmas.List.{take-append-drop, length-take-le}
 use Rattle.std.proofs.lemmas.List.Sorted.{IsPermutation-reverse, IsPermutation-sym, Contains-permutation}
 use Rattle.dns_data.specs.Name.{Labels, name_eq, is_prefix}
 use Rattle.net_model.specs.declared.config.Server.{Server}
@@ -13,16 +13,11 @@ use Rattle.zone_tree.specs.Tree.{ZoneTree}
 use Rattle.zone_lookup.specs.Hosts.{tree_at}
 use Rattle.zone_lookup.specs.Named.{NoneFrom, IsAtLongest}
 use Rattle.dns_data.proofs.Membership.{none_in_nil, from_map}
-use Rattle.dns_data.proofs.NameFronts.{is_prefix_told}
+use Rattle.dns_data.proofs.NameFronts.{front_is_take, is_prefix_told}
 use Rattle.dns_data.proofs.Names.{name_eq_decides}
 use Rattle.dns_data.proofs.Searches.{find_none, found_there}
 use Rattle.net_model.proofs.Prefixes.{longer, longest_above, from_prefixes}
 use Rattle.zone_tree.proofs.Prefixes.{longest_itself}
-
--- a front is so many labels of the name
-front_is_take : (above rest name : Labels) → above ++ rest ≡ name → take (length above) name ≡ above
-front_is_take above rest name e =
-    ap (take (length above)) (sym e) ∙ take-append-le (length above) above rest (omega arith) ∙ take_all (length above) above (omega arith)
 
 module _ (test : Labels → Bool) (name : Labels) where
   -- a longer front than one of so many labels has more labels
