@@ -4,9 +4,11 @@ mod Descents
 mod Existing
 mod FrontDeciders
 mod InPlace
+mod KeyedRecords
 mod LastUpTo
 mod Merged
 mod NameData
+mod NameKeys
 mod NameTexts
 mod NamesBelow
 mod NextDeciders

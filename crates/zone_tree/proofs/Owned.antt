@@ -1,12 +1,8 @@
 -- Records in the order of their owners: those of a name stand together, and what they are a stable sort keeps.
-use Rattle.std.proofs.Common.{◌≡◌, ◌≢◌, ℕ, zero, suc, ◌+◌, ◌<◌, ◌≤◌, Bool, true, false, cond, not, ◌&&◌, List, [], ◌∷◌, map, filter, length, get_or, take, drop, Contains, IsSorted, IsPermutation, Bor, Ordering, Less, Equal, Greater, is_lt, is_gt, sym, refl, ap, ◌∙◌, subst, inl, inr, true≢false, arith}
-use Rattle.std.specs.List.{list_any}
-use Rattle.std.specs.List.Sorted.{ties, IsStableBy}
+use Rattle.std.proofs.Common.{◌≡◌, ◌≢◌, ℕ, zero, suc, ◌+◌, ◌<◌, ◌≤◌, Bool, true, false, cond, not, ◌&&◌, List, [], ◌∷◌, map, filter, length, get_or, take, drop, Contains, IsSorted, Bor, Ordering, Less, Equal, Greater, is_lt, is_gt, sym, refl, ap, ◌∙◌, subst, inl, inr, true≢false, arith}
 use Rattle.std.proofs.lemmas.Bool.{cases_lt, cases_eq}
 use Rattle.std.proofs.lemmas.Cmp.{tied_itself}
 use Rattle.std.proofs.lemmas.List.{get_or_default}
-use Rattle.std.proofs.lemmas.List.Elements.{filter_agree}
-use Rattle.std.proofs.lemmas.List.Sorted.{list_any-IsPermutation}
 use Rattle.std.specs.Ordering.{ordering_reverse}
 use Rattle.dns_data.specs.Name.{Labels, name_eq, name_cmp, is_prefix}
 use Rattle.dns_data.specs.declared.rdata.Rdata.{Rdata}
@@ -15,7 +11,6 @@ use Rattle.dns_data.proofs.Membership.{has_first, has_later}
 use Rattle.dns_data.proofs.NameOrder.{UpTo, Before, names_total, before_up_to, before_differs, behind_differs}
 use Rattle.dns_data.proofs.Names.{name_eq_decides, same_names}
 use Rattle.dns_data.proofs.OrderedLists.{never_before_itself}
-use Rattle.dns_data.proofs.Searches.{from_any, filter_none}
 use Rattle.zone_tree.specs.Names.{Ordered}
 use Rattle.zone_tree.specs.Owners.{leading}
 use Rattle.zone_tree.specs.Records.{data_of}
@@ -28,6 +23,9 @@ owner_of rr = rr.owner
 -- the data of a record
 abbrev pub rdata_of : Rr → Rdata
 rdata_of rr = rr.rdata
+
+abbrev pub now_of : Bor Rr → Rr
+now_of rr = rr.now
 
 -- ---- the records of a name at the front
 
@@ -172,10 +170,10 @@ module _ (names : List Labels) (ordered : Ordered names) where
   order_from_first (rr ∷ rrs) sorted among =
       (first_up_to rr.owner (among rr (has_first rr rrs)), in_order_after rr.owner (map owner_of rrs) sorted)
 
--- ---- what a stable sort by owners keeps
+-- ---- what a sort by owners keeps
 
 -- names of which neither stands before the other are one
-tied_names : (a b : Labels) → (not (is_lt (name_cmp a b)) && not (is_lt (name_cmp b a))) ≡ name_eq b a
+pub tied_names : (a b : Labels) → (not (is_lt (name_cmp a b)) && not (is_lt (name_cmp b a))) ≡ name_eq b a
 tied_names a b = by (name_cmp a b) refl where
   by : (o : Ordering) → name_cmp a b ≡ o → (not (is_lt (name_cmp a b)) && not (is_lt (name_cmp b a))) ≡ name_eq b a
   by Less e = rw e (sym (behind_differs b a e))
@@ -185,42 +183,6 @@ tied_names a b = by (name_cmp a b) refl where
   by Greater e =
       let back : name_cmp b a ≡ Less = names_total.antisymm b a ∙ ap ordering_reverse e in
       rw (e, back) (sym (before_differs b a back))
-
-abbrev pub now_of : Bor Rr → Rr
-now_of rr = rr.now
-
--- the records of a name among those behind references
-owned_now : (name : Labels) (rrs : List (Bor Rr)) → data_of (map now_of rrs) name ≡ map (λ (rr : Bor Rr). rr.now.rdata) (filter (λ (rr : Bor Rr). name_eq rr.now.owner name) rrs)
-owned_now name [] = refl
-owned_now name (rr ∷ rrs) = by (name_eq rr.now.owner name) (owned_now name rrs) where
-  by : (b : Bool) → data_of (map now_of rrs) name ≡ map (λ (r : Bor Rr). r.now.rdata) (filter (λ (r : Bor Rr). name_eq r.now.owner name) rrs)
-      → map rdata_of (cond b (rr.now ∷ filter (λ r. name_eq r.owner name) (map now_of rrs)) (filter (λ r. name_eq r.owner name) (map now_of rrs)))
-      ≡ map (λ (r : Bor Rr). r.now.rdata) (cond b (rr ∷ filter (λ (r : Bor Rr). name_eq r.now.owner name) rrs) (filter (λ (r : Bor Rr). name_eq r.now.owner name) rrs))
-  by true rest = ap (λ (xs : List Rdata). rr.now.rdata ∷ xs) rest
-  by false rest = rest
-
-abbrev pub stands_before : Bor Rr → Bor Rr → Bool
-stands_before a b = is_lt (name_cmp a.now.owner b.now.owner)
-
-module _ (old new : List (Bor Rr)) (same : IsPermutation old new) (stable : IsStableBy stands_before old new) where
-  -- a stable sort by owners keeps the data of each name, in their order
-  pub data_stay : (name : Labels) → data_of (map now_of new) name ≡ data_of (map now_of old) name
-  data_stay name =
-      owned_now name new ∙ ap (map (λ (rr : Bor Rr). rr.now.rdata)) (by (list_any of_name old) refl) ∙ sym (owned_now name old)
-    where
-      of_name : Bor Rr → Bool
-      of_name rr = name_eq rr.now.owner name
-
-      by : (some : Bool) → list_any of_name old ≡ some → filter of_name new ≡ filter of_name old
-      by true is =
-          let found = from_any of_name old is in
-          let rr : Bor Rr = found.0 in
-          let owner : rr.now.owner ≡ name = (name_eq_decides rr.now.owner name).0 found.2 in
-          let alike : (other : Bor Rr) → ties stands_before rr other ≡ of_name other =
-          (λ other. tied_names rr.now.owner other.now.owner ∙ ap (name_eq other.now.owner) owner) in
-          sym (filter_agree (ties stands_before rr) of_name alike new) ∙ stable rr ∙ filter_agree (ties stands_before rr) of_name alike old
-      by false is =
-          filter_none of_name new (sym (list_any-IsPermutation of_name old new same) ∙ is) ∙ sym (filter_none of_name old is)
 
 -- the records at or below the origin hold all data of a name there
 pub data_within : (origin name : Labels) → is_prefix origin name ≡ true → (rrs : List Rr) → data_of (filter (λ rr. is_prefix origin rr.owner) rrs) name ≡ data_of rrs name

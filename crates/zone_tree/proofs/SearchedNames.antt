@@ -1,6 +1,7 @@
 -- Where a name stands among names in order.
-use Rattle.std.proofs.Common.{◌≡◌, ◌≢◌, ℕ, false, ◌+◌, ◌<◌, List, [], ◌∷◌, Contains, get_or, length, is_lt, Less, Equal, Greater, Result, Ok, Err, sym, ap, ◌∙◌, subst, inl, inr, true≢false, length-append, is_gt, arith}
+use Rattle.std.proofs.Common.{◌≡◌, ◌≢◌, ℕ, true, false, ◌+◌, ◌<◌, List, [], ◌∷◌, Contains, get_or, length, is_lt, Less, Equal, Greater, Result, Ok, Err, sym, ap, ◌∙◌, subst, inl, inr, true≢false, length-append, is_gt, arith}
 use Rattle.std.specs.Result.{MatchResult}
+use Rattle.std.specs.List.{AllWithin}
 use Rattle.std.specs.List.Sorted.{IsSearchInRange, IsBinarySearchResult, IsSortedBy}
 use Rattle.std.proofs.lemmas.Bool.{cases_lt}
 use Rattle.std.proofs.lemmas.Cmp.{tied_itself}
@@ -18,6 +19,10 @@ use Rattle.zone_tree.specs.Names.{Ordered, StandsBelow}
 pub rises : (names : List Labels) → Ordered names → IsSortedBy (λ a b. is_lt (name_cmp a b)) names
 rises names ordered = λ k d low high.
     ap is_lt (names_total.antisymm (get_or names (k + 1) d) (get_or names k d) ∙ ap ordering_reverse (ordered k (k + 1) d (omega arith) high))
+
+-- a name that is read at a place is the one there
+pub read_at : (names : List Labels) (place : ℕ) (name : Labels) → place < length names → name ≡ get_or names place name → name ≡ get_or names place []
+read_at names place name within is = is ∙ get_or_default names place name [] within
 
 -- what a search finds
 pub found_at : (names : List Labels) (name : Labels) (r : Result ℕ ℕ) → Ordered names → IsSearchInRange r (length names)
@@ -49,47 +54,92 @@ apart names i j ordered first second other =
       | inr higher ↦ behind_differs (get_or names i []) (get_or names j []) (ordered j i [] (let e : i ≢ j = other in omega arith) first)
     ]
 
--- where the next name isn't below the one at a place, or there is none, no name is
 module _ (names : List Labels) (place : ℕ) (ordered : Ordered names) (within : place < length names)
-    (apart : place + 1 < length names → is_prefix (get_or names place []) (get_or names (place + 1) []) ≡ false)
     (name : Labels) (below : StandsBelow name (get_or names place [])) (has : Contains names name) where
+  abbrev above : Labels
+  above = get_or names place []
+
   there : get_or names has.0 [] ≡ name
   there = get_or_default names has.0 [] name has.1 ∙ has.2
 
   not_before : has.0 < place → ⊥
   not_before lower =
-      let above = get_or names place [] in
       never_before_itself name_cmp names_total above
       (up_to_before above name above (subst (UpTo above) (sym below.is) (prefix_up_to above (below.first ∷ below.rest)))
       (subst (λ (x : Labels). Before x above) there (ordered has.0 place [] lower within)))
 
   not_here : has.0 ≡ place → ⊥
   not_here e =
-      let above = get_or names place [] in
       let same : above ≡ name = ap (λ (n : ℕ). get_or names n []) (sym e) ∙ there in
       omega (arith, ap (λ (x : Labels). length x) (same ∙ below.is), length-append above (below.first ∷ below.rest))
 
-  not_behind : place < has.0 → ⊥
-  not_behind behind =
-      let above = get_or names place [] in
-      let next = get_or names (place + 1) [] in
-      let inside : place + 1 < length names = omega (arith, behind, has.1) in
-      let low : UpTo above next = ap is_gt (ordered place (place + 1) [] (omega arith) inside) in
-      let high : UpTo next name = elim (cases_lt (place + 1) has.0) [
-        | inl lower ↦ ap is_gt (ap (name_cmp next) (sym there) ∙ ordered (place + 1) has.0 [] lower has.1)
-        | inr last ↦ (
-            let e : has.0 ≡ place + 1 = omega (arith, behind, last) in
-            ap is_gt (ap (name_cmp next) (sym there ∙ ap (λ (n : ℕ). get_or names n []) e) ∙ tied_itself names_total next))
-      ] in
-      let begins = between above next (below.first ∷ below.rest) low (subst (UpTo next) below.is high) in
-      true≢false (sym (is_prefix_told above next begins) ∙ apart inside)
-
-  -- a name below that at the place is none of the names
-  pub none_below : ⊥
-  none_below = elim (cases_lt has.0 place) [
-    | inl lower ↦ not_before lower
-    | inr higher ↦ elim (cases_lt place has.0) [
-      | inl behind ↦ not_behind behind
-      | inr same ↦ not_here (let e : has.0 ≡ place = omega (arith, higher, same) in e)
+  -- a name below that at a place stands behind it
+  pub stands_behind : place < has.0
+  stands_behind = elim (cases_lt place has.0) [
+    | inl behind ↦ behind
+    | inr early ↦ elim (cases_lt has.0 place) [
+      | inl lower ↦ absurd (not_before lower)
+      | inr late ↦ absurd (not_here (let e : has.0 ≡ place = omega (arith, early, late) in e))
     ]
+  ]
+
+  -- so the next name doesn't stand behind it
+  pub next_up_to : UpTo (get_or names (place + 1) []) name
+  next_up_to = elim (cases_lt (place + 1) has.0) [
+    | inl lower ↦ ap is_gt (ap (name_cmp (get_or names (place + 1) [])) (sym there) ∙ ordered (place + 1) has.0 [] lower has.1)
+    | inr last ↦ (
+        let e : has.0 ≡ place + 1 = omega (arith, stands_behind, last) in
+        ap is_gt
+        (ap (name_cmp (get_or names (place + 1) [])) (sym there ∙ ap (λ (n : ℕ). get_or names n []) e)
+        ∙ tied_itself names_total (get_or names (place + 1) [])))
+  ]
+
+  -- and is below that at the place itself
+  pub next_below : is_prefix above (get_or names (place + 1) []) ≡ true
+  next_below =
+      let next = get_or names (place + 1) [] in
+      let low : UpTo above next = ap is_gt (ordered place (place + 1) [] (omega arith) (omega (arith, stands_behind, has.1))) in
+      is_prefix_told above next (between above next (below.first ∷ below.rest) low (subst (UpTo next) below.is next_up_to))
+
+-- where the next name isn't below the one at a place, or there is none, no name is
+pub none_below : (names : List Labels) (place : ℕ) → Ordered names → place < length names
+    → (place + 1 < length names → is_prefix (get_or names place []) (get_or names (place + 1) []) ≡ false)
+    → (name : Labels) → StandsBelow name (get_or names place []) → Contains names name → ⊥
+none_below names place ordered within apart name below has =
+    true≢false (sym (next_below names place ordered within name below has)
+    ∙ apart (omega (arith, stands_behind names place ordered within name below has, has.1)))
+
+-- where the next name stands behind one below the name at a place, that one isn't there
+pub none_between : (names : List Labels) (place : ℕ) → Ordered names → place < length names
+    → (name : Labels) → StandsBelow name (get_or names place []) → name_cmp (get_or names (place + 1) []) name ≡ Greater → Contains names name → ⊥
+none_between names place ordered within name below greater has =
+    true≢false (sym (ap is_gt greater) ∙ next_up_to names place ordered within name below has)
+
+-- ---- names on both sides of one
+
+module _ (names : List Labels) (name : Labels) (middle : ℕ) (ordered : Ordered names) (within : middle < length names) where
+  -- where one stands before a name, so do those before it
+  pub all_before : name_cmp (get_or names middle []) name ≡ Less → AllWithin (λ other. name_cmp other name ≡ Less) names 0 (middle + 1)
+  all_before less k d low high = elim (cases_lt k middle) [
+    | inl lower ↦ (
+        let first : Before (get_or names k d) (get_or names middle d) = ordered k middle d lower within in
+        names_total.trans (get_or names k d) (get_or names middle d) name first
+        (ap (λ (x : Labels). name_cmp x name) (sym (get_or_default names middle [] d within)) ∙ less))
+    | inr last ↦ (
+        let same : middle ≡ k = omega (arith, last, high) in
+        ap (λ (x : Labels). name_cmp x name) (sym (get_or_default names k [] d (omega (arith, same, within))) ∙ ap (λ (n : ℕ). get_or names n []) (sym same)) ∙ less)
+  ]
+
+  -- where one stands behind a name, so do those behind it
+  pub all_behind : name_cmp (get_or names middle []) name ≡ Greater → AllWithin (λ other. name_cmp other name ≡ Greater) names middle (length names)
+  all_behind greater k d low high = elim (cases_lt middle k) [
+    | inl higher ↦ (
+        let back : Before name (get_or names middle d) =
+        names_total.antisymm name (get_or names middle d)
+        ∙ ap ordering_reverse (ap (λ (x : Labels). name_cmp x name) (sym (get_or_default names middle [] d within)) ∙ greater) in
+        names_total.antisymm (get_or names k d) name
+        ∙ ap ordering_reverse (names_total.trans name (get_or names middle d) (get_or names k d) back (ordered middle k d higher high)))
+    | inr first ↦ (
+        let same : middle ≡ k = omega (arith, first, low) in
+        ap (λ (x : Labels). name_cmp x name) (sym (get_or_default names k [] d high) ∙ ap (λ (n : ℕ). get_or names n []) (sym same)) ∙ greater)
   ]

@@ -4,6 +4,8 @@ pub use Rattle.net_model.specs.Zone
 pub mod Decider
 pub mod Few
 pub mod FirstDecider
+pub mod KeyedRecords
+pub mod Keys
 pub mod Merged
 pub mod Names
 pub mod Owners

@@ -17,8 +17,16 @@ pub fn encloser(tree: &Tree<'_>, name: &Name) -> NodeId
     ensures node { IsNode tree.now result }
     ensures name { closest_encloser tree.now.zone name.now ≡ Some (name_of tree.now result) }
 {
-    let preceding = tree.preceding(name);
-    if is_encloser(tree, &preceding) {
+    encloser_behind(tree, name, &tree.preceding(name))
+}
+
+/// The closest encloser of a name, by the existing name that precedes it.
+fn encloser_behind(tree: &Tree<'_>, name: &Name, preceding: &Preceding) -> NodeId
+    requires { IsPreceding tree.now name.now preceding.now }
+    ensures node { IsNode tree.now result }
+    ensures name { name_of tree.now result ≡ take preceding.now.shared name.now }
+{
+    if is_encloser(tree, preceding) {
         return preceding.node;
     }
     match tree.node_of(&name.front(preceding.shared)) {
@@ -45,11 +53,7 @@ pub(crate) fn source_behind(tree: &Tree<'_>, name: &Name, preceding: &Preceding)
     ensures some { IfSome result (λ source. synthesized tree.now.zone (Some (take preceding.now.shared name.now)) ≡ ByRecords (name_of tree.now source)) }
     ensures none { IfNone result (synthesized tree.now.zone (Some (take preceding.now.shared name.now)) ≡ ByNothing) }
 {
-    if is_encloser(tree, preceding) {
-        source_below(tree, preceding.node)
-    } else {
-        tree.child_of(&name.front(preceding.shared), b"*")
-    }
+    source_below(tree, encloser_behind(tree, name, preceding))
 }
 
 /// Whether an existing name has no more labels than those that it shares with a name behind it.

@@ -1,36 +1,69 @@
 //! The records of a zone by their owners.
 
-ghost use Rattle.std.specs.Prelude.{◌≡◌, ℕ, ◌<◌, ◌≤◌, [], map, length, slice_index_or, Contains, IsSorted, IfOk};
+ghost use Rattle.std.specs.Prelude.{◌≡◌, ℕ, ◌<◌, ◌≤◌, [], All, map, length, slice_index_or, Contains, IsSorted, IfOk};
 ghost use Rattle.std.specs.List.{filter};
 ghost use Rattle.dns_data.specs.Name.{name_cmp, is_prefix};
 ghost use Rattle.dns_data.specs.declared.rdata.Rr.{Rr};
 ghost use Rattle.zone_tree.specs.Names.{Ordered};
+ghost use Rattle.zone_tree.specs.KeyedRecords.{HasKey, keyed_cmp};
 ghost use Rattle.zone_tree.specs.Owners.{AreByOwner, leading};
 ghost use Rattle.zone_tree.specs.Records.{data_of, TellsData};
 
+use crate::keys::key_if_below;
 use crate::records::{OwnedRecords, records_of};
 use dns_data::{Name, NoMemory, Rr};
 use net_model::Zone;
 use std::alloc::Global;
+use std::cmp::Ordering;
+
+/// A record, and the key of its owner below the origin.
+#[derive(Clone, Copy, Debug)]
+struct KeyedRecord<'a> {
+    key: u64,
+    rr: &'a Rr,
+}
 
 /// The records at or below the origin in the order of their owners, those of one owner in file order.
 pub(crate) fn rrs_in_order<'a>(alloc: Global, zone: &'a Zone) -> Result<Vec<&'a Rr>, NoMemory>
     ensures { IfOk result (λ rrs. AreByOwner zone.now (map (λ rr. rr.now) rrs.items)) }
 {
-    let mut rrs = rrs_within(alloc, zone)?;
-    rrs.sort_by(|a, b| a.owner.compare(&b.owner))?;
-    Ok(rrs)
+    let mut keyed = keyed_rrs(alloc, zone)?;
+    keyed.sort_by(|a, b| keyed_order(a, b))?;
+    rrs_of(alloc, keyed.as_slice())
 }
 
-/// The records at or below the origin in file order.
-fn rrs_within<'a>(alloc: Global, zone: &'a Zone) -> Result<Vec<&'a Rr>, NoMemory>
-    ensures { IfOk result (λ rrs. map (λ rr. rr.now) rrs.items ≡ filter (λ rr. is_prefix zone.now.origin rr.owner) zone.now.rrs) }
+/// The records at or below the origin in file order, each with its key.
+fn keyed_rrs<'a>(alloc: Global, zone: &'a Zone) -> Result<Vec<KeyedRecord<'a>>, NoMemory>
+    ensures rrs { IfOk result (λ keyed. map (λ one. one.rr.now) keyed.items ≡ filter (λ rr. is_prefix zone.now.origin rr.owner) zone.now.rrs) }
+    ensures keys { IfOk result (λ keyed. All (HasKey zone.now.origin) keyed.items) }
 {
-    let mut rrs = Vec::with_capacity(alloc, zone.rrs.items().len())?;
+    let mut keyed = Vec::with_capacity(alloc, zone.rrs.items().len())?;
     for rr in zone.rrs.items() {
-        if zone.origin.is_prefix_of(&rr.owner) {
-            rrs.push(rr)?;
+        if let Some(key) = key_if_below(&zone.origin, &rr.owner.labels()) {
+            keyed.push(KeyedRecord { key, rr })?;
         }
+    }
+    Ok(keyed)
+}
+
+/// How keyed records stand: as their keys do, or where these are one as their owners do.
+fn keyed_order(a: &KeyedRecord<'_>, b: &KeyedRecord<'_>) -> Ordering
+    ensures { result ≡ keyed_cmp a.now b.now }
+{
+    if a.key == b.key {
+        a.rr.owner.compare(&b.rr.owner)
+    } else {
+        a.key.cmp(&b.key)
+    }
+}
+
+/// The records without their keys.
+fn rrs_of<'a>(alloc: Global, keyed: &[KeyedRecord<'a>]) -> Result<Vec<&'a Rr>, NoMemory>
+    ensures { IfOk result (λ rrs. map (λ rr. rr.now) rrs.items ≡ map (λ one. one.rr.now) keyed.now) }
+{
+    let mut rrs = Vec::with_capacity(alloc, keyed.len())?;
+    for one in keyed {
+        rrs.push(one.rr)?;
     }
     Ok(rrs)
 }

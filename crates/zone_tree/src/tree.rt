@@ -11,7 +11,6 @@ ghost use Rattle.net_model.specs.Lookup.{first_name};
 ghost use Rattle.net_model.specs.Order.{in_order};
 ghost use Rattle.net_model.specs.Zone.{exists_in, owns, data_at, data_cmp, targets_at, ns_names, addresses};
 ghost use Rattle.zone_tree.specs.FirstDecider.{first_decider};
-ghost use Rattle.zone_tree.specs.Names.{StandsBelow};
 ghost use Rattle.zone_tree.specs.Preceding.{IsPreceding};
 ghost use Rattle.zone_tree.specs.Records.{data_of, TellsData};
 ghost use Rattle.zone_tree.specs.Tree.{IsNode, name_of};
@@ -20,8 +19,9 @@ use crate::first_deciders::first_deciders;
 use crate::names::existing_names;
 use crate::node::NodeId;
 use crate::order::merged;
+use crate::ordered_names::OrderedNames;
 use crate::owners::{records_by_name, rrs_in_order};
-use crate::places::{Preceding, is_leaf_at, place_among, place_behind, place_below, place_up_to};
+use crate::places::{Preceding, place_among, place_behind, place_of_child, place_up_to};
 use crate::records::{OwnedRecords, data_in, first_in, target_of};
 use dns_data::{Label, Labels, List, Name, NoMemory, Rdata, RrType, TypeSet};
 use net_model::Zone;
@@ -33,7 +33,7 @@ use std::marker::Model;
 #[derive(Debug, Drop)]
 pub struct Tree<'a> {
     zone: &'a Zone,
-    names: Vec<Name>,
+    names: OrderedNames,
     records: Vec<OwnedRecords<'a>>,
     first_deciders: Vec<NodeId>,
 }
@@ -43,12 +43,12 @@ impl<'a> Model for Tree<'a> {
 
     ghost Value = { ZoneTree };
 
-    ghost view = { λ tree. record { zone = tree.zone.now; names = tree.names.items } };
+    ghost view = { λ tree. record { zone = tree.zone.now; names = tree.names } };
 
     ghost use Rattle.zone_tree.specs.FirstDecider.{AreFirstDeciders};
     ghost use Rattle.zone_tree.specs.Records.{IsTree};
 
-    ghost invariant = { λ tree. IsTree tree.zone.now tree.names.items tree.records.items × AreFirstDeciders tree.zone.now tree.names.items tree.first_deciders.items };
+    ghost invariant = { λ tree. IsTree tree.zone.now tree.names tree.records.items × AreFirstDeciders tree.zone.now tree.names tree.first_deciders.items };
 }
 
 impl<'a> Tree<'a> {
@@ -61,9 +61,10 @@ impl<'a> Tree<'a> {
         let names = existing_names(alloc, zone, rrs)?;
         let records = records_by_name(alloc, names.as_slice(), rrs)?;
         let first_deciders = first_deciders(alloc, zone, names.as_slice(), records.as_slice())?;
+        let ordered = OrderedNames::of(alloc, names)?;
         Ok(Tree {
             zone,
-            names,
+            names: ordered,
             records,
             first_deciders,
         })
@@ -83,8 +84,8 @@ impl<'a> Tree<'a> {
         ensures node { IsNode self.now result }
         ensures name { name_of self.now result ≡ self.now.zone.origin }
     {
-        // The length is read, so that it is known here that there is a name.
-        let _ = self.names.len();
+        // The names are read, so that it is known here that there is one.
+        let _ = self.names.items();
         NodeId::at(0)
     }
 
@@ -93,7 +94,7 @@ impl<'a> Tree<'a> {
         requires { IsNode self.now node }
         ensures { result.now ≡ name_of self.now node }
     {
-        &self.names[node.place()]
+        &self.names.items()[node.place()]
     }
 
     /// The node of a name, or `None` where the name doesn't exist in the zone.
@@ -111,7 +112,7 @@ impl<'a> Tree<'a> {
         ensures name { IfSome result (λ node. name_of self.now node ≡ labels.now) }
         ensures none { IsNone result ↔ (exists_in self.now.zone labels.now ≡ false) }
     {
-        let place = place_among(self.names.as_slice(), labels)?;
+        let place = place_among(&self.names, labels)?;
         Some(NodeId::at(place))
     }
 
@@ -123,7 +124,7 @@ impl<'a> Tree<'a> {
         ensures name { IfSome result (λ near. name_of self.now near ≡ labels.now) }
         ensures none { IsNone result ↔ (exists_in self.now.zone labels.now ≡ false) }
     {
-        match place_behind(self.names.as_slice(), node.place(), labels) {
+        match place_behind(self.names.items(), node.place(), labels) {
             Some(place) => Some(NodeId::at(place)),
             None => self.node_of(labels),
         }
@@ -136,10 +137,11 @@ impl<'a> Tree<'a> {
         ensures { IsPreceding self.now name.now result }
     {
         let labels = name.labels();
-        let place = place_up_to(self.names.as_slice(), &labels);
+        let place = place_up_to(&self.names, &labels);
+        let names = self.names.items();
         Preceding {
             node: NodeId::at(place),
-            shared: self.names[place].labels().common_len(&labels) as usize,
+            shared: names[place].labels().common_len(&labels) as usize,
         }
     }
 
@@ -151,14 +153,6 @@ impl<'a> Tree<'a> {
         ensures name { name_of self.now result ≡ first_decider self.now.zone (name_of self.now node) }
     {
         self.first_deciders[node.place()]
-    }
-
-    /// Whether no existing name stands below a node's.
-    pub(crate) fn is_leaf(&self, node: NodeId) -> bool
-        requires { IsNode self.now node }
-        ensures { result ≡ true → (name : Labels) → StandsBelow name (name_of self.now node) → exists_in self.now.zone name ≡ false }
-    {
-        is_leaf_at(self.names.as_slice(), node.place())
     }
 
     /// The node of the name with this label directly below a node's name, or `None` where that name doesn't exist in
@@ -180,19 +174,7 @@ impl<'a> Tree<'a> {
         ensures name { IfSome result (λ child. name_of self.now child ≡ name_of self.now node ++ label.now ∷ []) }
         ensures none { IsNone result ↔ (exists_in self.now.zone (name_of self.now node ++ label.now ∷ []) ≡ false) }
     {
-        if self.is_leaf(node) {
-            return None;
-        }
-        self.child_of(&self.name(node).labels(), label)
-    }
-
-    /// The node of the name with this label directly below these, or `None` where that name doesn't exist in the zone.
-    pub(crate) fn child_of(&self, above: &Labels<'_>, label: &[u8]) -> Option<NodeId>
-        ensures node { IfSome result (IsNode self.now) }
-        ensures name { IfSome result (λ child. name_of self.now child ≡ above.now ++ label.now ∷ []) }
-        ensures none { IsNone result ↔ (exists_in self.now.zone (above.now ++ label.now ∷ []) ≡ false) }
-    {
-        let place = place_below(self.names.as_slice(), above, label)?;
+        let place = place_of_child(self.names.items(), node.place(), label)?;
         Some(NodeId::at(place))
     }
 

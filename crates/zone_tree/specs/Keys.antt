@@ -1,0 +1,44 @@
+-- Numbers of names that mostly tell their order. The contracts of inner calls alone cite it.
+use Rattle.std.specs.Prelude.{◌≡◌, ℕ, ◌+◌, ◌*◌, ◌<◌, true, List, [], ◌∷◌, ◌++◌, length, slice_index, slice_index_or}
+use Rattle.dns_data.specs.Label.{IsLabel}
+use Rattle.dns_data.specs.Name.{Labels, is_prefix}
+use Rattle.zone_tree.specs.Names.{Ordered}
+
+-- the number that octets write behind others of this value, the most significant first
+abbrev pub number_after : ℕ → List ℕ → ℕ
+number_after value [] = value
+number_after value (octet ∷ octets) = number_after (value * 256 + octet) octets
+
+-- the first eight octets of a label, with zeros behind those of a shorter one
+abbrev pub first_octets : List ℕ → List ℕ
+first_octets label =
+    slice_index label 0 ∷ slice_index label 1 ∷ slice_index label 2 ∷ slice_index label 3
+    ∷ slice_index label 4 ∷ slice_index label 5 ∷ slice_index label 6 ∷ slice_index label 7 ∷ []
+
+-- the number that they write
+abbrev pub label_key : List ℕ → ℕ
+label_key label = number_after 0 (first_octets label)
+
+-- the key is the number of the first label, or 0 where there is none
+abbrev pub IsKey : Labels → ℕ → Type 0
+IsKey [] key = key ≡ 0
+IsKey (label ∷ labels) key = IsLabel label × (key ≡ label_key label)
+
+-- the key is that of the labels that the name has below another
+pub record IsKeyBelow (above name : Labels) (key : ℕ) : Type 0 where
+  pub below : Labels
+  pub is : above ++ below ≡ name
+  pub is_key : IsKey below key
+
+-- the names are in order, and the first is above each
+pub record AreBelowFirst (names : List Labels) : Type 0 where
+  pub ordered : Ordered names
+  pub some : 0 < length names
+  pub below : (k : ℕ) → k < length names → is_prefix (slice_index_or names 0 []) (slice_index_or names k []) ≡ true
+
+-- the names are in order, and beside each stands the key of what it has below the first
+pub record AreKeyed (names : List Labels) (keys : List ℕ) : Type 0 where
+  pub ordered : Ordered names
+  pub some : 0 < length names
+  pub many : length keys ≡ length names
+  pub each : (k : ℕ) → k < length names → IsKeyBelow (slice_index_or names 0 []) (slice_index_or names k []) (slice_index keys k)
