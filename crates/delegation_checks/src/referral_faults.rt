@@ -6,10 +6,8 @@ ghost use Rattle.dns_data.specs.Name.{is_prefix};
 ghost use Rattle.delegation_checks.specs.Met.{AreOfReferrals, IsAgain, is_met, met_cmp};
 ghost use Rattle.delegation_checks.specs.Referrals.{leaf_faults, referral_end_faults};
 ghost use Rattle.graph_form.specs.Branches.{with_type};
-ghost use Rattle.net_model.specs.declared.fault.Fault.TheVariants as faults;
+ghost use Rattle.net_model.specs.declared.fault.Fault.{Fault as FaultValue};
 ghost use Rattle.zone_lookup.specs.ReferralFaults.{cut_faults, if_shown, referral_faults};
-ghost use Rattle.zone_lookup.specs.Sides.{addresses_differ, zones_differ};
-ghost use Rattle.zone_lookup.specs.Sound.{depends_on_itself, wants_glue};
 
 use crate::referrals::Met;
 use dns_data::{List, NoMemory, RrType};
@@ -109,80 +107,30 @@ fn put_referral(
     requires { is_prefix cut.now.zone cut.now.cut ≡ true }
     ensures { OnOk result (seen.new ≡ seen.old ++ with_type rtype (referral_faults hosts.now sets.now cut.now)) }
 {
-    put_differs(alloc, hosts, cut, rtype, seen)?;
-    put_no_glue(alloc, hosts, cut, rtype, seen)?;
-    put_glue_differs(alloc, hosts, cut, rtype, seen)?;
-    put_cyclic(alloc, hosts, sets, cut, rtype, seen)
+    let differs = zones_differ(hosts, cut);
+    put_shown(alloc, differs, Fault::Differs, cut, rtype, seen)?;
+    let no_glue = wants_glue(hosts, cut);
+    put_shown(alloc, no_glue, Fault::NoGlue, cut, rtype, seen)?;
+    let glue_differs = addresses_differ(alloc, hosts, cut)?;
+    put_shown(alloc, glue_differs, Fault::GlueDiffers, cut, rtype, seen)?;
+    let cyclic = depends_on_itself(hosts, sets, cut);
+    put_shown(alloc, cyclic, Fault::Cyclic, cut, rtype, seen)
 }
 
-/// Puts behind the faults seen that the zones of a referral list other name servers, where they do.
-fn put_differs(
+/// Puts the fault of this kind at a zone cut behind those seen, where it is shown.
+fn put_shown<F: Fn(Cut) -> Fault>(
     alloc: Global,
-    hosts: &Hosts<'_>,
+    shown: bool,
+    kind: F,
     cut: &Cut,
     rtype: RrType,
     seen: &mut List<Seen>,
 ) -> Result<(), NoMemory>
-    requires { is_prefix cut.now.zone cut.now.cut ≡ true }
-    ensures { OnOk result (seen.new ≡ seen.old ++ with_type rtype (if_shown (zones_differ hosts.now cut.now) (faults.Differs cut.now))) }
+    requires { F.IsAlwaysCallable kind }
+    ensures { OnOk result ((fault : FaultValue) → ((made : FaultValue) → F.post kind cut.now made → made ≡ fault) → seen.new ≡ seen.old ++ with_type rtype (if_shown shown fault)) }
 {
-    if zones_differ(hosts, cut) {
-        let fault = Fault::Differs(cut.copy(alloc)?);
-        return seen.push(Seen { fault, rtype });
-    }
-    Ok(())
-}
-
-/// Puts behind the faults seen that the name server has no glue, where it needs glue and has none.
-fn put_no_glue(
-    alloc: Global,
-    hosts: &Hosts<'_>,
-    cut: &Cut,
-    rtype: RrType,
-    seen: &mut List<Seen>,
-) -> Result<(), NoMemory>
-    requires { is_prefix cut.now.zone cut.now.cut ≡ true }
-    ensures { OnOk result (seen.new ≡ seen.old ++ with_type rtype (if_shown (wants_glue hosts.now cut.now) (faults.NoGlue cut.now))) }
-{
-    if wants_glue(hosts, cut) {
-        let fault = Fault::NoGlue(cut.copy(alloc)?);
-        return seen.push(Seen { fault, rtype });
-    }
-    Ok(())
-}
-
-/// Puts behind the faults seen that the zones of a referral hold other addresses of the name server, where they do.
-fn put_glue_differs(
-    alloc: Global,
-    hosts: &Hosts<'_>,
-    cut: &Cut,
-    rtype: RrType,
-    seen: &mut List<Seen>,
-) -> Result<(), NoMemory>
-    requires { is_prefix cut.now.zone cut.now.cut ≡ true }
-    ensures { OnOk result (seen.new ≡ seen.old ++ with_type rtype (if_shown (addresses_differ hosts.now cut.now) (faults.GlueDiffers cut.now))) }
-{
-    if addresses_differ(alloc, hosts, cut)? {
-        let fault = Fault::GlueDiffers(cut.copy(alloc)?);
-        return seen.push(Seen { fault, rtype });
-    }
-    Ok(())
-}
-
-/// Puts behind the faults seen that the name server's address depends on itself, where it does.
-fn put_cyclic(
-    alloc: Global,
-    hosts: &Hosts<'_>,
-    sets: &LearntSets,
-    cut: &Cut,
-    rtype: RrType,
-    seen: &mut List<Seen>,
-) -> Result<(), NoMemory>
-    requires { is_prefix cut.now.zone cut.now.cut ≡ true }
-    ensures { OnOk result (seen.new ≡ seen.old ++ with_type rtype (if_shown (depends_on_itself hosts.now sets.now cut.now) (faults.Cyclic cut.now))) }
-{
-    if depends_on_itself(hosts, sets, cut) {
-        let fault = Fault::Cyclic(cut.copy(alloc)?);
+    if shown {
+        let fault = kind(cut.copy(alloc)?);
         return seen.push(Seen { fault, rtype });
     }
     Ok(())
@@ -215,19 +163,10 @@ fn put_leaf(
     ensures { OnOk result (seen.new ≡ seen.old ++ with_type rtype (leaf_faults sets.now cut.now leaf.now)) }
 {
     match leaf {
-        Leaf::Lame(ns) => {
-            if cut.ns == *ns {
-                let fault = Fault::Lame(cut.copy(alloc)?);
-                return seen.push(Seen { fault, rtype });
-            }
-            Ok(())
-        }
+        Leaf::Lame(ns) => put_shown(alloc, cut.ns == *ns, Fault::Lame, cut, rtype, seen),
         Leaf::NoAddress(ns) => {
-            if cut.ns == *ns && !sets.has_greatest(&cut.ns) {
-                let fault = Fault::NoAddress(cut.copy(alloc)?);
-                return seen.push(Seen { fault, rtype });
-            }
-            Ok(())
+            let no_address = cut.ns == *ns && !sets.has_greatest(&cut.ns);
+            put_shown(alloc, no_address, Fault::NoAddress, cut, rtype, seen)
         }
         _ => Ok(()),
     }

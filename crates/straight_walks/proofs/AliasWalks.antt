@@ -55,6 +55,6 @@ along_steps setting deps ends rtype all leaf is told state [] (ends_so, exists) 
   tt,
 )
 along_steps setting deps ends rtype all leaf is told state (to ∷ behind) (place, target, goes, along) among = (
-  subst (AllByRecursion (BranchStraight setting deps ends rtype all state)) (sym goes) (inr (inr (inr (place, target, to, refl, among.0))), tt),
+  subst (AllByRecursion (BranchStraight setting deps ends rtype all state)) (sym goes) (inr (inr (place, target, to, refl, among.0)), tt),
   along_steps setting deps ends rtype all leaf is told to behind along among.1,
 )

@@ -1,5 +1,5 @@
--- A name is looked up as the longest origin of a zone at or above it is: each server's nearest zone is the same one, and a zone
--- cut that decides at the origin decides at the name.
+-- A name is looked up as the longest origin of a zone at or above it is: each server's nearest zone is the same one,
+-- and a zone cut that decides at the origin decides at the name.
 use Rattle.std.proofs.Common.{◌≡◌, ◌<◌, ◌≤◌, Bool, false, cond, ◌&&◌, List, [], ◌∷◌, ◌++◌, map, length, Option, Some, None, find, sym, refl, ap, ◌∙◌, subst, inl, inr, arith, append_assoc, length-append, lt-ltb}
 use Rattle.std.specs.Prelude.{◌⊎◌, Contains, is_some, nat_le, nat_lt, option_and_then}
 use Rattle.std.specs.Option.{option_or}

@@ -21,8 +21,8 @@ use Rattle.net_model.specs.declared.walk.Leaf.TheVariants as leaves
 use Rattle.net_model.specs.declared.walk.State.{State}
 use Rattle.walk_laws.specs.Outcome.{outcome_of}
 use Rattle.zone_lookup.specs.Sound.{IsSound}
-use Rattle.straight_walks.specs.Searching.{AreReferrals, Extends, FailsOrGoes, IsReferral, IsSettingOf, cut_to, state_at, queued_state, to_servers}
-use Rattle.straight_walks.specs.Straight.{EndsUnanswered, GoesTo}
+use Rattle.straight_walks.specs.Searching.{AreReferrals, Extends, IsReferral, IsSettingOf, cut_to, state_at, queued_state, to_servers}
+use Rattle.straight_walks.specs.Straight.{EndsUnanswered, FailsOrGoes}
 use Rattle.straight_walks.specs.declared.queue.Queued.{Queued}
 use Rattle.straight_walks.specs.declared.name_server.Referral.TheVariants as referral
 
@@ -95,10 +95,13 @@ pub still_queued : (f : Queued → State) (before after : List Queued) → Exten
 still_queued f before after more state has =
     subst (λ (all : List State). Contains all state) (sym (ap (map f) more.1 ∙ map-append f before more.0)) (Contains-append_left (map f before) (map f more.0) state has)
 
--- a branch that goes to one of some states goes to one of all states among which those are
-pub goes_still : (config : Config) (deps : Deps) (states all : List State) → ((state : State) → Contains states state → Contains all state)
-    → (branch : Branch) → GoesTo config deps states branch → GoesTo config deps all branch
-goes_still config deps states all more branch goes = (goes.0, goes.1, goes.2, goes.3, more goes.1 goes.4)
+-- a branch that fails or goes to one of some states does so with all states among which those are, where walks still fail
+pub fails_or_goes_still : (config : Config) (deps : Deps) (fails_before fails : Bool) → (fails_before ≡ true → fails ≡ true)
+    → (states all : List State) → ((state : State) → Contains states state → Contains all state)
+    → (branch : Branch) → FailsOrGoes config deps fails_before states branch → FailsOrGoes config deps fails all branch
+fails_or_goes_still config deps fails_before fails still states all more branch (inl (failing, ending)) = inl (still failing, ending)
+fails_or_goes_still config deps fails_before fails still states all more branch (inr (cut, to, sound, goes, has)) =
+    inr (cut, to, sound, goes, more to has)
 
 module _ (config : Config) (deps : Deps) (query server : Labels) (zone : Zone) (cut : Labels) where
   -- the query's state at the server
@@ -151,13 +154,10 @@ module _ (config : Config) (deps : Deps) (query server : Labels) (zone : Zone) (
         subst (AllByRecursion (FailsOrGoes setting.config deps fails (map (queued_state config query) after))) (sym (one_branch_more names ns setting above))
         (all_push (FailsOrGoes setting.config deps fails (map (queued_state config query) after)) (branches names setting above) (branch_to ns setting above)
         (all_so (FailsOrGoes setting.config deps fails_before (map (queued_state config query) before)) (FailsOrGoes setting.config deps fails (map (queued_state config query) after))
-        (branches names setting above) weaker (so.each setting above of)) here)
-      where
-        weaker : (branch : Branch) → FailsOrGoes setting.config deps fails_before (map (queued_state config query) before) branch
-            → FailsOrGoes setting.config deps fails (map (queued_state config query) after) branch
-        weaker branch (inl (failing, ending)) = inl (still failing, ending)
-        weaker branch (inr goes) =
-            inr (goes_still setting.config deps (map (queued_state config query) before) (map (queued_state config query) after) (still_queued (queued_state config query) before after more) branch goes)
+        (branches names setting above)
+        (fails_or_goes_still setting.config deps fails_before fails still (map (queued_state config query) before) (map (queued_state config query) after)
+        (still_queued (queued_state config query) before after more))
+        (so.each setting above of)) here)
 
     -- states to which branches led so far, and those to which they lead with one name server more
     leads_still : (one : Queued) → Contains before one → Contains first one ⊎ ((setting : Setting) (above : ℕ) → IsSettingOf config deps setting

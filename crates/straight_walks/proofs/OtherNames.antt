@@ -16,7 +16,8 @@ use Rattle.net_model.specs.declared.walk.Leaf.{Leaf}
 use Rattle.net_model.specs.declared.walk.Leaf.TheVariants as leaves
 use Rattle.net_model.specs.declared.walk.State.{State}
 use Rattle.walk_laws.specs.Outcome.{outcome_of}
-use Rattle.straight_walks.specs.Searching.{AreReferrals, FailsOrGoes, IsSettingOf, cut_to, state_at, queued_state, to_servers}
+use Rattle.straight_walks.specs.Searching.{AreReferrals, IsSettingOf, cut_to, state_at, queued_state, to_servers}
+use Rattle.straight_walks.specs.Straight.{FailsOrGoes}
 use Rattle.straight_walks.specs.declared.queue.Queued.{Queued}
 
 -- a state, and a branch, for another name

@@ -53,8 +53,8 @@ module _ (config : Config) (deps : Deps) (origin : Labels) where
 
   -- ---- those that are either out
 
-  -- so many of the states are looked at: each of these is among those that are passed or those whose servers answer, which are all
-  -- queued, and for each of the names the search has walked over those that are passed
+  -- so many of the states are looked at: each of these is among those that are passed or those whose servers answer,
+  -- which are all queued, and for each of the names the search has walked over those that are passed
   pub record AreLookedAt (at : ℕ) (search : RegionSearch) : Type 0 where
     pub within : at ≤ length search.queue.items
     pub walked : (query : Labels) → IsNearestOrigin config origin query → HasWalked config deps query search.queue.items search.passed.items (unanswered search.fails)

@@ -10,11 +10,11 @@ use Rattle.dns_data.proofs.Names.{all_append, all_so}
 use Rattle.net_model.specs.declared.deps.Deps.{Deps}
 use Rattle.net_model.specs.Step.{Setting, Branch, next}
 use Rattle.net_model.specs.declared.walk.State.{State}
-use Rattle.straight_walks.specs.Searching.{FailsOrGoes, PassesState}
-use Rattle.straight_walks.specs.Straight.{BranchStraight, StepsStraight}
+use Rattle.straight_walks.specs.Searching.{PassesState}
+use Rattle.straight_walks.specs.Straight.{BranchStraight, FailsOrGoes, StepsStraight}
 use Rattle.straight_walks.specs.declared.ends.StraightEnds.{StraightEnds}
 use Rattle.straight_walks.proofs.AliasWalks.{along_steps}
-use Rattle.straight_walks.proofs.GoingOn.{goes_still}
+use Rattle.straight_walks.proofs.GoingOn.{fails_or_goes_still}
 
 module _ (setting : Setting) (deps : Deps) (ends : StraightEnds) (rtype : RrType) (states : List State) where
   -- walks go straight from the state
@@ -58,8 +58,7 @@ module _ (setting : Setting) (deps : Deps) (ends : StraightEnds) (rtype : RrType
   -- among states that have them walks go straight from each
   module _ (all : List State) (queued : (state : State) → Contains states state → Contains all state) where
     branch_steps : (state : State) (branch : Branch) → FailsOrGoes setting.config deps ends.fails states branch → BranchStraight setting deps ends rtype all state branch
-    branch_steps state branch (inl ending) = inl ending
-    branch_steps state branch (inr goes) = inr (inr (inl (goes_still setting.config deps states all queued branch goes)))
+    branch_steps state branch so = inl (fails_or_goes_still setting.config deps ends.fails ends.fails (λ is. is) states all queued branch so)
 
     one_steps : (state : State) (pass : Pass state) → AllByRecursion (Contains all) (behind_of state pass)
         → AllByRecursion (StepsStraight setting deps ends rtype all) (state ∷ behind_of state pass)

@@ -1,7 +1,7 @@
 -- The search for the states from which walks go straight.
 use Rattle.std.proofs.Common.{◌≡◌, ℕ, ◌+◌, ◌*◌, ◌<◌, ◌≤◌, Bool, true, false, List, [], ◌∷◌, ◌++◌, length, map, take, take_all, get_or, Option, Some, None, IfSome, Bor, refl, sym, ap, ◌∙◌, subst, inl, inr, arith}
 use Rattle.std.specs.Prelude.{◌⊎◌, Contains}
-use Rattle.std.specs.List.{AllByRecursion}
+use Rattle.std.specs.List.{AllByRecursion, slice_get}
 use Rattle.std.proofs.lemmas.List.{append-nil, length-append, length-map, map-append, take_more, take-append-le}
 use Rattle.std.proofs.lemmas.List.Elements.{Contains-get_or}
 use Rattle.std.proofs.lemmas.Option.{slice_get_read}
@@ -21,15 +21,14 @@ use Rattle.walk_laws.specs.Outcome.{HasOutcome, outcome_of}
 use Rattle.zone_tree.specs.Tree.{ZoneTree, name_of}
 use Rattle.straight_walks.specs.Answers.{Answering, leaf_of}
 use Rattle.straight_walks.specs.Ends.{IsOutcomeOf}
-use Rattle.straight_walks.specs.Searching.{AnswersSo, AreReferrals, EndsWith, FailsOrGoes, GoesStraightIn, HasPassed, HasWalked, IsComeTo, IsNextReferral, IsPut, IsReply, IsSettingFor, IsSettingOf, KeepsOutcomes, LeadsOn, Passes, PassesState, state_at, queued_state, to_servers, unanswered}
-use Rattle.straight_walks.specs.Straight.{StepsStraight}
+use Rattle.straight_walks.specs.Searching.{AnswersSo, AreReferrals, EndsWith, GoesStraightIn, HasPassed, HasWalked, IsComeTo, IsPut, IsReply, IsSettingFor, IsSettingOf, KeepsOutcomes, LeadsOn, Passes, PassesState, state_at, queued_state, to_servers, unanswered}
+use Rattle.straight_walks.specs.Straight.{FailsOrGoes, StepsStraight}
 use Rattle.straight_walks.specs.declared.ends.StraightEnds.{StraightEnds}
 use Rattle.straight_walks.specs.declared.queue.Queued.{Queued}
-use Rattle.straight_walks.specs.declared.referring.NextReferral.TheVariants as referring
 use Rattle.straight_walks.specs.declared.server.Reply.TheVariants as reply
 use Rattle.straight_walks.proofs.AliasWalks.{ends_along, ends_by_branch}
 use Rattle.straight_walks.proofs.ComingTo.{comes_first, comes_on, comes_to_end}
-use Rattle.straight_walks.proofs.GoingOn.{goes_still, still_queued}
+use Rattle.straight_walks.proofs.GoingOn.{fails_or_goes_still, still_queued}
 use Rattle.straight_walks.proofs.Replies.{outside_ends, refers_to}
 use Rattle.straight_walks.proofs.SameOutcomes.{answers_told, outcome_told}
 use Rattle.straight_walks.proofs.StatesBehind.{all_step, few_in_all, still_there, with_behind}
@@ -53,9 +52,9 @@ module _ (config : Config) (deps : Deps) (query : Labels) where
     -- a branch that ends or goes on to queued states does so where those and others are, and more outcomes are told
     branch_still : (branch : Branch) → FailsOrGoes setting.config deps ends_before.fails (map (queued_state config query) before) branch
         → FailsOrGoes setting.config deps ends.fails (map (queued_state config query) after) branch
-    branch_still branch (inl (failing, ending)) = inl (still.outcomes rtype None failing, ending)
-    branch_still branch (inr goes) =
-        inr (goes_still setting.config deps (map (queued_state config query) before) (map (queued_state config query) after) more branch goes)
+    branch_still =
+        fails_or_goes_still setting.config deps ends_before.fails ends.fails (still.outcomes rtype None)
+        (map (queued_state config query) before) (map (queued_state config query) after) more
 
     -- walks still go straight from a state then
     steps_still : (state : State) → PassesState setting deps ends_before rtype (map (queued_state config query) before) state
@@ -249,18 +248,20 @@ module _ (config : Config) (deps : Deps) (query : Labels) where
       passed_over =
           ap (take (at + 1)) one.extends.1 ∙ take-append-le (at + 1) queue one.extends.0 (omega (arith, within)) ∙ take_more queue at item within ∙ (λ j. take at queue ++ sym is j ∷ [])
 
-  -- up to a server that refers the name, and that server
-  pub referral_passed : (queue after : List Queued) (before at : ℕ) (ends_before ends : StraightEnds) (fails : Bool) (tree : Bor ZoneTree) (cut : ℕ) (item : Queued) → item ≡ get_or queue at item
-      → IsNextReferral config query queue before ends_before ends (referring.Refers at tree cut) → HasPassed config deps query queue before ends_before
+  -- and when its server refers the name
+  pub referral_passed : (queue after : List Queued) (at : ℕ) (ends : StraightEnds) (fails : Bool) (tree : Bor ZoneTree) (cut : ℕ) (item : Queued)
+      → at < length queue → item ≡ get_or queue at item
+      → IfSome (slice_get queue at) (λ one. IsReply config query one.server.now (reply.Refers tree cut)) → HasPassed config deps query queue at ends
       → AreReferrals config deps query item.server.now tree.now.zone (name_of tree.now cut) (ns_names tree.now.zone (name_of tree.now cut)) queue ends.fails after fails
       → HasPassed config deps query after (at + 1) (record ends { fails = fails })
-  referral_passed queue after before at ends_before ends fails tree cut item is meets so on =
-      one_passed queue after at ends (record ends { fails = fails }) item meets.1 is (meets.3 deps so) (referral_passes item.server.now queue ends tree cut after fails refers on)
+  referral_passed queue after at ends fails tree cut item within is refers so on =
+      one_passed queue after at ends (record ends { fails = fails }) item within is so
+      (referral_passes item.server.now queue ends tree cut after fails referred on)
     where
-      refers : IsReply config query item.server.now (reply.Refers tree cut)
-      refers =
+      referred : IsReply config query item.server.now (reply.Refers tree cut)
+      referred =
           subst (λ (found : Option Queued). IfSome found (λ one. IsReply config query one.server.now (reply.Refers tree cut)))
-          (slice_get_read queue (length queue) at item refl meets.1 is) meets.2
+          (slice_get_read queue (length queue) at item refl within is) refers
 
   -- where all are
   pub all_passed : (queue : List Queued) (at most : ℕ) (ends : StraightEnds) → HasPassed config deps query queue at ends → length queue ≤ at

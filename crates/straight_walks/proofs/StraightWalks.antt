@@ -38,8 +38,8 @@ EndsSo ends rtype Outside = ends.fails ≡ true
 EndsSo ends rtype (Unhosted ns) = ends.fails ≡ true
 EndsSo ends rtype leaf = (is_authoritative leaf ≡ true) × IsOutcomeOf ends rtype (Some leaf)
 
--- the branch of the state goes on by such a hop to one of the states, or ends so after such a hop or none; the name exists where a
--- rewrite led to the state
+-- the branch of the state goes on by such a hop to one of the states, or ends so after such a hop or none; the name
+-- exists where a rewrite led to the state
 abbrev GoesSo : Config → Deps → StraightEnds → RrType → List State → State → Branch → Type 0
 GoesSo config deps ends rtype states state (Go hop to) = IsSoundHop config deps hop × Contains states to
 GoesSo config deps ends rtype states state (End hop leaf) =
@@ -116,15 +116,15 @@ module _ (setting : Setting) (deps : Deps) (most : ℕ) (query : Labels) (ends :
 
   -- where each branch of a state goes straight it goes so
   branch_so : (state : State) (branch : Branch) → BranchStraight setting deps ends rtype straight.states state branch → BranchSo state branch
-  branch_so state branch (inl (fails, inl outside)) = subst (BranchSo state) (sym outside) (tt, fails, λ is. absurd (apart is)) where
+  branch_so state branch (inl (inl (fails, inl outside))) = subst (BranchSo state) (sym outside) (tt, fails, λ is. absurd (apart is)) where
     apart : Outside ≡ NxDomain → ⊥
     apart e = cc
-  branch_so state branch (inl (fails, inr (cut, sound, unhosted))) = subst (BranchSo state) (sym unhosted) ((sound, tt), fails, λ is. absurd (apart is)) where
+  branch_so state branch (inl (inl (fails, inr (cut, sound, unhosted)))) = subst (BranchSo state) (sym unhosted) ((sound, tt), fails, λ is. absurd (apart is)) where
     apart : Unhosted cut.ns ≡ NxDomain → ⊥
     apart e = cc
   branch_so state branch (inr (inl (leaf, is, told, exists, answers))) = subst (BranchSo state) (sym answers) (tt, ends_answered ends rtype leaf is told, exists)
-  branch_so state branch (inr (inr (inl (cut, to, sound, goes, has)))) = subst (BranchSo state) (sym goes) (sound, has)
-  branch_so state branch (inr (inr (inr (place, target, to, goes, has)))) = subst (BranchSo state) (sym goes) (tt, has)
+  branch_so state branch (inl (inr (cut, to, sound, goes, has))) = subst (BranchSo state) (sym goes) (sound, has)
+  branch_so state branch (inr (inr (place, target, to, goes, has))) = subst (BranchSo state) (sym goes) (tt, has)
 
   -- each walk from one of the states goes so
   walk_straight : (numbers : List ℕ) (state : State) (walk : Walk) → Contains straight.states state → walk_from setting rtype numbers state ≡ Some walk → So walk

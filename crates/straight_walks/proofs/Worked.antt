@@ -122,7 +122,7 @@ module _ (rtype : RrType) where
   told = ap (λ (leaf : Leaf). Some leaf) leaf_is
 
   first_goes : StepsStraight setting deps ends rtype states first
-  first_goes = (inr (inr (inl (cut nsa, behind nsa, first_sound, refl, second))), (inr (inr (inl (cut nsb, behind nsb, second_sound, refl, third))), tt))
+  first_goes = (inl (inr (cut nsa, behind nsa, first_sound, refl, second)), (inl (inr (cut nsb, behind nsb, second_sound, refl, third)), tt))
 
   -- where the name doesn't exist
   second_answers : StepsStraight setting deps ends rtype states (behind nsa)

@@ -22,8 +22,8 @@ pub record ZoneOwner : Type 0 where
 abbrev pub zone_owner : ZoneTree → Option ℕ → ZoneOwner
 zone_owner tree owner = record { zone = tree.zone; owner = option_map (name_of tree) owner }
 
--- What a server answers: with type CNAME by the name's own owner, and with each other type by the last owner, to which the name's
--- aliases lead. They are the same where the name is no alias.
+-- What a server answers: with type CNAME by the name's own owner, and with each other type by the last owner, to which
+-- the name's aliases lead. They are the same where the name is no alias.
 pub record Answering : Type 0 where
   pub own : ZoneOwner
   pub last : ZoneOwner

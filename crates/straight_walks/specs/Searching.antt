@@ -27,7 +27,7 @@ use Rattle.zone_tree.specs.Tree.{IsNode, name_of}
 use Rattle.zone_lookup.specs.Sound.{IsSound}
 use Rattle.straight_walks.specs.Answers.{Answering, ZoneOwner, leaf_of, owner_leaf, zone_owner}
 use Rattle.straight_walks.specs.Ends.{IsOutcomeOf}
-use Rattle.straight_walks.specs.Straight.{EndsUnanswered, FollowsLeast, GoesStraight, GoesTo}
+use Rattle.straight_walks.specs.Straight.{EndsUnanswered, FailsOrGoes, FollowsLeast, GoesStraight}
 use Rattle.straight_walks.specs.declared.aliases.AliasEnd.{AliasEnd}
 use Rattle.straight_walks.specs.declared.ends.StraightEnds.{StraightEnds}
 use Rattle.straight_walks.specs.declared.queue.Queued.{Queued}
@@ -93,8 +93,8 @@ pub record KeepsOutcomes (before after : StraightEnds) : Type 0 where
   pub rewrites : before.rewrites ≤ after.rewrites
   pub outcomes : (rtype : RrType) (outcome : Option Leaf) → IsOutcomeOf before rtype outcome → IsOutcomeOf after rtype outcome
 
--- what a server answers behind so many rewrites is put to the ends: it is their answer then, and no other outcome comes to those
--- before
+-- what a server answers behind so many rewrites is put to the ends: it is their answer then, and no other outcome comes
+-- to those before
 pub record IsPut (before : StraightEnds) (answering : Answering) (rewrites : ℕ) (after : StraightEnds) : Type 0 where
   pub still : KeepsOutcomes before after
   pub behind : rewrites ≤ after.rewrites
@@ -120,10 +120,6 @@ cut_to server zone cut ns = record { server = server; zone = zone.origin; cut = 
 -- the branches of a zone cut with these name servers, from a state
 abbrev pub to_servers : Zone → Labels → List Labels → Setting → State → List Branch
 to_servers zone cut names setting state = map (λ ns. referred setting state (cut_to state.server zone cut ns)) names
-
--- the branch ends where no zone answers, and walks fail; or it goes on to one of the states
-abbrev pub FailsOrGoes : Config → Deps → Bool → List State → Branch → Type 0
-FailsOrGoes config deps fails states branch = ((fails ≡ true) × EndsUnanswered config deps branch) ⊎ GoesTo config deps states branch
 
 -- the referrals of a zone cut to these name servers, from the query's state at a server, show no fault, and end where
 -- no zone answers or go on to queued states; no other states come to the queue, and walks fail only where one of them
@@ -171,14 +167,15 @@ IsReply config query server reply.Unclear = Unit {0}
 
 -- ---- aliases
 
--- walks from the state go on by aliases alone, through these states, and end in the answer; a name to which an alias led exists
+-- walks from the state go on by aliases alone, through these states, and end in the answer; a name to which an alias
+-- led exists
 abbrev pub AnswersAlong : Setting → RrType → Leaf → State → List State → Type 0
 AnswersAlong setting rtype leaf state [] = (next setting rtype state ≡ End None leaf ∷ []) × (leaf ≡ NxDomain → state.last ≡ None)
 AnswersAlong setting rtype leaf state (to ∷ behind) =
     (place : Place) × (target : Labels) × (next setting rtype state ≡ Go (Rewrite place false target) to ∷ []) × AnswersAlong setting rtype leaf to behind
 
--- with each type but CNAME walks from a state with the name, to which so many rewrites led, go by aliases alone to what the end's
--- owner has, by no more rewrites in all than the end's
+-- with each type but CNAME walks from a state with the name, to which so many rewrites led, go by aliases alone to what
+-- the end's owner has, by no more rewrites in all than the end's
 pub record IsAliasEnd (config : Config) (server name : Labels) (rewrites : ℕ) (end : AliasEnd) : Type 0 where
   pub node : IsNode end.tree.now end.owner
   pub held : is_some (nearest_of config server name) ≡ true
@@ -202,8 +199,8 @@ EndsAnswered setting ends rtype state =
     (behind : List State) × (leaf : Leaf) × (length behind ≤ ends.rewrites) × (is_authoritative leaf ≡ true) × IsOutcomeOf ends rtype (Some leaf)
     × AnswersAlong setting rtype leaf state behind
 
--- walks with the type go straight from the state: each branch ends where no zone answers, which is one of the ends, or goes on to one
--- of the states; or they end in an answer
+-- walks with the type go straight from the state: each branch ends where no zone answers, which is one of the ends, or
+-- goes on to one of the states; or they end in an answer
 abbrev pub PassesState : Setting → Deps → StraightEnds → RrType → List State → State → Type 0
 PassesState setting deps ends rtype states state =
     AllByRecursion (FailsOrGoes setting.config deps ends.fails states) (next setting rtype state) ⊎ EndsAnswered setting ends rtype state
@@ -213,8 +210,8 @@ pub record IsSettingFor (config : Config) (deps : Deps) (ends : StraightEnds) (s
   pub is_of : IsSettingOf config deps setting
   pub rewrites : ends.rewrites ≤ setting.rewrites
 
--- from the query's state at a server walks go straight, to an end or on to states that are queued then; no other states come to
--- the queue, and no other outcomes to the ends
+-- from the query's state at a server walks go straight, to an end or on to states that are queued then; no other states
+-- come to the queue, and no other outcomes to the ends
 pub record Passes (config : Config) (deps : Deps) (query server : Labels) (before : List Queued) (ends_before : StraightEnds) (after : List Queued) (ends : StraightEnds) : Type 0 where
   pub extends : Extends before after
   pub still : KeepsOutcomes ends_before ends
@@ -248,14 +245,15 @@ pub record HasPassed (config : Config) (deps : Deps) (query : Labels) (queue : L
 abbrev pub IsSearch : Config → Deps → Labels → Search → Type 0
 IsSearch config deps query searched = HasPassed config deps query searched.queue.items searched.passed (unanswered searched.fails)
 
--- in each setting of the configuration in which walks may use so many rewrites those of the query go straight to the ends, with each
--- type, over at most so many states
+-- in each setting of the configuration in which walks may use so many rewrites those of the query go straight to the
+-- ends, with each type, over at most so many states
 abbrev pub GoesStraightIn : Config → Deps → ℕ → ℕ → Labels → StraightEnds → Type 0
 GoesStraightIn config deps rewrites most query ends =
     (setting : Setting) → IsSettingOf config deps setting → rewrites ≤ setting.rewrites → (rtype : RrType) → GoesStraight setting deps most query ends rtype
 
--- the next referral of a search that has passed so many of the states, with what walks end in before and after: where walks end at
--- all of them the query goes straight; where a server refers the query the search has passed all up to that state
+-- the next referral of a search that has passed so many of the states, with what walks end in before and after: where
+-- walks end at all of them the query goes straight; where a server refers the query the search has passed all up to
+-- that state
 abbrev pub IsNextReferral : Config → Labels → List Queued → ℕ → StraightEnds → StraightEnds → NextReferral → Type 0
 IsNextReferral config query queue before ends_before ends referring.Ends =
     (deps : Deps) → HasPassed config deps query queue before ends_before

@@ -1,6 +1,6 @@
--- Queries whose walks go straight: by delegations and by aliases in one server, to ends that show no fault, where all servers answer
--- alike.
-use Rattle.std.specs.Prelude.{◌≡◌, ◌≤◌, ℕ, true, false, List, ◌⊎◌, length, Option, Some, None, Contains}
+-- Queries whose walks go straight: by delegations and by aliases in one server, to ends that show no fault, where all
+-- servers answer alike.
+use Rattle.std.specs.Prelude.{◌≡◌, ◌≤◌, ℕ, Bool, true, false, List, ◌⊎◌, length, Option, Some, None, Contains}
 use Rattle.std.specs.List.{AllByRecursion, list_any}
 use Rattle.dns_data.specs.Name.{Labels, name_eq}
 use Rattle.dns_data.specs.declared.rr_type.RrType.{RrType}
@@ -38,19 +38,23 @@ GoesTo config deps states branch = (cut : Cut) × (to : State) × IsSound config
 abbrev pub GoesByAlias : List State → Branch → Type 0
 GoesByAlias states branch = (place : Place) × (target : Labels) × (to : State) × (branch ≡ Go (Rewrite place false target) to) × Contains states to
 
--- a branch of the state ends with the type where no zone answers, which is one of the ends, ends with their answer, or goes on to one
--- of the states
-abbrev pub BranchStraight : Setting → Deps → StraightEnds → RrType → List State → State → Branch → Type 0
-BranchStraight setting deps ends rtype states state branch =
-    (IsOutcomeOf ends rtype None × EndsUnanswered setting.config deps branch)
-    ⊎ (EndsInAnswer ends rtype state branch ⊎ (GoesTo setting.config deps states branch ⊎ GoesByAlias states branch))
+-- the branch ends where no zone answers, and walks fail; or it goes on by a referral to one of the states
+abbrev pub FailsOrGoes : Config → Deps → Bool → List State → Branch → Type 0
+FailsOrGoes config deps fails states branch = ((fails ≡ true) × EndsUnanswered config deps branch) ⊎ GoesTo config deps states branch
 
--- each branch of the state does so
-abbrev pub StepsStraight : Setting → Deps → StraightEnds → RrType → List State → State → Type 0
-StepsStraight setting deps ends rtype states state = AllByRecursion (BranchStraight setting deps ends rtype states state) (next setting rtype state)
+module _ (setting : Setting) (deps : Deps) (ends : StraightEnds) (rtype : RrType) (states : List State) where
+  -- a branch of the state fails as the ends do or goes on by a referral to one of the states; or it ends with the type
+  -- in the answer of the ends, or goes on by an alias to one of the states
+  abbrev pub BranchStraight : State → Branch → Type 0
+  BranchStraight state branch =
+      FailsOrGoes setting.config deps ends.fails states branch ⊎ (EndsInAnswer ends rtype state branch ⊎ GoesByAlias states branch)
 
--- the walks of the query with the type go straight: they reach at most so many states, all zones that answer tell the same, and the
--- query has the outcomes of these ends
+  -- each branch of the state does so
+  abbrev pub StepsStraight : State → Type 0
+  StepsStraight state = AllByRecursion (BranchStraight state) (next setting rtype state)
+
+-- the walks of the query with the type go straight: they reach at most so many states, all zones that answer tell the
+-- same, and the query has the outcomes of these ends
 pub record GoesStraight (setting : Setting) (deps : Deps) (most : ℕ) (query : Labels) (ends : StraightEnds) (rtype : RrType) : Type 0 where
   pub states : List State
   pub few : length states ≤ most

@@ -19,8 +19,8 @@ pub(crate) struct AliasEnd<'h, 'a> {
     pub rewrites: u32,
 }
 
-/// Where the aliases lead that begin with this name, to which so many rewrites led at the server, or `None` where they aren't
-/// followed to data that the server has. The server and its zones are looked for near a place first.
+/// Where the aliases lead that begin with this name, to which so many rewrites led at the server, or `None` where they
+/// aren't followed to data that the server has. The server and its zones are looked for near a place first.
 pub(crate) fn alias_end<'h, 'a>(
     hosts: &'h Hosts<'a>,
     near: Near,

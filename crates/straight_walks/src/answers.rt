@@ -10,8 +10,8 @@ use dns_data::{Rdata, RrType};
 use std::marker::Model;
 use zone_tree::{NodeId, Tree};
 
-/// An owner in a zone, whose data the zone answers, or none: it answers that there is no such name then. Contracts see the zone and
-/// the owner's name.
+/// An owner in a zone, whose data the zone answers, or none: it answers that there is no such name then. Contracts see
+/// the zone and the owner's name.
 #[derive(Drop)]
 struct Owner<'h, 'a> {
     tree: &'h Tree<'a>,
@@ -60,9 +60,9 @@ impl<'h, 'a> Owner<'h, 'a> {
     }
 }
 
-/// What a server answers to a query with each type: the data of an owner, or that there is no such name. Where the name is an alias
-/// its own data are answered with type CNAME, and with each other type those to which its aliases lead. Contracts see the zones and
-/// the owners' names.
+/// What a server answers to a query with each type: the data of an owner, or that there is no such name. Where the name
+/// is an alias its own data are answered with type CNAME, and with each other type those to which its aliases lead.
+/// Contracts see the zones and the owners' names.
 #[derive(Drop)]
 pub struct ZoneAnswer<'h, 'a> {
     own: Owner<'h, 'a>,

@@ -7,8 +7,8 @@ ghost use Rattle.straight_walks.specs.Searching.{IsPut};
 use crate::answers::ZoneAnswer;
 use dns_data::RrType;
 
-/// What walks end in that go straight: each server that answers answers this, where some walk ends in an answer, and some walks may
-/// end where no server answers. No walk is rewritten more often than so.
+/// What walks end in that go straight: each server that answers answers this, where some walk ends in an answer, and
+/// some walks may end where no server answers. No walk is rewritten more often than so.
 #[derive(Drop)]
 pub struct StraightEnds<'h, 'a> {
     pub answer: Option<ZoneAnswer<'h, 'a>>,
@@ -17,16 +17,16 @@ pub struct StraightEnds<'h, 'a> {
 }
 
 impl<'h, 'a> StraightEnds<'h, 'a> {
-    /// Whether walks with the type have the same outcomes: in both some end in an answer, which is the same, or none does; and in
-    /// both some end where no server answers, or none does.
+    /// Whether walks with the type have the same outcomes: in both some end in an answer, which is the same, or none
+    /// does; and in both some end where no server answers, or none does.
     pub fn are_alike(&self, other: &StraightEnds<'_, '_>, rtype: RrType) -> bool
         ensures { result ≡ ends_alike self.now other.now rtype }
     {
         self.fails == other.fails && answers_alike(&self.answer, &other.answer, rtype)
     }
 
-    /// Puts what one more server answers behind so many rewrites to the others: whether it answers as each one before. Where none
-    /// answered before, this is the answer from then on.
+    /// Puts what one more server answers behind so many rewrites to the others: whether it answers as each one before.
+    /// Where none answered before, this is the answer from then on.
     pub(crate) fn put(&mut self, answer: ZoneAnswer<'h, 'a>, rewrites: u32) -> bool
         ensures { result ≡ true → IsPut self.old answer.entry rewrites self.new }
     {

@@ -6,9 +6,9 @@ use dns_data::Name;
 use zone_lookup::{Hosts, Near};
 use zone_tree::{Decider, NodeId, Tree, deciding};
 
-/// What a server replies to a query: it holds no zone for the name; this zone answers the data of this owner; the owner's name is an
-/// alias of this target; it answers that there is no such name; or it refers the query by this zone cut. Of other replies nothing is
-/// said.
+/// What a server replies to a query: it holds no zone for the name; this zone answers the data of this owner; the
+/// owner's name is an alias of this target; it answers that there is no such name; or it refers the query by this zone
+/// cut. Of other replies nothing is said.
 #[derive(Clone, Copy)]
 pub(crate) enum Reply<'h, 'a> {
     Outside,

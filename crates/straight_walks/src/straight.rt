@@ -1,6 +1,7 @@
 //! Whether the walks of a query go straight, and what they end in.
 
-ghost use Rattle.std.specs.Prelude.{◌≡◌, ◌≤◌, ◌+◌, ◌*◌, ◌↔◌, Option as Optional, IfOk, IfSome};
+ghost use Rattle.std.specs.Prelude.{◌≡◌, ◌<◌, ◌≤◌, ◌+◌, ◌*◌, ◌↔◌, Option as Optional, IfOk, IfSome, length, true};
+ghost use Rattle.std.specs.List.{slice_get};
 ghost use Rattle.dns_data.specs.declared.rr_type.RrType.{RrType as RrTypeValue};
 ghost use Rattle.net_model.specs.declared.fault.Fault.{Fault as FaultValue};
 ghost use Rattle.net_model.specs.declared.walk.Leaf.{Leaf as LeafValue};
@@ -9,7 +10,8 @@ ghost use Rattle.net_model.specs.Step.{following};
 ghost use Rattle.net_model.specs.Tree.{HasMoreThan, IsReached};
 ghost use Rattle.net_model.specs.Walk.{IsBoundedWith};
 ghost use Rattle.straight_walks.specs.Ends.{IsOutcomeOf};
-ghost use Rattle.straight_walks.specs.Searching.{GoesStraightIn, HasPassed, IsSearch};
+ghost use Rattle.straight_walks.specs.Searching.{GoesStraightIn, HasPassed, IsReply, IsSearch};
+ghost use Rattle.straight_walks.specs.declared.server.Reply.TheVariants as reply_as;
 ghost use Rattle.straight_walks.specs.Regions.{AreRegionsFor};
 ghost use Rattle.walk_laws.specs.Outcome.{HasOutcome};
 
@@ -22,17 +24,17 @@ use crate::searching::Search;
 use dns_data::{Name, NoMemory};
 use std::alloc::Global;
 use zone_lookup::{Hosts, LearntSets};
-use zone_tree::Tree;
+use zone_tree::{NodeId, Tree};
 
 /// No more states than these are looked at.
 pub(crate) const MOST: u32 = 32;
 
-/// What the walks of a query end in, where they are seen to go straight over few enough pairs of state and type, or `None`. Each
-/// walk may use so many rewrites. Then the query shows no fault, with no type does a walk of it end in a name of more than 255
-/// octets (RFC 6672 section 2.2), and it has the outcomes of these ends and no others. The sets are the least and the greatest set
-/// of learnt addresses; the servers of the least set are followed. The regions are those of the same servers and sets. The query's
-/// region is looked for near a place first, whatever that is, and the place is left near which that of the next query may be looked
-/// for.
+/// What the walks of a query end in, where they are seen to go straight over few enough pairs of state and type, or
+/// `None`. Each walk may use so many rewrites. Then the query shows no fault, with no type does a walk of it end in a
+/// name of more than 255 octets (RFC 6672 section 2.2), and it has the outcomes of these ends and no others. The sets
+/// are the least and the greatest set of learnt addresses; the servers of the least set are followed. The regions are
+/// those of the same servers and sets. The query's region is looked for near a place first, whatever that is, and the
+/// place is left near which that of the next query may be looked for.
 pub fn straight_ends<'h, 'a>(
     alloc: Global,
     hosts: &'h Hosts<'a>,
@@ -65,8 +67,8 @@ pub fn straight_ends<'h, 'a>(
     )
 }
 
-/// What walks end in that go straight over at most so many states, from those of the search of the query's region, or from those at
-/// the top servers where it is in none. Each walk may use so many rewrites.
+/// What walks end in that go straight over at most so many states, from those of the search of the query's region, or
+/// from those at the top servers where it is in none. Each walk may use so many rewrites.
 fn ends_by_region<'h, 'a>(
     alloc: Global,
     hosts: &'h Hosts<'a>,
@@ -89,8 +91,8 @@ fn ends_by_region<'h, 'a>(
     }
 }
 
-/// What walks end in that go straight from all states of a search that has begun, over at most so many. The states are copied where
-/// a server refers the query, and the search goes on from there. Each walk may use so many rewrites.
+/// What walks end in that go straight from all states of a search that has begun, over at most so many. The states are
+/// copied where a server refers the query, and the search goes on from there. Each walk may use so many rewrites.
 fn ends_from<'h, 'a>(
     alloc: Global,
     hosts: &'h Hosts<'a>,
@@ -117,17 +119,8 @@ fn ends_from<'h, 'a>(
         NextReferral::Unclear => Ok(None),
         NextReferral::Refers { passed, tree, cut } => {
             let mut queue = Vec::from_slice(alloc, queue)?;
-            let server = queue[passed].server;
-            if !queue_referrals(
-                alloc,
-                hosts,
-                sets,
-                query,
-                server,
-                tree,
-                cut,
-                &mut queue,
-                &mut ends.fails,
+            if !passes_referral(
+                alloc, hosts, sets, query, tree, cut, passed, &mut queue, &mut ends,
             )? {
                 return Ok(None);
             }
@@ -146,8 +139,9 @@ fn ends_from<'h, 'a>(
     }
 }
 
-/// What walks end in that go straight from all queued states, and from those to which their servers refer the query, over at most
-/// so many. A search has passed the first so many of them; what walks end in there is told. Each walk may use so many rewrites.
+/// What walks end in that go straight from all queued states, and from those to which their servers refer the query,
+/// over at most so many. A search has passed the first so many of them; what walks end in there is told. Each walk may
+/// use so many rewrites.
 fn all_ends<'h, 'a>(
     alloc: Global,
     hosts: &'h Hosts<'a>,
@@ -170,33 +164,57 @@ fn all_ends<'h, 'a>(
             NextReferral::Ends => return Ok(ends_within(ends, queue.len(), rewrites, most)),
             NextReferral::Unclear => return Ok(None),
             NextReferral::Refers {
-                passed: at,
+                passed: place,
                 tree,
                 cut,
             } => {
-                let server = queue[at].server;
-                if !queue_referrals(
-                    alloc,
-                    hosts,
-                    sets,
-                    query,
-                    server,
-                    tree,
-                    cut,
-                    &mut queue,
-                    &mut ends.fails,
+                if !passes_referral(
+                    alloc, hosts, sets, query, tree, cut, place, &mut queue, &mut ends,
                 )? {
                     return Ok(None);
                 }
-                passed = at + 1;
+                passed = place + 1;
             }
         }
     }
     Ok(None)
 }
 
-/// The ends, where no walk is rewritten more often than so, and so many states are no more than these with as many behind each of
-/// them as there are rewrites.
+/// Whether a search passes the next state too, that at this place, whose server refers the query by this zone cut: it
+/// does where the referrals are seen to show no fault. The states to which they lead are queued then, and it is told
+/// whether walks fail.
+fn passes_referral<'h, 'a>(
+    alloc: Global,
+    hosts: &'h Hosts<'a>,
+    sets: &LearntSets,
+    query: &Name,
+    tree: &'h Tree<'a>,
+    cut: NodeId,
+    place: usize,
+    queue: &mut Vec<Queued<'a>>,
+    ends: &mut StraightEnds<'h, 'a>,
+) -> Result<bool, NoMemory>
+    requires within { place < length queue.old.items }
+    requires refers { IfSome (slice_get queue.old.items place) (λ one. IsReply hosts.now query.now one.server.now (reply_as.Refers tree cut)) }
+    requires passed { HasPassed hosts.now sets.now query.now queue.old.items place ends.old }
+    ensures { IfOk result (λ straight. straight ≡ true → HasPassed hosts.now sets.now query.now queue.new.items (place + 1) ends.new) }
+{
+    let server = queue[place].server;
+    queue_referrals(
+        alloc,
+        hosts,
+        sets,
+        query,
+        server,
+        tree,
+        cut,
+        queue,
+        &mut ends.fails,
+    )
+}
+
+/// The ends, where no walk is rewritten more often than so, and so many states are no more than these with as many
+/// behind each of them as there are rewrites.
 #[tactic(auto, using(crate::proofs::GivenEnds::times_fit))]
 fn ends_within<'h, 'a>(
     ends: StraightEnds<'h, 'a>,

@@ -2,23 +2,26 @@ use Rattle.std.proofs.Common.{◌≡◌, ℕ, ◌+◌, ◌*◌, ◌≤◌, List,
 use Rattle.straight_walks.specs.Searching.{IsNextReferral}
 use Rattle.straight_walks.specs.declared.queue.Queued.{Queued}
 use Rattle.straight_walks.specs.declared.referring.NextReferral.TheVariants as referring
-use Rattle.straight_walks.proofs.StraightSearch.{given_within, referral_passed}
+use Rattle.straight_walks.proofs.StraightSearch.{given_within}
 use Rattle.straight_walks.proofs.straight.all_ends.Goals as goal
 
+pub passes_referral-requires-clause-within : goal.passes_referral-requires-clause-within
+passes_referral-requires-clause-within c =
+    (subst (λ (all : List Queued). IsNextReferral c.args.hosts.now c.args.query.now all c.loop-ends.passed c.loop-ends.ends c.next_referral.new.ends
+    (referring.Refers c.in-Refers.place c.in-Refers.tree c.in-Refers.cut)) c.as_slice.ensures.value c.in-Refers.ensures).1
+
+pub passes_referral-requires-clause-refers : goal.passes_referral-requires-clause-refers
+passes_referral-requires-clause-refers c =
+    (subst (λ (all : List Queued). IsNextReferral c.args.hosts.now c.args.query.now all c.loop-ends.passed c.loop-ends.ends c.next_referral.new.ends
+    (referring.Refers c.in-Refers.place c.in-Refers.tree c.in-Refers.cut)) c.as_slice.ensures.value c.in-Refers.ensures).2
+
+pub passes_referral-requires-clause-passed : goal.passes_referral-requires-clause-passed
+passes_referral-requires-clause-passed c =
+    (subst (λ (all : List Queued). IsNextReferral c.args.hosts.now c.args.query.now all c.loop-ends.passed c.loop-ends.ends c.next_referral.new.ends
+    (referring.Refers c.in-Refers.place c.in-Refers.tree c.in-Refers.cut)) c.as_slice.ensures.value c.in-Refers.ensures).3 c.args.sets.now c.loop-ends.invariant
+
 pub loop-ends-preserved : goal.loop-ends-preserved
-loop-ends-preserved c =
-    let config = c.args.hosts.now in
-    let query = c.args.query.now in
-    let queue = c.loop-ends.queue.items in
-    let before = c.loop-ends.passed in
-    let ends_before = c.loop-ends.ends in
-    let ends = c.next_referral.new.ends in
-    let at = c.in-Refers.at in
-    let tree = c.in-Refers.tree in
-    let cut = c.in-Refers.cut in
-    referral_passed config c.args.sets.now query queue c.queue_referrals.new.queue.items before at ends_before ends c.queue_referrals.new.fails tree cut c.index.result.now c.index.ensures
-    (subst (λ (all : List Queued). IsNextReferral config query all before ends_before ends (referring.Refers at tree cut)) c.as_slice.ensures.value c.in-Refers.ensures)
-    c.loop-ends.invariant (c.in_ok-queue_referrals-in-Refers.ensures c.if-not-branch.false)
+loop-ends-preserved c = c.in_ok-passes_referral-in-Refers.ensures c.if-not-branch.false
 
 pub returns-in-Ends : goal.returns-in-Ends
 returns-in-Ends c =

@@ -1,27 +1,31 @@
-use Rattle.std.proofs.Common.{List, length, sym, ◌∙◌, subst}
-use Rattle.straight_walks.specs.Searching.{HasPassed, IsNextReferral, unanswered}
+use Rattle.std.proofs.Common.{◌<◌, List, IfSome, length, sym, subst}
+use Rattle.std.specs.List.{slice_get}
+use Rattle.straight_walks.specs.Searching.{HasPassed, IsReply, unanswered}
 use Rattle.straight_walks.specs.declared.queue.Queued.{Queued}
-use Rattle.straight_walks.specs.declared.referring.NextReferral.TheVariants as referring
-use Rattle.straight_walks.proofs.StraightSearch.{given_within, referral_passed}
+use Rattle.straight_walks.specs.declared.server.Reply.TheVariants as reply
+use Rattle.straight_walks.proofs.StraightSearch.{given_within}
 use Rattle.straight_walks.proofs.straight.ends_from.Goals as goal
 
+pub passes_referral-requires-clause-within : goal.passes_referral-requires-clause-within
+passes_referral-requires-clause-within c =
+    subst (λ (all : List Queued). c.in-Refers.passed < length all) (sym c.in_ok-queue-in-Refers.ensures.items) c.in-Refers.ensures.1
+
+pub passes_referral-requires-clause-refers : goal.passes_referral-requires-clause-refers
+passes_referral-requires-clause-refers c =
+    subst (λ (all : List Queued). IfSome (slice_get all c.in-Refers.passed)
+    (λ one. IsReply c.args.hosts.now c.args.query.now one.server.now (reply.Refers c.in-Refers.tree c.in-Refers.cut))) (sym c.in_ok-queue-in-Refers.ensures.items)
+    c.in-Refers.ensures.2
+
+pub passes_referral-requires-clause-passed : goal.passes_referral-requires-clause-passed
+passes_referral-requires-clause-passed c =
+    subst (λ (all : List Queued). HasPassed c.args.hosts.now c.args.sets.now c.args.query.now all c.in-Refers.passed c.next_referral.new.ends)
+    (sym c.in_ok-queue-in-Refers.ensures.items)
+    (c.in-Refers.ensures.3 c.args.sets.now
+    (subst (λ (all : List Queued). HasPassed c.args.hosts.now c.args.sets.now c.args.query.now all c.args.searched.now.passed (unanswered c.args.searched.now.fails))
+    (sym c.as_slice-queue.ensures.value) c.requires))
+
 pub all_ends-requires : goal.all_ends-requires
-all_ends-requires c =
-    let config = c.args.hosts.now in
-    let deps = c.args.sets.now in
-    let query = c.args.query.now in
-    let queue = c.in_ok-queue-in-Refers.queue.items in
-    let before = c.args.searched.now.passed in
-    let none = unanswered c.args.searched.now.fails in
-    let ends = c.next_referral.new.ends in
-    let at = c.in-Refers.passed in
-    let tree = c.in-Refers.tree in
-    let cut = c.in-Refers.cut in
-    let is_copied = c.in_ok-queue-in-Refers.ensures.items in
-    referral_passed config deps query queue c.queue_referrals.new.queue.items before at none ends c.queue_referrals.new.fails tree cut c.index.result.now c.index.ensures
-    (subst (λ (all : List Queued). IsNextReferral config query all before none ends (referring.Refers at tree cut)) (sym is_copied) c.in-Refers.ensures)
-    (subst (λ (all : List Queued). HasPassed config deps query all before none) (sym (is_copied ∙ c.as_slice-queue.ensures.value)) c.requires)
-    (c.in_ok-queue_referrals-in-Refers.ensures c.if-not-branch.false)
+all_ends-requires c = c.in_ok-passes_referral-in-Refers.ensures c.if-not-branch.false
 
 pub returns-in-Ends : goal.returns-in-Ends
 returns-in-Ends c =
