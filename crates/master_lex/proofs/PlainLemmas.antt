@@ -25,7 +25,8 @@ plain_is : (k : OctetKind) → stands false k ≡ true → k ≡ Plain
 plain_is Plain h = refl
 plain_is _ h = absurd cc
 
-blank_is : (k : OctetKind) → is_blank k ≡ true → k ≡ Blank
+-- white space is of this kind
+pub blank_is : (k : OctetKind) → is_blank k ≡ true → k ≡ Blank
 blank_is Blank h = refl
 blank_is _ h = absurd cc
 

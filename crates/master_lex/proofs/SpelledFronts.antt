@@ -1,5 +1,5 @@
 -- The octets of a text's pieces up to a fault are a front of the text.
-use Rattle.std.proofs.Common.{◌≡◌, ◌⊎◌, ℕ, Bool, true, false, List, [], ◌∷◌, ◌++◌, refl, ap, sym, ◌∙◌, inl, inr, append_assoc, append-nil, eqb-true}
+use Rattle.std.proofs.Common.{◌≡◌, ◌⊎◌, ℕ, Bool, true, false, List, [], ◌∷◌, ◌++◌, refl, ap, ◌∙◌, inl, inr, append_assoc, append-nil, eqb-true}
 use Rattle.std.specs.Prelude.{◌||◌, ◌==◌, nat_eq, if◌then◌else◌}
 use Rattle.dns_data.specs.Octet.{is_digit}
 use Rattle.master_lex.specs.declared.fault.LexKind.TheVariants.{OpenQuote}

@@ -65,6 +65,32 @@ same_made (Faulty fault) s ready = refl
 pub same_last : (s : State) (ready : List Entry) → last_entry (record s { ready = ready }) ≡ last_entry s
 same_last s ready = ap (without_fault (last_fault s.position)) (same_made s.position.mode s ready)
 
+same_ahead : (m : Mode) (s : State) (text : List ℕ) → ahead_by m (record s { ready = [] }) text ≡ ahead_by m s text
+same_ahead Start s text = refl
+same_ahead Between s text = refl
+same_ahead Comment s text = refl
+same_ahead (InToken quoted escape) s text = refl
+same_ahead (Faulty fault) s text = refl
+
+-- where all whole entries are taken, they were given
+pub ready_given : (s : State) (n : ℕ) (finished : Bool) (text : List ℕ) (given : List Entry) → IsLexerOf (record { state = s; fed = n; finished = finished }) text given
+    → IsLexerOf (record { state = record s { ready = [] }; fed = n; finished = finished }) text (given ++ s.ready)
+ready_given s n true text given h = record {
+  fed = h.fed;
+  agrees = record {
+    entries = h.agrees.entries ∙ ap (λ (entries : List Entry). entries ++ last_entry s) (sym (append-nil (given ++ s.ready)))
+        ∙ ap (λ (last : List Entry). ((given ++ s.ready) ++ []) ++ last) (sym (same_last s []));
+    fault = h.agrees.fault;
+  };
+}
+ready_given s n false text given h = record {
+  fed = h.fed;
+  agrees = λ more.
+      let rest = ahead_by s.position.mode s more in
+      h.agrees more ∙ ap (λ (w : List Entry). record rest { whole = w }) (sym (append_assoc given s.ready rest.whole))
+      ∙ ap (λ (c : Contents). behind (given ++ s.ready) (behind [] c)) (sym (same_ahead s.position.mode s more));
+}
+
 -- the entries of a text that were not given are those that are left
 left_over : (given rest total : List Entry) → total ≡ given ++ rest → drop (length given) total ≡ rest
 left_over given rest total e = ap (drop (length given)) e ∙ drop_front given rest

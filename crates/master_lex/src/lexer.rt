@@ -1,17 +1,20 @@
 //! The lexer.
 
 ghost use Rattle.std.specs.Prelude.{◌≡◌, ◌+◌, ◌-◌, ◌^◌, ◌<◌, ◌≤◌, ℕ, List, [], ◌++◌, length, true, false, OnOk, OnErr, IfOk};
-ghost use Rattle.master_lex.specs.declared.entry.Entry.{Entry};
+ghost use Rattle.master_lex.specs.declared.entry.Entry.{Entry as LexEntry};
 ghost use Rattle.master_lex.specs.Lexer.{IsLexerOf, left};
 ghost use Rattle.master_lex.specs.Taking.{IsNextEntry, given_with};
 
+use crate::entry::Entry;
 use crate::fault::TakeFault;
 use crate::position::Mode;
 use crate::scanner::Scanner;
 use crate::taken::Taken;
 use dns_data::NoMemory;
 use std::alloc::Global;
+use std::collections::VecDeque;
 use std::marker::Model;
+use std::mem;
 
 /// The entries of a master file, from octets that come in pieces.
 #[derive(Debug, Drop)]
@@ -49,7 +52,7 @@ impl Lexer {
     pub fn feed(&mut self, alloc: Global, piece: &[u8]) -> Result<(), NoMemory>
         requires open { self.old.finished ≡ false }
         requires short { self.old.fed + length piece.now < 2 ^ 32 - 1 }
-        ensures stands { (text : List ℕ) (given : List Entry) → IsLexerOf self.old text given
+        ensures stands { (text : List ℕ) (given : List LexEntry) → IsLexerOf self.old text given
             → OnOk result (IsLexerOf self.new (text ++ piece.now) given) }
         ensures fed { OnOk result (self.new.fed ≡ self.old.fed + length piece.now) }
         ensures open { self.new.finished ≡ false }
@@ -67,7 +70,7 @@ impl Lexer {
     /// Says that the text has ended.
     pub fn finish(&mut self)
         requires { self.old.finished ≡ false }
-        ensures stands { (text : List ℕ) (given : List Entry) → IsLexerOf self.old text given → IsLexerOf self.new text given }
+        ensures stands { (text : List ℕ) (given : List LexEntry) → IsLexerOf self.old text given → IsLexerOf self.new text given }
         ensures finished { self.new.finished ≡ true }
     {
         self.finished = true;
@@ -76,9 +79,9 @@ impl Lexer {
     /// Takes the next entry. `Lex` comes where it has a fault, and then again at each call; after
     /// `NoMemory` the call can be tried again.
     pub fn take(&mut self, alloc: Global) -> Result<Taken, TakeFault>
-        ensures answer { (text : List ℕ) (given : List Entry) → IsLexerOf self.old text given
+        ensures answer { (text : List ℕ) (given : List LexEntry) → IsLexerOf self.old text given
             → IsNextEntry self.old.finished text given result }
-        ensures stands { (text : List ℕ) (given : List Entry) → IsLexerOf self.old text given
+        ensures stands { (text : List ℕ) (given : List LexEntry) → IsLexerOf self.old text given
             → IfOk result (λ taken. IsLexerOf self.new text (given_with given taken)) }
         ensures left { IfOk result (λ taken. left self.old ≡ given_with [] taken ++ left self.new) }
         ensures finished { self.new.finished ≡ self.old.finished }
@@ -95,5 +98,25 @@ impl Lexer {
             return Ok(Taken::More);
         }
         self.scanner.take_last(alloc)
+    }
+
+    /// Puts the whole entries that weren't taken into a queue at once, if that is empty; else it does nothing.
+    pub fn take_ready(&mut self, entries: &mut VecDeque<Entry>)
+        ensures stands { (text : List ℕ) (given : List LexEntry) → IsLexerOf self.old text given
+            → (more : List LexEntry) × (entries.new.items ≡ entries.old.items ++ more) × IsLexerOf self.new text (given ++ more) }
+        ensures finished { self.new.finished ≡ self.old.finished }
+        ensures fed { self.new.fed ≡ self.old.fed }
+    {
+        if !entries.is_empty() {
+            return;
+        }
+        mem::swap(entries, &mut self.scanner.ready);
+    }
+
+    /// Hands back an entry that was taken and isn't needed any more, so that entries to come have its room.
+    pub fn hand_back(&mut self, entry: Entry)
+        ensures { self.new ≡ self.old }
+    {
+        self.scanner.spares.leave(entry.tokens.into_vec());
     }
 }

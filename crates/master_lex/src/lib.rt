@@ -1,8 +1,9 @@
 //! The entries of a master file (RFC 1035 section 5.1), from octets that come in pieces.
 //!
 //! A `Lexer` is fed pieces, and gives the entries in order with their lines, or the first fault with
-//! its line. It passes over each octet once, plain ones in a row together, and keeps the entries that
-//! weren't taken and the entry under way, and no text.
+//! its line. It looks at each octet at most twice, plain ones in a row together, and keeps the entries that
+//! weren't taken and the entry under way, and no text. An entry that is handed back leaves its room to
+//! those that follow.
 //!
 //! The layer above may rest on this: what a lexer gives of a text are the entries and the fault that the
 //! definitions `text_entries` and `text_fault` say of it, whichever pieces it came in; a piece that is
@@ -19,6 +20,7 @@ mod plain;
 mod position;
 mod reading;
 mod scanner;
+mod spares;
 mod taken;
 mod undo;
 

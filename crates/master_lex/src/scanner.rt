@@ -11,6 +11,7 @@ use crate::entry::{Entry, Token};
 use crate::fault::{LexFault, LexKind};
 use crate::octet::{OctetKind, is_code, is_space_octet, kind_of};
 use crate::position::{Escape, Mode, Position};
+use crate::spares::Spares;
 use dns_data::{List, NoMemory, Octets};
 use std::alloc::Global;
 use std::collections::VecDeque;
@@ -30,6 +31,8 @@ pub struct Scanner {
     pub raw: Octets,
     /// How far the entry under way has come.
     pub position: Position,
+    /// Room for the tokens of entries to come.
+    pub spares: Spares,
 }
 
 impl Scanner {
@@ -42,6 +45,7 @@ impl Scanner {
             tokens: Vec::new(alloc),
             raw: Octets::new(),
             position: Position::start(1),
+            spares: Spares::new(alloc),
         }
     }
 
@@ -138,7 +142,8 @@ impl Scanner {
         ensures err { OnErr result (state_of self.new ≡ state_of self.old) }
     {
         if !self.tokens.is_empty() {
-            let tokens = List::from_vec(mem::replace(&mut self.tokens, Vec::new(alloc)));
+            let room = self.spares.take(alloc);
+            let tokens = List::from_vec(mem::replace(&mut self.tokens, room));
             let entry = Entry {
                 line: self.position.first,
                 blank_start: self.position.blank_start,
