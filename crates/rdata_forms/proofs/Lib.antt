@@ -8,6 +8,7 @@ pub mod Hexadecimal
 pub mod Named
 pub mod PieceTexts
 pub mod Pieces
+pub mod PlainTexts
 pub mod Seconds
 pub mod StandardFacts
 pub mod StartOfAuthority

@@ -2,8 +2,8 @@
 //!
 //! `read_rdata` reads the data of the twelve types, `read_other` keeps those of any other type as their tokens were
 //! written, `read_ttl` reads a time, and `resolve` resolves the escapes of a token. Octets are passed over once, those
-//! of a tag, an IPv4 address or the generic form twice, those of an IPv6 address at most five times. Memory is taken
-//! for what the data keep alone, for a string in one buffer.
+//! of a string, a tag, an IPv4 address or the generic form twice, those of an IPv6 address at most five times. Memory
+//! is taken for what the data keep alone, for a string in one buffer.
 //!
 //! The layer above may rest on this: each call answers what the format says, and of several faults the first: the
 //! generic form of a known type, the number of tokens, then the fields from left to right. A call that takes memory

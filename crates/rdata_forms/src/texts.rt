@@ -1,6 +1,6 @@
 //! Strings and tags.
 
-ghost use Rattle.std.specs.Prelude.{◌≡◌, ◌<◌, ◌∷◌, [], length, IfOk, IfSome, MatchOption};
+ghost use Rattle.std.specs.Prelude.{◌≡◌, ◌<◌, ◌==◌, ◌∷◌, [], length, not, IfOk, IfSome, MatchOption};
 ghost use Rattle.std.specs.List.{list_all};
 ghost use Rattle.dns_data.specs.Answers.{AnswersOr};
 ghost use Rattle.rdata_forms.specs.Texts.{resolved, string_of, is_tag_octet, tag_of};
@@ -9,9 +9,31 @@ use crate::fault::RdataFault;
 use dns_data::{NoMemory, Octets, escaped_octet};
 use std::alloc::Global;
 
-/// The string that the text of a token stands for, in one pass into one buffer, or `TextTooLong` where it has more
-/// than `most` octets. Escapes are resolved and nothing is folded (RFC 1035 section 5.1).
+/// The string that the text of a token stands for, in one buffer, or `TextTooLong` where it has more than `most`
+/// octets. Escapes are resolved and nothing is folded (RFC 1035 section 5.1).
+#[tactic(auto, using(crate::proofs::PlainTexts::plain_resolved))]
 pub fn read_string(alloc: Global, text: &[u8], most: usize) -> Result<Octets, RdataFault>
+    ensures { AnswersOr RdataFault.NoMemory result (string_of most text.now) }
+{
+    if !has_no_backslash(text) {
+        return read_escaped(alloc, text, most);
+    }
+    if text.len() > most {
+        return Err(RdataFault::TextTooLong);
+    }
+    Ok(Octets::from_octets(alloc, text)?)
+}
+
+/// Whether no octet is a backslash.
+fn has_no_backslash(text: &[u8]) -> bool
+    ensures { result ≡ list_all (λ octet. not (octet == 92)) text.now }
+{
+    text.iter().all(|octet| *octet != b'\\')
+}
+
+/// The string that the text of a token stands for, octet by octet, or `TextTooLong` where it has more than `most`
+/// octets.
+fn read_escaped(alloc: Global, text: &[u8], most: usize) -> Result<Octets, RdataFault>
     ensures { AnswersOr RdataFault.NoMemory result (string_of most text.now) }
 {
     let mut octets = Octets::with_capacity(alloc, text.len().min(most))?;

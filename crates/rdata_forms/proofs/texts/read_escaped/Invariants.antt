@@ -1,6 +1,6 @@
 use Rattle.std.proofs.Common.{◌≡◌, ◌≤◌, ◌++◌, length}
 use Rattle.rdata_forms.specs.Texts.{resolved}
-use Rattle.rdata_forms.proofs.texts.read_string.Given as goal
+use Rattle.rdata_forms.proofs.texts.read_escaped.Given as goal
 
 -- the octets so far and those that are left are the string's
 abbrev pub invariant-loop-octet : goal.invariant-loop-octet
