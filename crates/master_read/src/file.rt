@@ -47,6 +47,24 @@ pub fn take_all(
     ensures finished { lexer.new.finished ≡ lexer.old.finished }
     ensures fed { lexer.new.fed ≡ lexer.old.fed }
 {
+    lexer.take_ready(entries);
+    take_others(alloc, lexer, entries)
+}
+
+/// Takes the entries that the lexer has to give one by one, and answers the fault in the spelling of the next one, if
+/// the lexer knows it.
+fn take_others(
+    alloc: Global,
+    lexer: &mut Lexer,
+    entries: &mut VecDeque<Entry>,
+) -> Result<Option<LexFault>, NoMemory>
+    ensures stands { (text : List ℕ) (taken : List LexEntry) → IsLexerOf lexer.old text taken
+        → OnOk result ((more : List LexEntry) × (entries.new.items ≡ entries.old.items ++ more) × IsLexerOf lexer.new text (taken ++ more)) }
+    ensures all { lexer.old.finished ≡ true → (text : List ℕ) (taken : List LexEntry) → IsLexerOf lexer.old text taken
+        → IfOk result (λ fault. (more : List LexEntry) × (entries.new.items ≡ entries.old.items ++ more) × (text_entries text ≡ taken ++ more) × (fault ≡ text_fault text)) }
+    ensures finished { lexer.new.finished ≡ lexer.old.finished }
+    ensures fed { lexer.new.fed ≡ lexer.old.fed }
+{
     loop {
         match lexer.take(alloc) {
             Ok(Taken::Entry(entry)) => entries.push_back(entry)?,
@@ -58,9 +76,10 @@ pub fn take_all(
     }
 }
 
-/// Reads the entries in front, up to an `$INCLUDE`, of the file of this number.
+/// Reads the entries in front, up to an `$INCLUDE`, of the file of this number, and hands them back to the lexer.
 pub fn read_ready(
     alloc: Global,
+    lexer: &mut Lexer,
     records: &mut Records,
     room: u32,
     file: u32,
@@ -73,11 +92,13 @@ pub fn read_ready(
     ensures fault { (include : Include) (behind : List LexEntry) (texts : List (List ℕ))
         → IfErr result (λ fault. IsFaultOf fault (with_entries include room file (entries.old.items ++ behind) (record { records = records.old; texts = texts }))) }
     ensures tells { IfErr result TellsOfText }
+    ensures lexer { lexer.new ≡ lexer.old }
 {
     while let Some(entry) = pop_plain(entries) {
         if let Err(fault) = records.read(alloc, room, file, &entry) {
             return Err(fault.at(file, entry.line));
         }
+        lexer.hand_back(entry);
     }
     Ok(())
 }

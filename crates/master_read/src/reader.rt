@@ -27,6 +27,9 @@ use std::mem;
 /// How many levels of included files may lie below a zone's file.
 const MOST_LEVELS: u32 = 8;
 
+/// How many octets of a piece are read at a time, so that few entries are held and those behind them have their room.
+const PART: usize = 512;
+
 /// The records of a zone's files, from octets that come in pieces. The result is the same however the octets are cut.
 #[derive(Debug, Drop)]
 pub struct ZoneReader {
@@ -165,10 +168,32 @@ impl ZoneReader {
         ensures tells { IfErr result TellsOfText }
         ensures same { self.new ≡ record self.old { lexer = self.new.lexer; file = self.new.file; records = self.new.records } }
     {
-        self.lexer.feed(alloc, piece)?;
+        let mut rest = piece;
+        while !rest.is_empty() {
+            let (part, after) = rest.split_at(rest.len().min(PART));
+            self.read_part(alloc, part)?;
+            rest = after;
+        }
+        Ok(())
+    }
+
+    /// Reads the next octets of the file that is open, up to an `$INCLUDE`.
+    fn read_part(&mut self, alloc: Global, octets: &[u8]) -> Result<(), TextFault>
+        requires short { self.old.lexer.fed + length octets.now < 2 ^ 32 - 1 }
+        requires within { self.old.lexer.fed + length octets.now ≤ self.old.fed }
+        ensures read { (origin : Labels) (ended : List (List ℕ)) (text : List ℕ) → IsReading self.old origin ended text
+            → OnOk result (IsReading self.new origin ended (text ++ octets.now)) }
+        ensures fault { (origin : Labels) (ended : List (List ℕ)) (text : List ℕ) → IsReading self.old origin ended text
+            → IfErr result (λ fault. fault ≢ TextFault.NoMemory → IsSettled fault self.old.limits origin ended (text ++ octets.now)) }
+        ensures tells { IfErr result TellsOfText }
+        ensures fed { OnOk result (self.new.lexer.fed ≡ self.old.lexer.fed + length octets.now) }
+        ensures same { self.new ≡ record self.old { lexer = self.new.lexer; file = self.new.file; records = self.new.records } }
+    {
+        self.lexer.feed(alloc, octets)?;
         take_all(alloc, &mut self.lexer, &mut self.file.entries)?;
         read_ready(
             alloc,
+            &mut self.lexer,
             &mut self.records,
             self.limits.room,
             self.file.number,
@@ -223,6 +248,7 @@ impl ZoneReader {
         loop {
             read_ready(
                 alloc,
+                &mut self.lexer,
                 &mut self.records,
                 self.limits.room,
                 self.file.number,

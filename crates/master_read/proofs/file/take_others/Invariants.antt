@@ -2,7 +2,7 @@
 use Rattle.std.proofs.Common.{◌≡◌, ℕ, List, ◌++◌, length}
 use Rattle.master_lex.specs.Lexer.{IsLexerOf, left}
 use Rattle.master_lex.specs.declared.entry.Entry.{Entry}
-use Rattle.master_read.proofs.file.take_all.Given as goal
+use Rattle.master_read.proofs.file.take_others.Given as goal
 
 abbrev pub invariant-loop-entry : goal.invariant-loop-entry
 invariant-loop-entry l = record {

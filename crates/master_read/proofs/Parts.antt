@@ -1,0 +1,62 @@
+-- Pieces that are read part by part.
+use Rattle.std.proofs.Common.{◌≡◌, ℕ, ◌+◌, ◌≤◌, List, [], ◌∷◌, ◌++◌, length, refl, sym, ap, ◌∙◌, subst, append_assoc, arith}
+use Rattle.std.proofs.lemmas.List.{append-nil, length-append}
+use Rattle.dns_data.specs.Name.{Labels}
+use Rattle.master_read.specs.Reader.{Held, IsReading, IsSettled, texts_give}
+use Rattle.master_read.specs.declared.fault.TextFault.{TextFault}
+use Rattle.master_read.specs.declared.records.Limits.{Limits}
+
+-- so much of a piece was read in front of the rest
+pub record HasReadPart (old new : Held) (piece rest : List ℕ) : Type 0 where
+  pub front : List ℕ
+  pub whole : front ++ rest ≡ piece
+  pub reads : (origin : Labels) (ended : List (List ℕ)) (text : List ℕ) → IsReading old origin ended text → IsReading new origin ended (text ++ front)
+  pub same : new ≡ record old { lexer = new.lexer; file = new.file; records = new.records }
+  pub fed : new.lexer.fed ≡ old.lexer.fed + length front
+
+-- nothing was read
+pub none_read : (held : Held) (piece : List ℕ) → HasReadPart held held piece piece
+none_read held piece = record {
+  front = [];
+  whole = refl;
+  reads = λ origin ended text h. subst (IsReading held origin ended) (sym (append-nil text)) h;
+  same = refl;
+  fed = omega arith;
+}
+
+-- the next part was read
+pub more_read : (old mid new : Held) (piece rest front after : List ℕ) → HasReadPart old mid piece rest → front ++ after ≡ rest
+    → ((origin : Labels) (ended : List (List ℕ)) (text : List ℕ) → IsReading mid origin ended text → IsReading new origin ended (text ++ front))
+    → new ≡ record mid { lexer = new.lexer; file = new.file; records = new.records } → new.lexer.fed ≡ mid.lexer.fed + length front → HasReadPart old new piece after
+more_read old mid new piece rest front after h cut reads same fed = record {
+  front = h.front ++ front;
+  whole = append_assoc h.front front after ∙ ap (λ (r : List ℕ). h.front ++ r) cut ∙ h.whole;
+  reads = λ origin ended text reading. subst (IsReading new origin ended) (append_assoc text h.front front) (reads origin ended (text ++ h.front) (h.reads origin ended text reading));
+  same = same ∙ ap (λ (held : Held). record held { lexer = new.lexer; file = new.file; records = new.records }) h.same;
+  fed = omega (arith, fed, h.fed, length-append h.front front);
+}
+
+-- what is fed of a part stays within what is fed of the piece
+pub part_within : (old mid : Held) (piece rest part after : List ℕ) → HasReadPart old mid piece rest → part ++ after ≡ rest
+    → (mid.lexer.fed + length part ≤ old.lexer.fed + length piece) × (mid.fed ≡ old.fed)
+part_within old mid piece rest part after h cut =
+    let whole : length h.front + length rest ≡ length piece = sym (length-append h.front rest) ∙ ap length h.whole in
+    let parts : length part + length after ≡ length rest = sym (length-append part after) ∙ ap length cut in
+    (omega (arith, h.fed, whole, parts), ap (λ (held : Held). held.fed) h.same)
+
+-- where nothing is left, the piece was read
+pub all_read : (old new : Held) (piece rest : List ℕ) → HasReadPart old new piece rest → rest ≡ []
+    → (origin : Labels) (ended : List (List ℕ)) (text : List ℕ) → IsReading old origin ended text → IsReading new origin ended (text ++ piece)
+all_read old new piece rest h none origin ended text reading =
+    let is : h.front ≡ piece = sym (append-nil h.front) ∙ ap (λ (r : List ℕ). h.front ++ r) (sym none) ∙ h.whole in
+    subst (λ (p : List ℕ). IsReading new origin ended (text ++ p)) is (h.reads origin ended text reading)
+
+-- a fault that is settled in a part is settled in the piece
+pub part_settles : (old mid : Held) (piece rest front after : List ℕ) (fault : TextFault) (limits : Limits) (origin : Labels) (ended : List (List ℕ)) (text : List ℕ)
+    → (h : HasReadPart old mid piece rest) → front ++ after ≡ rest → IsSettled fault limits origin ended ((text ++ h.front) ++ front) → IsSettled fault limits origin ended (text ++ piece)
+part_settles old mid piece rest front after fault limits origin ended text h cut settled more later =
+    let read = text ++ h.front in
+    let whole : text ++ piece ≡ (read ++ front) ++ after
+    = ap (λ (p : List ℕ). text ++ p) (sym h.whole) ∙ sym (append_assoc text h.front rest) ∙ ap (λ (r : List ℕ). read ++ r) (sym cut) ∙ sym (append_assoc read front after) in
+    let on : (text ++ piece) ++ more ≡ (read ++ front) ++ (after ++ more) = ap (λ (t : List ℕ). t ++ more) whole ∙ append_assoc (read ++ front) after more in
+    ap (λ (t : List ℕ). texts_give limits origin (ended ++ t ∷ later)) on ∙ settled (after ++ more) later
