@@ -2,6 +2,7 @@ mod EqualEnds
 mod GoingOn
 mod InOrder
 mod Lines
+mod ListedEnds
 mod NodesAfter
 pub mod OneViews
 mod SearchSteps

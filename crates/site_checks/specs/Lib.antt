@@ -3,6 +3,7 @@ pub use Rattle.graph_form.specs.GraphOf
 pub use Rattle.graph_form.specs.Report
 pub mod AOnly
 pub mod Answering
+pub mod EndPlaces
 pub mod Ends
 pub mod Line
 pub mod Once

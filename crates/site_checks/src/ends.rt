@@ -1,18 +1,19 @@
 //! The ends of the walks of a query, found without listing walks.
 
 ghost use Rattle.std.specs.Prelude.{◌≡◌, ◌<◌, [], length, IfOk, OnOk};
-ghost use Rattle.std.specs.List.{fold, list_any};
+ghost use Rattle.std.specs.List.{fold};
 ghost use Rattle.dns_data.specs.Name.{Labels};
 ghost use Rattle.graph_form.specs.GraphOf.{IsGraphOf};
 ghost use Rattle.net_model.specs.Step.{Setting};
-ghost use Rattle.site_checks.specs.Ends.{AreEnds, end_eq, leaf_eq, typed_end};
+ghost use Rattle.site_checks.specs.Ends.{AreEnds, end_eq};
 ghost use Rattle.site_checks.specs.Once.{with_new};
 ghost use Rattle.site_checks.specs.PathEnds.{AreDone, IsMet, ends_from, ends_with, path_ends};
 
+use crate::end_set::EndSet;
 use crate::views::{TypedEnd, View};
 use dns_data::{List, Name, NoMemory, RrType};
-use graph_form::{Branch, Graph, is_place, is_same_answer};
-use net_model::{Class, Leaf};
+use graph_form::{Branch, Graph};
+use net_model::Class;
 use std::alloc::Global;
 
 /// The view of a class for which the query stands, from the graph of the query's walks. Each node of the graph is passed
@@ -35,11 +36,11 @@ fn ends_of(alloc: Global, graph: &Graph) -> Result<List<TypedEnd>, NoMemory>
     requires of_query { (setting : Setting) × (query : Labels) × IsGraphOf setting query graph.now }
     ensures { IfOk result (λ ends. ends ≡ fold (with_new end_eq) [] (path_ends graph.now)) }
 {
-    let mut ends = List::new(alloc);
+    let mut ends = EndSet::new(alloc);
     for rtype in RrType::ALL.iter() {
         put_ends_with(alloc, graph, *rtype, &mut ends)?;
     }
-    Ok(ends)
+    Ok(ends.into_list())
 }
 
 /// Puts the ends of all paths with the type behind the others, in order, each unless it is there.
@@ -47,7 +48,7 @@ fn put_ends_with(
     alloc: Global,
     graph: &Graph,
     rtype: RrType,
-    ends: &mut List<TypedEnd>,
+    ends: &mut EndSet,
 ) -> Result<(), NoMemory>
     requires of_query { (setting : Setting) × (query : Labels) × IsGraphOf setting query graph.now }
     ensures { OnOk result (ends.new ≡ fold (with_new end_eq) ends.old (ends_with graph.now rtype)) }
@@ -68,7 +69,7 @@ fn put_ends_from(
     rtype: RrType,
     at: u32,
     done: &mut [bool],
-    ends: &mut List<TypedEnd>,
+    ends: &mut EndSet,
 ) -> Result<(), NoMemory>
     requires met { IsMet graph.now at }
     requires at { at < length graph.now.nodes }
@@ -85,61 +86,9 @@ fn put_ends_from(
     for branch in node.branches(rtype) {
         match branch {
             Branch::Go { hop: _, to } => put_ends_from(alloc, graph, rtype, *to, done, ends)?,
-            Branch::End { hop: _, leaf } => put_end(alloc, rtype, &node.state.server, leaf, ends)?,
+            Branch::End { hop: _, leaf } => ends.put(alloc, rtype, &node.state.server, leaf)?,
         }
     }
     done[at as usize] = true;
     Ok(())
-}
-
-/// Puts an end behind the others, unless it is there.
-fn put_end(
-    alloc: Global,
-    rtype: RrType,
-    server: &Name,
-    leaf: &Leaf,
-    ends: &mut List<TypedEnd>,
-) -> Result<(), NoMemory>
-    ensures { OnOk result (ends.new ≡ with_new end_eq ends.old (typed_end rtype server.now leaf.now)) }
-{
-    if has_end(ends.items(), rtype, server, leaf) {
-        return Ok(());
-    }
-    ends.push(TypedEnd {
-        rtype,
-        server: server.copy(alloc)?,
-        leaf: leaf.copy(alloc)?,
-    })
-}
-
-/// Whether the end is there.
-fn has_end(ends: &[TypedEnd], rtype: RrType, server: &Name, leaf: &Leaf) -> bool
-    ensures { result ≡ list_any (end_eq (typed_end rtype server.now leaf.now)) ends.now }
-{
-    ends.iter().any(|end| is_end(end, rtype, server, leaf))
-}
-
-/// Whether an end is this one.
-fn is_end(end: &TypedEnd, rtype: RrType, server: &Name, leaf: &Leaf) -> bool
-    ensures { result ≡ end_eq (typed_end rtype server.now leaf.now) end.now }
-{
-    rtype.number() == end.rtype.number() && *server == end.server && is_same_leaf(leaf, &end.leaf)
-}
-
-/// Whether two leaves are equal.
-fn is_same_leaf(a: &Leaf, b: &Leaf) -> bool
-    ensures { result ≡ leaf_eq a.now b.now }
-{
-    match (a, b) {
-        (Leaf::Answer(_), Leaf::Answer(_)) => is_same_answer(a, b),
-        (Leaf::NoData, Leaf::NoData)
-        | (Leaf::NxDomain, Leaf::NxDomain)
-        | (Leaf::Outside, Leaf::Outside) => true,
-        (Leaf::Unhosted(ns), Leaf::Unhosted(other))
-        | (Leaf::Lame(ns), Leaf::Lame(other))
-        | (Leaf::NoAddress(ns), Leaf::NoAddress(other)) => *ns == *other,
-        (Leaf::Limit(place), Leaf::Limit(other)) | (Leaf::Overlong(place), Leaf::Overlong(other)) =>
-            is_place(place, other),
-        _ => false,
-    }
 }

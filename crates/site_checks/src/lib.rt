@@ -5,13 +5,14 @@
 //! checks for their names and their findings.
 //!
 //! Costs: `view` passes over each node of the graph once for each type that comes to it, and keeps a mark a node; it
-//! compares each end with those that were found. `AOnly` goes over a view's ends twice at most. `Answering` compares the
-//! line of each answering end with those that it holds.
+//! compares each end with those that were found at its server. `AOnly` goes over a view's ends twice at most. `Answering`
+//! compares the line of each answering end with those that it holds.
 #![tactic(auto)]
 
 mod a_only;
 mod answering;
 mod check;
+mod end_set;
 mod ends;
 mod fault;
 mod laws;

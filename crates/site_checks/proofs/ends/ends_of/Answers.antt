@@ -1,4 +1,4 @@
-use Rattle.std.proofs.Common.{[], refl}
+use Rattle.std.proofs.Common.{[], refl, ◌∙◌}
 use Rattle.dns_data.specs.RrType.{types}
 use Rattle.site_checks.specs.PathEnds.{ends_with}
 use Rattle.site_checks.proofs.SearchSteps.{one_more, all_given}
@@ -15,7 +15,8 @@ loop-rtype-preserved c =
 
 pub returns : goal.returns
 returns c =
-    all_given (ends_with c.args.graph.now) types c.loop-rtype.rtype-index [] c.loop-rtype.ends c.loop-rtype.invariant c.loop-rtype-test.false
+    c.into_list.ensures
+    ∙ all_given (ends_with c.args.graph.now) types c.loop-rtype.rtype-index [] c.loop-rtype.ends c.loop-rtype.invariant c.loop-rtype-test.false
 
 pub put_ends_with-requires : goal.put_ends_with-requires
 put_ends_with-requires c = c.requires
