@@ -1,11 +1,11 @@
-//! A report checked entry by entry, by a second way: with walks alone, and without the graphs, the laws and the workers
-//! that made it.
+//! A report checked entry by entry, by a second way: with walks alone, and without the graphs and the workers that
+//! made it. With many top servers, servers' names that rest are looked up as a check does (resting_names).
 //!
 //! The layer above may rest on this: `check_report` answers what `IsChecked` says of the configuration and the octets.
 //! A yes means that the walks of each entry are walks of its query, and show its fault; that no fault is missing it
 //! doesn't say. To each configuration and octets there is one answer beside `NoMemory` (`laws::one_answer`). Each
 //! entry of a report that `check` makes is right (`laws::a_report_checks`), so that the answer to its text is yes, or
-//! too many walks, or `NoMemory`.
+//! too many walks, or `NoMemory`; the law takes it that the text is UTF-8.
 //!
 //! Nothing in an entry is taken apart but its query and its type. The walks of these are followed, the faults that a
 //! walk shows are found, and the entry that would be right is written and compared with the one in hand.

@@ -1,5 +1,6 @@
 -- The ends of the graph of a query are those of its walks.
 use Rattle.std.proofs.Common.{◌≡◌, ◌↔◌, Bool, true, false, not, ◌||◌, List, [], ◌∷◌, Contains, Option, Some, None, refl, sym, ap, ◌∙◌, subst, inl, inr, true≢false}
+use Rattle.std.proofs.Math.Bool.{or-false}
 use Rattle.std.specs.Prelude.{if◌then◌else◌}
 use Rattle.std.specs.List.{flat_map, list_all, list_any}
 use Rattle.std.proofs.lemmas.List.Folds.{list_any-append}
@@ -28,7 +29,6 @@ use Rattle.net_model.specs.declared.walk.Leaf.TheVariants.{Overlong}
 use Rattle.net_model.specs.declared.walk.Walk.{Walk}
 use Rattle.walk_laws.specs.Outcome.{HasOutcome, outcome_of}
 use Rattle.same_answers.specs.Ends.{branch_ends, branch_overlong, ends_of, graph_overlong, is_bounded, node_ends, node_overlong, outcome_eq, are_within}
-use Rattle.same_answers.proofs.OutcomeSets.{or_nothing}
 
 -- what holds of each item holds of all
 pub all_have : {X : Type 0} (test : X → Bool) (xs : List X) → ((x : X) → Contains xs x → test x ≡ true) → list_all test xs ≡ true
@@ -67,7 +67,7 @@ any_given f test of_all agree (x ∷ xs) =
 
 branch_by_ends : (branch : Branch) → branch_overlong branch ≡ list_any is_overlong (branch_ends branch)
 branch_by_ends (Go hop to) = refl
-branch_by_ends (End hop leaf) = or_nothing (is_overlong leaf)
+branch_by_ends (End hop leaf) = sym (or-false (is_overlong leaf))
 
 -- the graph ends in a name that is too long exactly where one of its ends is one
 overlong_by_ends : (graph : PlainGraph) (rtype : RrType) → graph_overlong graph rtype ≡ list_any is_overlong (ends_of graph rtype)

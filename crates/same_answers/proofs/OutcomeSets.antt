@@ -1,5 +1,6 @@
 -- Sets of outcomes, to which ends are put one after the other.
 use Rattle.std.proofs.Common.{◌≡◌, Bool, true, false, ◌||◌, List, Contains, refl, sym, ◌∙◌, Bor, true≢false}
+use Rattle.std.proofs.Math.Bool.{or-false}
 use Rattle.std.specs.BTreeSet as tree
 use Rattle.std.specs.Cmp.Lexicographic.{slice_cmp, lists_total, lists_ties}
 use Rattle.std.specs.Ordering.{eq_by_cmp}
@@ -25,11 +26,6 @@ not_all test xs x has fails = by (list_all test xs) refl where
   by true e = absurd (true≢false (sym (each_of_all test xs e x has) ∙ fails))
   by false e = refl
 
--- nothing more
-pub or_nothing : (b : Bool) → b ≡ (b || false)
-or_nothing true = refl
-or_nothing false = refl
-
 -- lists of data are equal exactly where their order doesn't tell them apart
 data_ties : (x y : List Rdata) → pointwise data_eq x y ≡ eq_by_cmp (slice_cmp (data_impl.ghosts).cmp) x y
 data_ties x y = sym (same_lists x y) ∙ lists_ties (data_impl.ghosts).cmp matches_eq-law x y
@@ -41,6 +37,6 @@ module _ (old : OutcomeSet) (after : tree.BTreeSet (Bor (List Rdata))) (key : Bo
   pub answer_put : (query : Leaf) → has_outcome (record old { answers = after }) query ≡ (has_outcome old query || outcome_eq query (leaves.Answer key.now))
   answer_put (leaves.Answer rdata) =
       has-added (slice_cmp (data_impl.ghosts).cmp) (pointwise data_eq) (lists_total total-law) data_ties old.answers after key updates rdata
-  answer_put leaves.NoData = or_nothing old.no_data
-  answer_put leaves.NxDomain = or_nothing old.nx_domain
-  answer_put leaf = or_nothing old.failed
+  answer_put leaves.NoData = sym (or-false old.no_data)
+  answer_put leaves.NxDomain = sym (or-false old.nx_domain)
+  answer_put leaf = sym (or-false old.failed)

@@ -64,7 +64,7 @@ fn ends_overlong(graph: &Graph, rtype: RrType) -> bool
     false
 }
 
-/// Whether a node does.
+/// Whether a node ends with the type in a name of more than 255 octets.
 fn node_ends_overlong(node: &Node, rtype: RrType) -> bool
     ensures { result ≡ node_overlong rtype node.now }
 {
@@ -73,7 +73,7 @@ fn node_ends_overlong(node: &Node, rtype: RrType) -> bool
         .any(|branch| is_overlong_end(branch))
 }
 
-/// Whether the branch ends so.
+/// Whether the branch ends in a name of more than 255 octets.
 fn is_overlong_end(branch: &Branch) -> bool
     ensures { result ≡ branch_overlong branch.now }
 {

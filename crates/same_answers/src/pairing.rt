@@ -228,5 +228,6 @@ fn servers_have_names(graphs: &QueryGraphs<'_>)
     ensures { SomeServerPasses graphs.now.config graphs.now.rewrites graphs.now.states
         → SomeNamePasses graphs.now.config graphs.now.rewrites graphs.now.states }
 {
+    // The sets are asked for, so that it is known here that a server that passes is a configured one.
     let _ = graphs.sets();
 }
