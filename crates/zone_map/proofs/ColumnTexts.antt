@@ -1,15 +1,9 @@
 -- Columns that are put one behind the other.
-use Rattle.std.proofs.Common.{◌≡◌, ℕ, ◌<◌, List, [], ◌∷◌, ◌++◌, length, append_assoc, append-nil, Result, Ok, Err, refl, ap, sym, ◌∙◌, arith}
-use Rattle.std.specs.Prelude.{OnOk}
+use Rattle.std.proofs.Common.{◌≡◌, ℕ, ◌<◌, List, [], ◌∷◌, ◌++◌, length, append_assoc, append-nil, refl, ap, sym, ◌∙◌, arith}
 use Rattle.dns_data.specs.DataText.{separated}
 use Rattle.dns_data.proofs.Pieces.{separated-push}
 use Rattle.std.proofs.lemmas.List.{length-append}
 use Rattle.zone_map.specs.Columns.{line_of, tab}
-
--- what follows of an answer
-pub on_ok : {T E P Q : Type 0} (result : Result T E) → (P → Q) → OnOk result P → OnOk result Q
-on_ok (Ok value) follows holds = follows holds
-on_ok (Err fault) follows holds = tt
 
 -- one column more, behind a tab
 more : (t x : List ℕ) (columns : List (List ℕ)) → 0 < length columns → (s : List ℕ) → s ≡ t ++ separated tab columns

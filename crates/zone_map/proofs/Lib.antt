@@ -1,8 +1,10 @@
+pub mod AnsweredRows
 pub mod ColumnTexts
 pub mod Endings
 pub mod ReachedViews
 pub mod SeenRows
 pub mod ShownOrigins
+mod TwoTypes
 mod Worked
 pub mod KnownTargets
 pub mod TargetWalks

@@ -27,7 +27,8 @@ use Rattle.site_checks.specs.Ends.{end_eq, end_of, ends_of, is_answer, last_serv
 use Rattle.site_checks.specs.declared.views.TypedEnd.{TypedEnd}
 use Rattle.site_checks.specs.declared.views.View.{View}
 use Rattle.zone_map.specs.Limits.{reached_queries}
-use Rattle.zone_map.specs.Reached.{IsReached, answers_at, is_alone, reached_rewrites, shows_reached}
+use Rattle.zone_map.specs.Reached.{IsReached, answers_at, is_alone, shows_reached}
+use Rattle.zone_map.specs.Rewrites.{most_rewrites}
 use Rattle.zone_map.specs.ShownOrigins.{AreViewsOf, IsViewOf}
 use Rattle.zone_map.proofs.SeenRows.{is_seen}
 
@@ -142,7 +143,7 @@ module _ (config : Config) (row : RowFiles) where
       let both = and_parts (is_alone row.origin view.class) (list_any (answers_at row.server) view.ends) shown in
       let own : name ≡ row.origin = (name_eq_decides name row.origin).0 (subst (λ (class : Class). is_alone row.origin class ≡ true) is.is_class both.0) in
       let walks = is.ends.walks in
-      let setting : Setting = following config reached_rewrites is.followed in
+      let setting : Setting = following config most_rewrites is.followed in
       let (end, among, passes) = from_any (answers_at row.server) (ends_of walks)
       (subst (λ (ends : List TypedEnd). list_any (answers_at row.server) ends ≡ true) is.ends.are_ends both.1) in
       let (rtype, known, with_type) = from_flat_map (λ (t : RrType). map (end_of t) (walks t)) types end (from_distinct end_eq (all_ends walks) end among) in
@@ -164,11 +165,11 @@ module _ (config : Config) (row : RowFiles) where
   by_walk : (view : View) → IsViewOf (reached_queries config) row.origin view → IsReached config row → shows_reached view row ≡ true
   by_walk view is reached =
       let walks = is.ends.walks in
-      let setting : Setting = following config reached_rewrites is.followed in
+      let setting : Setting = following config most_rewrites is.followed in
       let walk : Walk = reached.walk in
       let is_walk : IsWalk setting row.origin Soa walk =
-      subst (λ (names : List Labels). IsWalk (following config reached_rewrites names) row.origin Soa walk)
-      (one_in_force config reached_rewrites reached.followed is.followed reached.in_force is.in_force) reached.is_walk in
+      subst (λ (names : List Labels). IsWalk (following config most_rewrites names) row.origin Soa walk)
+      (one_in_force config most_rewrites reached.followed is.followed reached.in_force is.in_force) reached.is_walk in
       let has = is_listed setting row.origin Soa (walks Soa) (is.ends.are_walks Soa) walk is_walk in
       let among = flat_map_has (λ (t : RrType). map (end_of t) (walks t)) types Soa (end_of Soa walk) (every_type Soa) (map_has (end_of Soa) (walks Soa) walk has) in
       let passes : answers_at row.server (end_of Soa walk) ≡ true =

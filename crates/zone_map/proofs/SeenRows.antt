@@ -1,5 +1,6 @@
 -- What is told of rows by the views that a check was shown, and the lines that say it.
-use Rattle.std.proofs.Common.{◌≡◌, ℕ, zero, suc, ◌+◌, ◌<◌, ◌≤◌, Bool, true, false, ◌||◌, cond, List, [], ◌∷◌, ◌++◌, append_assoc, append-nil, map, length, replicate, take, drop, get_or, slice_set, codes, refl, sym, ap, ◌∙◌, subst, arith}
+use Rattle.std.proofs.Common.{◌≡◌, ℕ, suc, ◌+◌, ◌<◌, ◌≤◌, Bool, true, false, ◌||◌, cond, List, [], ◌∷◌, ◌++◌, append_assoc, append-nil, map, length, drop, get_or, codes, refl, sym, ap, ◌∙◌, subst, arith}
+use Rattle.std.proofs.Math.Bool.{or-false}
 use Rattle.std.specs.Prelude.{◌↔◌, Contains}
 use Rattle.std.specs.List.{AllZip, fold, list_any}
 use Rattle.std.proofs.Math.ListN.{drop_of_length-le}
@@ -10,63 +11,15 @@ use Rattle.config_load.specs.declared.loaded.RowFiles.{RowFiles}
 use Rattle.site_checks.specs.declared.views.View.{View}
 use Rattle.zone_map.specs.Columns.{line_of}
 use Rattle.zone_map.specs.Reached.{after_view, reached_text, reached_word, row_columns, shows_reached}
-use Rattle.zone_map.specs.ReachedRows.{told_after}
 
--- ---- a view
-
--- before a view was shown no row is reached
-pub words_at_first : (rows : List RowFiles) → map reached_word (replicate (length rows) false) ≡ map (λ row. codes "unreached") rows
-words_at_first [] = refl
-words_at_first (row ∷ rows) = ap (λ words. codes "unreached" ∷ words) (words_at_first rows)
+-- ---- all views
 
 one_word : (shown was : Bool) → reached_word (shown || was) ≡ cond shown (codes "reached") (reached_word was)
 one_word true was = refl
 one_word false was = refl
 
--- the words of what is told once a view was shown are those of before, once it was shown
-pub words_after : (view : View) (rows : List RowFiles) (told : List Bool) → map reached_word (told_after view rows told) ≡ after_view view rows (map reached_word told)
-words_after view [] told = refl
-words_after view (row ∷ rows) [] = refl
-words_after view (row ∷ rows) (one ∷ told) =
-    let first = one_word (shows_reached view row) one in
-    let rest = words_after view rows told in
-    λ i. first i ∷ rest i
-
--- as many marks are left
-pub as_long : (view : View) (rows : List RowFiles) (told : List Bool) → length (told_after view rows told) ≡ length told
-as_long view [] told = refl
-as_long view (row ∷ rows) [] = refl
-as_long view (row ∷ rows) (one ∷ told) = ap suc (as_long view rows told)
-
-one_mark : (shown was : Bool) (told : List Bool) → (shown || was) ∷ told ≡ cond shown (true ∷ told) (was ∷ told)
-one_mark true was told = refl
-one_mark false was told = refl
-
-behind : (shown first : Bool) (one other : List Bool) → first ∷ cond shown one other ≡ cond shown (first ∷ one) (first ∷ other)
-behind true first one other = refl
-behind false first one other = refl
-
--- the mark of one row more
-one_more : (view : View) (rows : List RowFiles) (i : ℕ) (row : RowFiles) (told : List Bool) → i < length rows → length told ≡ length rows → row ≡ get_or rows i row
-    → told_after view (take (suc i) rows) told ≡ cond (shows_reached view row) (slice_set (told_after view (take i rows) told) i true) (told_after view (take i rows) told)
-one_more view [] i row told there long is = absurd (omega arith)
-one_more view (first ∷ rows) i row [] there long is = absurd (omega arith)
-one_more view (first ∷ rows) zero row (one ∷ told) there long is =
-    one_mark (shows_reached view first) one told ∙ ap (λ (r : RowFiles). cond (shows_reached view r) (true ∷ told) (one ∷ told)) (sym is)
-one_more view (first ∷ rows) (suc i) row (one ∷ told) there long is =
-    ap (λ more. (shows_reached view first || one) ∷ more) (one_more view rows i row told (omega arith) (omega arith) is)
-    ∙ behind (shows_reached view row) (shows_reached view first || one) (slice_set (told_after view (take i rows) told) i true) (told_after view (take i rows) told)
-
-pub told_more : (view : View) (rows : List RowFiles) (i : ℕ) (row : RowFiles) (told : List Bool) → i < length rows → length told ≡ length rows → row ≡ get_or rows i row
-    → told_after view (take (i + 1) rows) told ≡ cond (shows_reached view row) (slice_set (told_after view (take i rows) told) i true) (told_after view (take i rows) told)
-told_more view rows i row told there long is =
-    let next : i + 1 ≡ suc i = omega arith in
-    ap (λ n. told_after view (take n rows) told) next ∙ one_more view rows i row told there long is
-
--- ---- all views
-
 -- where this is told of each row, this is once a view was shown
-one_view : (view : View) (told : RowFiles → Bool) (rows : List RowFiles)
+pub one_view : (view : View) (told : RowFiles → Bool) (rows : List RowFiles)
     → after_view view rows (map (λ row. reached_word (told row)) rows) ≡ map (λ row. reached_word (shows_reached view row || told row)) rows
 one_view view told [] = refl
 one_view view told (row ∷ rows) =
@@ -80,17 +33,13 @@ turned true false later = refl
 turned false true later = refl
 turned false false later = refl
 
-or_none : (was : Bool) → was ≡ (was || false)
-or_none true = refl
-or_none false = refl
-
 -- some view shows that the row is reached
 abbrev pub is_seen : List View → RowFiles → Bool
 is_seen views row = list_any (λ view. shows_reached view row) views
 
 all_views : (rows : List RowFiles) (views : List View) (told : RowFiles → Bool)
     → fold (λ words view. after_view view rows words) (map (λ row. reached_word (told row)) rows) views ≡ map (λ row. reached_word (told row || is_seen views row)) rows
-all_views rows [] told = λ i. map (λ row. reached_word (or_none (told row) i)) rows
+all_views rows [] told = λ i. map (λ row. reached_word (sym (or-false (told row)) i)) rows
 all_views rows (view ∷ views) told =
     ap (λ found. fold (λ words view. after_view view rows words) found views) (one_view view told rows)
     ∙ all_views rows views (λ row. shows_reached view row || told row)

@@ -1,12 +1,19 @@
 -- The views of rows' origins, shown one after the other: what a check has seen, and how a run ends among them.
-use Rattle.std.proofs.Common.{◌≡◌, ℕ, suc, ◌+◌, ◌<◌, ◌≤◌, List, [], ◌∷◌, ◌++◌, length, take, drop, get_or, Contains, Result, Ok, Err, IfErr, refl, sym, ap, subst, ◌∙◌, inl, inr, arith}
-use Rattle.std.specs.Prelude.{◌⊎◌, IsErrAnd}
+use Rattle.std.proofs.Common.{◌≡◌, ℕ, suc, ◌+◌, ◌<◌, ◌≤◌, Bool, true, false, ◌||◌, is_eq, List, [], ◌∷◌, ◌++◌, length, take, drop, get_or, Contains, refl, sym, ap, subst, ◌∙◌, inl, inr, arith}
+use Rattle.std.specs.Prelude.{◌⊎◌}
+use Rattle.std.specs.BTreeSet as tree
+use Rattle.std.specs.Cmp.Lexicographic.{lists_equiv, lists_ties, nat_list_eq_equiv, texts_ties}
+use Rattle.std.specs.List.{list_any}
 use Rattle.std.proofs.Math.Seq.{drop-cons}
 use Rattle.std.proofs.lemmas.List.{take-append-drop, take_more, take_all}
 use Rattle.std.proofs.lemmas.List.Elements.{Contains-append_cases, Contains-append_left, Contains-append_right}
 use Rattle.std.proofs.lemmas.List.Sums.{fold_push}
-use Rattle.dns_data.specs.Name.{Labels}
+use Rattle.dns_data.specs.Label.{label_cmp}
+use Rattle.dns_data.specs.Name.{Labels, name_cmp, name_eq}
 use Rattle.dns_data.proofs.Membership.{none_in_nil, first_or_later, has_first}
+use Rattle.dns_data.proofs.Names.{name_eq_decides}
+use Rattle.dns_data.proofs.Searches.{from_any}
+use Rattle.dns_data.proofs.SeenItems.{or-from_cond}
 use Rattle.graph_form.specs.Graph.{PlainGraph}
 use Rattle.graph_form.specs.GraphOf.{IsGraphOf}
 use Rattle.net_model.specs.declared.class.Class.TheVariants.{Exact}
@@ -17,12 +24,7 @@ use Rattle.run_endings.specs.declared.ending.Ending.{Ending}
 use Rattle.site_checks.specs.Ends.{AreEnds}
 use Rattle.site_checks.specs.declared.views.View.{View}
 use Rattle.zone_map.specs.Limits.{NoOriginPasses, Passes}
-use Rattle.zone_map.specs.ShownOrigins.{EndsAmong, EndsAt, HasSeenNew, HasSeenOrigin, HasSeenOrigins, IsViewOf}
-
--- what holds of a fault holds of the answer that hands it on
-pub handed_on : {T E : Type 0} (P : E → Type 0) (fault : E) (result : Result T E) → IsErrAnd result (λ other. other ≡ fault) → P fault → IfErr result P
-handed_on P fault (Ok value) is holds = tt
-handed_on P fault (Err other) is holds = subst P (sym is) holds
+use Rattle.zone_map.specs.ShownOrigins.{EndsAmong, EndsAt, HasSeenNew, HasSeenOrigin, HasSeenOrigins, IsViewOf, is_shown}
 
 -- what a list with one item more has
 has_more : {X : Type 0} (items : List X) (item x : X) → Contains (items ++ item ∷ []) x → Contains items x ⊎ (item ≡ x)
@@ -36,6 +38,21 @@ has_more items item x has = elim (Contains-append_cases items (item ∷ []) x ha
 
 has_at_end : {X : Type 0} (items : List X) (item : X) → Contains (items ++ item ∷ []) item
 has_at_end items item = Contains-append_right items (item ∷ []) item (has_first item [])
+
+-- ---- origins that were shown
+
+-- at first none was
+pub none_shown : (shown : tree.BTreeSet Labels) → tree.IsEmpty shown → (origin : Labels) → is_shown shown origin ≡ false
+none_shown shown empty origin = ap (λ (keys : List Labels). list_any (λ (key : Labels). is_eq (name_cmp origin key)) keys) empty
+
+-- one more
+pub shown_more : (old new : tree.BTreeSet Labels) (key origin : Labels) → key ≡ origin → tree.Updates name_cmp old new key true
+    → (other : Labels) → is_shown new other ≡ (is_shown old other || name_eq other origin)
+shown_more old new key origin is updates other =
+    updates.0 other
+    ∙ (or-from_cond (is_eq (name_cmp key other)) (is_shown old other)
+    ∙ ap (λ (b : Bool). is_shown old other || b)
+    (sym (lists_ties label_cmp texts_ties key other) ∙ ((lists_equiv nat_list_eq_equiv).symm key other ∙ ap (name_eq other) is)))
 
 abbrev Step : Type 0
 Step = List (List ℕ) → View → List (List ℕ)
@@ -110,14 +127,16 @@ module _ (queries : LimitedQueries) where
     holds = next.holds ∙ same b next.view ∙ ap (λ words. step words next.view) seen.holds ∙ sym (fold_push step a seen.views next.view);
   }
 
-  -- of one more row
-  pub seen_more : (step other : Step) (rows : List RowFiles) (i : ℕ) (row : RowFiles) (a b c : List (List ℕ)) → i < length rows → row ≡ get_or rows i row
-      → ((words : List (List ℕ)) (view : View) → other words view ≡ step words view)
-      → HasSeenOrigins step queries (take i rows) a b → HasSeenNew other queries (take i rows) row.origin b c → HasSeenOrigins step queries (take (i + 1) rows) a c
-  seen_more step other rows i row a b c there is same seen new =
+  -- of one more row, where these were shown before
+  pub seen_more : (step other : Step) (rows : List RowFiles) (i : ℕ) (row : RowFiles) (a b c : List (List ℕ)) (was_shown : Labels → Bool) → i < length rows → row ≡ get_or rows i row
+      → ((words : List (List ℕ)) (view : View) → other words view ≡ step words view) → ((origin : Labels) → was_shown origin ≡ list_any (λ (r : RowFiles). name_eq origin r.origin) (take i rows))
+      → HasSeenOrigins step queries (take i rows) a b → HasSeenNew other queries was_shown row.origin b c → HasSeenOrigins step queries (take (i + 1) rows) a c
+  seen_more step other rows i row a b c was_shown there is same known seen new =
       subst (λ (some : List RowFiles). HasSeenOrigins step queries some a c) (sym (take_more rows i row there ∙ ap (λ r. take i rows ++ r ∷ []) (sym is)))
       (elim new [
-        | inl (old, among, equal, stays) ↦ seen_again step (take i rows) row old a b c among equal stays seen
+        | inl (shown, stays) ↦
+            let (old, among, equal) = from_any (λ (r : RowFiles). name_eq row.origin r.origin) (take i rows) (sym (known row.origin) ∙ shown) in
+            seen_again step (take i rows) row old a b c among (sym ((name_eq_decides row.origin old.origin).0 equal)) stays seen
         | inr next ↦ seen_next step other (take i rows) row a b c same seen next
       ])
 

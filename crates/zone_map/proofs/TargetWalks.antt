@@ -1,21 +1,17 @@
 -- How the walks of a name end: as the list of all walks that the resolver gives.
-use Rattle.std.proofs.Common.{◌≡◌, ℕ, ◌<◌, ◌≤◌, Bool, true, false, cond, List, length, get_or, is_some, Less, Some, refl, ap, subst, inl, inr, arith}
-use Rattle.std.specs.Prelude.{IsSome, nat_lt}
-use Rattle.std.specs.Cmp.Lexicographic.{nat_list_cmp_total}
+use Rattle.std.proofs.Common.{◌≡◌, ℕ, ◌<◌, ◌≤◌, Bool, true, false, cond, List, length, Some, refl, ap, inl, inr, arith}
+use Rattle.std.specs.Prelude.{nat_lt}
 use Rattle.std.proofs.lemmas.Bool.Decides.{nat_tests}
 use Rattle.dns_data.specs.Name.{Labels}
 use Rattle.dns_data.specs.declared.rr_type.RrType.{RrType}
 use Rattle.dns_data.specs.declared.rr_type.RrType.TheVariants as types
-use Rattle.dns_data.proofs.Membership.{all_images}
-use Rattle.dns_data.proofs.OrderedLists.{never_before_itself}
 use Rattle.net_model.specs.declared.walk.Walk.{Walk}
 use Rattle.net_model.specs.Step.{Setting}
-use Rattle.net_model.specs.Walk.{AreWalks, path_cmp, walk_along}
+use Rattle.net_model.specs.Walk.{AreWalks}
 use Rattle.net_model.proofs.RoundsExist.{query_settles}
-use Rattle.net_model.proofs.AllWalks.{all_along_are}
-use Rattle.net_model.proofs.Counting.{no_more_than}
-use Rattle.net_model.proofs.WalkLists.{are_walks, as_many, has_walk, numbered, numbers_of, one_walks, ordered, paths, total}
+use Rattle.net_model.proofs.WalkLists.{are_walks, one_walks, total}
 use Rattle.plain_resolver.specs.Passed.{HasMoreWalks}
+use Rattle.plain_resolver.proofs.Resolved.{has_more, has_no_more}
 use Rattle.zone_map.specs.Targets.{AreEnds, EndSo, dead_ends, most_target_walks}
 use Rattle.zone_map.specs.TargetsAsked.{ends_in, ends_with}
 use Rattle.zone_map.specs.declared.target_ends.DeadEnds.TheVariants.{TooMany}
@@ -33,21 +29,10 @@ module _ (setting : Setting) (name : Labels) (rtype : RrType) where
   depth = (query_settles setting rtype name).0
 
   many : nat_lt most_target_walks (length all) ≡ true → HasMoreWalks setting name rtype most_target_walks
-  many e = record {
-    items = paths setting rtype depth name;
-    more = let more : most_target_walks < length all = grind (arith, nat_tests, e) in omega (arith, more, as_many setting rtype depth name);
-    differ = λ i j d before within same.
-        never_before_itself path_cmp nat_list_cmp_total (get_or (paths setting rtype depth name) j d)
-        (subst (λ (ns : List ℕ). path_cmp ns (get_or (paths setting rtype depth name) j d) ≡ Less) same (ordered setting rtype depth name i j d before within));
-    each = all_images (numbers_of setting rtype depth name) (λ (ns : List ℕ). IsSome (walk_along setting name rtype ns)) (numbered setting rtype depth name)
-        (λ x has. ap is_some (all_along_are setting rtype depth name x has));
-  }
+  many e = has_more setting rtype depth name most_target_walks (grind (arith, nat_tests, e))
 
   few : nat_lt most_target_walks (length all) ≡ false → HasMoreWalks setting name rtype most_target_walks → ⊥
-  few e =
-      let within : length all ≤ most_target_walks = grind (arith, nat_tests, e) in
-      no_more_than (λ (ns : List ℕ). IsSome (walk_along setting name rtype ns)) most_target_walks (paths setting rtype depth name)
-      (omega (arith, within, as_many setting rtype depth name)) (has_walk setting rtype depth name (query_settles setting rtype name).1)
+  few e = has_no_more setting rtype depth name most_target_walks (grind (arith, nat_tests, e)) (query_settles setting rtype name).1
 
   -- where there are more than are followed
   pub ends_many : HasMoreWalks setting name rtype most_target_walks → Some TooMany ≡ ends_with setting name rtype

@@ -2,7 +2,7 @@
 use Rattle.std.proofs.Common.{◌≡◌, ℕ, true, false, List, [], ◌∷◌, ◌++◌, codes, Some, None, refl}
 use Rattle.std.specs.Fmt.{digits}
 use Rattle.dns_data.specs.Name.{Labels}
-use Rattle.dns_data.specs.declared.rdata.Rdata.TheVariants.{A, Mx, Ns, Other}
+use Rattle.dns_data.specs.declared.rdata.Rdata.TheVariants.{A, Mx, Ns, Other, Srv}
 use Rattle.dns_data.specs.declared.rdata.Rr.{Rr}
 use Rattle.net_model.specs.declared.config.Config.{Config}
 use Rattle.net_model.specs.declared.walk.Leaf.{Leaf}
@@ -73,6 +73,14 @@ both_rows = refl
 mail_counts : target_in [] [] t mail.rdata ≡ Some (codes "t" ∷ codes "m" ∷ [])
 unfolding mail
 mail_counts = refl
+
+no_mail : target_in [] [] t (Mx 0 []) ≡ None
+unfolding t
+no_mail = refl
+
+no_service : target_in [] [] t (Srv 0 0 0 []) ≡ None
+unfolding t
+no_service = refl
 
 name_server_of_no_zone : target_in ([] ∷ []) [] t (Ns s) ≡ None
 unfolding t s

@@ -25,6 +25,7 @@ pub use Rattle.site_checks.specs.Ends
 pub use Rattle.site_checks.specs.Line
 pub mod Columns
 pub mod Records
+pub mod Rewrites
 pub mod Reached
 pub mod ReachedRows
 pub mod Limits

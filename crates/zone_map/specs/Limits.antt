@@ -8,7 +8,7 @@ use Rattle.query_verdicts.specs.Queries.{LimitedQueries, limited_to}
 use Rattle.query_verdicts.specs.Verdict.{PassesStates, SomeServerPasses}
 use Rattle.run_endings.specs.Endings.{too_many_states}
 use Rattle.run_endings.specs.declared.ending.Ending.{Ending}
-use Rattle.zone_map.specs.Reached.{reached_rewrites}
+use Rattle.zone_map.specs.Rewrites.{most_rewrites}
 
 -- how many pairs of state and type a query may reach
 abbrev pub reached_states : ℕ
@@ -16,7 +16,7 @@ reached_states = 100000
 
 -- the queries of a configuration within these limits
 abbrev pub reached_queries : Config → LimitedQueries
-reached_queries config = limited_to config reached_rewrites reached_states
+reached_queries config = limited_to config most_rewrites reached_states
 
 -- the query reaches more pairs of state and type than it may
 abbrev pub Passes : LimitedQueries → Labels → Type 0
@@ -46,5 +46,5 @@ WithinOrigins queries rows EndsSo ending =
 -- what `reached` gives: where the name of some server reaches too many pairs, the first that does is told
 abbrev pub WithinLimits : Config → List RowFiles → Type 0 → Ending → Type 0
 WithinLimits config rows EndsSo ending =
-    ((server : Labels) × IsFirstServerPassed config reached_rewrites reached_states server × (ending ≡ too_many_states reached_states server))
-    ⊎ ((SomeServerPasses config reached_rewrites reached_states → ⊥) × WithinOrigins (reached_queries config) rows EndsSo ending)
+    ((server : Labels) × IsFirstServerPassed config most_rewrites reached_states server × (ending ≡ too_many_states reached_states server))
+    ⊎ ((SomeServerPasses config most_rewrites reached_states → ⊥) × WithinOrigins (reached_queries config) rows EndsSo ending)

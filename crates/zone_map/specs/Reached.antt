@@ -22,17 +22,14 @@ use Rattle.site_checks.specs.Ends.{is_answer, last_server}
 use Rattle.site_checks.specs.declared.views.TypedEnd.{TypedEnd}
 use Rattle.site_checks.specs.declared.views.View.{View}
 use Rattle.zone_map.specs.Columns.{line_of, file_text}
-
--- how many rewrites a query may use
-abbrev pub reached_rewrites : ℕ
-reached_rewrites = 12
+use Rattle.zone_map.specs.Rewrites.{most_rewrites}
 
 -- a walk of the SOA query at the origin ends in an answer at the server, while the servers of the set in force are followed
 pub record IsReached (config : Config) (row : RowFiles) : Type 0 where
   pub followed : List Labels
-  pub in_force : IsInForce config reached_rewrites followed
+  pub in_force : IsInForce config most_rewrites followed
   pub walk : Walk
-  pub is_walk : IsWalk (following config reached_rewrites followed) row.origin Soa walk
+  pub is_walk : IsWalk (following config most_rewrites followed) row.origin Soa walk
   pub ends : (last_server walk.states ≡ row.server) × (is_answer walk.leaf ≡ true)
 
 -- the word of a row

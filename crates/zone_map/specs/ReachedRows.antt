@@ -1,10 +1,36 @@
--- For the code alone, no public clause cites it: the marks of rows.
-use Rattle.std.specs.Prelude.{Bool, ◌||◌, List, ◌∷◌}
+-- For the code alone, no public clause cites it: servers that answer the SOA query at the origin of a zone.
+use Rattle.std.specs.Prelude.{◌≡◌, Bool, ◌&&◌, List, [], ◌∷◌, if◌then◌else◌}
+use Rattle.std.specs.BTreeSet as tree
+use Rattle.std.specs.Cmp.Lexicographic.{slice_cmp}
+use Rattle.std.specs.List.{list_any}
+use Rattle.dns_data.specs.Name.{Labels, name_cmp, name_eq}
+use Rattle.dns_data.specs.RrType.{type_eq}
+use Rattle.dns_data.specs.declared.rr_type.RrType.TheVariants.{Soa}
 use Rattle.config_load.specs.declared.loaded.RowFiles.{RowFiles}
-use Rattle.site_checks.specs.declared.views.View.{View}
-use Rattle.zone_map.specs.Reached.{shows_reached}
+use Rattle.site_checks.specs.Ends.{is_answer}
+use Rattle.site_checks.specs.declared.views.TypedEnd.{TypedEnd}
+use Rattle.zone_map.specs.declared.answered.Answered.{Answered}
 
--- what is told of rows, once a view was shown
-abbrev pub told_after : View → List RowFiles → List Bool → List Bool
-told_after view (row ∷ rows) (one ∷ told) = (shows_reached view row || one) ∷ told_after view rows told
-told_after view rows told = told
+-- the end is an answer of type SOA
+abbrev pub is_soa_answer : TypedEnd → Bool
+is_soa_answer end = type_eq end.rtype Soa && is_answer end.leaf
+
+-- the server of an end that is one
+abbrev pub answering_at : TypedEnd → List Labels
+answering_at end = if is_soa_answer end then end.server ∷ [] else []
+
+-- the server is one of those that answer at the origin
+abbrev pub answers : Labels → Labels → Answered → Bool
+answers server origin one = name_eq one.origin origin && list_any (name_eq server) one.servers
+
+-- the row's server answers at the origin of its zone
+abbrev pub is_answered : List Answered → RowFiles → Bool
+is_answered answered row = list_any (answers row.server row.origin) answered
+
+-- a set of pairs of names tells of this server and of this origin
+abbrev pub tells : tree.BTreeSet (List Labels) → Labels → Labels → Bool
+tells tellers server origin = tree.contains (slice_cmp name_cmp) tellers (server ∷ origin ∷ [])
+
+-- it tells of each server that answers at an origin, and of no others
+abbrev pub AreTellers : List Answered → tree.BTreeSet (List Labels) → Type 0
+AreTellers answered tellers = (server origin : Labels) → tells tellers server origin ≡ list_any (answers server origin) answered

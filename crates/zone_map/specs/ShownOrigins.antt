@@ -1,7 +1,8 @@
 -- For the code alone, no public clause cites it: a check that is shown the views of rows' origins, and how a run ends among them.
-use Rattle.std.specs.Prelude.{◌≡◌, ◌⊎◌, ℕ, List, Contains}
+use Rattle.std.specs.Prelude.{◌≡◌, ◌⊎◌, ℕ, Bool, true, List, Contains}
+use Rattle.std.specs.BTreeSet as tree
 use Rattle.std.specs.List.{fold}
-use Rattle.dns_data.specs.Name.{Labels}
+use Rattle.dns_data.specs.Name.{Labels, name_cmp}
 use Rattle.net_model.specs.declared.class.Class.TheVariants.{Exact}
 use Rattle.net_model.specs.Learnt.{IsInForce}
 use Rattle.net_model.specs.Step.{following}
@@ -32,10 +33,14 @@ pub record HasSeenOrigin (step : List (List ℕ) → View → List (List ℕ)) (
   pub is_view : IsViewOf queries origin view
   pub holds : after ≡ step before view
 
--- it is the origin of one of the rows before, or the check was shown its view
-abbrev pub HasSeenNew : (List (List ℕ) → View → List (List ℕ)) → LimitedQueries → List RowFiles → Labels → List (List ℕ) → List (List ℕ) → Type 0
-HasSeenNew step queries rows origin before after =
-    ((row : RowFiles) × Contains rows row × (row.origin ≡ origin) × (after ≡ before)) ⊎ HasSeenOrigin step queries origin before after
+-- the origin is among those that were shown
+abbrev pub is_shown : tree.BTreeSet Labels → Labels → Bool
+is_shown shown origin = tree.contains name_cmp shown origin
+
+-- the origin was shown before, or the check was shown its view
+abbrev pub HasSeenNew : (List (List ℕ) → View → List (List ℕ)) → LimitedQueries → (Labels → Bool) → Labels → List (List ℕ) → List (List ℕ) → Type 0
+HasSeenNew step queries was_shown origin before after =
+    ((was_shown origin ≡ true) × (after ≡ before)) ⊎ HasSeenOrigin step queries origin before after
 
 -- it was shown the views of the rows' origins, none of which passes
 pub record HasSeenOrigins (step : List (List ℕ) → View → List (List ℕ)) (queries : LimitedQueries) (rows : List RowFiles) (before after : List (List ℕ)) : Type 0 where

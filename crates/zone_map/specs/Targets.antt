@@ -1,6 +1,6 @@
 -- Targets that lead nowhere: names that MX, SRV, NS and PTR records give to a host, of which no query finds an address, though
 -- every walk for one ends in no data or in no such name.
-use Rattle.std.specs.Prelude.{◌≡◌, ◌⊎◌, ℕ, Bool, true, false, ◌&&◌, ◌||◌, List, [], ◌∷◌, ◌++◌, length, map, codes, Option, Some, None, if◌then◌else◌}
+use Rattle.std.specs.Prelude.{◌≡◌, ◌⊎◌, ℕ, Bool, true, false, ◌&&◌, ◌||◌, List, [], ◌∷◌, ◌++◌, length, map, codes, Option, Some, None, if◌then◌else◌, ◌==◌}
 use Rattle.std.specs.List.{flat_map, list_all, list_any}
 use Rattle.std.specs.Option.{option_map_or}
 use Rattle.dns_data.specs.Name.{Labels, name_eq}
@@ -27,13 +27,10 @@ use Rattle.run_endings.specs.declared.status.Status.{Status}
 use Rattle.run_endings.specs.declared.status.Status.TheVariants.{Clean, Faults, Walks}
 use Rattle.zone_map.specs.Columns.{line_of}
 use Rattle.zone_map.specs.Records.{record_columns, records_of}
+use Rattle.zone_map.specs.Rewrites.{most_rewrites}
 use Rattle.zone_map.specs.declared.target_ends.DeadEnds.{DeadEnds}
 use Rattle.zone_map.specs.declared.target_ends.DeadEnds.TheVariants.{NoData, NxDomain, Either, TooMany}
 use Rattle.zone_map.specs.declared.target_ends.TargetEnds.{TargetEnds}
-
--- how many rewrites a query may use
-abbrev pub target_rewrites : ℕ
-target_rewrites = 12
 
 -- how many walks of a target with one type are followed at most
 abbrev pub most_target_walks : ℕ
@@ -54,12 +51,16 @@ is_reverse name = false
 abbrev pub origins_of : List RowFiles → List Labels
 origins_of rows = map (λ row. row.origin) rows
 
+-- the host of a mail exchange or a service; the root says that there is none (RFC 7505 section 3, RFC 2782)
+abbrev pub host_of : Labels → Option Labels
+host_of name = if length name == 0 then None else Some name
+
 -- The target of a record that counts, in a zone with this origin, by its owner and data: the host of a mail exchange and of a
 -- service, that of a pointer in a reverse zone, and that of a name server whose zone, be it this one or one below a cut, is
 -- among those that are served (RFC 1035 sections 3.3.9, 3.3.11 and 3.3.12, RFC 2782).
 abbrev pub target_in : List Labels → Labels → Labels → Rdata → Option Labels
-target_in served origin owner (Mx preference exchange) = Some exchange
-target_in served origin owner (Srv priority weight port target) = Some target
+target_in served origin owner (Mx preference exchange) = host_of exchange
+target_in served origin owner (Srv priority weight port target) = host_of target
 target_in served origin owner (Ns target) = if list_any (name_eq owner) served then Some target else None
 target_in served origin owner (Ptr target) = if is_reverse origin then Some target else None
 target_in served origin owner rdata = None
@@ -132,10 +133,10 @@ targets_status (octet ∷ text) = Faults
 -- the run tells of the targets, while the servers of the set in force are followed
 pub record TellsTargets (all : Loaded) (ending : Ending) : Type 0 where
   pub followed : List Labels
-  pub in_force : IsInForce all.config target_rewrites followed
-  pub few : NoneInRounds all.config target_rewrites most_learning_walks [] (length all.config.servers)
+  pub in_force : IsInForce all.config most_rewrites followed
+  pub few : NoneInRounds all.config most_rewrites most_learning_walks [] (length all.config.servers)
   pub ends : Labels → TargetEnds
-  pub are : (name : Labels) → AreEnds (following all.config target_rewrites followed) name (ends name)
+  pub are : (name : Labels) → AreEnds (following all.config most_rewrites followed) name (ends name)
   pub as_text : ending ≡ with_output (targets_status (targets_text ends all)) (targets_text ends all)
 
 -- the server's name has more walks than are followed to learn its address
@@ -145,5 +146,5 @@ too_many_to_learn server = without_output Walks (codes "walks: more than 10000 f
 -- what `targets` gives of what was read, unless a server's name has more walks than are followed
 abbrev pub IsTargets : Loaded → Ending → Type 0
 IsTargets all ending =
-    ((server : Labels) × IsFirstWithTooMany all.config target_rewrites most_learning_walks [] server × (ending ≡ too_many_to_learn server))
+    ((server : Labels) × IsFirstWithTooMany all.config most_rewrites most_learning_walks [] server × (ending ≡ too_many_to_learn server))
     ⊎ TellsTargets all ending

@@ -25,7 +25,7 @@ pub(crate) fn put_name(alloc: Global, text: &mut Octets, name: &Name) -> Result<
 }
 
 /// Puts a number at the end.
-pub(crate) fn put_number(alloc: Global, text: &mut Octets, number: u32) -> Result<(), NoMemory>
+pub(crate) fn put_number(alloc: Global, text: &mut Octets, number: u64) -> Result<(), NoMemory>
     ensures { OnOk result (text.new ≡ text.old ++ decimal number) }
 {
     let mut digits = Buffer::new();

@@ -7,11 +7,14 @@
 //! ending has its cause in the words, in what the files give or in a count of failures that rose, or memory ran out.
 //!
 //! Costs: each file is read once. A row's zone is looked for among its server's zones. For rows the graph of each origin is
-//! made once, its ends are compared with each other, and each row is compared with each view. For targets the trees of the
-//! zones and the set of servers that are followed are made once, and each target is asked once, by following its walks.
+//! made once, and so is the view of its ends; each row is then looked for among the servers that answer, in an ordered set.
+//! For targets the trees of the zones and the set of servers that are followed are made once, and each target is asked once,
+//! by following its walks.
 #![tactic(auto)]
 
+mod answered;
 mod columns;
+mod limits;
 mod reached;
 mod reached_rows;
 mod records;

@@ -1,31 +1,27 @@
 //! The lines of rows.
 
-ghost use Rattle.std.specs.Prelude.{◌≡◌, ◌⊎◌, ◌++◌, ℕ, List, codes, decimal, length, map, IfOk, OnOk};
+ghost use Rattle.std.specs.Prelude.{◌≡◌, ◌⊎◌, ◌++◌, Bool, List, length, map, IfOk, OnOk};
 ghost use Rattle.std.specs.List.{list_all};
 ghost use Rattle.config_load.specs.Faults.{name_numbered};
 ghost use Rattle.dns_data.specs.DataText.{separated};
 ghost use Rattle.query_verdicts.specs.Verdict.{SomeServerPasses};
 ghost use Rattle.run_endings.specs.Endings.{no_memory, with_output};
-ghost use Rattle.site_checks.specs.declared.views.View.{View as Seen};
 ghost use Rattle.zone_map.specs.Columns.{file_text, line_of, tab};
 ghost use Rattle.zone_map.specs.Limits.{WithinLimits, WithinOrigins, reached_queries};
-ghost use Rattle.zone_map.specs.Reached.{TellsRows, after_view, reached_status, reached_text, reached_word, row_columns};
+ghost use Rattle.zone_map.specs.Reached.{TellsRows, reached_status, reached_text, reached_word, row_columns};
 
-use crate::columns::{put_file, put_name, put_tab};
+use crate::columns::{put_file, put_name, put_number, put_tab};
+use crate::limits::{MOST_STATES, REWRITES};
 use crate::reached::{Reached, reached_word};
 use crate::records::file_numbered;
-use crate::shown::{MOST_STATES, show_origins};
+use crate::shown::show_origins;
 use config_load::RowFiles;
 use dns_data::{NoMemory, Octets, Text};
-use itoa::Buffer;
 use net_model::Config;
 use query_verdicts::QueryGraphs;
 use run_endings::{Ending, Status};
 use site_checks::SiteCheck;
 use std::alloc::Global;
-
-/// How many rewrites a query may use.
-const REWRITES: u32 = 12;
 
 /// The lines of the rows of a configuration, each with whether a query reaches it, unless some query reaches too many pairs
 /// of state and type.
@@ -49,34 +45,28 @@ fn by_graphs(alloc: Global, graphs: &QueryGraphs<'_>, rows: &[RowFiles]) -> Endi
     }
 }
 
-/// The lines of rows, by the views of their origins.
+/// The lines of rows, by a check of them that is shown the views of their origins.
 fn by_views(alloc: Global, graphs: &QueryGraphs<'_>, rows: &[RowFiles]) -> Ending
     requires limits { graphs.now ≡ reached_queries graphs.now.config }
     requires clear { SomeServerPasses graphs.now.config graphs.now.rewrites graphs.now.states → ⊥ }
     ensures { WithinOrigins graphs.now rows.now (TellsRows graphs.now.config rows.now result) result ⊎ (result ≡ no_memory) }
 {
-    match Reached::of_rows(alloc, rows) {
-        Ok(mut check) => by_check(alloc, graphs, rows, &mut check),
-        Err(NoMemory) => Ending::no_memory(),
+    let mut check = Reached::of_rows(alloc, rows);
+    match show_origins(alloc, graphs, rows, &mut check) {
+        Ok(()) => as_told(alloc, rows, &check),
+        Err(ending) => ending,
     }
 }
 
-/// The lines of rows, by a check of them that was shown no view.
-fn by_check<'a>(
-    alloc: Global,
-    graphs: &QueryGraphs<'_>,
-    rows: &[RowFiles],
-    check: &mut Reached<'a>,
-) -> Ending
-    requires limits { graphs.now ≡ reached_queries graphs.now.config }
-    requires clear { SomeServerPasses graphs.now.config graphs.now.rewrites graphs.now.states → ⊥ }
-    requires begins { ⟦<Reached<'a> as SiteCheck>⟧.held check.old ≡ map (λ row. codes "unreached") rows.now }
-    requires step { (words : List (List ℕ)) (view : Seen) → ⟦<Reached<'a> as SiteCheck>⟧.step check.old words view ≡ after_view view rows.now words }
-    ensures { WithinOrigins graphs.now rows.now (TellsRows graphs.now.config rows.now result) result ⊎ (result ≡ no_memory) }
+/// The lines of rows, as the check tells of them.
+fn as_told<'a>(alloc: Global, rows: &[RowFiles], check: &Reached<'a>) -> Ending
+    requires { length (⟦<Reached<'a> as SiteCheck>⟧.held check.now) ≡ length rows.now }
+    ensures { ((told : List Bool) × (map reached_word told ≡ ⟦<Reached<'a> as SiteCheck>⟧.held check.now)
+        × (result ≡ with_output (reached_status told) (reached_text 1 told rows.now))) ⊎ (result ≡ no_memory) }
 {
-    match show_origins(alloc, graphs, rows, check) {
-        Ok(()) => with_lines(alloc, rows, check.told()),
-        Err(ending) => ending,
+    match check.told(alloc) {
+        Ok(told) => with_lines(alloc, rows, told.as_slice()),
+        Err(NoMemory) => Ending::no_memory(),
     }
 }
 
@@ -144,7 +134,7 @@ fn put_columns(
 {
     put_word(alloc, text, told)?;
     put_tab(alloc, text)?;
-    put_row_number(alloc, text, number)?;
+    put_number(alloc, text, number as u64)?;
     put_tab(alloc, text)?;
     put_name(alloc, text, &row.server)?;
     put_tab(alloc, text)?;
@@ -165,12 +155,4 @@ fn put_first_file(alloc: Global, text: &mut Octets, files: &[Text]) -> Result<()
     ensures { OnOk result (text.new ≡ text.old ++ file_text (name_numbered files.now 0)) }
 {
     put_file(alloc, text, file_numbered(files, 0))
-}
-
-/// Puts the number of a row at the end.
-fn put_row_number(alloc: Global, text: &mut Octets, number: usize) -> Result<(), NoMemory>
-    ensures { OnOk result (text.new ≡ text.old ++ decimal number) }
-{
-    let mut digits = Buffer::new();
-    text.extend_from_slice(alloc, digits.format(number).as_bytes())
 }

@@ -92,7 +92,7 @@ fn put_place(alloc: Global, text: &mut Octets, files: &[Text], rr: &Rr) -> Resul
 {
     put_file(alloc, text, file_numbered(files, rr.file))?;
     put_tab(alloc, text)?;
-    put_number(alloc, text, rr.line)
+    put_number(alloc, text, u64::from(rr.line))
 }
 
 /// The name of the file of this number.

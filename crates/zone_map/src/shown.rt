@@ -1,23 +1,21 @@
 //! A check that is shown the classes of rows' origins.
 
-ghost use Rattle.std.specs.Prelude.{◌≡◌, ℕ, List, IfErr, OnOk};
-ghost use Rattle.std.specs.List.{list_any};
-ghost use Rattle.dns_data.specs.Name.{name_eq};
+ghost use Rattle.std.specs.Prelude.{◌≡◌, ◌||◌, not, ℕ, List, IfErr, IfOk, OnOk};
+ghost use Rattle.dns_data.specs.Name.{Labels, name_eq};
 ghost use Rattle.query_verdicts.specs.Verdict.{SomeServerPasses};
 ghost use Rattle.site_checks.specs.declared.views.View.{View as Seen};
-ghost use Rattle.zone_map.specs.ShownOrigins.{EndsAmong, EndsAt, HasSeenNew, HasSeenOrigin, HasSeenOrigins};
+ghost use Rattle.zone_map.specs.ShownOrigins.{EndsAmong, EndsAt, HasSeenNew, HasSeenOrigin, HasSeenOrigins, is_shown};
 
+use crate::limits::MOST_STATES;
 use config_load::RowFiles;
-use dns_data::Name;
+use dns_data::{Name, NoMemory};
 use interp_graph::GraphFault;
 use net_model::Class;
 use query_verdicts::QueryGraphs;
 use run_endings::Ending;
 use site_checks::{SiteCheck, view};
 use std::alloc::Global;
-
-/// How many pairs of state and type a query may reach.
-pub(crate) const MOST_STATES: u32 = 100_000;
+use std::collections::BTreeSet;
 
 /// Shows a check the view of each row's origin, each origin once, in the order of rows, up to the first that reaches too
 /// many pairs of state and type; then it is how the run ends.
@@ -32,36 +30,39 @@ pub(crate) fn show_origins<S: SiteCheck>(
     ensures ok { OnOk result (HasSeenOrigins (S.step check.old) graphs.now rows.now (S.held check.old) (S.held check.new)) }
     ensures err { IfErr result (EndsAmong graphs.now rows.now) }
 {
-    for (i, row) in rows.iter().enumerate() {
-        show_new(alloc, graphs, &rows[..i], &row.origin, check)?;
+    let mut shown = BTreeSet::new(alloc);
+    for row in rows {
+        show_new(alloc, graphs, &mut shown, &row.origin, check)?;
     }
     Ok(())
 }
 
-/// Shows a check the view of an origin, unless it is that of a row before.
+/// Shows a check the view of an origin, unless it was shown it, and keeps that it was.
 fn show_new<S: SiteCheck>(
     alloc: Global,
     graphs: &QueryGraphs<'_>,
-    before: &[RowFiles],
+    shown: &mut BTreeSet<Name>,
     origin: &Name,
     check: &mut S,
 ) -> Result<(), Ending>
     requires clear { SomeServerPasses graphs.now.config graphs.now.rewrites graphs.now.states → ⊥ }
+    ensures shown { OnOk result ((other : Labels) → is_shown shown.new other ≡ (is_shown shown.old other || name_eq other origin.now)) }
     ensures step { (words : List (List ℕ)) (view : Seen) → S.step check.new words view ≡ S.step check.old words view }
-    ensures ok { OnOk result (HasSeenNew (S.step check.old) graphs.now before.now origin.now (S.held check.old) (S.held check.new)) }
+    ensures ok { OnOk result (HasSeenNew (S.step check.old) graphs.now (is_shown shown.old) origin.now (S.held check.old) (S.held check.new)) }
     ensures err { IfErr result (EndsAt graphs.now origin.now) }
 {
-    if is_origin_among(before, origin) {
+    if !put_shown(alloc, shown, origin)? {
         return Ok(());
     }
     show_origin(alloc, graphs, origin, check)
 }
 
-/// Whether it is the origin of one of these rows.
-fn is_origin_among(rows: &[RowFiles], origin: &Name) -> bool
-    ensures { result ≡ list_any (λ row. name_eq row.origin origin.now) rows.now }
+/// Keeps that an origin was shown, and answers whether it wasn't before.
+fn put_shown(alloc: Global, shown: &mut BTreeSet<Name>, origin: &Name) -> Result<bool, NoMemory>
+    ensures new { IfOk result (λ is_new. is_new ≡ not (is_shown shown.old origin.now)) }
+    ensures shown { OnOk result ((other : Labels) → is_shown shown.new other ≡ (is_shown shown.old other || name_eq other origin.now)) }
 {
-    rows.iter().any(|row| row.origin == *origin)
+    Ok(shown.insert(origin.copy(alloc)?)?)
 }
 
 /// Shows a check the view of an origin.

@@ -5,9 +5,11 @@ ghost use Rattle.std.specs.List.{list_all, list_any};
 ghost use Rattle.dns_data.specs.Name.{name_eq};
 ghost use Rattle.net_model.specs.Step.{Setting, following};
 ghost use Rattle.std.specs.Option.{option_map};
-ghost use Rattle.zone_map.specs.Targets.{dead_ends, ends_word, is_no_data, is_no_name, is_reverse, origins_of, target_in, target_rewrites};
+ghost use Rattle.zone_map.specs.Targets.{dead_ends, ends_word, host_of, is_no_data, is_no_name, is_reverse, origins_of, target_in};
+ghost use Rattle.zone_map.specs.Rewrites.{most_rewrites};
 ghost use Rattle.zone_map.specs.TargetsAsked.{AreKnown, ends_in, ends_with};
 
+use crate::limits::REWRITES;
 use config_load::RowFiles;
 use dns_data::{List, Name, NoMemory, Rdata, Rr, RrType};
 use net_model::{Leaf, Walk};
@@ -16,9 +18,6 @@ use std::alloc::Global;
 use std::collections::{BTreeMap, BTreeSet};
 use std::marker::Model;
 use zone_lookup::{Hosts, set_of};
-
-/// How many rewrites a query may use.
-pub(crate) const REWRITES: u32 = 12;
 
 /// How many walks of a target with one type are followed at most.
 const MOST_WALKS: u32 = 1_000;
@@ -71,14 +70,15 @@ pub(crate) struct Targeting<'h, 'a> {
 impl<'h, 'a> Model for Targeting<'h, 'a> {
     ghost use Rattle.net_model.specs.Step.{following};
     ghost use Rattle.zone_lookup.specs.LearntSets.{IsSetOf};
-    ghost use Rattle.zone_map.specs.Targets.{origins_of, target_rewrites};
+    ghost use Rattle.zone_map.specs.Targets.{origins_of};
+    ghost use Rattle.zone_map.specs.Rewrites.{most_rewrites};
     ghost use Rattle.zone_map.specs.TargetsAsked.{AreKnown, Asking};
 
     ghost Value = { Asking };
 
-    ghost view = { λ targets. record { setting = following targets.hosts.now target_rewrites targets.followed.now; served = origins_of targets.rows.now } };
+    ghost view = { λ targets. record { setting = following targets.hosts.now most_rewrites targets.followed.now; served = origins_of targets.rows.now } };
 
-    ghost invariant = { λ targets. IsSetOf (origins_of targets.rows.now) targets.served × AreKnown (following targets.hosts.now target_rewrites targets.followed.now) targets.known };
+    ghost invariant = { λ targets. IsSetOf (origins_of targets.rows.now) targets.served × AreKnown (following targets.hosts.now most_rewrites targets.followed.now) targets.known };
 }
 
 impl<'h, 'a> Targeting<'h, 'a> {
@@ -89,7 +89,7 @@ impl<'h, 'a> Targeting<'h, 'a> {
         followed: &'h [Name],
         rows: &'h [RowFiles],
     ) -> Result<Targeting<'h, 'a>, NoMemory>
-        ensures { IfOk result (λ targets. targets ≡ record { setting = following hosts.entry.now target_rewrites followed.entry.now; served = origins_of rows.entry.now }) }
+        ensures { IfOk result (λ targets. targets ≡ record { setting = following hosts.entry.now most_rewrites followed.entry.now; served = origins_of rows.entry.now }) }
     {
         let origins = origins_of(alloc, rows)?;
         let served = set_of(alloc, origins.items())?;
@@ -114,8 +114,8 @@ impl<'h, 'a> Targeting<'h, 'a> {
         ensures { option_map (λ target. target.now) result ≡ target_in self.now.served row.now.origin rr.now.owner rr.now.rdata }
     {
         match &rr.rdata {
-            Rdata::Mx { exchange, .. } => Some(exchange),
-            Rdata::Srv { target, .. } => Some(target),
+            Rdata::Mx { exchange, .. } => host_of(exchange),
+            Rdata::Srv { target, .. } => host_of(target),
             Rdata::Ns(target) => target_if(self.serves(&rr.owner), target),
             Rdata::Ptr(target) => target_if(is_reverse(&row.origin), target),
             _ => None,
@@ -154,6 +154,17 @@ fn origins_of(alloc: Global, rows: &[RowFiles]) -> Result<List<Name>, NoMemory>
         origins.push(row.origin.copy(alloc)?)?;
     }
     Ok(origins)
+}
+
+/// The host of a mail exchange or a service, none where the name is the root (RFC 7505 section 3, RFC 2782).
+fn host_of(name: &Name) -> Option<&Name>
+    ensures { option_map (λ host. host.now) result ≡ host_of name.now }
+{
+    if name.labels().is_empty() {
+        None
+    } else {
+        Some(name)
+    }
 }
 
 /// The target, where it counts.
@@ -197,7 +208,7 @@ fn target_ends(
     followed: &[Name],
     name: &Name,
 ) -> Result<TargetEnds, NoMemory>
-    ensures { IfOk result (λ ends. ends ≡ ends_in (following hosts.now target_rewrites followed.now) name.now) }
+    ensures { IfOk result (λ ends. ends ≡ ends_in (following hosts.now most_rewrites followed.now) name.now) }
 {
     let four = type_ends(alloc, hosts, followed, name, RrType::A)?;
     let six = type_ends(alloc, hosts, followed, name, RrType::Aaaa)?;
@@ -212,7 +223,7 @@ fn type_ends(
     name: &Name,
     rtype: RrType,
 ) -> Result<Option<DeadEnds>, NoMemory>
-    ensures { IfOk result (λ ends. ends ≡ ends_with (following hosts.now target_rewrites followed.now) name.now rtype) }
+    ensures { IfOk result (λ ends. ends ≡ ends_with (following hosts.now most_rewrites followed.now) name.now rtype) }
 {
     match resolve_at(alloc, hosts, REWRITES, followed, name, rtype, MOST_WALKS) {
         Ok(walks) => Ok(dead_ends(walks.items())),

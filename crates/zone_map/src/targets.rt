@@ -5,12 +5,14 @@ ghost use Rattle.std.specs.List.{flat_map};
 ghost use Rattle.dns_data.specs.Spelling.{name_text};
 ghost use Rattle.net_model.specs.Step.{following};
 ghost use Rattle.run_endings.specs.Endings.{no_memory, with_output};
-ghost use Rattle.zone_map.specs.Targets.{IsTargets, line_by, row_lines, target_line, target_rewrites, targets_status, targets_text, too_many_to_learn, ends_word};
+ghost use Rattle.zone_map.specs.Targets.{IsTargets, line_by, row_lines, target_line, targets_status, targets_text, too_many_to_learn, ends_word};
+ghost use Rattle.zone_map.specs.Rewrites.{most_rewrites};
 ghost use Rattle.zone_map.specs.TargetsAsked.{ends_in};
 
 use crate::columns::{put_name, put_tab};
+use crate::limits::REWRITES;
 use crate::records::put_columns;
-use crate::target_ends::{DeadEnds, REWRITES, TargetEnds, Targeting};
+use crate::target_ends::{DeadEnds, TargetEnds, Targeting};
 use config_load::{Loaded, RowFiles};
 use dns_data::{List, Name, NoMemory, Octets, Rr};
 use plain_resolver::{LearntFault, learnt_at};
@@ -75,7 +77,7 @@ fn passed_line(alloc: Global, server: &Name) -> Result<Line, NoMemory>
 
 /// What is told of the targets of rows, while these servers are followed.
 fn targets_while(alloc: Global, hosts: &Hosts<'_>, followed: &[Name], rows: &[RowFiles]) -> Ending
-    ensures { let text = targets_text (ends_in (following hosts.now target_rewrites followed.now)) (record { config = hosts.now; rows = rows.now }) in
+    ensures { let text = targets_text (ends_in (following hosts.now most_rewrites followed.now)) (record { config = hosts.now; rows = rows.now }) in
         (result ≡ with_output (targets_status text) text) ⊎ (result ≡ no_memory) }
 {
     match targets_text(alloc, hosts, followed, rows) {
@@ -101,7 +103,7 @@ fn targets_text(
     followed: &[Name],
     rows: &[RowFiles],
 ) -> Result<Octets, NoMemory>
-    ensures { IfOk result (λ text. text ≡ targets_text (ends_in (following hosts.now target_rewrites followed.now)) (record { config = hosts.now; rows = rows.now })) }
+    ensures { IfOk result (λ text. text ≡ targets_text (ends_in (following hosts.now most_rewrites followed.now)) (record { config = hosts.now; rows = rows.now })) }
 {
     let mut targets = Targeting::new(alloc, hosts, followed, rows)?;
     let mut text = Octets::new();

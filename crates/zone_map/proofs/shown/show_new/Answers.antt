@@ -1,16 +1,13 @@
-use Rattle.std.proofs.Common.{refl, sym, ◌∙◌, inl, inr}
-use Rattle.dns_data.specs.Name.{name_eq}
-use Rattle.dns_data.proofs.Names.{name_eq_decides}
-use Rattle.dns_data.proofs.Searches.{from_any}
-use Rattle.config_load.specs.declared.loaded.RowFiles.{RowFiles}
-use Rattle.zone_map.proofs.ColumnTexts.{on_ok}
+use Rattle.std.proofs.Common.{false, refl, inl, inr}
+use Rattle.std.proofs.lemmas.Result.{on_ok_weaker}
+use Rattle.config_load.proofs.ServerPlaces.{known-added}
 use Rattle.zone_map.proofs.shown.show_new.Goals as goal
 
-pub returns-then-is_origin_among-clause-ok : goal.returns-then-is_origin_among-clause-ok
-returns-then-is_origin_among-clause-ok g c =
-    let origin = c.args.origin.now in
-    let (row, among, equal) = from_any (λ (row : RowFiles). name_eq row.origin origin) c.args.before.now (sym c.is_origin_among.ensures ∙ c.if-is_origin_among.true) in
-    inl (row, among, (name_eq_decides row.origin origin).0 equal, refl)
+pub returns-then-not-branch-clause-ok : goal.returns-then-not-branch-clause-ok
+returns-then-not-branch-clause-ok g c = inl (known-added c.in_ok-put_shown.field-0 _ false c.if-not-branch.true c.in_ok-put_shown.ensures.new, refl)
+
+pub returns-clause-shown : goal.returns-clause-shown
+returns-clause-shown g c = on_ok_weaker c.show_origin.result (λ seen. c.in_ok-put_shown.ensures.shown) c.show_origin.ensures.ok
 
 pub returns-clause-ok : goal.returns-clause-ok
-returns-clause-ok g c = on_ok c.show_origin.result (λ seen. inr seen) c.show_origin.ensures.ok
+returns-clause-ok g c = on_ok_weaker c.show_origin.result (λ seen. inr seen) c.show_origin.ensures.ok

@@ -6,26 +6,27 @@ use Rattle.net_model.specs.Learnt.{AfterRounds, IsLeast}
 use Rattle.net_model.specs.Step.{following}
 use Rattle.plain_resolver.specs.Passed.{NoneInRounds, IsFirstWithTooMany}
 use Rattle.plain_resolver.specs.declared.fault.LearntFault.{LearntFault}
-use Rattle.zone_map.specs.Targets.{most_learning_walks, target_rewrites}
+use Rattle.zone_map.specs.Targets.{most_learning_walks}
+use Rattle.zone_map.specs.Rewrites.{most_rewrites}
 use Rattle.zone_map.specs.TargetsAsked.{ends_in}
 use Rattle.zone_map.proofs.TargetWalks.{ends_are}
 use Rattle.zone_map.proofs.targets.targets_at.Goals as goal
 
 learnt_from_none : (config : Config) (begin followed viewed : List Labels) → begin ≡ [] → followed ≡ viewed
-    → AfterRounds config target_rewrites (length config.servers) begin viewed → IsLeast config target_rewrites followed
+    → AfterRounds config most_rewrites (length config.servers) begin viewed → IsLeast config most_rewrites followed
 learnt_from_none config begin followed viewed none same rounds =
-    subst (IsLeast config target_rewrites) (sym same)
-    (subst (λ (names : List Labels). AfterRounds config target_rewrites (length config.servers) names viewed) none rounds)
+    subst (IsLeast config most_rewrites) (sym same)
+    (subst (λ (names : List Labels). AfterRounds config most_rewrites (length config.servers) names viewed) none rounds)
 
 few_from_none : (config : Config) (begin : List Labels) → begin ≡ []
-    → NoneInRounds config target_rewrites most_learning_walks begin (length config.servers) → NoneInRounds config target_rewrites most_learning_walks [] (length config.servers)
+    → NoneInRounds config most_rewrites most_learning_walks begin (length config.servers) → NoneInRounds config most_rewrites most_learning_walks [] (length config.servers)
 few_from_none config begin none few =
-    subst (λ (names : List Labels). NoneInRounds config target_rewrites most_learning_walks names (length config.servers)) none few
+    subst (λ (names : List Labels). NoneInRounds config most_rewrites most_learning_walks names (length config.servers)) none few
 
 first_from_none : (config : Config) (begin : List Labels) (server : Labels) → begin ≡ []
-    → IsFirstWithTooMany config target_rewrites most_learning_walks begin server → IsFirstWithTooMany config target_rewrites most_learning_walks [] server
+    → IsFirstWithTooMany config most_rewrites most_learning_walks begin server → IsFirstWithTooMany config most_rewrites most_learning_walks [] server
 first_from_none config begin server none first =
-    subst (λ (names : List Labels). IsFirstWithTooMany config target_rewrites most_learning_walks names server) none first
+    subst (λ (names : List Labels). IsFirstWithTooMany config most_rewrites most_learning_walks names server) none first
 
 pub returns-in-Ok : goal.returns-in-Ok
 returns-in-Ok c =
@@ -35,8 +36,8 @@ returns-in-Ok c =
         in_force =
             learnt_from_none c.args.hosts.now c.new-none.result c.items.result.now _ c.new-none.ensures c.items.ensures c.in-Ok.ensures.rounds;
         few = few_from_none c.args.hosts.now c.new-none.result c.new-none.ensures c.in-Ok.ensures.few;
-        ends = ends_in (following c.args.hosts.now target_rewrites c.items.result.now);
-        are = ends_are (following c.args.hosts.now target_rewrites c.items.result.now);
+        ends = ends_in (following c.args.hosts.now most_rewrites c.items.result.now);
+        are = ends_are (following c.args.hosts.now most_rewrites c.items.result.now);
         as_text = is;
       }))
       | inr ran_out ↦ inr ran_out

@@ -1,18 +1,22 @@
--- The marks stand in place of those of before, as many as they are.
-use Rattle.std.proofs.Common.{ℕ, List, Bool, map, length, take, drop, ◌++◌, ap, sym, ◌∙◌}
-use Rattle.std.proofs.Math.Seq.{take-append_seam}
+use Rattle.std.proofs.Common.{List, map, ap, ◌∙◌}
+use Rattle.std.proofs.lemmas.Result.{on_ok_weaker}
+use Rattle.std.specs.List.{flat_map}
+use Rattle.config_load.specs.declared.loaded.RowFiles.{RowFiles}
+use Rattle.site_checks.specs.declared.views.TypedEnd.{TypedEnd}
 use Rattle.zone_map.specs.Reached.{reached_word}
-use Rattle.zone_map.specs.ReachedRows.{told_after}
-use Rattle.zone_map.proofs.SeenRows.{as_long, words_after}
+use Rattle.zone_map.specs.ReachedRows.{answering_at, is_answered}
+use Rattle.zone_map.proofs.AnsweredRows.{shows_answers, words_more, words_stay}
 use Rattle.zone_map.proofs.reached.ReachedSiteCheck.see.Goals as goal
 
-pub returns-clause-ok : goal.returns-clause-ok
-returns-clause-ok c =
-    let new = c.mark.new.told in
+pub returns-in_ok-answers-in-Exact-clause-ok : goal.returns-in_ok-answers-in-Exact-clause-ok
+returns-in_ok-answers-in-Exact-clause-ok c =
     let view = c.args.view.now in
     let rows = c.args.self.now.rows.now in
-    let was = c.args.self.now.told.items in
-    let size = sym (ap (λ (told : List Bool). length told) c.mark.ensures ∙ as_long view rows c.as_mut_slice.result.now ∙ c.as_mut_slice.ensures.len) in
-    ap (map reached_word)
-    (ap (λ (n : ℕ). take n (new ++ drop (length new) was)) size ∙ take-append_seam new (drop (length new) was) ∙ c.mark.ensures ∙ ap (told_after view rows) c.as_mut_slice.ensures.value)
-    ∙ words_after view rows was
+    on_ok_weaker c.push.result
+    (λ is. (λ i. map (λ (row : RowFiles). reached_word (is_answered (is i) row)) rows)
+    ∙ words_more view rows c.args.self.now.answered c.in_ok-answers-in-Exact.answers
+    (λ row. shows_answers view c.in-Exact.origin c.in_ok-answers-in-Exact.answers row c.in-Exact.is c.in_ok-answers-in-Exact.ensures.origin (c.in_ok-answers-in-Exact.ensures.servers ∙ ap (λ (ends : List TypedEnd). flat_map answering_at ends) c.items.ensures)))
+    c.push.ensures.ok
+
+pub returns-in-Below-clause-ok : goal.returns-in-Below-clause-ok
+returns-in-Below-clause-ok c = words_stay c.args.view.now _ c.args.self.now.rows.now (is_answered c.args.self.now.answered) c.in-Below.is

@@ -1,0 +1,87 @@
+#!/usr/bin/env python3
+"""Measures groot-map beside `check` of the same files: map.py [GROOT] [GROOT-MAP] [--runs N] [--tenth] [--only WORD]
+
+GROOT and GROOT-MAP are the built programs, crates/groot/out/groot and crates/groot_map/out/groot_map if none are given. It
+makes
+- a registry of 30,000 delegations to name servers below them, each with a mail exchange that is one of them,
+- 10,000 hosted zones of 10 records on three servers, a tenth of them on a second one too, and the zone above them,
+- one small zone on 4,000 top servers.
+
+For each it prints a line of a table: the processor seconds and the peak memory in MiB of `check` with one worker, and of
+each word of groot-map its processor seconds, their ratio to those of `check`, and its peak memory. Each is the best of
+--runs runs, 5 if none are given. With --tenth all inputs are a tenth as large; with --only those alone whose title has the
+word. At most the time of `check` is wanted of each word for the registry and the hosted zones.
+"""
+import argparse
+import os
+import tempfile
+
+import make_zone
+from measure import GROOT, RUNS, TOP, measured, metadata, program, ratio
+
+GROOT_MAP = os.path.join(TOP, "crates", "groot_map", "out", "groot_map")
+ASKED = [("records", (0,)), ("reached", (0, 1)), ("targets", (0, 1))]
+
+
+def registry(count, folder):
+    """Writes a registry of so many delegations, with as many mail exchanges. One server is asked first."""
+    mail = (f"m{number:06} MX 10 ns1.d{number:06}\n" for number in range(count))
+    return make_zone.write_example([*make_zone.registry(count), *mail], folder), ["ns1.example."]
+
+
+def hosted(count, folder):
+    """Writes so many hosted zones. One server is asked first."""
+    return make_zone.write_hosted(count, count // 10, 10, folder), ["ns1.example."]
+
+
+def on_many(count, folder):
+    """Writes a zone on so many servers, each of which is asked first."""
+    rows = make_zone.write_on_many(count, folder)
+    return rows, [row["NameServer"] for row in rows]
+
+
+INPUTS = [
+    ("registry of {:,} delegations", registry, 30_000),
+    ("{:,} hosted zones of 10 records", hosted, 10_000),
+    ("a zone on {:,} top servers", on_many, 4_000),
+]
+
+
+def known(title, taken):
+    """What was taken; it ends where a run ended in another way than it should."""
+    if taken is None:
+        raise SystemExit(f"{title}: a run ended with another status than it should")
+    return taken
+
+
+def measure_one(groot, groot_map, title, meta, runs):
+    """Measures `check` and each word, and prints what they take."""
+    check = known(title, measured([groot, "check", meta, "--workers", "1", "--classes", "1000000"], (0, 1), runs))
+    cells = [f"{check.processor:.3f}", f"{check.memory:.0f}"]
+    for asked, statuses in ASKED:
+        own = known(title, measured([groot_map, asked, meta], statuses, runs))
+        cells += [f"{own.processor:.3f}", f"{ratio(own.processor, check.processor):.2f}", f"{own.memory:.0f}"]
+    print(f"| {title} | {' | '.join(cells)} |", flush=True)
+
+
+def main():
+    words = argparse.ArgumentParser()
+    words.add_argument("groot", nargs="?", default=GROOT)
+    words.add_argument("groot_map", nargs="?", default=GROOT_MAP)
+    words.add_argument("--runs", type=int, default=RUNS)
+    words.add_argument("--tenth", action="store_true")
+    words.add_argument("--only", default="")
+    said = words.parse_args()
+    groot, groot_map = program(said.groot), program(said.groot_map)
+    columns = ["Input", "`check`", "MiB", *(cell for asked, _ in ASKED for cell in (f"`{asked}`", "ratio", "MiB"))]
+    print(f"| {' | '.join(columns)} |\n|{'---|' * len(columns)}")
+    for title, make, size in INPUTS:
+        count = size // 10 if said.tenth else size
+        if said.only in title:
+            with tempfile.TemporaryDirectory() as folder:
+                rows, tops = make(count, folder)
+                measure_one(groot, groot_map, title.format(count), metadata(folder, rows, *tops), said.runs)
+
+
+if __name__ == "__main__":
+    main()

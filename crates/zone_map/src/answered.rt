@@ -1,0 +1,137 @@
+//! Servers that answer the SOA query at the origin of a zone.
+
+ghost use Rattle.std.specs.Prelude.{◌≡◌, ◌||◌, ◌++◌, ◌∷◌, [], map, IfOk, OnOk};
+ghost use Rattle.std.specs.List.{flat_map};
+ghost use Rattle.dns_data.specs.Name.{Labels};
+ghost use Rattle.zone_map.specs.ReachedRows.{AreTellers, answering_at, answers, is_answered, is_soa_answer, tells};
+
+use config_load::RowFiles;
+use dns_data::{List, Name, NoMemory, RrType};
+use site_checks::TypedEnd;
+use std::alloc::Global;
+use std::collections::BTreeSet;
+
+/// The origin of a zone, and the servers at which a walk of the SOA query there ends in an answer.
+#[derive(Debug, Drop)]
+pub(crate) struct Answered {
+    pub origin: Name,
+    pub servers: List<Name>,
+}
+
+/// The servers that answer at the origin, by the ends of the walks of its query.
+pub(crate) fn answers_of(
+    alloc: Global,
+    origin: &Name,
+    ends: &[TypedEnd],
+) -> Result<Answered, NoMemory>
+    ensures origin { IfOk result (λ answers. answers.origin ≡ origin.now) }
+    ensures servers { IfOk result (λ answers. answers.servers ≡ flat_map answering_at ends.now) }
+{
+    Ok(Answered {
+        origin: origin.copy(alloc)?,
+        servers: answering(alloc, ends)?,
+    })
+}
+
+/// The servers of those ends that are answers of type SOA.
+fn answering(alloc: Global, ends: &[TypedEnd]) -> Result<List<Name>, NoMemory>
+    ensures { IfOk result (λ servers. servers ≡ flat_map answering_at ends.now) }
+{
+    let mut servers = List::new(alloc);
+    for end in ends {
+        put_answering(alloc, end, &mut servers)?;
+    }
+    Ok(servers)
+}
+
+/// Puts the end's server behind the others, where the end is an answer of type SOA.
+fn put_answering(alloc: Global, end: &TypedEnd, servers: &mut List<Name>) -> Result<(), NoMemory>
+    ensures { OnOk result (servers.new ≡ servers.old ++ answering_at end.now) }
+{
+    if !is_soa_answer(end) {
+        return Ok(());
+    }
+    servers.push(end.server.copy(alloc)?)
+}
+
+/// Whether the end is an answer of type SOA.
+fn is_soa_answer(end: &TypedEnd) -> bool
+    ensures { result ≡ is_soa_answer end.now }
+{
+    end.rtype.number() == RrType::Soa.number() && end.is_answer()
+}
+
+/// Of each row whether its server is one of those that answer at the origin of its zone. They are put in order once, and each
+/// row is looked for.
+pub(crate) fn rows_told(
+    alloc: Global,
+    rows: &[RowFiles],
+    answered: &[Answered],
+) -> Result<Vec<bool>, NoMemory>
+    ensures { IfOk result (λ told. told.items ≡ map (is_answered answered.now) rows.now) }
+{
+    let tellers = tellers_of(alloc, answered)?;
+    told_by(alloc, rows, &tellers)
+}
+
+/// What tells of each server that answers, and of the origin there.
+fn tellers_of(alloc: Global, answered: &[Answered]) -> Result<BTreeSet<List<Name>>, NoMemory>
+    ensures { IfOk result (AreTellers answered.now) }
+{
+    let mut tellers = BTreeSet::new(alloc);
+    for one in answered {
+        put_tellers(alloc, one, &mut tellers)?;
+    }
+    Ok(tellers)
+}
+
+/// Puts what tells of the servers that answer at an origin to the others.
+fn put_tellers(
+    alloc: Global,
+    one: &Answered,
+    tellers: &mut BTreeSet<List<Name>>,
+) -> Result<(), NoMemory>
+    ensures { OnOk result ((server origin : Labels) → tells tellers.new server origin ≡ (tells tellers.old server origin || answers server origin one.now)) }
+{
+    for server in one.servers.items() {
+        tellers.insert(teller(alloc, server, &one.origin)?)?;
+    }
+    Ok(())
+}
+
+/// What tells of a server and of an origin: both names.
+fn teller(alloc: Global, server: &Name, origin: &Name) -> Result<List<Name>, NoMemory>
+    ensures { IfOk result (λ teller. teller ≡ server.now ∷ origin.now ∷ []) }
+{
+    let mut teller = List::new(alloc);
+    teller.push(server.copy(alloc)?)?;
+    teller.push(origin.copy(alloc)?)?;
+    Ok(teller)
+}
+
+/// Of each row whether these tell of its server and of the origin of its zone.
+fn told_by(
+    alloc: Global,
+    rows: &[RowFiles],
+    tellers: &BTreeSet<List<Name>>,
+) -> Result<Vec<bool>, NoMemory>
+    ensures { IfOk result (λ told. told.items ≡ map (λ row. tells tellers.now row.server row.origin) rows.now) }
+{
+    let mut told = Vec::with_capacity(alloc, rows.len())?;
+    for row in rows {
+        told.push(has_teller(alloc, tellers, row)?)?;
+    }
+    Ok(told)
+}
+
+/// Whether these tell of the row's server and of the origin of its zone.
+fn has_teller(
+    alloc: Global,
+    tellers: &BTreeSet<List<Name>>,
+    row: &RowFiles,
+) -> Result<bool, NoMemory>
+    ensures { IfOk result (λ told. told ≡ tells tellers.now row.now.server row.now.origin) }
+{
+    let own = teller(alloc, &row.server, &row.origin)?;
+    Ok(tellers.contains(&own))
+}
