@@ -15,6 +15,8 @@ use Rattle.groot_line.specs.declared.job.Job.TheVariants as jobs
 use Rattle.io_edges.specs.Counts.{Rose}
 use Rattle.io_edges.specs.Files.{FilesTold}
 use Rattle.net_model.specs.declared.config.Config.{Config}
+use Rattle.net_model.specs.Reading.{ground_of}
+use Rattle.query_classes.specs.Children.{IsInTree}
 use Rattle.site_checks.specs.Views.{Site}
 use Rattle.report_check.specs.declared.answer.Checked.{Checked}
 use Rattle.report_check.specs.declared.answer.Checked.TheVariants as checks
@@ -28,6 +30,7 @@ use Rattle.run_endings.specs.declared.ending.Ending.{Ending}
 use Rattle.run_endings.specs.declared.status.Status.{Status}
 use Rattle.run_endings.specs.declared.status.Status.TheVariants.{Clean, Faults, ReadFault, WriteFault}
 use Rattle.run_endings.specs.Ends.{IsNotLoaded}
+use Rattle.groot_run.specs.Counted.{EndsPast}
 use Rattle.groot_run.specs.JobEnds.{JobEnds, EndsOver, EndsWithout}
 use Rattle.run_endings.specs.Endings.{OfReading, writes_nothing, no_memory}
 use Rattle.groot_run.specs.Outcome.{status_of, WithinNames, WithinStates, IsReported, Checks, ListsClasses, IsAnswerWith, Asks, IsDrilled, Drills, drill_names, drill_rewrites, AreTold, ShowsClasses, site_names, site_rewrites, answered_to, IsRechecked, Rechecks, Outcome, IsEnding, JobComesTo, NoJobReadFailed, Compares, ComparesWith, compared_of, told_same, IsScoped, Scopes, WithinScope}
@@ -59,10 +62,9 @@ module _ (told : FilesTold) (before after : List ℕ → ℕ) (of_config : Confi
     by (inr failed) = inr failed
 
 -- a run that ends since the class tree has too many names ends so, whatever its command gives within the limit
-pub without_rows : (config : Config) (limit : ℕ) (P : Type 0) (ending : Ending) → WithinNames config limit ⊥ ending ⊎ (ending ≡ no_memory)
+pub without_rows : (config : Config) (limit : ℕ) (P : Type 0) (ending : Ending) → EndsPast (IsInTree (ground_of config)) limit ending
     → WithinNames config limit P ending ⊎ (ending ≡ no_memory)
-without_rows config limit P ending (inl (inl more)) = inl (inl more)
-without_rows config limit P ending (inl (inr (few, none))) = absurd none
+without_rows config limit P ending (inl more) = inl (inl more)
 without_rows config limit P ending (inr ran_out) = inr ran_out
 
 -- ---- the clauses

@@ -9,7 +9,7 @@ use Rattle.graph_form.specs.declared.report.Report.{Report}
 use Rattle.job_scope.specs.Scoped.{scoped, widened}
 use Rattle.net_model.specs.declared.config.Config.{Config}
 use Rattle.net_model.specs.Tree.{HasMoreThan, IsInPart}
-use Rattle.query_classes.specs.ClassList.{ListedClass, AreListed, classes_of_rows}
+use Rattle.query_classes.specs.ClassList.{AreListed, classes_of_rows}
 use Rattle.query_classes.specs.declared.tree.ClassRow.{ClassRow}
 use Rattle.query_verdicts.specs.Passed.{IsRefusedFor, NonePasses}
 use Rattle.query_verdicts.specs.Queries.{LimitedQueries, limited_to, queries_of}
@@ -106,22 +106,21 @@ module _ (config : Config) (name : Labels) where
   with_report sites report ending (few, none, is) (inr ran_out) = inr ran_out
 
 module _ (config : Config) (name : Labels) (rewrites states : ℕ) (rewrites_are : scope_rewrites ≡ rewrites) (states_are : most_states ≡ states)
-    (queries : LimitedQueries) (queries_are : queries ≡ limited_to config rewrites states) (rows listed : List ClassRow) (rows_are : rows ≡ listed)
-    (are : AreListed (widened config name) name (classes_of_rows listed)) (none : NonePasses (scope_of config name) most_states) where
-  -- the judge's queries are those of the scope, and the rows those that are listed
-  of_listed : (P : LimitedQueries → List ListedClass → Type 0) → P queries (classes_of_rows rows)
-      → P (queries_of (scope_of config name) most_states) (classes_of_rows listed)
-  of_listed P is =
+    (queries : LimitedQueries) (queries_are : queries ≡ limited_to config rewrites states) (rows : List ClassRow)
+    (are : AreListed (widened config name) name (classes_of_rows rows)) (none : NonePasses (scope_of config name) most_states) where
+  -- the judge's queries are those of the scope
+  of_scoped : (P : LimitedQueries → Type 0) → P queries → P (queries_of (scope_of config name) most_states)
+  of_scoped P is =
       let same : queries ≡ queries_of (scope_of config name) most_states =
       queries_are ∙ ap (λ (k : ℕ). limited_to config k states) (sym rewrites_are) ∙ ap (λ (n : ℕ). limited_to config scope_rewrites n) (sym states_are) in
-      subst (λ (q : LimitedQueries). P q (classes_of_rows listed)) same (subst (λ (rs : List ClassRow). P queries (classes_of_rows rs)) rows_are is)
+      subst P same is
 
   -- no run ends among the classes unless memory ran out
   pub ran_out_among : (ending : Ending) → EndsAmong queries (classes_of_rows rows) ending → ending ≡ no_memory
-  ran_out_among ending ends = by (of_listed (λ q classes. EndsAmong q classes ending) ends) where
-    by : EndsAmong (queries_of (scope_of config name) most_states) (classes_of_rows listed) ending → ending ≡ no_memory
+  ran_out_among ending ends = by (of_scoped (λ (q : LimitedQueries). EndsAmong q (classes_of_rows rows) ending) ends) where
+    by : EndsAmong (queries_of (scope_of config name) most_states) (classes_of_rows rows) ending → ending ≡ no_memory
     by (inl (query, first, is)) =
-        let passed = is_first_passed (scope_of config name) most_states (classes_of_rows listed) are query first in
+        let passed = is_first_passed (scope_of config name) most_states (classes_of_rows rows) are query first in
         absurd (none.no_class (passed.class, query, passed.passes))
     by (inr ran_out) = ran_out
 
@@ -134,12 +133,12 @@ module _ (config : Config) (name : Labels) (rewrites states : ℕ) (rewrites_are
         → (ending ≡ with_told report name (map (λ b. record { title = site_name b; findings = held b }) asked)) ⊎ (ending ≡ no_memory)
         → IsScoped config name (map (λ b. record { name = site_name b; held = held b; step = step b }) before) ending ⊎ (ending ≡ no_memory)
     is_scoped shown report is ending (inl written) =
-        let seen = (of_listed (λ q classes. AreShown site_name held step q classes before after) shown).shown none.no_server in
+        let seen = (of_scoped (λ (q : LimitedQueries). AreShown site_name held step q (classes_of_rows rows) before after) shown).shown none.no_server in
         inl (record {
           report = report;
           views = seen.views;
           is_report = is;
-          are_views = all_views (scope_of config name) most_states (classes_of_rows listed) are seen.views seen.are_views;
+          are_views = all_views (scope_of config name) most_states (classes_of_rows rows) are seen.views seen.are_views;
           as_text =
               written
               ∙ ap (λ (bs : List B). with_told report name (map (λ b. record { title = site_name b; findings = held b }) bs)) asked_are

@@ -1,6 +1,6 @@
 -- Classes whose views are shown, some after others: what checks have seen, and where a run ends among them.
-use Rattle.std.proofs.Common.{◌≡◌, ℕ, suc, ◌+◌, ◌<◌, ◌≤◌, List, [], ◌∷◌, ◌++◌, map, append_assoc, append-nil, length, take, drop, get_or, Option, Some, None, Result, Ok, Err, IfErr, refl, sym, ap, subst, ◌∙◌, inl, inr, arith}
-use Rattle.std.specs.Prelude.{◌⊎◌, Contains, OnOk, IsErrAnd}
+use Rattle.std.proofs.Common.{◌≡◌, ℕ, suc, ◌+◌, ◌<◌, ◌≤◌, List, [], ◌∷◌, ◌++◌, append_assoc, append-nil, length, take, drop, get_or, Option, Some, None, refl, sym, ap, subst, ◌∙◌, inl, inr, arith}
+use Rattle.std.specs.Prelude.{◌⊎◌, Contains}
 use Rattle.std.specs.List.{AllZip}
 use Rattle.std.proofs.Math.Seq.{drop-cons}
 use Rattle.std.proofs.lemmas.List.{map-append, take-append-drop, take_more, take_all}
@@ -22,24 +22,7 @@ use Rattle.site_checks.proofs.Seen.{nothing_seen, more_seen}
 use Rattle.run_endings.specs.declared.ending.Ending.{Ending}
 use Rattle.run_endings.specs.Endings.{no_memory}
 use Rattle.groot_run.specs.Outcome.{too_many_states}
-use Rattle.groot_run.specs.ShownClasses.{Passes, ServerPasses, NonePasses, exact_class, below_class, class_of, HasEnds, AreViewsOf, AreShown, IsFirstOf, EndsAmong}
-
--- ---- what follows of an answer
-
--- what follows from a property of a value follows from that property of an answer
-pub on_ok : {T E P Q : Type 0} (result : Result T E) → (P → Q) → OnOk result P → OnOk result Q
-on_ok (Ok value) follows holds = follows holds
-on_ok (Err fault) follows holds = tt
-
--- what follows from a property of a fault follows from that property of an answer
-pub if_err : {T E : Type 0} {P Q : E → Type 0} (result : Result T E) → ((fault : E) → P fault → Q fault) → IfErr result P → IfErr result Q
-if_err (Ok value) follows holds = tt
-if_err (Err fault) follows holds = follows fault holds
-
--- what holds of a fault holds of the answer that hands it on
-pub handed_on : {T E : Type 0} (P : E → Type 0) (fault : E) (result : Result T E) → IsErrAnd result (λ other. other ≡ fault) → P fault → IfErr result P
-handed_on P fault (Ok value) is holds = tt
-handed_on P fault (Err other) is holds = subst P (sym is) holds
+use Rattle.groot_run.specs.ShownClasses.{Passes, ServerPasses, NonePasses, exact_class, below_class, class_of, HasEnds, AreViewsOf, AreShown, EndsAmong}
 
 -- ---- the classes of rows
 

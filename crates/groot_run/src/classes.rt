@@ -5,9 +5,12 @@ ghost use Rattle.net_model.specs.declared.class.Class.TheVariants.{Exact, Below}
 ghost use Rattle.groot_run.specs.ClassList.{class_line, class_list_text};
 ghost use Rattle.groot_run.specs.ClassRows.{rows_text};
 ghost use Rattle.net_model.specs.Reading.{ground_of};
+ghost use Rattle.net_model.specs.Tree.{HasMoreThan, IsInPart};
+ghost use Rattle.query_classes.specs.Children.{IsInTree};
 ghost use Rattle.query_classes.specs.ClassList.{AreListed, classes_of_row, classes_of_rows};
 ghost use Rattle.run_endings.specs.Endings.{no_memory};
-ghost use Rattle.groot_run.specs.Outcome.{HasMoreNames, ListsClasses, WithinNames};
+ghost use Rattle.groot_run.specs.Counted.{EndsPast};
+ghost use Rattle.groot_run.specs.Outcome.{HasMoreNames, ListsClasses};
 
 use dns_data::{List, Name, NoMemory, Octets};
 use label_graph::LabelGraph;
@@ -34,15 +37,30 @@ pub(crate) fn rows_within(
 ) -> Result<List<ClassRow>, Ending>
     ensures listed { IfOk result (λ rows. AreListed (ground_of config.now) [] (classes_of_rows rows)) }
     ensures few { OnOk result (HasMoreNames config.now limit → ⊥) }
-    ensures err { IfErr result (λ ending. WithinNames config.now limit ⊥ ending ⊎ (ending ≡ no_memory)) }
+    ensures err { IfErr result (EndsPast (IsInTree (ground_of config.now)) limit) }
 {
+    let top = Name::root();
     match LabelGraph::of_config(alloc, config) {
-        Ok(graph) => match class_tree(alloc, &graph, &Name::root(), limit) {
-            Ok(rows) => Ok(rows),
-            Err(TreeFault::TooMany) => Err(Ending::too_many_names(alloc, limit)),
-            Err(TreeFault::NoMemory) => Err(Ending::no_memory()),
-        },
+        Ok(graph) => rows_at(alloc, &graph, &top, limit),
         Err(NoMemory) => Err(Ending::no_memory()),
+    }
+}
+
+/// The rows of the part of a class tree at or below a name, or how a run ends since it has more names than the limit.
+pub(crate) fn rows_at(
+    alloc: Global,
+    graph: &LabelGraph,
+    above: &Name,
+    limit: u32,
+) -> Result<List<ClassRow>, Ending>
+    ensures listed { IfOk result (λ rows. AreListed graph.now above.now (classes_of_rows rows)) }
+    ensures few { OnOk result (HasMoreThan (IsInPart graph.now above.now) limit → ⊥) }
+    ensures err { IfErr result (EndsPast (IsInPart graph.now above.now) limit) }
+{
+    match class_tree(alloc, graph, above, limit) {
+        Ok(rows) => Ok(rows),
+        Err(TreeFault::TooMany) => Err(Ending::too_many_names(alloc, limit)),
+        Err(TreeFault::NoMemory) => Err(Ending::no_memory()),
     }
 }
 

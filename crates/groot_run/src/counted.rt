@@ -1,14 +1,18 @@
 //! Names that are counted before any is judged.
 
-ghost use Rattle.std.specs.Prelude.{◌≡◌, ◌⊎◌, IfErr};
+ghost use Rattle.std.specs.Prelude.{◌≡◌, IfErr};
 ghost use Rattle.std.specs.List.{list_any};
-ghost use Rattle.groot_run.specs.Counted.{redirects, server_redirects, zone_redirects};
-ghost use Rattle.groot_run.specs.Outcome.{WithinNames};
-ghost use Rattle.run_endings.specs.Endings.{no_memory};
+ghost use Rattle.net_model.specs.Reading.{ground_of};
+ghost use Rattle.query_classes.specs.Children.{IsInTree};
+ghost use Rattle.same_answers.specs.Compared.{joint};
+ghost use Rattle.groot_run.specs.Counted.{EndsPast, redirects, server_redirects, zone_redirects};
+ghost use Rattle.groot_run.specs.Outcome.{compared_of};
 
-use crate::classes::rows_within;
-use dns_data::{Rdata, Rr};
+use crate::classes::{rows_at, rows_within};
+use dns_data::{List, Name, NoMemory, Rdata, Rr};
+use label_graph::LabelGraph;
 use net_model::{Config, Server, Zone};
+use query_classes::ClassRow;
 use run_endings::Ending;
 use std::alloc::Global;
 
@@ -16,7 +20,7 @@ use std::alloc::Global;
 /// are more than the limit: it is `Err` where so many were counted. Without such a record none is counted, since the tree has
 /// only names then that the files have.
 pub(crate) fn count_redirected(alloc: Global, config: &Config, limit: u32) -> Result<(), Ending>
-    ensures { IfErr result (λ ending. WithinNames config.now limit ⊥ ending ⊎ (ending ≡ no_memory)) }
+    ensures { IfErr result (EndsPast (IsInTree (ground_of config.now)) limit) }
 {
     if !some_redirects(config.servers.items()) {
         return Ok(());
@@ -24,6 +28,41 @@ pub(crate) fn count_redirected(alloc: Global, config: &Config, limit: u32) -> Re
     match rows_within(alloc, config, limit) {
         Ok(_) => Ok(()),
         Err(ending) => Err(ending),
+    }
+}
+
+/// Counts the names of the class tree of two configurations where a DNAME record of one of them may multiply them, so that none
+/// is judged where there are more than the limit: it is `Err` where so many were counted.
+pub(crate) fn count_joint(
+    alloc: Global,
+    first: &Config,
+    second: &Config,
+    limit: u32,
+) -> Result<(), Ending>
+    ensures { IfErr result (EndsPast (IsInTree (joint (compared_of first.now second.now))) limit) }
+{
+    if !some_redirects(first.servers.items()) && !some_redirects(second.servers.items()) {
+        return Ok(());
+    }
+    match joint_rows(alloc, first, second, limit) {
+        Ok(_) => Ok(()),
+        Err(ending) => Err(ending),
+    }
+}
+
+/// The rows of the class tree of two configurations, or how a run ends since it has more names than the limit.
+fn joint_rows(
+    alloc: Global,
+    first: &Config,
+    second: &Config,
+    limit: u32,
+) -> Result<List<ClassRow>, Ending>
+    ensures { IfErr result (EndsPast (IsInTree (joint (compared_of first.now second.now))) limit) }
+{
+    let top = Name::root();
+    match LabelGraph::of_names(alloc, &[first, second], &[]) {
+        Ok(graph) => rows_at(alloc, &graph, &top, limit),
+        Err(NoMemory) => Err(Ending::no_memory()),
     }
 }
 

@@ -12,6 +12,7 @@ ghost use Rattle.run_endings.specs.Ends.{EndsOrFails};
 ghost use Rattle.run_endings.specs.Endings.{OfReading, no_memory};
 ghost use Rattle.groot_run.specs.Outcome.{Compares, ComparesWith, compared_of, most_states, same_rewrites, told_same};
 
+use crate::counted::count_joint;
 use crate::counts::put_count;
 use crate::ending::too_many_states;
 use crate::judging::MOST_STATES;
@@ -85,7 +86,10 @@ fn compared<G: Gate + Sync, R: Threads + Wait + Sync>(
     requires { 1 ≤ workers }
     ensures { Compares (compared_of first.now second.now) result ⊎ (result ≡ no_memory) }
 {
-    judged::<Brand, G, R>(rt, alloc, first, second, workers, gate)
+    match count_joint(alloc, first, second, USUAL_NAMES) {
+        Ok(()) => judged::<Brand, G, R>(rt, alloc, first, second, workers, gate),
+        Err(ending) => ending,
+    }
 }
 
 /// What the comparison of this name tells of the configurations.

@@ -2,7 +2,7 @@
 
 use super::configs::{ALONE, files};
 use dns_data::{List, NoMemory};
-use groot_run::{Status, groot_with_sites};
+use groot_run::{Status, groot, groot_with_sites};
 use io_edges::{FreeGate, MemoryFiles, MemorySink};
 use site_checks::{Line, SiteCheck, View};
 use std::alloc::Global;
@@ -125,5 +125,29 @@ fn checks_are_let_go_however_a_run_ends(rt: HostRuntime) -> Result<(), Fail> {
         );
         assert_eq!(rt; count.load(Ordering::SeqCst), 1, "status {number}");
     }
+    Ok(())
+}
+
+/// Whether `site` ends so for an operator who brings no check.
+fn ends_alone<R: Threads + Wait + Sync>(
+    rt: &R,
+    alloc: Global,
+    end: &End,
+) -> Result<bool, NoMemory> {
+    let mut around = over_zone(alloc, ZONE)?;
+    let words = ["site", "m.json"];
+    let Around { files, out, err } = &mut around;
+    let status = groot(rt, alloc, &words, files, out, err, &FreeGate);
+    Ok(has_ended(&status, &around, end))
+}
+
+#[test]
+fn without_checks_nothing_is_told(rt: HostRuntime) -> Result<(), Fail> {
+    let end = End {
+        number: 0,
+        out: "{\"sites\":[]}\n",
+        err: "",
+    };
+    assert!(rt; ends_alone(&rt, rt.alloc(), &end)?);
     Ok(())
 }

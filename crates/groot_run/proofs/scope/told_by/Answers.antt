@@ -1,9 +1,7 @@
+use Rattle.std.proofs.Common.{inl, inr}
 use Rattle.groot_run.specs.Outcome.{IsScoped}
 use Rattle.groot_run.proofs.JudgedScopes.{with_report, without_report}
-use Rattle.groot_run.proofs.scope.judged.Goals as goal
-
-pub shown-requires-clause-few : goal.shown-requires-clause-few
-shown-requires-clause-few g c = c.in-Ok-report_of.ensures.0
+use Rattle.groot_run.proofs.scope.told_by.Goals as goal
 
 pub shown-requires-clause-none_passes : goal.shown-requires-clause-none_passes
 shown-requires-clause-none_passes g c = c.in-Ok-report_of.ensures.1
@@ -20,3 +18,10 @@ pub returns-in-Ok : goal.returns-in-Ok
 returns-in-Ok g c =
     let N = g.N.ScopeNaming in
     without_report N.config N.scope (IsScoped N.config N.scope _ c.in-Err-report_of.ending) c.in-Err-report_of.ending c.in-Err-report_of.ensures
+
+pub returns : goal.returns
+returns g c =
+    elim c.in-Err.ensures.err [
+      | inl past ↦ inl (inl past)
+      | inr ran_out ↦ inr ran_out
+    ]
