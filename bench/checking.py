@@ -11,29 +11,42 @@ GROOT is the built program, crates/groot/out/groot if none is given. It makes
 - a zone of four records on 4,000 servers, all of them top servers, and on a fourth of that.
 
 For each it prints the processor seconds and the peak memory of `check` with one worker, the processor seconds of `ask` of
-one name on the same files (reading and trees) and of kzonecheck on the same zone where it is one zone and kzonecheck is
-installed, and the ratios to them. Then it prints how `check` grows from an input to the one that is larger, for the registry
-and the 10,000 rows the seconds by the clock of judging alone (seen from outside by strace, where it is installed) and the
-memory with 1, 2 and 4 workers, what `drill` takes, and what `check` takes beside `classes` where four DNAME records make more
-names than are looked at. The best of N runs counts, 5 if none are given; of no run longer than half an hour anything is told.
-With --tenth all inputs are a tenth as large; with --only those alone whose title has the word. What is wanted of the whole
-inputs stands behind the number; of judging with several workers it is wanted on a machine with as many idle processors.
+one name on the same files (reading and trees) and of the stock checkers of master files that are installed (Knot's kzonecheck,
+NSD's nsd-checkzone, BIND's named-checkzone) on the same zone where it is one zone, and the ratios to them. Then it prints how
+`check` grows from an input to the one that is larger, for the registry and the 10,000 rows the seconds by the clock of judging
+alone (seen from outside by strace, where it is installed) and the memory with 1, 2 and 4 workers, and what `drill` takes.
+
+Of inputs at which a run once took too long it prints
+- what `check`, `scope` of the root and `same` of two copies take beside `classes` where four DNAME records make more names
+  than are looked at,
+- what `check` takes where a query reaches more pairs of state and type than are looked at, in four zones that redirect the
+  names of each other, alone and beside 20 aliases from which as many are reached,
+- what `check --rewrites 64` takes of a chain of 20,000 aliases, nearly each of which leads too far, beside what Python's json
+  takes to write the same report.
+
+The best of N runs counts, 5 if none are given; of no run longer than half an hour anything is told. With --tenth all inputs are
+a tenth as large; with --only those alone whose title has the word. What is wanted of the whole inputs stands behind the number;
+of judging with several workers it is wanted on a machine with as many idle processors.
 """
 import argparse
+import json
 import os
 import re
 import shutil
 import subprocess
 import tempfile
+import time
 from typing import Callable, NamedTuple, Optional
 
 import make_zone
-from measure import GROOT, MEBIBYTE, RUNS, measured, metadata, program, ratio
+from measure import GROOT, MEBIBYTE, RUNS, measured, metadata, program, ratio, stock_checkers
 
 MOST_MEMORY = 500
 MOST_DRILL = 5
 MOST_COUNTING = 2
-LEAST_SPEED = {4: 2}
+MOST_WRITING = 2
+MOST_MORE_STATES = 2
+LEAST_SPEED = {4: 3}
 MOST_MORE_MEMORY = 1.2
 
 
@@ -85,7 +98,7 @@ def inputs(part):
     whole = (16 * MEBIBYTE - 4096) // part
     return [
         Input("registry, a tenth", one_zone(make_zone.registry, 10_000 // part), "example."),
-        Input("registry", one_zone(make_zone.registry, 100_000 // part), "example.", "registry, a tenth", 12, ask=3, stock=2, memory=400),
+        Input("registry", one_zone(make_zone.registry, 100_000 // part), "example.", "registry, a tenth", 12, ask=3, stock=1.5, memory=145),
         Input("hosted zones", hosted(1_000 // part, 0, 100), ask=3),
         Input("mixed, a tenth", mixed(whole // 10), "hosting.example."),
         Input("mixed zone", mixed(whole), "hosting.example.", "mixed, a tenth", 12, ask=3),
@@ -94,16 +107,16 @@ def inputs(part):
         Input("aliases, a tenth", one_zone(make_zone.aliases, 500 // part), "example."),
         Input("chain of aliases", one_zone(make_zone.aliases, 5_000 // part), "example.", "aliases, a tenth", 12),
         Input("rows, a ninth", hosted(1_000 // part, 111 // part, 89)),
-        Input("10,000 rows", hosted(9_000 // part, 999 // part, 89), None, "rows, a ninth", 11),
+        Input("10,000 rows", hosted(9_000 // part, 999 // part, 89), None, "rows, a ninth", 11, memory=300),
         Input("tops, a fourth", on_many(1_000 // part), all_top=True),
         Input("4,000 top servers", on_many(4_000 // part), None, "tops, a fourth", 5, seconds=3, all_top=True),
     ]
 
 
-def told(number, most=None, least=None):
-    """A number with what is wanted of it."""
+def told(number, most=None, least=None, digits=2):
+    """A number with so many digits, and with what is wanted of it."""
     wanted = f" (at most {most:g})" if most else f" (at least {least:g})" if least else ""
-    return f"{number:.2f}{wanted}"
+    return f"{number:.{digits}f}{wanted}"
 
 
 def threads_alone(words, runs):
@@ -159,13 +172,13 @@ def check_one(groot, given, taken, runs):
             print(f"{given.title:>18} the program ended in another way")
             return
         taken[given.title] = check.processor
-        seconds = f" (at most {given.seconds:g})" if given.seconds else ""
-        line = f"{given.title:>18} check {check.processor:.3f}{seconds} s, {told(check.memory, given.memory)} MiB"
-        line += f"; ask {ask.processor:.3f} s, ratio {told(ratio(check.processor, ask.processor), given.ask)}"
-        if given.origin and shutil.which("kzonecheck"):
-            stock = measured(["kzonecheck", "-o", given.origin, os.path.join(folder, "own.zone")], (0,), runs)
+        line = f"{given.title:>18} check {told(check.processor, given.seconds, digits=3)} s, {told(check.memory, given.memory)} MiB"
+        line += f"; ask {told(ask.processor, given.seconds, digits=3)} s, ratio {told(ratio(check.processor, ask.processor), given.ask)}"
+        for name, stock_words in stock_checkers(given.origin, os.path.join(folder, "own.zone")):
+            stock = measured(stock_words, (0,), runs)
+            most = given.stock if name == "kzonecheck" else None
             if stock:
-                line += f"; kzonecheck {stock.processor:.3f} s {stock.memory:.0f} MiB, ratio {told(ratio(check.processor, stock.processor), given.stock)}"
+                line += f"; {name} {stock.processor:.3f} s {stock.memory:.0f} MiB, ratio {told(ratio(check.processor, stock.processor), most)}"
         if given.smaller in taken:
             line += f"; growth {told(ratio(check.processor, taken[given.smaller]), given.growth)}"
         print(line, flush=True)
@@ -184,17 +197,74 @@ def drills(groot, part, runs):
 
 
 def counting(groot, runs):
-    """Prints what check takes where DNAME records make more names than the limit, beside what classes takes."""
+    """Prints what check, scope and same take where DNAME records make more names than the limit, beside what classes takes with
+    the same limit."""
     with tempfile.TemporaryDirectory() as folder:
         rows = make_zone.write_example(make_zone.crossing(), folder)
         meta = metadata(folder, rows, rows[0]["NameServer"])
-        check, classes = (measured([groot, job, meta, "--classes", "1000000"], (4,), runs) for job in ("check", "classes"))
-    if check is None or classes is None:
-        print(f"{'names of DNAMEs':>18} the program ended in another way")
+        for job, limit, operands in (("check", 1_000_000, []), ("check", 100_000, []), ("scope", 100_000, ["."]), ("same", 100_000, [meta])):
+            most = ["--classes", str(limit)]
+            classes = measured([groot, "classes", meta, *most], (4,), runs)
+            own = measured([groot, job, meta, *(most if job == "check" else operands)], (4,), runs)
+            if own is None or classes is None:
+                print(f"{'names of DNAMEs':>18} the program ended in another way")
+                return
+            print(
+                f"{'names of DNAMEs':>18} {job} of at most {limit:,} {own.processor:.3f} s, {told(own.memory, MOST_MEMORY)} MiB;"
+                f" ratio to classes {told(ratio(own.processor, classes.processor), MOST_COUNTING)}",
+                flush=True,
+            )
+
+
+def many_states(groot, part, runs):
+    """Prints what check takes where a query reaches more pairs of state and type than are looked at, alone and beside aliases from
+    which as many are reached. The ending names the first query alone in both."""
+    taken = []
+    for count in (0, 20 // part):
+        with tempfile.TemporaryDirectory() as folder:
+            rows = make_zone.write_redirecting(count, folder)
+            taken.append(measured([groot, "check", metadata(folder, rows, *make_zone.REDIRECTING), "--workers", "1"], (4,), runs))
+    if None in taken:
+        print(f"{'many states':>18} the program ended in another way")
         return
+    alone, beside = taken
     print(
-        f"{'names of DNAMEs':>18} check {check.processor:.3f} s, {told(check.memory, MOST_MEMORY)} MiB;"
-        f" ratio to classes {told(ratio(check.processor, classes.processor), MOST_COUNTING)}"
+        f"{'many states':>18} check {alone.processor:.3f} s, {told(alone.memory, MOST_MEMORY)} MiB; beside {20 // part} aliases"
+        f" {beside.processor:.3f} s, ratio {told(ratio(beside.processor, alone.processor), MOST_MORE_STATES)}"
+    )
+
+
+def seconds_to_write(path, runs):
+    """The processor seconds in which Python's json writes the report of a file, the least of some runs."""
+    with open(path) as file:
+        report = json.load(file)
+    best = None
+    for _ in range(runs):
+        with open(os.devnull, "w") as into:
+            start = time.process_time()
+            into.write(json.dumps(report, separators=(",", ":")))
+            taken = time.process_time() - start
+        best = taken if best is None else min(best, taken)
+    return best
+
+
+def far_aliases(groot, part, runs):
+    """Prints what check takes of a chain of aliases nearly each of which leads further than a query may be rewritten, beside what
+    Python takes to write the same report."""
+    with tempfile.TemporaryDirectory() as folder:
+        rows = make_zone.write_example(make_zone.aliases(20_000 // part), folder)
+        words = [groot, "check", metadata(folder, rows, rows[0]["NameServer"]), "--rewrites", "64", "--workers", "1"]
+        path = os.path.join(folder, "report.json")
+        with open(path, "wb") as into:
+            subprocess.run(words, stdin=subprocess.DEVNULL, stdout=into, stderr=subprocess.DEVNULL)
+        check = measured(words, (1,), runs)
+        if check is None:
+            print(f"{'far aliases':>18} the program ended in another way")
+            return
+        size, writing = os.path.getsize(path) / MEBIBYTE, seconds_to_write(path, runs)
+    print(
+        f"{'far aliases':>18} check {check.processor:.3f} s, {check.memory:.0f} MiB, a report of {size:.0f} MiB;"
+        f" ratio to writing it {told(ratio(check.processor, writing), MOST_WRITING)}"
     )
 
 
@@ -213,6 +283,10 @@ def main():
         drills(groot, part, said.runs)
     if said.only in "names of DNAMEs":
         counting(groot, said.runs)
+    if said.only in "many states":
+        many_states(groot, part, said.runs)
+    if said.only in "far aliases":
+        far_aliases(groot, part, said.runs)
 
 
 if __name__ == "__main__":

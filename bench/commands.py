@@ -2,8 +2,10 @@
 """Measures commands beside `check` of the same files: commands.py [GROOT] [--runs N] [--tenth] [--only WORD]
 
 GROOT is the built program, crates/groot/out/groot if none is given. It makes
-- a registry of 30,000 delegations, whose classes `site` shows to the checks that the program brings,
-- a zone of 10,000 aliases that lead to no name, whose report `recheck` checks.
+- a registry of 30,000 delegations, and one of 99,990 to name servers elsewhere, whose classes `site` shows to the checks that
+  the program brings,
+- a zone of 10,000 aliases that lead to no name, and a registry of 10,000 delegations without the addresses of their name
+  servers, whose reports `recheck` checks.
 
 For each it prints the processor seconds and the peak memory of the command and of `check`, each with the workers that it has
 if none are given, and the ratio. The best of N runs counts, 5 if none are given. With --tenth all inputs are a tenth as
@@ -34,11 +36,25 @@ def blackholes(count):
         yield f"alias{number} CNAME none{number}\n"
 
 
+def elsewhere(count):
+    """The lines of so many delegations to one name server outside."""
+    for number in range(count):
+        yield f"d{number:06} NS ns1.elsewhere.\n"
+
+
+def without_addresses(count):
+    """The lines of so many delegations, each to a name server below it that has no address."""
+    for number in range(count):
+        yield f"d{number:06} NS ns1.d{number:06}\n"
+
+
 def commands(part):
     """Each command, with an input as large as this part of the whole."""
     return [
         Command("site", lambda: make_zone.registry(30_000 // part), 10),
+        Command("site", lambda: elsewhere(99_990 // part), 10),
         Command("recheck", lambda: blackholes(10_000 // part), 2),
+        Command("recheck", lambda: without_addresses(10_000 // part), 2),
     ]
 
 

@@ -114,6 +114,24 @@ def crossing():
     return [f"{owner} DNAME c\n" for owner in ("a", "b", "a.c", "b.c")]
 
 
+REDIRECTING = [f"s{number}." for number in range(1, 5)]
+
+
+def write_redirecting(count, folder):
+    """Four zones on four servers that redirect the names of each other, so that the query a.p. reaches 393,168 pairs of a state
+    and a type, and on the first server a zone of so many aliases onto names from which as many are reached; the rows of the
+    metadata for them."""
+    rows = []
+    for server, (origin, target) in zip(REDIRECTING, (("p.", "a1.q."), ("p.", "a2.q."), ("q.", "b1.p."), ("q.", "b2.p."))):
+        with open(os.path.join(folder, f"{server}zone"), "w") as into:
+            into.write(f"{origin} 60 SOA s1. h. 1 2 3 4 5\n{origin} 60 DNAME {target}\n")
+        rows.append({"FileName": f"{server}zone", "NameServer": server})
+    with open(os.path.join(folder, "aliases.zone"), "w") as into:
+        into.write("r. 60 SOA s1. h. 1 2 3 4 5\n")
+        into.writelines(f"w{number}.r. 60 CNAME x{number}.p.\n" for number in range(count))
+    return [*rows, {"FileName": "aliases.zone", "NameServer": REDIRECTING[0]}]
+
+
 def write_empty(folder, server):
     """An empty zone file, for which a run is refused once it has read the rows before, and the row of the metadata for it."""
     with open(os.path.join(folder, "empty.zone"), "w"):

@@ -61,6 +61,16 @@ def taken(words):
     return best
 
 
+def stock_checkers(origin, path):
+    """Each stock checker of master files that is installed, with its words for the zone of a file; none where there is no origin."""
+    checkers = [
+        ("kzonecheck", ["kzonecheck", "-o", origin, path]),
+        ("nsd-checkzone", ["nsd-checkzone", origin, path]),
+        ("named-checkzone", ["named-checkzone", "-i", "none", origin, path]),
+    ]
+    return [one for one in checkers if origin and shutil.which(one[0])]
+
+
 def ratio(own, other):
     """How many times as much, of what may be nothing."""
     return own / max(other, 1e-3)

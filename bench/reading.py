@@ -4,30 +4,27 @@
 GROOT is the built program, crates/groot/out/groot if none is given. For files of a hosting zone of 1 and 16 MiB, a million
 short records (of a million owners, of one owner, and all identical) and 1,000 files of 100 records it prints the processor
 seconds and the peak memory of groot, and for a single file those of the stock checkers of master files that are installed
-(Knot's kzonecheck, BIND's named-checkzone), each the best of five runs, and groot's ratios to them. A last row of the
-metadata names an empty file, for which groot refuses the whole once it has read the rest, so that nothing is judged.
+(Knot's kzonecheck, NSD's nsd-checkzone, BIND's named-checkzone), each the best of five runs, and groot's ratios to them; at
+most half of kzonecheck's time is wanted. A last row of the metadata names an empty file, for which groot refuses the whole once
+it has read the rest, so that nothing is judged.
 """
 import os
-import shutil
 import sys
 import tempfile
 
 import make_zone
-from measure import GROOT, MEBIBYTE, measured, metadata, program, ratio
+from measure import GROOT, MEBIBYTE, measured, metadata, program, ratio, stock_checkers
 
 ROW = {"FileName": "hosting.zone", "NameServer": "ns1.hosting.example."}
 
 
 def programs(groot, folder, meta):
     """Each program with its words and the status that it must end with."""
-    zone = os.path.join(folder, "hosting.zone")
     yield "groot", [groot, "check", meta], 3
-    if not os.path.exists(zone):
-        return
-    if shutil.which("kzonecheck"):
-        yield "kzonecheck", ["kzonecheck", "-o", "hosting.example.", zone], 0
-    if shutil.which("named-checkzone"):
-        yield "named-checkzone", ["named-checkzone", "-i", "none", "hosting.example.", zone], 0
+    zone = os.path.join(folder, "hosting.zone")
+    if os.path.exists(zone):
+        for name, words in stock_checkers("hosting.example.", zone):
+            yield name, words, 0
 
 
 def records_in(path):
