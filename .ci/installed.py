@@ -51,6 +51,8 @@ def runs(prefix):
         + wanted("groot-metadata gives its help", [prefix / "bin/groot-metadata", "--help"])
         + wanted("groot-gate gives its help", [prefix / "bin/groot-gate", "--help"])
         + wanted("bash reads the completion", [BASH, "-n", prefix / "share/bash-completion/completions/groot"])
+        + [f"no manual page {name}" for name in ("groot", "groot-map", "groot-metadata", "groot-gate")
+           if not any((prefix / f"share/man/man1/{name}.1{end}").is_file() for end in ("", ".gz"))]
     )
 
 

@@ -34,7 +34,7 @@ def main():
                    if len(it.split()) > MOST_IN_A_SENTENCE]
     for path in [*TOP.glob("*.md"), *TOP.glob("docs/*.md"), *TOP.glob("bench/*.md"), *TOP.glob("cases/*.md"), *TOP.glob("examples/*.md")]:
         faults += [f"{path.relative_to(TOP)}: no {link}" for link in links(path.read_text()) if not leads(path, link)]
-    if version("CHANGELOG.md", r"^## \[(\d[\d.]*)\]") != version("docs/groot.1", r'^\.Os "groot (.*)"$'):
+    if version("CHANGELOG.md", r"^## \[(\d[\d.]*)\]") != version("docs/groot.1", r"^This is the page of version (.*)\.$"):
         faults.append("docs/groot.1: its version isn't that of CHANGELOG.md")
     print("\n".join(faults) or "pages: as long as they may be")
     return int(bool(faults))

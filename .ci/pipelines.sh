@@ -50,7 +50,7 @@ make_repository() {
 mkdir "$scratch/bin" "$scratch/runner" "$scratch/bare"
 ln -s "$program" "$scratch/bin/groot"
 ln -s "$top/tools/gate" "$scratch/bin/groot-gate"
-for tool in apt-get dpkg ln sudo; do
+for tool in apt-get dpkg ln mkdir sudo; do
     printf '#!/bin/sh\necho "%s $*" >>"%s/runner/said"\n' "$tool" "$scratch" >"$scratch/runner/$tool"
 done
 printf '#!/bin/sh\ncat "${2#/}"\n' >"$scratch/runner/named-checkconf"
@@ -137,8 +137,35 @@ gitlab() {
          END { print "" }' \
         "$top/tools/pipelines/gitlab-ci.yml"
 }
+# as_yaml FOLDER: the files, read as YAML, have the lines of github.sh and gitlab.sh in the folder, and steps of the known form.
+as_yaml() {
+    python3 - "$top/tools/pipelines" "$1" <<'EOF'
+import pathlib
+import sys
+import yaml
+
+files, lines = map(pathlib.Path, sys.argv[1:])
+github = yaml.safe_load((files / "github-actions.yml").read_text())
+gitlab = yaml.safe_load((files / "gitlab-ci.yml").read_text())
+[job] = github["jobs"].values()
+assert set(github) == {"name", True, "permissions", "jobs"} and set(job) == {"runs-on", "steps"}  # YAML 1.1 takes `on` for true
+assert all(("uses" in step) != ("run" in step) for step in job["steps"])
+assert set().union(*job["steps"]) <= {"name", "uses", "run", "if", "with", "continue-on-error"}
+assert "".join(step.get("run", "") for step in job["steps"]) == (lines / "github.sh").read_text()
+[(_, job)] = gitlab.items()
+assert set(job) == {"image", "script", "artifacts"} and set(job["artifacts"]) == {"when", "paths", "reports"}
+assert "".join(line + "\n" for line in job["script"]) == (lines / "gitlab.sh").read_text().lstrip("\n")
+EOF
+}
 for pipeline in github gitlab; do
     "$pipeline" >"$scratch/$pipeline.sh"
+done
+if python3 -c 'import yaml' 2>/dev/null; then
+    expect 0 "the files of the pipelines as YAML" as_yaml "$scratch"
+else
+    echo "pipelines: PyYAML isn't there (Debian: python3-yaml), so the files of the pipelines aren't read as YAML"
+fi
+for pipeline in github gitlab; do
     run=(env PATH="$scratch/runner:$PATH" bash --noprofile --norc -e -o pipefail "$scratch/$pipeline.sh")
     cp "$top/examples/own-servers/zones/example.com.zone" etc/bind/zones/
     rm -f "$scratch/runner/said"

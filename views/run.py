@@ -172,8 +172,11 @@ def faults_of_sarif(text, report):
     schema = json.loads(contents(HERE, "sarif-2.1.0.part.json"))
     yield from faults_of_value(log, schema, schema)
     rules, results = log["runs"][0]["tool"]["driver"]["rules"], log["runs"][0]["results"]
-    if [rule["id"] for rule in rules] != KINDS or not all(rule["help"]["text"] for rule in rules):
+    texts = [rule[member]["text"] for rule in rules for member in ("shortDescription", "fullDescription", "help")]
+    if [rule["id"] for rule in rules] != KINDS or not all(texts):
         yield "the rules aren't those of the kinds"
+    if len({"physicalLocation" in result["locations"][0] for result in results}) > 1:
+        yield "a result has no line, and another has one"  # GitHub refuses a log with such a result
     if any(rules[result["ruleIndex"]]["id"] != result["ruleId"] for result in results):
         yield "the number of a rule"
     if {result["ruleId"] for result in results} != {fault["kind"] for fault in report["faults"]}:

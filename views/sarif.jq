@@ -5,8 +5,8 @@ include "report" {search: "./"};
 def uri: file_name | (if startswith("/") then "file://" else "" end) + (split("/") | map(@uri) | join("/"));
 def location: {logicalLocations: [{name: .server, fullyQualifiedName: "\(.server) \(.zone)"}]}
   + if .file then {physicalLocation: {artifactLocation: {uri: (.file | uri)}, region: {startLine: .line}}} else {} end;
-def rule: . as $kind | kinds[$kind] | {id: $kind, shortDescription: {text: .what}, help: {text: "\(.what); to mend it, \(.mend)"},
-  defaultConfiguration: {level: .level}};
+def rule: . as $kind | kinds[$kind] | "\(.what); to mend it, \(.mend)" as $all
+  | {id: $kind, shortDescription: {text: .what}, fullDescription: {text: $all}, help: {text: $all}, defaultConfiguration: {level: .level}};
 def result($cause): .kind as $kind | {
   ruleId: $kind, ruleIndex: (kinds | keys | index($kind)), level: (.first | level),
   message: {text: ("\(.subject)\(details): \($cause.headline)\nquery: \(.first.query) \(.first.type)"

@@ -3,7 +3,7 @@ import os
 import re
 import shlex
 
-from .held import UNKNOWN_FOLDER, NoMetadata, Zone, rooted
+from .held import UNKNOWN_FOLDER, NoMetadata, Zone, rooted, unprinted
 from .names import canonical
 
 ROLES = {"primary": "primary", "master": "primary", "secondary": "secondary", "slave": "secondary"}
@@ -18,7 +18,11 @@ def command(path):
 
 def zones(server, text, views, findings):
     """The zones of one view, the only one of the configuration or one that `views` names."""
-    config = statements(iter(TOKEN.findall(without_warnings(text))))
+    warnings, printed = parted(text)
+    tokens = TOKEN.findall(printed)
+    config = statements(iter(tokens))
+    for sign in signs_of_a_person(warnings, tokens, config):
+        raise unprinted(server, command("FILE"), sign)
     options = block_of("options", config)
     view, block = chosen_view(server, config, views, findings)
     directory = word_of("directory", options) or ""
@@ -96,10 +100,27 @@ def say_unlisted(server, settings, directory, findings):
                 findings.unplace(server, name, "zones that rndc added; named-nzd2nzf prints them for named.conf")
 
 
-def without_warnings(text):
-    """The printed configuration without the warnings that named-checkconf prints before it, each a line."""
+def parted(text):
+    """The lines of the warnings that named-checkconf prints first, and the printed configuration."""
     start = re.search(r"^\S[^\n]* \{$", text, re.M)
-    return text[start.start():] if start else ""
+    end = start.start() if start else len(text)
+    return text[:end].splitlines(), text[end:]
+
+
+def signs_of_a_person(warnings, tokens, config):
+    """What a person writes and named-checkconf doesn't print: statements in front, comments, and included files."""
+    yield from (line.strip() for line in warnings if re.match(r"\s*(?:#|//|/\*)|.*[{};]\s*$", line))
+    yield from (word for _, _, word in tokens if word.startswith(("#", "//", "/*")))
+    yield from (f"include {statement[1]}" for statement in all_statements(config) if statement[0] == "include")
+
+
+def all_statements(block):
+    """The statements of a block, and of the blocks in it."""
+    for statement in block:
+        if statement:
+            yield statement
+            for part in statement:
+                yield from all_statements(part) if isinstance(part, list) else ()
 
 
 def statements(tokens):

@@ -73,6 +73,11 @@ def rooted(server, folder, path):
     return os.path.normpath(server.root + path) if path.startswith("/") else None
 
 
+def unprinted(server, command, sign):
+    """That a configuration isn't what the server's tool prints, by a sign of that, as an included file: so zones may be missing."""
+    return NoMetadata(f"{server.name}: {server.path}: {command[0]} doesn't print this: {sign}; give what {' '.join(command)} prints")
+
+
 def output_of(command, who):
     """What a tool prints. Where it fails, or isn't there, NoMetadata says so, with the tool's own lines."""
     environment = {**os.environ, "PATH": os.environ.get("PATH", "") + SYSTEM_PATH}

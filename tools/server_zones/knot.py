@@ -3,11 +3,12 @@ import os
 import re
 import shlex
 
-from .held import Zone, rooted
+from .held import Zone, rooted, unprinted
 from .names import canonical, labels_of
 
 USUAL_STORAGE = "/var/lib/knot"
 USUAL_FILE = "%s.zone"
+PRINTED = re.compile(r'(?:#.*|[\w-]+:|  (?:- |  )[\w-]+: (?:".*"|\[ ".*" \]))?')
 FORMATTER = re.compile(r"%(?:%|s|c\[(?P<first>\d+)(?:-(?P<last>\d+))?\]|l\[(?P<label>\d+)\])")
 
 
@@ -18,6 +19,9 @@ def command(path):
 
 def zones(server, text, _views, findings):
     """The zones of the configuration, each with what its template gives it."""
+    for line in text.splitlines():
+        if not PRINTED.fullmatch(line):
+            raise unprinted(server, command("FILE"), line.strip())
     sections = sections_of(text)
     templates = {item["id"][0]: item for item in sections.get("template", [])}
     updaters = {item["id"][0] for item in sections.get("acl", []) if "update" in item.get("action", [])}

@@ -3,7 +3,7 @@ import os
 import re
 import shlex
 
-from .held import UNKNOWN_FOLDER, NoMetadata, Zone, rooted
+from .held import UNKNOWN_FOLDER, NoMetadata, Zone, rooted, unprinted
 from .names import canonical, labels_of
 
 
@@ -15,6 +15,9 @@ def command(path):
 def zones(server, text, _views, findings):
     """The zones of the configuration, and those that nsd-control added."""
     sections = list(sections_of(text))
+    for kind, settings in sections:
+        if "include" in (kind, *settings):
+            raise unprinted(server, command("FILE"), "include")
     options = dict(sections)["server"]
     patterns = {settings["name"]: settings for kind, settings in sections if kind == "pattern"}
     held = [settings for kind, settings in sections if kind == "zone"]

@@ -74,6 +74,14 @@ def said_of(rows):
     return lines
 
 
+def zones_beside(rows):
+    """The zones of which no query reaches a row, though one reaches another row of each of their servers: those that a server
+    holds for its own machine, as localhost, are such."""
+    asked = {row.server for row in rows if row.reached}
+    found = {row.zone for row in rows if row.reached} | {row.zone for row in rows if row.server not in asked}
+    return list(dict.fromkeys(row.zone for row in rows if row.zone not in found))
+
+
 def asked(word, path):
     """A run of the program over a metadata file."""
     return subprocess.run([PROGRAM, word, path], capture_output=True, check=False)

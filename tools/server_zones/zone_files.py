@@ -71,8 +71,8 @@ def conversion(zone):
 
 
 def compile_folder(zone):
-    """The folder in which named-compilezone looks for included files."""
-    return zone.folder or os.path.dirname(zone.file)
+    """The folder in which named-compilezone looks for included files: the server's own, if it is here."""
+    return zone.folder if os.path.isdir(zone.folder or "") else os.path.dirname(zone.file)
 
 
 @functools.lru_cache(maxsize=None)
