@@ -4,7 +4,7 @@
 GROOT and GROOT-MAP are the built programs, crates/groot/out/groot and crates/groot_map/out/groot_map if none are given. It
 makes
 - a registry of 30,000 delegations to name servers below them, each with a mail exchange that is one of them,
-- 10,000 hosted zones of 10 records on three servers, a tenth of them on a second one too, and the zone above them,
+- 5,000 hosted zones of 10 records on three servers, a tenth of them on a second one too, and the zone above them,
 - one small zone on 4,000 top servers.
 
 For each it prints a line of a table: the processor seconds and the peak memory in MiB of `check` with one worker, and of
@@ -42,7 +42,7 @@ def on_many(count, folder):
 
 INPUTS = [
     ("registry of {:,} delegations", registry, 30_000),
-    ("{:,} hosted zones of 10 records", hosted, 10_000),
+    ("{:,} hosted zones of 10 records", hosted, 5_000),
     ("a zone on {:,} top servers", on_many, 4_000),
 ]
 
