@@ -20,17 +20,21 @@ use Rattle.zone_tree.specs.declared.owners.KeyedRecord.{KeyedRecord}
 use Rattle.zone_tree.proofs.NameKeys.{keys_tell}
 use Rattle.zone_tree.proofs.Owned.{rdata_of, tied_names}
 
+-- the record behind the reference
 abbrev pub record_of : KeyedRecord → Rr
 record_of one = one.rr.now
 
+-- its owner
 abbrev pub owner_at : KeyedRecord → Labels
 owner_at one = one.rr.now.owner
 
+-- and its key
 abbrev key_at : KeyedRecord → ℕ
 key_at one = one.key
 
 -- ---- the order of keyed records
 
+-- it is total
 pub keyed_total : IsTotalOrder keyed_cmp
 keyed_total = then_total (on_total key_at nat_cmp_total) (on_total owner_at names_total)
 
@@ -52,6 +56,7 @@ stand_as_owners origin a b first second = by (nat_cmp a.key b.key) refl where
   by Equal e = refl
   by Greater e = e ∙ tell (more_differs a.key b.key (ranked a.key b.key Greater e))
 
+-- the first record stands before the second
 abbrev pub stands_before : KeyedRecord → KeyedRecord → Bool
 stands_before a b = is_lt (keyed_cmp a b)
 

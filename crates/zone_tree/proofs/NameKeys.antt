@@ -1,8 +1,9 @@
 -- Keys of names: where those of two names below one name differ, the names stand as they do.
 use Rattle.std.proofs.Common.{◌≡◌, ℕ, zero, suc, ◌+◌, ◌*◌, ◌<◌, ◌≤◌, true, false, List, [], ◌∷◌, ◌++◌, length, drop, get_or, Contains, Option, Some, None, Bor, Ordering, Less, Equal, Greater, sym, refl, ap, ◌∙◌, subst, true≢false, arith}
 use Rattle.std.specs.Cmp.Lexicographic.{slice_cmp}
+use Rattle.std.specs.Int.{w64, from_be_bytes}
 use Rattle.std.specs.List.{list_all, common_prefix_len}
-use Rattle.std.specs.Prelude.{MatchOption}
+use Rattle.std.specs.Prelude.{MatchOption, slice_index}
 use Rattle.std.specs.Ordering.{nat_cmp, ordering_then, ordering_reverse}
 use Rattle.std.proofs.Math.Seq.{drop-append_seam}
 use Rattle.std.proofs.lemmas.Bool.{and_parts, false_from_ne_true}
@@ -15,7 +16,7 @@ use Rattle.dns_data.proofs.CommonFronts.{common_front, both_begin}
 use Rattle.dns_data.proofs.CommonOctets.{Small}
 use Rattle.dns_data.proofs.NameFronts.{Begins, is_prefix_tells, is_prefix_told, begins_itself}
 use Rattle.dns_data.proofs.NameOrder.{names_total, under_label}
-use Rattle.zone_tree.specs.Keys.{number_after, first_octets, label_key, IsKey, IsKeyBelow, AreKeyed}
+use Rattle.zone_tree.specs.Keys.{first_octets, label_key, IsKey, IsKeyBelow, AreKeyed}
 
 -- ---- octets and the numbers that they write
 
@@ -26,6 +27,16 @@ small_octets : (octets : List ℕ) → list_all is_label_octet octets ≡ true �
 small_octets [] h = tt
 small_octets (x ∷ octets) h =
     let parts = and_parts (is_label_octet x) (list_all is_label_octet octets) h in (small_octet x parts.0, small_octets octets parts.1)
+
+-- the number that octets write behind others of this value
+abbrev number_after : ℕ → List ℕ → ℕ
+number_after value [] = value
+number_after value (octet ∷ octets) = number_after (value * 256 + octet) octets
+
+-- eight octets write the number that they make one after another
+one_by_one : (a b c d e f g h : ℕ)
+    → from_be_bytes w64 (a ∷ b ∷ c ∷ d ∷ e ∷ f ∷ g ∷ h ∷ []) ≡ number_after 0 (a ∷ b ∷ c ∷ d ∷ e ∷ f ∷ g ∷ h ∷ [])
+one_by_one a b c d e f g h = omega arith
 
 -- numbers stay in their order, whatever octets follow
 stay_before : (v w : ℕ) (xs ys : List ℕ) → v < w → length xs ≡ length ys → Small xs → number_after v xs < number_after w ys
@@ -103,14 +114,20 @@ padded_tells (suc n) (x ∷ xs) (y ∷ ys) e = by (nat_cmp x y) e (padded_tells 
   by Equal h rest = rest h
   by Greater h rest = h
 
+-- the key of a label is the number of its first octets
+key_is : (label : List ℕ) → label_key label ≡ number_after 0 (padded 8 label)
+key_is label =
+    one_by_one (slice_index label 0) (slice_index label 1) (slice_index label 2) (slice_index label 3)
+    (slice_index label 4) (slice_index label 5) (slice_index label 6) (slice_index label 7)
+    ∙ ap (number_after 0) (first_padded label)
+
 -- a label with the lower key stands before the other
 label_before : (a b : List ℕ) → IsLabel a → IsLabel b → label_key a < label_key b → slice_cmp nat_cmp a b ≡ Less
 label_before a b is also lower =
     padded_tells 8 a b
     (number_tells 0 (padded 8 a) (padded 8 b) (padded_length 8 a ∙ sym (padded_length 8 b))
     (padded_small 8 a (small_octets a is.octets)) (padded_small 8 b (small_octets b also.octets))
-    (subst (λ (xs : List ℕ). number_after 0 xs < number_after 0 (padded 8 b)) (first_padded a)
-    (subst (λ (ys : List ℕ). number_after 0 (first_octets a) < number_after 0 ys) (first_padded b) lower)))
+    (subst (λ (n : ℕ). n < number_after 0 (padded 8 b)) (key_is a) (subst (λ (n : ℕ). label_key a < n) (key_is b) lower)))
 
 -- ---- names below one name
 

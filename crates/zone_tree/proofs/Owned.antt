@@ -24,6 +24,7 @@ owner_of rr = rr.owner
 abbrev pub rdata_of : Rr → Rdata
 rdata_of rr = rr.rdata
 
+-- the record behind a reference
 abbrev pub now_of : Bor Rr → Rr
 now_of rr = rr.now
 

@@ -1,13 +1,9 @@
 -- Numbers of names that mostly tell their order. The contracts of inner calls alone cite it.
-use Rattle.std.specs.Prelude.{◌≡◌, ℕ, ◌+◌, ◌*◌, ◌<◌, true, List, [], ◌∷◌, ◌++◌, length, slice_index, slice_index_or}
+use Rattle.std.specs.Prelude.{◌≡◌, ℕ, ◌<◌, true, List, [], ◌∷◌, ◌++◌, length, slice_index, slice_index_or}
+use Rattle.std.specs.Int.{w64, from_be_bytes}
 use Rattle.dns_data.specs.Label.{IsLabel}
 use Rattle.dns_data.specs.Name.{Labels, is_prefix}
 use Rattle.zone_tree.specs.Names.{Ordered}
-
--- the number that octets write behind others of this value, the most significant first
-abbrev pub number_after : ℕ → List ℕ → ℕ
-number_after value [] = value
-number_after value (octet ∷ octets) = number_after (value * 256 + octet) octets
 
 -- the first eight octets of a label, with zeros behind those of a shorter one
 abbrev pub first_octets : List ℕ → List ℕ
@@ -15,9 +11,9 @@ first_octets label =
     slice_index label 0 ∷ slice_index label 1 ∷ slice_index label 2 ∷ slice_index label 3
     ∷ slice_index label 4 ∷ slice_index label 5 ∷ slice_index label 6 ∷ slice_index label 7 ∷ []
 
--- the number that they write
+-- the number that they write, the most significant octet first
 abbrev pub label_key : List ℕ → ℕ
-label_key label = number_after 0 (first_octets label)
+label_key label = from_be_bytes w64 (first_octets label)
 
 -- the key is the number of the first label, or 0 where there is none
 abbrev pub IsKey : Labels → ℕ → Type 0
