@@ -1,4 +1,5 @@
--- An address is learnt where a graph has a path by open hops to an end that gives one, and nodes that lead to one are marked.
+-- An address is learnt where a graph has a path by open hops to an end that gives one, and nodes that lead to one are
+-- marked.
 use Rattle.std.proofs.Common.{◌≡◌, ◌↔◌, ℕ, Bool, true, false, ◌&&◌, List, [], ◌∷◌, length, Contains, Option, Some, None, refl, sym, ap, ◌∙◌, subst, inl, inr, ◌==◌}
 use Rattle.std.specs.Prelude.{◌⊎◌, slice_get, is_some, option_and_then}
 use Rattle.std.specs.List.{list_any}

@@ -20,6 +20,7 @@ use Rattle.address_deps.specs.Dependents.{AreAllPlaces, AreDependents, IsListedF
 abbrev pub names_of : List (Bor Labels) → List Labels
 names_of names = map (λ (name : Bor Labels). name.now) names
 
+-- for each name, the places at which it is listed
 abbrev pub Places : Type 0
 Places = tree.BTreeMap Labels (List ℕ)
 

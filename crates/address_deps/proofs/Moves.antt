@@ -1,5 +1,5 @@
--- The server at a place: where it isn't added or dropped it is settled; where it is the search goes on fairly, fewer are left to be
--- moved, and it is settled, as those are that were settled before and don't wait for its address.
+-- The server at a place: where it isn't added or dropped it is settled; where it is the search goes on fairly, fewer are
+-- left to be moved, and it is settled, as those are that were settled before and don't wait for its address.
 use Rattle.std.proofs.Common.{◌≡◌, ◌↔◌, ℕ, ◌<◌, Bool, true, false, not, true≢false, List, length, refl, sym, ◌∙◌, subst, Some}
 use Rattle.std.specs.Prelude.{◌⊎◌, Contains, slice_get}
 use Rattle.std.specs.BTreeMap as map

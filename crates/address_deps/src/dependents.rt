@@ -28,8 +28,8 @@ pub(crate) struct Dependents {
 }
 
 impl Dependents {
-    /// Who waits for each name server's address, by what tells whether the servers' own are learnt. Each branch of a graph is
-    /// passed over once.
+    /// Who waits for each name server's address, by what tells whether the servers' own are learnt. Each branch of a graph
+    /// is passed over once.
     pub fn of(
         alloc: Global,
         hosts: &Hosts<'_>,

@@ -19,9 +19,9 @@ use net_model::Config;
 use std::alloc::Global;
 use zone_lookup::Hosts;
 
-/// The least and the greatest set of learnt addresses of a configuration, each in the order of the configured servers, by what
-/// is told of the servers' names, in their order. The trees of all zones are built for it: where they are built already, call
-/// `dependencies_among`.
+/// The least and the greatest set of learnt addresses of a configuration, each in the order of the configured servers, by
+/// what is told of the servers' names, in their order. The trees of all zones are built for it: where they are built
+/// already, call `dependencies_among`.
 pub fn dependencies(alloc: Global, config: &Config, told: &[AddressTold]) -> Result<Deps, NoMemory>
     requires { length told.now ≡ length config.now.servers }
     ensures least { IfOk result (λ deps. (rewrites : ℕ) → AreTold config.now rewrites told.now → IsLeast config.now rewrites deps.least) }
@@ -31,8 +31,8 @@ pub fn dependencies(alloc: Global, config: &Config, told: &[AddressTold]) -> Res
     dependencies_among(alloc, &hosts, told)
 }
 
-/// The least and the greatest set of learnt addresses among these servers, each in the order of the configured servers, by what
-/// is told of the servers' names, in their order.
+/// The least and the greatest set of learnt addresses among these servers, each in the order of the configured servers, by
+/// what is told of the servers' names, in their order.
 pub fn dependencies_among(
     alloc: Global,
     hosts: &Hosts<'_>,

@@ -150,6 +150,7 @@ module _ {A : Type 0} {reading : ByTold A} (steady : IsSteady reading) where
     by (inl same) = same ∙ is
     by (inr (name, stopped, untold, some)) = let no : Unknown name ≡ Reads value = sym stopped ∙ is in absurd cc
 
+  -- what the reading refuses it refuses also by what is told later
   pub refuses_later : (told later : FilesTold) (fault : LoadFault) → StaysTold told later → reading told ≡ Refuses fault → reading later ≡ Refuses fault
   refuses_later told later fault stays is = by (steady told later stays) where
     by : (reading later ≡ reading told) ⊎ StopsEarly later told (reading told) → reading later ≡ Refuses fault

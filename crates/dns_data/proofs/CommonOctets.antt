@@ -256,8 +256,8 @@ last_tell xs ys at n h room e =
 pub one_more : (xs ys : List ℕ) (n : ℕ) → n ≤ common xs ys → n < length xs → n < length ys → get_or xs n 0 ≡ get_or ys n 0 → n + 1 ≤ common xs ys
 one_more xs ys n h k l e = omega (arith, (common_split n xs ys h).0, common_prefix_len-drop_yes nat_eq xs ys n 0 0 k l (eq-eqb _ _ e))
 
--- a place up to which both are the same, and at which both have an octet and these differ, is the number of octets that both
--- begin with
+-- a place up to which both are the same, and at which both have an octet and these differ, is the number of octets that
+-- both begin with
 pub no_more : (xs ys : List ℕ) (n : ℕ) → n ≤ common xs ys → n < length xs → n < length ys → (get_or xs n 0 ≡ get_or ys n 0 → ⊥) → n ≡ common xs ys
 no_more xs ys n h k l e = omega (arith, (common_split n xs ys h).0, common_prefix_len-drop_no nat_eq xs ys n 0 0 k l (ne_eqb _ _ e))
 

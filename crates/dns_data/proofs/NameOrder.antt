@@ -1,4 +1,5 @@
--- How names stand in their order: prefixes, names between others, and lists in which each name stands before the later ones.
+-- How names stand in their order: prefixes, names between others, and lists in which each name stands before the later
+-- ones.
 use Rattle.std.proofs.Common.{◌≡◌, ℕ, zero, suc, ◌<◌, Bool, true, false, cond, List, [], ◌∷◌, ◌++◌, map, length, get_or, Contains, AllPairs, filter, Ordering, Less, Equal, Greater, is_lt, is_gt, is_eq, sym, refl, ap, ◌∙◌, subst, inl, inr, true≢false, arith}
 use Rattle.std.specs.Cmp.{IsTotalOrder}
 use Rattle.std.specs.Cmp.Lexicographic.{nat_list_cmp_total, lists_total, texts_ties, bytes_decides}

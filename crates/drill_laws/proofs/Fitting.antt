@@ -1,4 +1,5 @@
--- Records that fit: none is identical to one before it, each lies below the origin, and none breaks a rule. They are a zone.
+-- Records that fit: none is identical to one before it, each lies below the origin, and none breaks a rule. They are a
+-- zone.
 use Rattle.std.proofs.Common.{◌≡◌, Bool, true, false, cond, not, ◌&&◌, ◌||◌, List, [], ◌∷◌, ◌++◌, Option, Some, None, Ok, Err, if◌then◌else◌, filter, refl, ap, ◌∙◌}
 use Rattle.std.specs.List.{list_any, AllByRecursion}
 use Rattle.std.specs.Option.{option_or, option_map}

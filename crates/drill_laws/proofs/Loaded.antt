@@ -221,11 +221,11 @@ module _ (n : ℕ) (few : n ≤ 5000) where
 
 -- The files of a drill of 1 to 5,000 zones give a configuration. Each file that the reading asks for is held (Held), within
 -- the most octets of a file (Sizes). The metadata's text is the compact text of a JSON value, which is read as that value
--- (MetaValue.meta_value_of) and gives the drill's rows (MetaRead.meta_given, metadata_read). The text of the root zone and of
--- each other zone is made of rows, one record each (DrillTexts.root_same, zone_same), of a form that is read as its record
--- (DrillRows.root_rows_are, zone_rows_are, Rows.text_of_rows), and the records keep the rules of zones (FitRoot.root_zone,
--- FitZone.made_zone; root_is, zone_is). So a row is read (row_read). The rows of the zones are read one after the other
--- (rows_read): each has a server of its own, since the names of two zones' servers differ (FitRoot.labels_apart), and the
--- records of all are within what may be read (all_rows).
+-- (MetaValue.meta_value_of) and gives the drill's rows (MetaRead.meta_given, metadata_read). The text of the root zone and
+-- of each other zone is made of rows, one record each (DrillTexts.root_same, zone_same), of a form that is read as its
+-- record (DrillRows.root_rows_are, zone_rows_are, Rows.text_of_rows), and the records keep the rules of zones
+-- (FitRoot.root_zone, FitZone.made_zone; root_is, zone_is). So a row is read (row_read). The rows of the zones are read one
+-- after the other (rows_read): each has a server of its own, since the names of two zones' servers differ
+-- (FitRoot.labels_apart), and the records of all are within what may be read (all_rows).
 pub drill_reads : (zones : ℕ) → 1 ≤ zones → zones ≤ 5000 → (config : Config) × (conf (codes "meta.json") (drill_told zones) ≡ Reads config)
 drill_reads zones some few = configuration zones few

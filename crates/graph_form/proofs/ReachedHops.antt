@@ -1,5 +1,5 @@
--- In an exact graph of a query the hop of each branch of a node with a type is on a walk with this type, and each hop of a walk
--- is that of a branch.
+-- In an exact graph of a query the hop of each branch of a node with a type is on a walk with this type, and each hop of a
+-- walk is that of a branch.
 use Rattle.std.proofs.Common.{◌≡◌, ◌≢◌, ℕ, true, List, [], ◌∷◌, ◌++◌, map, sym, ap, ◌∙◌, subst, inl, inr, Some, None}
 use Rattle.std.specs.Prelude.{◌⊎◌, Contains, slice_get, Option, option_map, option_and_then}
 use Rattle.std.specs.Option.{option_to_list}

@@ -1,4 +1,5 @@
--- In an exact graph of a query each branch of a node with a type stands on a walk with this type, and each walk ends by one.
+-- In an exact graph of a query each branch of a node with a type stands on a walk with this type, and each walk ends by
+-- one.
 use Rattle.std.proofs.Common.{◌≡◌, ℕ, ◌<◌, List, [], ◌∷◌, ◌++◌, get_or, refl, sym, ap, ◌∙◌, subst, inl, inr, Some, None}
 use Rattle.std.specs.Prelude.{◌⊎◌, Contains, slice_get, Option, option_map, option_and_then}
 use Rattle.std.specs.Option.{option_to_list, unwrap_or}

@@ -1,5 +1,5 @@
--- From what was collected of a graph to the faults that its query shows: lists put one behind the other, the arm for a type,
--- and the first type of each fault.
+-- From what was collected of a graph to the faults that its query shows: lists put one behind the other, the arm for a
+-- type, and the first type of each fault.
 use Rattle.std.proofs.Common.{◌≡◌, ℕ, ◌+◌, ◌<◌, ◌≤◌, Bool, true, false, List, [], ◌∷◌, ◌++◌, length, map, take, get_or, sym, ap, ◌∙◌, subst, inl, inr, Some, arith, append_assoc, append-nil, true≢false}
 use Rattle.std.specs.Prelude.{◌⊎◌, AllPairs, Contains, slice_get}
 use Rattle.std.specs.List.{flat_map}

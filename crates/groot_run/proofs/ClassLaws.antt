@@ -1,5 +1,5 @@
--- The laws of classes hold of a configuration: that of the partition is given, names that differ in unnamed labels alone walk
--- alike, and so does a member of a class as its representative.
+-- The laws of classes hold of a configuration: that of the partition is given, names that differ in unnamed labels alone
+-- walk alike, and so does a member of a class as its representative.
 use Rattle.std.proofs.Common.{ℕ, ◌++◌}
 use Rattle.dns_data.specs.Name.{Labels, IsName}
 use Rattle.net_model.specs.declared.config.Config.{Config}

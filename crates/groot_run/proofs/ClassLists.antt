@@ -1,4 +1,5 @@
--- The lines of the rows of a configuration's class tree are the list of its classes; and how many names the tree of a graph has.
+-- The lines of the rows of a configuration's class tree are the list of its classes; and how many names the tree of a graph
+-- has.
 use Rattle.std.proofs.Common.{◌≡◌, ◌++◌, ℕ, List, [], ◌∷◌, inl, inr, sym, refl, ap, ◌∙◌}
 use Rattle.std.proofs.lemmas.Grind.{flat_map-append}
 use Rattle.dns_data.specs.Name.{Labels}
@@ -46,7 +47,8 @@ module _ (graph ground : Ground) (same : AreSame graph ground) where
   pub has_no_more : (limit : ℕ) → (HasMoreThan (IsInPart graph []) limit → ⊥) → HasMoreThan (IsInTree ground) limit → ⊥
   has_no_more limit few more = few (more_same ground graph (same_back graph ground same) [] limit ((more_in_whole ground limit).1 more))
 
-  -- a run that ends since a part of the graph's tree has more names than the limit ends so for the same part of the ground's
+  -- a run that ends since a part of the graph's tree has more names than the limit ends so for the same part of the
+  -- ground's
   pub part_ends_past : (above : Labels) (limit : ℕ) (ending : Ending) → EndsPast (IsInPart graph above) limit ending → EndsPast (IsInPart ground above) limit ending
   part_ends_past above limit ending (inl (more, is)) = inl (more_same graph ground same above limit more, is)
   part_ends_past above limit ending (inr ran_out) = inr ran_out

@@ -1,5 +1,5 @@
--- The classes of a subject as they are listed, and their views: these are all views, and the first representative that passes
--- is the first of all. So a run of `site` ends as it is to.
+-- The classes of a subject as they are listed, and their views: these are all views, and the first representative that
+-- passes is the first of all. So a run of `site` ends as it is to.
 use Rattle.std.proofs.Common.{◌≡◌, ◌≢◌, ℕ, ◌<◌, List, [], ◌∷◌, ◌++◌, map, append_assoc, length, get_or, sym, ap, subst, ◌∙◌, inl, inr, arith}
 use Rattle.std.specs.Prelude.{◌⊎◌, Contains, AllPairs}
 use Rattle.std.specs.declared.cmp.Ordering.TheVariants.{Less}

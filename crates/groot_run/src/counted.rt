@@ -16,9 +16,9 @@ use query_classes::ClassRow;
 use run_endings::Ending;
 use std::alloc::Global;
 
-/// Counts the names of the configuration's class tree where a DNAME record may multiply them, so that none is judged where there
-/// are more than the limit: it is `Err` where so many were counted. Without such a record none is counted, since the tree has
-/// only names then that the files have.
+/// Counts the names of the configuration's class tree where a DNAME record may multiply them, so that none is judged where
+/// there are more than the limit: it is `Err` where so many were counted. Without such a record none is counted, since the
+/// tree has only names then that the files have.
 pub(crate) fn count_redirected(alloc: Global, config: &Config, limit: u32) -> Result<(), Ending>
     ensures { IfErr result (EndsPast (IsInTree (ground_of config.now)) limit) }
 {
@@ -31,8 +31,8 @@ pub(crate) fn count_redirected(alloc: Global, config: &Config, limit: u32) -> Re
     }
 }
 
-/// Counts the names of the class tree of two configurations where a DNAME record of one of them may multiply them, so that none
-/// is judged where there are more than the limit: it is `Err` where so many were counted.
+/// Counts the names of the class tree of two configurations where a DNAME record of one of them may multiply them, so that
+/// none is judged where there are more than the limit: it is `Err` where so many were counted.
 pub(crate) fn count_joint(
     alloc: Global,
     first: &Config,

@@ -149,7 +149,8 @@ fn shown<N: ScopeNaming>(
     }
 }
 
-/// The rows of the class tree at or below the name of a scope, or how a run ends since it has more names there than the limit.
+/// The rows of the class tree at or below the name of a scope, or how a run ends since it has more names there than the
+/// limit.
 fn rows_of<N: ScopeNaming>(
     alloc: Global,
     judge: &ScopeJudge<'_, N>,

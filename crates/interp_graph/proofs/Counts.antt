@@ -66,6 +66,7 @@ many_pairs drafts =
     in_a_row draft_pairs (λ draft. size_of draft.wanted)
     (λ draft. let pair : RrType → State × RrType = λ rtype. (draft.state, rtype) in length-map (filter (has_bit draft.wanted) types) pair) drafts
 
+-- the two aren't one
 abbrev pub Differ : {A : Type 0} → A → A → Type 0
 Differ a b = a ≢ b
 

@@ -10,10 +10,8 @@ use Rattle.dns_data.specs.Name.{name_eq}
 use Rattle.dns_data.proofs.Names.{name_eq_decides}
 use Rattle.net_model.specs.declared.place.Place.{Place}
 use Rattle.net_model.specs.declared.walk.State.{State}
-
--- two places are one
-abbrev pub place_eq : Place → Place → Bool
-place_eq a b = name_eq a.server b.server && (name_eq a.zone b.zone && name_eq a.owner b.owner)
+use Rattle.graph_form.specs.FirstPath.{place_eq}
+use Rattle.graph_form.proofs.ShownKinds.{place_itself, same_place}
 
 -- both are there and are one, or neither is there
 abbrev pub maybe_eq : {X : Type 0} → (X → X → Bool) → Option X → Option X → Bool
@@ -30,17 +28,7 @@ state_eq a b =
 -- ---- which decides
 
 place_decides : (a b : Place) → Decides (place_eq a b) (a ≡ b)
-place_decides a b = (
-  λ e. let one = and_parts (name_eq a.server b.server) (name_eq a.zone b.zone && name_eq a.owner b.owner) e in
-      let two = and_parts (name_eq a.zone b.zone) (name_eq a.owner b.owner) one.1 in
-      same ((name_eq_decides a.server b.server).0 one.0) ((name_eq_decides a.zone b.zone).0 two.0) ((name_eq_decides a.owner b.owner).0 two.1),
-  λ e. subst (λ (c : Place). place_eq a c ≡ true) e
-      (and_from (name_eq a.server a.server) (name_eq a.zone a.zone && name_eq a.owner a.owner) ((name_eq_decides a.server a.server).1 refl)
-      (and_from (name_eq a.zone a.zone) (name_eq a.owner a.owner) ((name_eq_decides a.zone a.zone).1 refl) ((name_eq_decides a.owner a.owner).1 refl))),
-)
-  where
-    same : a.server ≡ b.server → a.zone ≡ b.zone → a.owner ≡ b.owner → a ≡ b
-    same p q r = λ i. record { server = p i; zone = q i; owner = r i }
+place_decides a b = (same_place a b, λ e. subst (λ (c : Place). place_eq a c ≡ true) e (place_itself a))
 
 maybe_decides : {X : Type 0} (eq : X → X → Bool) → ((a b : X) → Decides (eq a b) (a ≡ b)) → (a b : Option X) → Decides (maybe_eq eq a b) (a ≡ b)
 maybe_decides eq decides None None = ((λ e. refl), (λ e. refl))

@@ -1,7 +1,8 @@
 //! States as keys.
 
 ghost use Rattle.std.specs.Prelude.{◌≡◌, fold};
-ghost use Rattle.interp_graph.specs.StateKey.{state_eq, place_eq, maybe_eq};
+ghost use Rattle.graph_form.specs.FirstPath.{place_eq};
+ghost use Rattle.interp_graph.specs.StateKey.{state_eq, maybe_eq};
 ghost use Rattle.dns_data.specs.Name.{name_eq};
 
 use dns_data::Name;

@@ -12,7 +12,8 @@ use Rattle.io_edges.specs.Counts.{last_count, risen, Rose, NoneFell}
 use Rattle.io_edges.specs.Files.{all_told}
 use Rattle.io_edges.specs.MemoryFiles.{Stored, FileMap, FilesInMemory, octets_at, told_by, failed_once_more, failures_of, with_file, next_fails, after_failure, after_call}
 
--- what relates each file to itself, and the file of one name to another, relates the files at each name to those after the other was put there
+-- what relates each file to itself, and the file of one name to another, relates the files at each name to those after the
+-- other was put there
 pub at_change : (P : Option Stored → Option Stored → Type 0) → ((o : Option Stored) → P o o) → (files : FileMap) (name : List ℕ) (file : Stored) → P (map.get files name) (Some file) → (other : List ℕ) → P (map.get files other) (map.get (map.insert files name file) other)
 at_change P same files name file here other =
     subst (P (map.get files other)) (sym (map.get-insert nat_list_cmp_total files name file other)) (by_order (slice_cmp nat_cmp other name) refl)

@@ -20,8 +20,8 @@ module _ (config : Config) (rewrites : ℕ) (name : Labels) (fault : Fault) wher
   by_classes : IsName name → IsShown (scoped config rewrites name) fault ↔ SomeClassShows (scoped config rewrites name) fault
   by_classes is = shown_by_classes (scoped config rewrites name) (is_covered config rewrites name is) fault
 
-  -- The widened ground covers the configuration and names the scope's name (Scopes.is_covered), so its representatives show what
-  -- queries at or below that name show (query_verdicts' shown_by_classes).
+  -- The widened ground covers the configuration and names the scope's name (Scopes.is_covered), so its representatives show
+  -- what queries at or below that name show (query_verdicts' shown_by_classes).
   pub scope_law : IsShown (scoped config rewrites name) fault ↔ SomeClassShows (scoped config rewrites name) fault
   scope_law = (
     λ shown. (by_classes (is_name shown.query shown.is_name shown.within)).0 shown,

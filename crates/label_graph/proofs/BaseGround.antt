@@ -1,4 +1,5 @@
--- The names that fronts of origins, owners and given names are, and the ground of several configurations with some names more.
+-- The names that fronts of origins, owners and given names are, and the ground of several configurations with some names
+-- more.
 use Rattle.std.proofs.Common.{◌∙◌, ◌⊎◌, [], ◌∷◌, ◌++◌, length, take, drop, map, Contains, inl, inr, refl, sym, ap, subst, List, arith}
 use Rattle.std.specs.Prelude.{◌↔◌}
 use Rattle.std.specs.List.{flat_map}

@@ -1,4 +1,5 @@
--- Readings that follow from what RFC 6672 section 2.2 prints, and one that only a graph which follows targets further finds.
+-- Readings that follow from what RFC 6672 section 2.2 prints, and one that only a graph which follows targets further
+-- finds.
 use Rattle.std.proofs.Common.{ℕ, List, [], ◌∷◌, refl, arith}
 use Rattle.dns_data.proofs.Membership.{has_first, has_later}
 use Rattle.net_model.specs.Reading.{Redirection, ReadsOnTo, Ground, IsNamed}

@@ -66,7 +66,7 @@ entry_by (Faulty f) s tidy none some = absurd cc
 entry_here : (s : State) → IsTidy s → last_fault s.position ≡ None → is_empty (whole s).tokens ≡ false → LastTaken s (after_last (whole s)) (answers.Entry (entry_of (whole s)))
 entry_here s tidy none some = entry_by s.position.mode s tidy none some
 
--- where a text ends without a fault and a token is left, the entry of the tokens is the last one, and nothing is left behind
--- it
+-- where a text ends without a fault and a token is left, the entry of the tokens is the last one, and nothing is left
+-- behind it
 pub entry_taken : (s w n : State) (entry : Entry) → IsTidy s → last_fault s.position ≡ None → w ≡ whole s → is_empty w.tokens ≡ false → n ≡ after_last w → entry ≡ entry_of w → LastTaken s n (answers.Entry entry)
 entry_taken s w n entry tidy none e some to is = rw (to, is, e) (entry_here s tidy none (rw e at some))

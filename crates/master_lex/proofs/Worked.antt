@@ -153,7 +153,8 @@ longest place quoted octets long = rw long refl
 too_long : (place : EntrySoFar) (quoted : Bool) (octets : List ℕ) → length octets ≡ 131073 → contents_from place (Written quoted octets ∷ []) ≡ fails place.line TokenTooLong
 too_long place quoted octets long = rw long refl
 
--- a backslash that spells nothing counts as an octet: as the last that a token may have it is a bad escape, and one later the token is too long
+-- a backslash that spells nothing counts as an octet: as the last that a token may have it is a bad escape, and one later
+-- the token is too long
 last_backslash : (place : EntrySoFar) (octets : List ℕ) → length octets ≡ 131071 → contents_from place (before false octets (pieces (codes "\\"))) ≡ fails place.line BadEscape
 last_backslash place octets long = rw (length-append octets (92 ∷ []), long) refl
 

@@ -304,7 +304,8 @@ module _ (held new : Held) (entry : Entry) (name : List ℕ) (below : Labels) (m
       (rest_first held.limits held.file entry held.file.entries.items held.file.fault (record { records = held.records; texts = [] })
       ∙ ap (λ (r : Result Progress Unread). r >>= rest_of held.limits held.file held.file.entries.items held.file.fault) (makes []))
 
-  -- with the text of the file that is asked for, the texts so far give what that text and the rest of the files around it give
+  -- with the text of the file that is asked for, the texts so far give what that text and the rest of the files around it
+  -- give
   pub goes_on_in : (origin : Labels) (texts : List (List ℕ)) → IsPausing held origin texts (entry ∷ held.file.entries.items)
       → Reads held.limits new.file (held.around ++ held.file ∷ []) new.records new.file.entries.items origin texts []
   unfolding with_rest

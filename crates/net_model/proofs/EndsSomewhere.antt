@@ -1,4 +1,5 @@
--- From each state a walk goes on to an end: a step uses a rewrite, or leads to a zone with a longer origin for the same name.
+-- From each state a walk goes on to an end: a step uses a rewrite, or leads to a zone with a longer origin for the same
+-- name.
 use Rattle.std.proofs.Common.{◌≡◌, ◌≢◌, ℕ, zero, suc, ◌+◌, ◌<◌, ◌≤◌, Bool, true, false, ◌&&◌, List, [], ◌∷◌, map, filter, length, slice_get, Contains, Option, Some, None, is_some, option_map, sym, refl, ap, ◌∙◌, subst, arith, length-append}
 use Rattle.std.specs.Prelude.{nat_lt, ◌==◌, if◌then◌else◌}
 use Rattle.std.specs.Option.{option_map_or, option_to_list}

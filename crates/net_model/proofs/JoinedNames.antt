@@ -1,5 +1,5 @@
--- The base names of a joined ground: the root, and what begins an origin, an owner or a given name. They have their prefixes,
--- and the owners of all redirections. A configuration's own ground is the joined ground of it alone.
+-- The base names of a joined ground: the root, and what begins an origin, an owner or a given name. They have their
+-- prefixes, and the owners of all redirections. A configuration's own ground is the joined ground of it alone.
 use Rattle.std.proofs.Common.{◌≡◌, ◌∙◌, ◌⊎◌, List, [], ◌∷◌, ◌++◌, map, flat_map, Contains, sym, ap, ap₂, subst, append_assoc, append-nil, inl, inr}
 use Rattle.std.proofs.lemmas.List.Elements.{Contains-append_left, Contains-append_right}
 use Rattle.dns_data.specs.Name.{Labels}

@@ -39,7 +39,8 @@ gives_not setting name rtype depth all learns =
     not_both (gives_address learns.walk.leaf) learns.ends
     (walk_passes (λ leaf. not (gives_address leaf)) setting name rtype depth all learns.walk learns.is_walk)
 
--- a server's address is learnt by the walk of type A with these numbers; or it isn't, and no walk has more states than so many
+-- a server's address is learnt by the walk of type A with these numbers; or it isn't, and no walk has more states than so
+-- many
 pub data Learning : Type 0 where
   ByWalk : (numbers : List ℕ) → Learning
   ByNone : (depth : ℕ) → Learning

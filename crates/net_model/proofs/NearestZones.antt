@@ -1,5 +1,5 @@
--- The zones, records and owners of a configuration, and the zone in which a server looks a name up: it is one of them, and its
--- origin is at or above the name.
+-- The zones, records and owners of a configuration, and the zone in which a server looks a name up: it is one of them, and
+-- its origin is at or above the name.
 use Rattle.std.proofs.Common.{◌≡◌, map, reverse, Contains, Option, Some, None, is_some, option_and_then, sym, refl, subst}
 use Rattle.std.proofs.lemmas.List.Sorted.{IsPermutation-reverse, IsPermutation-sym, Contains-permutation}
 use Rattle.std.proofs.lemmas.List.Elements.{Contains-append_left, Contains-append_right}

@@ -1,4 +1,5 @@
--- Every round of learnt addresses has its list: the walks of a query are a list, so it is decided which addresses are learnt.
+-- Every round of learnt addresses has its list: the walks of a query are a list, so it is decided which addresses are
+-- learnt.
 use Rattle.std.proofs.Common.{◌≡◌, ℕ, zero, suc, ◌+◌, ◌-◌, ◌<◌, ◌≤◌, Bool, true, false, List, [], ◌∷◌, filter, refl, ap, inl, inr, arith}
 use Rattle.std.specs.Prelude.{◌↔◌, ◌||◌, None, length, map}
 use Rattle.std.specs.List.{AllByRecursion, list_any}

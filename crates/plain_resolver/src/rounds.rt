@@ -136,8 +136,8 @@ fn rests_within(
     resting.has(alloc, name)
 }
 
-/// Whether an address of the name can be learnt, by its walks. It is `WalksPassed` with the name where it has more than `most`
-/// walks of type A or of type AAAA.
+/// Whether an address of the name can be learnt, by its walks. It is `WalksPassed` with the name where it has more than
+/// `most` walks of type A or of type AAAA.
 fn learns_by_walks(
     alloc: Global,
     hosts: &Hosts<'_>,

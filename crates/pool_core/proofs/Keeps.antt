@@ -22,6 +22,7 @@ use Rattle.pool_core.proofs.Queued.{at, first_waits}
 use Rattle.pool_core.proofs.Accepts.{accepts_push, accepts_pop, accepts_steal, accepts_file}
 use Rattle.pool_core.proofs.Sound.{Sound, sound_run}
 
+-- the tickets that a deque holds
 abbrev pub held_in : Deque → List ℕ
 held_in d = d.held
 

@@ -18,7 +18,8 @@ waits_in deque spot = false
 abbrev pub at : List Deque → ℕ → Deque
 at deques d = get_or deques d new_deque
 
--- a deque for each worker; a ticket stands once in the deque in which it waits, and in no other; what was taken and what is held is what was pushed; workers took it
+-- a deque for each worker; a ticket stands once in the deque in which it waits, and in no other; what was taken and what is
+-- held is what was pushed; workers took it
 pub record Queued (workers : ℕ) (spots : List Spot) (deques : List Deque) : Type 0 where
   pub each : length deques ≡ workers
   pub stands : (t d : ℕ) → times t (at deques d).held ≡ cond (waits_in d (slice_get spots t)) 1 0

@@ -1,5 +1,5 @@
--- Grounds with the same names and the same redirections have the same named names and classes, and of the class tree the same
--- names.
+-- Grounds with the same names and the same redirections have the same named names and classes, and of the class tree the
+-- same names.
 use Rattle.std.proofs.Common.{ℕ, List, [], ◌∷◌, Contains, Option, None, Some, refl}
 use Rattle.std.specs.Prelude.{◌↔◌}
 use Rattle.dns_data.specs.Name.{Labels}

@@ -1,5 +1,5 @@
--- The names of a class tree as items: the children of each are a list, each name is a child of one name alone and of it once,
--- and the names that are reached from a first one are those of the tree at or below it.
+-- The names of a class tree as items: the children of each are a list, each name is a child of one name alone and of it
+-- once, and the names that are reached from a first one are those of the tree at or below it.
 use Rattle.std.proofs.Common.{◌≡◌, ◌≢◌, ◌∙◌, ℕ, zero, suc, ◌<◌, List, [], ◌∷◌, ◌++◌, length, get_or, AllPairs, Some, inl, inr, refl, sym, ap, subst, append_assoc, append-nil, arith}
 use Rattle.std.specs.Prelude.{◌↔◌, slice_get}
 use Rattle.std.specs.List.{AllByRecursion}

@@ -132,8 +132,8 @@ part_below above name below is =
     let (rest, e) = is_prefix_tells above name is in
     is_prefix_told above (name ++ below) (rest ++ below, sym (append_assoc above rest below) ∙ ap (λ (n : Labels). n ++ below) e)
 
--- the names passed are in order, those that wait come behind them, and each name of the part of the tree at or below the name
--- is passed or at or below one that waits
+-- the names passed are in order, those that wait come behind them, and each name of the part of the tree at or below the
+-- name is passed or at or below one that waits
 pub record AreWalked (ground : Ground) (from : Labels) (passed waiting : List Labels) : Type 0 where
   pub in_part : (name : Labels) → Contains passed name → IsInPart ground from name
   pub waits_in_part : (name : Labels) → Contains waiting name → IsInPart ground from name

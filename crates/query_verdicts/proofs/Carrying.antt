@@ -81,9 +81,9 @@ module _ (subject : Subject) (covering : IsCovering subject) where
         shows = shows.shows;
       }
 
-  -- Some query at or below the subject's name shows a fault exactly where the representative of some class does. Each name is in
-  -- one class (CoveringGrounds.in_class), whose name is named (class_is_named) and at or below the subject's (class_within), and
-  -- whose representative shows what the query shows (walk_laws' carried_under). The representative is itself such a query
-  -- (is_name_of, stands_within).
+  -- Some query at or below the subject's name shows a fault exactly where the representative of some class does. Each name
+  -- is in one class (CoveringGrounds.in_class), whose name is named (class_is_named) and at or below the subject's
+  -- (class_within), and whose representative shows what the query shows (walk_laws' carried_under). The representative is
+  -- itself such a query (is_name_of, stands_within).
   pub shown_by_classes : (fault : Fault) → IsShown subject fault ↔ SomeClassShows subject fault
   shown_by_classes fault = (class_shows fault, query_shows fault)

@@ -1,5 +1,5 @@
--- A ground that covers a configuration is closed, and so each name is in one class of it, at or below a named name where the
--- name is.
+-- A ground that covers a configuration is closed, and so each name is in one class of it, at or below a named name where
+-- the name is.
 use Rattle.std.proofs.Common.{◌≡◌, ◌≤◌, [], ◌∷◌, ◌++◌, length, refl, sym, subst, arith}
 use Rattle.dns_data.specs.Name.{Labels, IsName}
 use Rattle.dns_data.proofs.Names.{root_is_name}

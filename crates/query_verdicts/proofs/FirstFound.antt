@@ -21,7 +21,8 @@ Rises a b = fault_cmp a.fault b.fault ≡ Less
 turned_less : (a b : Seen) → fault_cmp a.fault b.fault ≡ Greater → Rises b a
 turned_less a b e = faults_total.antisymm b.fault a.fault ∙ ap ordering_reverse e
 
--- one is seen more: the new list has it or one with a lower type, and so of each that was there; it has no others, and rises
+-- one is seen more: the new list has it or one with a lower type, and so of each that was there; it has no others, and
+-- rises
 record IsPut (x : Seen) (first more : List Seen) : Type 0 where
   has_new : IsCovered more x
   has_old : (y : Seen) → Contains first y → IsCovered more y

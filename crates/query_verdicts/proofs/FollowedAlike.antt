@@ -1,4 +1,5 @@
--- While servers are followed with which every configured one may be, walks are those while every configured server is followed.
+-- While servers are followed with which every configured one may be, walks are those while every configured server is
+-- followed.
 use Rattle.std.proofs.Common.{◌≡◌, ◌∙◌, ℕ, ◌||◌, Bool, true, false, not, List, [], ◌∷◌, map, length, ◌⊎◌, Option, Some, None, Contains, refl, sym, ap, subst, inl, inr, ◌==◌, true≢false}
 use Rattle.std.specs.Prelude.{slice_get, option_and_then, option_map, if◌then◌else◌}
 use Rattle.std.specs.BTreeSet as tree

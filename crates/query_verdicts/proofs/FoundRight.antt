@@ -1,5 +1,5 @@
--- What is found in the verdicts of all names: each fault is shown by the representative of its class, and each that one shows
--- is found.
+-- What is found in the verdicts of all names: each fault is shown by the representative of its class, and each that one
+-- shows is found.
 use Rattle.std.proofs.Common.{◌≡◌, ◌∙◌, ℕ, ◌≤◌, true, List, Contains, Option, Some, None, refl, sym, ap, subst, inl, inr}
 use Rattle.std.proofs.lemmas.List.Elements.{All-contains, Contains-append_cases, Contains-append_left, Contains-append_right}
 use Rattle.dns_data.specs.Name.{Labels}

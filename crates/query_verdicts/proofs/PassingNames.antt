@@ -1,5 +1,5 @@
--- Where a name reaches more pairs of state and type than so many, so does the representative of its class, under every ground
--- that covers the configuration.
+-- Where a name reaches more pairs of state and type than so many, so does the representative of its class, under every
+-- ground that covers the configuration.
 use Rattle.std.proofs.Common.{ℕ, [], refl, sym, subst}
 use Rattle.dns_data.specs.Name.{Labels, IsName}
 use Rattle.dns_data.proofs.NameFronts.{is_prefix_told}

@@ -33,8 +33,8 @@ pub(crate) fn servers_told(
     Ok(Ok(told))
 }
 
-/// What is told of a server's name. No graph is made of one that is seen to rest and to reach no more pairs of state and type than
-/// it may.
+/// What is told of a server's name. No graph is made of one that is seen to rest and to reach no more pairs of state and
+/// type than it may.
 fn told_of(
     queries: &Queries<'_>,
     resting: &RestingNames<'_>,
@@ -54,7 +54,8 @@ fn told_of(
     }
 }
 
-/// Whether the name is seen to rest and to reach no more pairs of state and type than it may: the twelve types at each top server.
+/// Whether the name is seen to rest and to reach no more pairs of state and type than it may: the twelve types at each top
+/// server.
 fn rests_within(
     queries: &Queries<'_>,
     resting: &RestingNames<'_>,

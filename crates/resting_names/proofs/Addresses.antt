@@ -105,6 +105,7 @@ module _ (config : Config) (name : Labels) (rests : Rests config name) (rewrites
             let same : leaf ≡ learns.walk.leaf = same_leaf leaf learns.walk.leaf (sym there ∙ ends) in
             counts zone (leaf_answers (found zone name rtype) leaf here (ap gives_address same ∙ learns.ends))
 
+  -- where an address of the name is learnt, a top server's zone gives one
   pub learnt_given : Learns (following config rewrites followed) name → list_any (gives_at config name) config.tops ≡ true
   learnt_given (inl four) = learnt_by types.A (λ zone is. ap (λ (b : Bool). b || answers (found zone name types.Aaaa)) is) four
   learnt_given (inr six) = learnt_by types.Aaaa (λ zone is. either (answers (found zone name types.A)) (answers (found zone name types.Aaaa)) is) six

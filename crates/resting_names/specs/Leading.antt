@@ -1,4 +1,5 @@
--- The owners of records that may lead names on to other servers or to other names. The contracts of inner calls alone cite it.
+-- The owners of records that may lead names on to other servers or to other names. The contracts of inner calls alone cite
+-- it.
 use Rattle.std.specs.Prelude.{◌≡◌, ℕ, ◌≤◌, Bool, true, false, not, List, [], ◌∷◌, ◌++◌, take, codes, if◌then◌else◌}
 use Rattle.std.specs.List.{flat_map}
 use Rattle.dns_data.specs.Name.{Labels, name_eq}
@@ -10,7 +11,8 @@ use Rattle.net_model.specs.declared.config.Server.{Server}
 use Rattle.net_model.specs.declared.config.Zone.{Zone}
 use Rattle.zone_lookup.specs.LearntSets.{is_among}
 
--- these data of an owner may lead names on: of an alias, of a redirection, or of a name server of a name that isn't the origin
+-- these data of an owner may lead names on: of an alias, of a redirection, or of a name server of a name that isn't the
+-- origin
 abbrev pub data_lead : Bool → Rdata → Bool
 data_lead at_origin (Ns target) = not at_origin
 data_lead at_origin (Cname target) = true

@@ -9,8 +9,8 @@ ghost use Rattle.net_model.specs.Walk.{walk_along};
 ghost use Rattle.net_model.specs.declared.config.Config.{Config};
 ghost use Rattle.resting_names.specs.Resting.{Rests};
 
-/// A name that rests reaches no more pairs of state and type than the twelve types at each top server, and has with each type no
-/// more walks than there are top servers.
+/// A name that rests reaches no more pairs of state and type than the twelve types at each top server, and has with each
+/// type no more walks than there are top servers.
 pub fn rests_at_the_tops()
     ensures pairs { (config : Config) (rewrites limit : ℕ) (name : Labels) → Rests config name → length config.tops * 12 ≤ limit
         → HasMoreThan (IsReached config rewrites name) limit → ⊥ }

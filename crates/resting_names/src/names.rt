@@ -17,8 +17,8 @@ use zone_lookup::set_of;
 /// With no more top servers than these nothing is told: the graph of a name's walks is small.
 const FEW_TOPS: usize = 32;
 
-/// The names that are seen to rest in a configuration: the owners of records that may lead names on, none of which stands at or
-/// above such a name. Contracts see the configuration.
+/// The names that are seen to rest in a configuration: the owners of records that may lead names on, none of which stands
+/// at or above such a name. Contracts see the configuration.
 #[derive(Drop)]
 pub struct RestingNames<'a> {
     config: &'a Config,
@@ -80,8 +80,8 @@ fn is_quiet_above(alloc: Global, leading: &BTreeSet<Name>, name: &Name) -> Resul
     Ok(true)
 }
 
-/// Whether neither the name nor the asterisk label below it is one of these owners. Where that label would make too long a name
-/// nothing is told.
+/// Whether neither the name nor the asterisk label below it is one of these owners. Where that label would make too long a
+/// name nothing is told.
 fn is_quiet(
     alloc: Global,
     leading: &BTreeSet<Name>,

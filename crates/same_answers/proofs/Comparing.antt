@@ -1,5 +1,5 @@
--- Each query that both configurations bound has the same outcomes in them exactly where the representative of its class has,
--- which they bound too.
+-- Each query that both configurations bound has the same outcomes in them exactly where the representative of its class
+-- has, which they bound too.
 use Rattle.std.proofs.Common.{◌↔◌, ℕ, List, [], ◌∷◌, Option, refl, sym, subst}
 use Rattle.dns_data.specs.Name.{Labels, IsName}
 use Rattle.dns_data.specs.declared.rr_type.RrType.{RrType}
@@ -96,10 +96,10 @@ module _ (two : Compared) where
       rtype outcome in
       (λ has. of_second.1 (alike.0 (of_first.0 has)), λ has. of_first.1 (alike.1 (of_second.0 has)))
 
-  -- Each query that both bound is alike in both exactly where each representative is that both bound. A query is in one class of
-  -- the joint ground (CoveringGrounds.in_class), which covers both configurations (covers_first, covers_second); where they bound
-  -- the query they bound the class's representative (bounded_too), which has the query's outcomes in each of them
-  -- (outcomes_too). And a representative is itself such a query (representative_is_name).
+  -- Each query that both bound is alike in both exactly where each representative is that both bound. A query is in one
+  -- class of the joint ground (CoveringGrounds.in_class), which covers both configurations (covers_first, covers_second);
+  -- where they bound the query they bound the class's representative (bounded_too), which has the query's outcomes in each
+  -- of them (outcomes_too). And a representative is itself such a query (representative_is_name).
   pub alike_by_classes : AllAlike two ↔ ClassesAlike two
   alike_by_classes = (
     λ all class query in_tree stands bounded. all query (representative_is_name class query in_tree stands) bounded,

@@ -1,5 +1,5 @@
--- What the graphs of a query's walks, or their straight ends, tell of it is what is told of its class; and of each class something
--- is told.
+-- What the graphs of a query's walks, or their straight ends, tell of it is what is told of its class; and of each class
+-- something is told.
 use Rattle.std.proofs.Common.{◌≡◌, ◌↔◌, ℕ, Bool, true, false, not, ◌&&◌, List, map, Contains, Option, Some, None, refl, sym, ap, ◌∙◌, subst, inl, inr, true≢false}
 use Rattle.std.specs.Prelude.{if◌then◌else◌}
 use Rattle.std.specs.List.{find}
@@ -125,6 +125,7 @@ module _ (config : Config) (rewrites : ℕ) (query : Labels) where
     told_bounded : Decided (IsBoundedIn config rewrites query)
     told_bounded = turned none_overlong not_bounded (not_so (any_of MeetsOverlong overlong_decided types))
 
+  -- whether no walk of the query takes more rewrites than are allowed is decided
   pub bounded_decided : Decided (IsBoundedIn config rewrites query)
   bounded_decided = let (followed, in_force) = some_in_force config rewrites in told_bounded followed in_force
 
@@ -171,6 +172,7 @@ module _ (two : Compared) (query : Labels) (looked : IsLookedAt two query) (boun
   differs : (rtype : RrType) → not (test rtype) ≡ true → AnswersAlike two query rtype → ⊥
   differs rtype e alike = true≢false (sym e ∙ ap not ((tells rtype).1 alike))
 
+  -- what the first type tells whose test fails, or that none does, is the end of the pair
   pub end_by_tests : (found : Option RrType) → found ≡ find (λ rtype. not (test rtype)) types → IsPairEnd two query (option_map_or Apart found Equal)
   end_by_tests None e = (
     looked.few,

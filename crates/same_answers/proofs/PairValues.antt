@@ -1,4 +1,5 @@
--- The children and the verdicts of all names of the joint class tree, as values: for whoever picks the name of a comparison.
+-- The children and the verdicts of all names of the joint class tree, as values: for whoever picks the name of a
+-- comparison.
 use Rattle.std.proofs.Common.{◌≡◌, ◌↔◌, ℕ, Bool, true, false, List, [], Option, Some, None, refl, sym, ◌∙◌, inl, inr, true≢false}
 use Rattle.dns_data.specs.Name.{Labels, IsName}
 use Rattle.dns_data.proofs.Names.{is_name, is_name_tells, is_name_told}
@@ -38,7 +39,8 @@ module _ (two : Compared) where
   pub apart : ParentsApart [] children_of
   apart = items.parents_apart (joint two) [] children_of (items.children_are (joint two) joint_closed)
 
-  -- whether the class below a name has a representative is decided: by the verdict that the name has in the first configuration
+  -- whether the class below a name has a representative is decided: by the verdict that the name has in the first
+  -- configuration
   below_decided : (above : Labels) → IsName above → Decided ((query : Labels) × IsRepresentative (joint two) (Below above) query)
   below_decided above is = by (verdicts.verdict_of (at_all_names two.first two.rewrites (joint two)) (covers_first two) two.states above).below (verdicts.verdict_is (at_all_names two.first two.rewrites (joint two)) (covers_first two) two.states above is).below where
     by : (below : Option ClassVerdict) → IsBelowVerdict (at_all_names two.first two.rewrites (joint two)) two.states above below

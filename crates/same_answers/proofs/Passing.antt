@@ -1,4 +1,5 @@
--- Where the name of a server reaches too many pairs of state and type, so does the representative of a class of the joint tree.
+-- Where the name of a server reaches too many pairs of state and type, so does the representative of a class of the joint
+-- tree.
 use Rattle.std.proofs.Common.{inl, inr}
 use Rattle.std.specs.Prelude.{Result, Ok, Err, IfOk, IfErr}
 use Rattle.query_verdicts.specs.Passed.{SomeNamePasses}

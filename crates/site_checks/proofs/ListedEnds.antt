@@ -17,6 +17,7 @@ use Rattle.site_checks.specs.Ends.{end_eq}
 use Rattle.site_checks.specs.declared.views.TypedEnd.{TypedEnd}
 use Rattle.site_checks.proofs.EqualEnds.{end_decides}
 
+-- for each server, the places of its ends in their list
 abbrev pub Places : Type 0
 Places = map.BTreeMap Labels (List ℕ)
 

@@ -80,7 +80,7 @@ impl EndSet {
         ensures { result ≡ list_any (end_eq (typed_end rtype server.now leaf.now)) self.now }
     {
         match self.places.get(server) {
-            Some(places) => is_among(self.ends.items(), places.items(), rtype, server, leaf),
+            Some(places) => is_at_one(self.ends.items(), places.items(), rtype, server, leaf),
             None => false,
         }
     }
@@ -96,7 +96,7 @@ impl EndSet {
 }
 
 /// Whether the end is at one of these places.
-fn is_among(ends: &[TypedEnd], places: &[usize], rtype: RrType, server: &Name, leaf: &Leaf) -> bool
+fn is_at_one(ends: &[TypedEnd], places: &[usize], rtype: RrType, server: &Name, leaf: &Leaf) -> bool
     ensures { result ≡ list_any (is_end_at ends.now (typed_end rtype server.now leaf.now)) places.now }
 {
     places

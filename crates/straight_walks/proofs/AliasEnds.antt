@@ -50,6 +50,7 @@ module _ (config : Config) (server name : Labels) (rewrites : ℕ) where
             (to ∷ behind, omega (arith, few), (place config name server setting rtype state same at named tree owner target so, target.now, goes, along));
       }
 
+  -- the end behind an alias's target, where one is given, is that of the alias
   pub leads_on : (tree : Bor ZoneTree) (owner : ℕ) (target : Bor Labels) (given : Option AliasEnd) → IsReply config name server (reply.Alias tree owner target)
       → IfSome given (IsAliasEnd config server target.now (rewrites + 1)) → IfSome given (IsAliasEnd config server name rewrites)
   leads_on tree owner target None so on = tt

@@ -17,6 +17,7 @@ use Rattle.straight_walks.specs.Searching.{IsSearch}
 use Rattle.straight_walks.specs.Regions.{AreRegions, IsNearestOrigin, IsRegion, region_origins}
 use Rattle.straight_walks.specs.declared.region.Region.{Region}
 
+-- the origin of a region's zone
 abbrev pub origin_of : Region → Labels
 origin_of region = region.origin.now
 

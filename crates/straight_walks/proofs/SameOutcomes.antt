@@ -74,11 +74,13 @@ compared_found one other rtype found others is also =
     ap (λ (leaf : Leaf). answer_eq leaf (option_map_or leaf_with others NxDomain)) (sym (told_by (owner_with one rtype) rtype found is))
     ∙ ap (answer_eq (leaf_of one rtype)) (sym (told_by (owner_with other rtype) rtype others also))
 
+-- where both have data of the type, their answers are equal where the data are
 pub compared_by_data : (one other : Answering) (rtype : RrType) (found others : List Rdata) → FoundWith one rtype (Some found) → FoundWith other rtype (Some others)
     → pointwise (data_impl.ghosts).eq found others ≡ answer_eq (leaf_of one rtype) (leaf_of other rtype)
 compared_by_data one other rtype found others is also =
     same_lists found others ∙ data_told found others ∙ compared_found one other rtype (Some found) (Some others) is also
 
+-- where neither has the name, they answer alike
 pub both_nothing : (one other : Answering) (rtype : RrType) → FoundWith one rtype None → FoundWith other rtype None → true ≡ answer_eq (leaf_of one rtype) (leaf_of other rtype)
 both_nothing one other rtype is also = compared_found one other rtype None None is also
 
@@ -86,10 +88,12 @@ data_or_nothing : (found : List Rdata) → (answer_eq (leaf_with found) NxDomain
 data_or_nothing [] = (refl, refl)
 data_or_nothing (first ∷ rest) = (refl, refl)
 
+-- where only the first one lacks the name, they don't
 pub first_nothing : (one other : Answering) (rtype : RrType) (others : List Rdata) → FoundWith one rtype None → FoundWith other rtype (Some others)
     → false ≡ answer_eq (leaf_of one rtype) (leaf_of other rtype)
 first_nothing one other rtype others is also = sym (data_or_nothing others).1 ∙ compared_found one other rtype None (Some others) is also
 
+-- nor where only the second one lacks it
 pub second_nothing : (one other : Answering) (rtype : RrType) (found : List Rdata) → FoundWith one rtype (Some found) → FoundWith other rtype None
     → false ≡ answer_eq (leaf_of one rtype) (leaf_of other rtype)
 second_nothing one other rtype found is also = sym (data_or_nothing found).0 ∙ compared_found one other rtype (Some found) None is also

@@ -239,11 +239,11 @@ module _ (config : Config) (rewrites : ℕ) (ground : Ground) (told : (name : La
 -- each fault that a query shows, the representative of its class shows, under every ground that covers the configuration. A
 -- named name is alone in its class. Of a class below a name, a member and the representative have unnamed tails
 -- (ClassTails.tails_in_class), so each walk of the member that doesn't end overlong is, with the tail replaced, one of the
--- representative (QueryWalks.walks_kept), and a front of one where a referral on it is all that counts (front_kept). With the
--- tail replaced the walks show what they showed: the cuts, the places and the ends that no name enters stay (refers_kept,
--- rewrite_stays, shown). Answers are shown of one class, and both are in the same (class_kept). An overlong fault is told of
--- representatives under the configuration's own ground alone, and such a query represents its class under this ground too
--- (Represents.represents_everywhere); there is one (TrialOrder.one_representative), so the query is it.
+-- representative (QueryWalks.walks_kept), and a front of one where a referral on it is all that counts (front_kept). With
+-- the tail replaced the walks show what they showed: the cuts, the places and the ends that no name enters stay
+-- (refers_kept, rewrite_stays, shown). Answers are shown of one class, and both are in the same (class_kept). An overlong
+-- fault is told of representatives under the configuration's own ground alone, and such a query represents its class under
+-- this ground too (Represents.represents_everywhere); there is one (TrialOrder.one_representative), so the query is it.
 pub carried_under : (config : Config) (rewrites : ℕ) (ground : Ground) → Covers ground config → (class : Class) (query representative : Labels) → IsName query
     → IsClassOf ground query class → IsRepresentative ground class representative
     → (rtype : RrType) (fault : Fault) → ShowsIn config rewrites query rtype fault → ShowsIn config rewrites representative rtype fault

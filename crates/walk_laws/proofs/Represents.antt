@@ -36,11 +36,12 @@ module _ (config : Config) (ground : Ground) (covers : Covers ground config) whe
             is_name = stands.is_name;
           })
 
-  -- A query that represents its class under the configuration's own ground is the representative of its class under the ground
-  -- that covers the configuration. Where this ground names the query, its class is of this name alone, and it stands for
-  -- itself. Else the own ground doesn't name it either, since what the configuration names the ground names
+  -- A query that represents its class under the configuration's own ground is the representative of its class under the
+  -- ground that covers the configuration. Where this ground names the query, its class is of this name alone, and it stands
+  -- for itself. Else the own ground doesn't name it either, since what the configuration names the ground names
   -- (ClassTails.named_everywhere); so the query stands below a longest name that the configuration names. That name is the
-  -- longest that the ground names too, and the label below it is the first there that the ground doesn't name (still_stands).
+  -- longest that the ground names too, and the label below it is the first there that the ground doesn't name
+  -- (still_stands).
   pub represents_everywhere : (class : Class) (query : Labels) → IsClassOf ground query class → Represents config query
       → IsRepresentative ground class query
   represents_everywhere (Exact alone) query of_class represents = sym of_class.0

@@ -1,5 +1,5 @@
--- A walk that comes back to a server and a name can be gone round again, until no rewrite is left: so another one ends at the
--- rewrite limit.
+-- A walk that comes back to a server and a name can be gone round again, until no rewrite is left: so another one ends at
+-- the rewrite limit.
 use Rattle.std.proofs.Common.{◌≡◌, ◌≢◌, ◌⊎◌, ℕ, zero, suc, ◌+◌, ◌<◌, ◌≤◌, Bool, true, false, not, ◌&&◌, List, [], ◌∷◌, ◌++◌, map, length, take, drop, slice_get, Contains, Option, Some, None, option_map, sym, refl, ap, ◌∙◌, subst, inl, inr, arith}
 use Rattle.std.specs.Prelude.{nat_lt, if◌then◌else◌}
 use Rattle.std.specs.Option.{option_map_or}
@@ -434,11 +434,11 @@ module _ (setting : Setting) (query : Labels) (rtype : RrType) where
           (record { server = refl; name = refl }) (omega arith))
 
 -- and so it shows the limit, with the set in force. The way between the two states rewrites somewhere (some_rewrite): by
--- referrals alone the name stays and the origin grows (EndsSomewhere.goes_down). A step asks the server and the name alone, so
--- from a state that stands alike the same numbers lead to one that stands alike, unless no rewrite is left at one of the hops
--- (same_step, around). Each round uses up a rewrite, so after as many rounds as there are rewrites none is left at a hop of
--- the round (round_and_round); the way there, gone branch by branch (Leads.leads_walk), is a walk that ends at the limit
--- (limit_walk).
+-- referrals alone the name stays and the origin grows (EndsSomewhere.goes_down). A step asks the server and the name alone,
+-- so from a state that stands alike the same numbers lead to one that stands alike, unless no rewrite is left at one of the
+-- hops (same_step, around). Each round uses up a rewrite, so after as many rounds as there are rewrites none is left at a
+-- hop of the round (round_and_round); the way there, gone branch by branch (Leads.leads_walk), is a walk that ends at the
+-- limit (limit_walk).
 pub limit_shown : (config : Config) (rewrites : ℕ) (followed : List Labels) → IsInForce config rewrites followed
     → (query : Labels) (rtype : RrType) (walk : Walk) → IsWalk (following config rewrites followed) query rtype walk
     → (back : ComesBack walk) → (place : Place) × RewritesAt (hops_round walk back) place × ShowsIn config rewrites query rtype (faults.Limit place)

@@ -45,9 +45,9 @@ module _ (setting : Setting) (above own other : Labels) (tails : AreTails settin
       let of_own = from_own walk is in
       bounded of_own.0 place of_own.1 (ap (λ (w : Walk). w.leaf) of_own.2 ∙ e)
 
-  -- The two names have the same outcomes. The same numbers walk for both, the walk of the other name being that of the query
-  -- with the tail replaced (same_along, from QueryWalks.walks_as), and a tail plays no part in what an end tells; and each walk
-  -- of the other name comes from one of the query (from_own).
+  -- The two names have the same outcomes. The same numbers walk for both, the walk of the other name being that of the
+  -- query with the tail replaced (same_along, from QueryWalks.walks_as), and a tail plays no part in what an end tells; and
+  -- each walk of the other name comes from one of the query (from_own).
   same_outcomes : HaveSameOutcomes setting (above ++ own) (above ++ other) rtype
   same_outcomes outcome = (
     (λ has. (changed has.0, (has.1.0, same_along has.1.0 ∙ ap (option_map changed) has.1.1), has.2)),
@@ -62,9 +62,9 @@ turned_round setting one other rtype same outcome = let both = same outcome in (
 
 -- a query that is bounded and the representative of its class, under a ground that covers the configuration
 module _ (setting : Setting) (ground : Ground) (covers : Covers ground setting.config) (rtype : RrType) where
-  -- The representative of the class of a bounded query is bounded too. It is the query itself where the class is of one name;
-  -- below a name the two are this name with two tails (ClassTails.class_tails), of which the representative's is no longer, and
-  -- then a walk of the representative ends as the walk of the query that it comes from (bounded_too).
+  -- The representative of the class of a bounded query is bounded too. It is the query itself where the class is of one
+  -- name; below a name the two are this name with two tails (ClassTails.class_tails), of which the representative's is no
+  -- longer, and then a walk of the representative ends as the walk of the query that it comes from (bounded_too).
   pub bounded_representative : (class : Class) (query representative : Labels) → IsName query
       → IsClassOf ground query class → IsRepresentative ground class representative
       → IsBoundedWith setting query rtype → IsBoundedWith setting representative rtype
@@ -75,8 +75,8 @@ module _ (setting : Setting) (ground : Ground) (covers : Covers ground setting.c
       subst (λ (name : Labels). IsBoundedWith setting name rtype) (sym other_is)
       (bounded_too setting above own other tails rtype (subst (λ (name : Labels). IsBoundedWith setting name rtype) query_is bounded))
 
-  -- A bounded query and the representative of its class have the same outcomes: they are one name, or one name with two tails
-  -- (ClassTails.class_tails), and so walk alike (same_outcomes).
+  -- A bounded query and the representative of its class have the same outcomes: they are one name, or one name with two
+  -- tails (ClassTails.class_tails), and so walk alike (same_outcomes).
   pub outcomes_of_representative : (class : Class) (query representative : Labels) → IsName query
       → IsClassOf ground query class → IsRepresentative ground class representative
       → IsBoundedWith setting query rtype → HaveSameOutcomes setting query representative rtype
@@ -104,11 +104,12 @@ module _ (setting : Setting) (ground : Ground) (covers : Covers ground setting.c
       (same_outcomes setting above (of_one.first ∷ of_one.rest) (of_other.first ∷ of_other.rest) tails rtype
       (subst (λ (name : Labels). IsBoundedWith setting name rtype) of_one.is bounded)))
 
-  -- Two bounded queries of one class have the same outcomes. In a class of one name they are equal. Below a name each is this
-  -- name with a tail that the ground doesn't name (ClassTails.member_below), nor then the configuration, which the ground
-  -- covers (ClassTails.named_everywhere, tail_of). The one with no more octets walks as the other (QueryWalks.walks_as):
-  -- number by number the walks end alike, but for the tail, of which an end tells nothing (same_outcomes). Neither need be a
-  -- representative, so either may be the one with fewer octets (below_alike, turned_round).
+  -- Two bounded queries of one class have the same outcomes. In a class of one name they are equal. Below a name each is
+  -- this name with a tail that the ground doesn't name (ClassTails.member_below), nor then the configuration, which the
+  -- ground covers (ClassTails.named_everywhere, tail_of). The one with no more octets walks as the other
+  -- (QueryWalks.walks_as):
+  -- number by number the walks end alike, but for the tail, of which an end tells nothing (same_outcomes). Neither need be
+  -- a representative, so either may be the one with fewer octets (below_alike, turned_round).
   pub outcomes_in_class : (class : Class) (one other : Labels) → IsClassOf ground one class → IsClassOf ground other class
       → IsBoundedWith setting one rtype → IsBoundedWith setting other rtype → HaveSameOutcomes setting one other rtype
   outcomes_in_class (Exact alone) one other of_one of_other bounded bounded_other =

@@ -1,5 +1,5 @@
--- The faults of a referral, part by part: each is one that the zones at both sides of the cut show, and each that they show is
--- among them.
+-- The faults of a referral, part by part: each is one that the zones at both sides of the cut show, and each that they show
+-- is among them.
 use Rattle.std.proofs.Common.{◌≡◌, Bool, true, false, List, [], ◌++◌, refl, sym, subst, inl, inr}
 use Rattle.std.specs.Prelude.{Contains, if◌then◌else◌}
 use Rattle.std.proofs.lemmas.List.Elements.{Contains-append_cases, Contains-append_left, Contains-append_right}

@@ -20,15 +20,12 @@ use Rattle.zone_map.specs.ReachedRows.{answering_at, answers, is_answered, tells
 use Rattle.zone_map.specs.declared.answered.Answered.{Answered}
 use Rattle.zone_map.proofs.SeenRows.{one_view}
 
-turned_name : (a b : Labels) → name_eq a b ≡ name_eq b a
-turned_name a b = (lists_equiv nat_list_eq_equiv).symm a b
-
 -- ---- the servers of a view
 
 one_end : (server : Labels) (end : TypedEnd) → list_any (name_eq server) (answering_at end) ≡ answers_at server end
 one_end server end = by (type_eq end.rtype Soa) (is_answer end.leaf) where
   by : (soa answer : Bool) → list_any (name_eq server) (cond (soa && answer) (end.server ∷ []) []) ≡ ((soa && name_eq end.server server) && answer)
-  by true true = or-false (name_eq server end.server) ∙ turned_name server end.server ∙ sym (and-true (name_eq end.server server))
+  by true true = or-false (name_eq server end.server) ∙ (lists_equiv nat_list_eq_equiv).symm server end.server ∙ sym (and-true (name_eq end.server server))
   by true false = sym (and-false (name_eq end.server server))
   by false answer = refl
 
@@ -79,7 +76,7 @@ tells_more old new key item at is updates server origin =
     test =
         ap (λ (k : List Labels). is_eq (slice_cmp name_cmp k (server ∷ origin ∷ []))) is
         ∙ sym (lists_ties name_cmp (lists_ties label_cmp texts_ties) (item ∷ at ∷ []) (server ∷ origin ∷ []))
-        ∙ (λ i. turned_name item server i && (name_eq at origin && true))
+        ∙ (λ i. (lists_equiv nat_list_eq_equiv).symm item server i && (name_eq at origin && true))
 
     by : (a b has : Bool) → cond (a && (b && true)) true has ≡ (has || (b && a))
     by true true true = refl

@@ -62,14 +62,11 @@ words_seen step rows views before after does begins holds =
 
 -- ---- what the words tell
 
-unlike : (a b : ℕ) → a < b → a ≡ b → ⊥
-unlike a b less same = omega arith
-
 one_told : (a b : Bool) → reached_word a ≡ reached_word b → a ≡ b
 one_told true true e = refl
 one_told false false e = refl
-one_told true false e = absurd (unlike 7 9 (omega arith) (ap length e))
-one_told false true e = absurd (unlike 7 9 (omega arith) (sym (ap length e)))
+one_told true false e = let long : 7 ≡ 9 = ap length e in absurd (omega (arith, long))
+one_told false true e = let long : 9 ≡ 7 = ap length e in absurd (omega (arith, long))
 
 module _ (test : RowFiles → Bool) where
   -- there are as many as rows

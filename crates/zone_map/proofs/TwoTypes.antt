@@ -1,4 +1,5 @@
--- Walks of type A and of type AAAA take the same steps up to their ends. So a name has as many of the one type as of the other.
+-- Walks of type A and of type AAAA take the same steps up to their ends. So a name has as many of the one type as of the
+-- other.
 use Rattle.std.proofs.Common.{◌≡◌, ℕ, zero, suc, Bool, true, false, ◌==◌, List, [], ◌∷◌, length, Option, Some, None, is_some, refl, sym, ap, ◌∙◌, inl, inr}
 use Rattle.std.specs.Prelude.{◌⊎◌, option_and_then, option_map, slice_get}
 use Rattle.dns_data.specs.Name.{Labels}

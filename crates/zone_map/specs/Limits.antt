@@ -36,8 +36,8 @@ pub record IsFirstOriginPassed (queries : LimitedQueries) (rows : List RowFiles)
   pub passes : Passes queries query
   pub first : NoOriginPasses queries before
 
--- what is given of rows where the name of no server reaches too many pairs: where no row's origin does, the run ends so, and
--- else the first that does is told
+-- what is given of rows where the name of no server reaches too many pairs: where no row's origin does, the run ends so,
+-- and else the first that does is told
 abbrev pub WithinOrigins : LimitedQueries → List RowFiles → Type 0 → Ending → Type 0
 WithinOrigins queries rows EndsSo ending =
     ((origin : Labels) × IsFirstOriginPassed queries rows origin × (ending ≡ too_many_states reached_states origin))

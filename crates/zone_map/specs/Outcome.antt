@@ -17,8 +17,8 @@ use Rattle.zone_map.specs.declared.words.Asked.{Asked}
 use Rattle.zone_map.specs.declared.words.Asked.TheVariants.{Records, Reached, Targets}
 use Rattle.zone_map.specs.declared.words.Job.{Job}
 
--- what is told of what was read: for `records` the lines of all records, for `reached` those of all rows, for `targets` those of
--- records whose target leads nowhere
+-- what is told of what was read: for `records` the lines of all records, for `reached` those of all rows, for `targets`
+-- those of records whose target leads nowhere
 abbrev pub Tells : Asked → Loaded → Ending → Type 0
 Tells Records all ending = ending ≡ with_output Clean (records_text all)
 Tells Reached all ending = WithinLimits all.config all.rows (TellsRows all.config all.rows ending) ending

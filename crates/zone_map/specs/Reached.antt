@@ -68,7 +68,8 @@ is_alone name (Below above) = false
 abbrev pub answers_at : Labels → TypedEnd → Bool
 answers_at server end = type_eq end.rtype Soa && name_eq end.server server && is_answer end.leaf
 
--- the view shows that the row is reached: it is that of the origin alone, and some end is an answer of type SOA at the server
+-- the view shows that the row is reached: it is that of the origin alone, and some end is an answer of type SOA at the
+-- server
 abbrev pub shows_reached : View → RowFiles → Bool
 shows_reached view row = is_alone row.origin view.class && list_any (answers_at row.server) view.ends
 

@@ -1,4 +1,5 @@
--- For the code alone, no public clause cites it: a check that is shown the views of rows' origins, and how a run ends among them.
+-- For the code alone, no public clause cites it: a check that is shown the views of rows' origins, and how a run ends among
+-- them.
 use Rattle.std.specs.Prelude.{◌≡◌, ◌⊎◌, ℕ, Bool, true, List, Contains}
 use Rattle.std.specs.BTreeSet as tree
 use Rattle.std.specs.List.{fold}

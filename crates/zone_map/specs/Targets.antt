@@ -1,5 +1,5 @@
--- Targets that lead nowhere: names that MX, SRV, NS and PTR records give to a host, of which no query finds an address, though
--- every walk for one ends in no data or in no such name.
+-- Targets that lead nowhere: names that MX, SRV, NS and PTR records give to a host, of which no query finds an address,
+-- though every walk for one ends in no data or in no such name.
 use Rattle.std.specs.Prelude.{◌≡◌, ◌⊎◌, ℕ, Bool, true, false, ◌&&◌, ◌||◌, List, [], ◌∷◌, ◌++◌, length, map, codes, Option, Some, None, if◌then◌else◌, ◌==◌}
 use Rattle.std.specs.List.{flat_map, list_all, list_any}
 use Rattle.std.specs.Option.{option_map_or}
@@ -55,9 +55,9 @@ origins_of rows = map (λ row. row.origin) rows
 abbrev pub host_of : Labels → Option Labels
 host_of name = if length name == 0 then None else Some name
 
--- The target of a record that counts, in a zone with this origin, by its owner and data: the host of a mail exchange and of a
--- service, that of a pointer in a reverse zone, and that of a name server whose zone, be it this one or one below a cut, is
--- among those that are served (RFC 1035 sections 3.3.9, 3.3.11 and 3.3.12, RFC 2782).
+-- The target of a record that counts, in a zone with this origin, by its owner and data: the host of a mail exchange and of
+-- a service, that of a pointer in a reverse zone, and that of a name server whose zone, be it this one or one below a cut,
+-- is among those that are served (RFC 1035 sections 3.3.9, 3.3.11 and 3.3.12, RFC 2782).
 abbrev pub target_in : List Labels → Labels → Labels → Rdata → Option Labels
 target_in served origin owner (Mx preference exchange) = host_of exchange
 target_in served origin owner (Srv priority weight port target) = host_of target
@@ -77,7 +77,8 @@ abbrev pub is_no_name : Leaf → Bool
 is_no_name leaves.NxDomain = true
 is_no_name leaf = false
 
--- how walks end: all in no data, all in no such name, or each in one of the two; it is none of these where one ends otherwise
+-- how walks end: all in no data, all in no such name, or each in one of the two; it is none of these where one ends
+-- otherwise
 abbrev pub dead_ends : List Walk → Option DeadEnds
 dead_ends walks =
     if list_all (λ walk. is_no_data walk.leaf) walks then Some NoData

@@ -61,8 +61,8 @@ fn is_soa_answer(end: &TypedEnd) -> bool
     end.rtype.number() == RrType::Soa.number() && end.is_answer()
 }
 
-/// Of each row whether its server is one of those that answer at the origin of its zone. They are put in order once, and each
-/// row is looked for.
+/// Of each row whether its server is one of those that answer at the origin of its zone. They are put in order once, and
+/// each row is looked for.
 pub(crate) fn rows_told(
     alloc: Global,
     rows: &[RowFiles],

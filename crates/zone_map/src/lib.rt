@@ -8,8 +8,8 @@
 //!
 //! Costs: each file is read once. A row's zone is looked for among its server's zones. For rows the graph of each origin is
 //! made once, and so is the view of its ends; each row is then looked for among the servers that answer, in an ordered set.
-//! For targets the trees of the zones and the set of servers that are followed are made once, and each target is asked once,
-//! by following its walks.
+//! For targets the trees of the zones and the set of servers that are followed are made once, and each target is asked
+//! once, by following its walks.
 #![tactic(auto)]
 
 mod answered;

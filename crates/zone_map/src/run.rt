@@ -45,8 +45,8 @@ pub fn groot_map<F: Files, O: Sink, E: Sink>(
         (Rose (O.faults out.old) (O.faults out.new) → ⊥) →
         ((result ≡ Status.Clean) × Appends (O.taken out.old) (O.taken out.new) (records_text all)) ⊎ (result ≡ Status.NoMemory) }
 
-    // `reached` writes the line of each row, which says whether a walk of the SOA query at the origin of its zone ends in an
-    // answer at its server, and ends with 0 exactly if one does for each row; unless a query passes the limit of states.
+    // `reached` writes the line of each row, which says whether a walk of the SOA query at the origin of its zone ends in
+    // an answer at its server, and ends with 0 exactly if one does for each row; unless a query passes the limit of states.
     ensures reached { (meta : List ℕ) (all : Read) →
         job_of (map (λ word. word.now) words.now) ≡ Some (record { asked = Asked.Reached; meta = meta }) →
         loaded meta (F.told files.new) ≡ Reads all →
@@ -55,7 +55,8 @@ pub fn groot_map<F: Files, O: Sink, E: Sink>(
         ((ending : Ended) × WithinLimits all.config all.rows (TellsRows all.config all.rows ending) ending
         × (result ≡ ending.status) × Appends (O.taken out.old) (O.taken out.new) ending.out) ⊎ (result ≡ Status.NoMemory) }
 
-    // `targets` writes exactly the records whose target leads nowhere, with the ends of its walks of type A and of type AAAA.
+    // `targets` writes exactly the records whose target leads nowhere, with the ends of its walks of type A and of type
+    // AAAA.
     ensures targets { (meta : List ℕ) (all : Read) →
         job_of (map (λ word. word.now) words.now) ≡ Some (record { asked = Asked.Targets; meta = meta }) →
         loaded meta (F.told files.new) ≡ Reads all →

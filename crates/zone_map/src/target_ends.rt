@@ -56,8 +56,8 @@ impl DeadEnds {
     }
 }
 
-/// What targets are asked by: the servers with the trees of their zones, those that are followed, the rows of the metadata and
-/// the origins of their zones; and how the walks of the targets end that were asked before.
+/// What targets are asked by: the servers with the trees of their zones, those that are followed, the rows of the metadata
+/// and the origins of their zones; and how the walks of the targets end that were asked before.
 #[derive(Drop)]
 pub(crate) struct Targeting<'h, 'a> {
     hosts: &'h Hosts<'a>,

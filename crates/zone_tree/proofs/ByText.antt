@@ -16,6 +16,7 @@ use Rattle.net_model.specs.Order.{put_in_order, beside}
 use Rattle.dns_data.proofs.NameOrder.{same_labels}
 use Rattle.net_model.specs.Zone.{data_cmp}
 
+-- data with the text by which they are put in order
 abbrev pub Entry : Type 0
 Entry = List ℕ × Rdata
 

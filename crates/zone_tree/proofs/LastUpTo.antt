@@ -1,5 +1,5 @@
--- The last of names in order that doesn't stand behind another: where a search leaves it, and that no existing prefix of the
--- other name has more labels than both share.
+-- The last of names in order that doesn't stand behind another: where a search leaves it, and that no existing prefix of
+-- the other name has more labels than both share.
 use Rattle.std.proofs.Common.{◌≡◌, ℕ, ◌+◌, ◌-◌, ◌<◌, ◌≤◌, true, false, List, [], ◌++◌, length, take, drop, get_or, Contains, Some, Err, Less, Equal, Greater, is_gt, sym, ap, ◌∙◌, subst, inl, inr, true≢false, arith}
 use Rattle.std.specs.List.{common_prefix_len}
 use Rattle.std.specs.List.Sorted.{IsBinarySearchResult, IsPartitionPoint}

@@ -20,13 +20,12 @@ use Rattle.zone_tree.specs.Keys.{first_octets, label_key, IsKey, IsKeyBelow, Are
 
 -- ---- octets and the numbers that they write
 
-small_octet : (octet : ℕ) → is_label_octet octet ≡ true → octet < 256
-small_octet octet h = grind (arith, nat_tests, h)
-
 small_octets : (octets : List ℕ) → list_all is_label_octet octets ≡ true → Small octets
 small_octets [] h = tt
 small_octets (x ∷ octets) h =
-    let parts = and_parts (is_label_octet x) (list_all is_label_octet octets) h in (small_octet x parts.0, small_octets octets parts.1)
+    let parts = and_parts (is_label_octet x) (list_all is_label_octet octets) h in
+    let small : x < 256 = grind (arith, nat_tests, parts.0) in
+    (small, small_octets octets parts.1)
 
 -- the number that octets write behind others of this value
 abbrev number_after : ℕ → List ℕ → ℕ

@@ -187,9 +187,9 @@ module _ (setting : Setting) (above own other : Labels) (tails : AreTails settin
         )
 
     -- with the other tail the name walks as the query does. Below an unnamed name no zone has an origin and no record an
-    -- owner (UnnamedTails.far_names), so at each step both names are looked up in one zone (nearest_with_tail) and one value
-    -- decides for both (OpenTails.open_tail); a redirection keeps both tails unnamed (UnnamedTails.redirected_tail). So
-    -- the branches of a step are the same with the tail replaced, unless the query's end overlong, as those of the other
+    -- owner (UnnamedTails.far_names), so at each step both names are looked up in one zone (nearest_with_tail) and one
+    -- value decides for both (OpenTails.open_tail); a redirection keeps both tails unnamed (UnnamedTails.redirected_tail).
+    -- So the branches of a step are the same with the tail replaced, unless the query's end overlong, as those of the other
     -- name, which isn't longer, need not (AlikeSteps.alike); and the states behind them have the tails again (follows_on).
     -- Number by number this makes walks (AlikeWalks.along_from, walk_kept), and the front of a walk where the query's ends
     -- overlong (overlong_front), which some walk continues, since each state has a walk (EndsSomewhere.ends_somewhere).
@@ -202,9 +202,9 @@ module _ (setting : Setting) (above own other : Labels) (tails : AreTails settin
           overlong = λ walk is long. front_kept walk is;
         }
 
-    -- where the name with the other tail meets an overlong rewrite, so does the query. It goes along the same numbers: where
-    -- its step isn't alike (AlikeSteps.alike) it has met one, and at the end its name, which is no shorter, meets one too
-    -- (AlikeWalks.overlong_back).
+    -- where the name with the other tail meets an overlong rewrite, so does the query. It goes along the same numbers:
+    -- where its step isn't alike (AlikeSteps.alike) it has met one, and at the end its name, which is no shorter, meets one
+    -- too (AlikeWalks.overlong_back).
     pub overlong_too : (walk : Walk) → IsWalk setting (above ++ other) rtype walk → is_overlong walk.leaf ≡ true
         → (of_own : Walk) × IsWalk setting (above ++ own) rtype of_own × (is_overlong of_own.leaf ≡ true)
     overlong_too walk (numbers, e) long =

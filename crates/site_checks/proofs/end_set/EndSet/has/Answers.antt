@@ -12,7 +12,7 @@ returns-in-Some c =
     let ends = c.self.inside.ends in
     let places = c.self.inside.places in
     let end : TypedEnd = typed_end c.args.rtype c.args.server.now c.args.leaf.now in
-    c.is_among.ensures
+    c.is_at_one.ensures
     ∙ (λ i. list_any (is_end_at (c.items.ensures i) end) (c.items-in-Some.ensures i))
     ∙ ap (λ (found : Option (List ℕ)). list_any (is_end_at ends end) (unwrap_or found [])) (c.in-Some.ensures.value)
     ∙ found_by_server ends places c.self.invariant end
