@@ -10,7 +10,6 @@ use dns_data::{List, NoMemory};
 use net_model::Fault;
 use std::alloc::Global;
 use std::cmp::Ordering;
-use std::collections::VecDeque;
 
 /// What has a fault, in an order among the items with one fault.
 pub trait OfFault {
@@ -35,9 +34,8 @@ pub fn first_of_each<T: OfFault + Drop>(alloc: Global, items: List<T>) -> Result
 {
     let mut sorted = items.into_vec();
     sorted.sort_by(|a, b| compare(a, b))?;
-    let mut left = VecDeque::from_vec(sorted);
     let mut first = List::new(alloc);
-    while let Some(next) = left.pop_front() {
+    for next in List::from_vec(sorted) {
         put_next(&mut first, next)?;
     }
     Ok(first)

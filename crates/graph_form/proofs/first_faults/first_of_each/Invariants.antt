@@ -1,10 +1,6 @@
-use Rattle.std.proofs.Common.{length}
 use Rattle.graph_form.proofs.FirstFaults.{IsMerging}
 use Rattle.graph_form.proofs.first_faults.first_of_each.Given as goal
 
 -- of what was passed over these are the first ones
 abbrev pub invariant-loop-next : goal.invariant-loop-next
-invariant-loop-next g l = IsMerging g.T.OfFault.fault_of g.T.OfFault.rank l.fn.items l.left.items l.first
-
-abbrev pub decreases-loop-next : goal.decreases-loop-next
-decreases-loop-next g l = length l.left.items
+invariant-loop-next g l = IsMerging g.T.OfFault.fault_of g.T.OfFault.rank l.fn.items l.next-iterator l.first
