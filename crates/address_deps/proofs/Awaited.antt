@@ -2,7 +2,7 @@
 use Rattle.std.proofs.Common.{◌≡◌, ℕ, Bool, true, false, ◌&&◌, ◌||◌, List, [], ◌∷◌, length, Contains, Option, Some, None, refl, sym, ap, ◌∙◌, subst, inl, inr, ◌==◌}
 use Rattle.std.specs.Prelude.{slice_get, if◌then◌else◌}
 use Rattle.std.specs.List.{list_any}
-use Rattle.dns_data.specs.Name.{Labels, name_eq}
+use Rattle.dns_data.specs.Name.{Labels, name_eq, is_among}
 use Rattle.dns_data.specs.declared.rr_type.RrType.{RrType}
 use Rattle.dns_data.specs.declared.rr_type.RrType.TheVariants as types
 use Rattle.dns_data.proofs.Membership.{flat_map_has, has_first}
@@ -25,7 +25,6 @@ use Rattle.address_deps.specs.Told.{IsToldOf}
 use Rattle.address_deps.specs.declared.told.AddressTold.{AddressTold}
 use Rattle.address_deps.specs.declared.told.AddressTold.TheVariants.{Known, ByGraph}
 use Rattle.address_deps.specs.Giving.{gives_by, gives_from, may_take, node_gives}
-use Rattle.zone_lookup.specs.LearntSets.{is_among}
 use Rattle.address_deps.specs.Sets.{AreServers}
 use Rattle.address_deps.proofs.GivingNodes.{learns_path, path_learns}
 

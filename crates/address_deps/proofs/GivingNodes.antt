@@ -20,6 +20,7 @@ use Rattle.net_model.specs.Nearest.{server_names}
 use Rattle.net_model.specs.Step.{following, start, next}
 use Rattle.net_model.specs.Step as step
 use Rattle.net_model.specs.Walk.{branched, walk_from, walk_along}
+use Rattle.net_model.proofs.LearntSets.{walk_gives}
 use Rattle.graph_form.specs.Graph.{PlainGraph, arm_of, branches_of}
 use Rattle.graph_form.specs.GraphOf.{IsArm, HasState, HasType, TellsStep, IsGraphOf}
 use Rattle.graph_form.specs.declared.node.Arm.{Arm}
@@ -29,7 +30,7 @@ use Rattle.graph_form.specs.declared.node.Node.{Node}
 use Rattle.graph_form.proofs.Paths.{same_item}
 use Rattle.graph_form.proofs.Places.{PairAt, pair_at, item_there, place_of_item}
 use Rattle.address_deps.specs.Giving.{may_take, is_marked, branch_gives, gives_by, node_gives, gives_from, AreGiving, AreComplete}
-use Rattle.address_deps.proofs.MoreFollowed.{Narrowed, next_narrowed, walk_gives, from_giving, gives_led, ended_gives}
+use Rattle.address_deps.proofs.MoreFollowed.{Narrowed, next_narrowed, from_giving, gives_led, ended_gives}
 
 module _ (config : Config) (followed : List Labels) (graph : PlainGraph) (rtype : RrType) where
   abbrev by_branch : (ℕ → Bool) → Bool → Option Branch → Bool

@@ -25,11 +25,7 @@ use Rattle.net_model.specs.Lookup.{found}
 use Rattle.net_model.specs.Nearest.{is_configured, is_top, nearest_of}
 use Rattle.net_model.specs.Step.{Setting, following, Branch, Go, End, has_glue, may_follow, delegated, referred, servers_after, after_lookup, in_zone, next, start}
 use Rattle.net_model.specs.Walk.{branched, led_on, walk_from, walk_along}
-
--- the walk gives an address
-abbrev pub walk_gives : Option Walk → Bool
-walk_gives None = false
-walk_gives (Some walk) = gives_address walk.leaf
+use Rattle.net_model.proofs.LearntSets.{walk_gives}
 
 -- an address is learnt by such a walk
 pub from_giving : (setting : Setting) (name : Labels) (rtype : RrType) (numbers : List ℕ) → walk_gives (walk_along setting name rtype numbers) ≡ true

@@ -6,7 +6,7 @@ use Rattle.std.specs.BTreeMap as map
 use Rattle.std.proofs.Math.Bool.{beq}
 use Rattle.std.proofs.lemmas.List.Elements.{Contains-get_or}
 use Rattle.std.proofs.lemmas.Option.{get_or_from_slice_get, slice_get_within}
-use Rattle.dns_data.specs.Name.{Labels}
+use Rattle.dns_data.specs.Name.{Labels, is_among}
 use Rattle.dns_data.proofs.Membership.{map_has}
 use Rattle.net_model.specs.Learnt.{Learns}
 use Rattle.net_model.specs.Nearest.{server_names}
@@ -15,7 +15,6 @@ use Rattle.net_model.specs.declared.config.Config.{Config}
 use Rattle.net_model.specs.declared.config.Server.{Server}
 use Rattle.address_deps.specs.declared.told.AddressTold.{AddressTold}
 use Rattle.graph_form.proofs.Paths.{same_item}
-use Rattle.zone_lookup.specs.LearntSets.{is_among}
 use Rattle.address_deps.specs.declared.direction.Direction.{Direction}
 use Rattle.address_deps.specs.declared.direction.Direction.TheVariants.{Adding, Dropping}
 use Rattle.address_deps.specs.Dependents.{AreDependents, places_of}

@@ -3,7 +3,7 @@ use Rattle.std.proofs.Common.{◌≡◌, ℕ, ◌<◌, true, false, Bool, ◌||�
 use Rattle.std.specs.Prelude.{◌⊎◌, Contains, slice_get}
 use Rattle.std.specs.BTreeMap as map
 use Rattle.std.proofs.lemmas.Option.{slice_get_cases}
-use Rattle.dns_data.specs.Name.{Labels, name_eq}
+use Rattle.dns_data.specs.Name.{Labels, name_eq, is_among}
 use Rattle.dns_data.proofs.Names.{name_eq_decides}
 use Rattle.net_model.specs.declared.config.Config.{Config}
 use Rattle.net_model.specs.declared.config.Server.{Server}
@@ -11,7 +11,6 @@ use Rattle.address_deps.specs.declared.told.AddressTold.{AddressTold}
 use Rattle.graph_form.proofs.Paths.{same_item}
 use Rattle.graph_form.proofs.Places.{PairAt, pair_at}
 use Rattle.address_deps.specs.Dependents.{AreDependents, places_of, told_awaits}
-use Rattle.zone_lookup.specs.LearntSets.{is_among}
 use Rattle.address_deps.specs.Told.{AreTold, IsToldOf}
 use Rattle.address_deps.specs.Sets.{AreServers, NoneMoreLearntAt, IsLearntAt}
 use Rattle.address_deps.proofs.Awaited.{AreAlike, alike_back, same_told}

@@ -1,9 +1,8 @@
 -- A search among the servers, in either direction. The contracts of inner calls alone cite it.
 use Rattle.std.specs.Prelude.{◌≡◌, ℕ, Bool, true, false, ◌||◌, ◌&&◌, not, List}
-use Rattle.dns_data.specs.Name.{Labels, name_eq}
+use Rattle.dns_data.specs.Name.{Labels, name_eq, is_among}
 use Rattle.net_model.specs.declared.config.Config.{Config}
 use Rattle.net_model.specs.declared.config.Server.{Server}
-use Rattle.zone_lookup.specs.LearntSets.{is_among}
 use Rattle.address_deps.specs.declared.direction.Direction.{Direction}
 use Rattle.address_deps.specs.declared.direction.Direction.TheVariants.{Adding, Dropping}
 use Rattle.address_deps.specs.declared.told.AddressTold.{AddressTold}

@@ -1,13 +1,12 @@
 -- The searches for the two sets of learnt addresses. The contracts of inner calls alone cite it.
 use Rattle.std.specs.Prelude.{◌≡◌, ℕ, ◌+◌, ◌≤◌, true, not, List, [], length, Some, Contains, slice_get}
 use Rattle.std.specs.List.{sum_by}
-use Rattle.dns_data.specs.Name.{Labels}
+use Rattle.dns_data.specs.Name.{Labels, is_among}
 use Rattle.net_model.specs.declared.config.Config.{Config}
 use Rattle.net_model.specs.declared.config.Server.{Server}
 use Rattle.net_model.specs.Learnt.{AfterRounds, Learns}
 use Rattle.net_model.specs.Nearest.{server_names}
 use Rattle.net_model.specs.Step.{following}
-use Rattle.zone_lookup.specs.LearntSets.{is_among}
 use Rattle.address_deps.specs.Giving.{unset}
 use Rattle.address_deps.specs.Told.{AreTold}
 use Rattle.address_deps.specs.declared.told.AddressTold.{AddressTold}

@@ -2,12 +2,11 @@
 
 ghost use Rattle.std.specs.Prelude.{◌≡◌, ℕ, IfOk, length};
 ghost use Rattle.std.specs.List.{filter};
-ghost use Rattle.dns_data.specs.Name.{Labels};
+ghost use Rattle.dns_data.specs.Name.{Labels, is_among};
 ghost use Rattle.net_model.specs.Learnt.{IsLeast, IsGreatest};
 ghost use Rattle.net_model.specs.Nearest.{server_names};
 ghost use Rattle.address_deps.specs.Dependents.{AreDependents};
 ghost use Rattle.address_deps.specs.Told.{AreTold};
-ghost use Rattle.zone_lookup.specs.LearntSets.{is_among};
 
 use crate::dependents::Dependents;
 use crate::direction::{Direction, settled};

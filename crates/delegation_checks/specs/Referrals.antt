@@ -1,6 +1,6 @@
 -- The faults of a referral to a name server and of an end behind it.
 use Rattle.std.specs.Prelude.{◌&&◌, not, List, [], ◌∷◌, ◌++◌, map, Option, Some, None}
-use Rattle.dns_data.specs.Name.{name_eq}
+use Rattle.dns_data.specs.Name.{name_eq, is_among}
 use Rattle.dns_data.specs.declared.rr_type.RrType.{RrType}
 use Rattle.graph_form.specs.Branches.{PlainBranch}
 use Rattle.net_model.specs.declared.deps.Deps.{Deps}
@@ -14,7 +14,6 @@ use Rattle.net_model.specs.declared.walk.Hop.{Hop}
 use Rattle.net_model.specs.declared.walk.Hop.TheVariants.{Refer, Rewrite}
 use Rattle.net_model.specs.declared.walk.Leaf.{Leaf}
 use Rattle.net_model.specs.declared.walk.Leaf.TheVariants as leaves
-use Rattle.zone_lookup.specs.LearntSets.{is_among}
 use Rattle.zone_lookup.specs.ReferralFaults.{cut_faults, if_shown}
 
 -- the faults of an end behind a referral

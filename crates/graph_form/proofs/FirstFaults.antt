@@ -21,11 +21,6 @@ use Rattle.graph_form.proofs.Places.{pairs_joined}
 alone_pairs : {X : Type 0} (R : X → X → Type 0) (y : X) → AllPairs R (y ∷ [])
 alone_pairs R y i j d less within = absurd (omega arith)
 
--- a list of length 0 is empty
-pub none_left : {X : Type 0} (xs : List X) → length xs ≡ 0 → xs ≡ []
-none_left [] e = refl
-none_left (x ∷ xs) e = absurd (omega arith)
-
 module _ {T : Type 0} (fault_of : T → Fault) (rank : T → T → Ordering) where
   -- what is sorted
   abbrev pub InOrder : List T → Type 0

@@ -120,7 +120,8 @@ module _ (setting : Setting) (query : Labels) (graph : PlainGraph) (rtype : RrTy
 
 -- ---- no pair stands twice
 
-abbrev Differ : {A : Type 0} → A → A → Type 0
+-- the two aren't one
+abbrev pub Differ : {A : Type 0} → A → A → Type 0
 Differ a b = a ≢ b
 
 -- each of the twelve types stands at its place

@@ -105,7 +105,7 @@ branch_for graph at node arm branch rtype here is_arm has =
 -- ---- one entry a fault
 
 -- the fault comes before the other's
-abbrev Rises : Seen → Seen → Type 0
+abbrev pub Rises : Seen → Seen → Type 0
 Rises a b = fault_cmp a.fault b.fault ≡ Less
 
 -- two entries with one fault are one, where faults rise

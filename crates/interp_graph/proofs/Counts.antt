@@ -12,7 +12,7 @@ use Rattle.net_model.specs.Step.{Setting}
 use Rattle.net_model.specs.Tree.{HasMoreThan}
 use Rattle.net_model.specs.declared.walk.State.{State}
 use Rattle.graph_form.proofs.Places.{pairs_in_row, place_of_item}
-use Rattle.graph_form.proofs.Reached.{arm_differs}
+use Rattle.graph_form.proofs.Reached.{arm_differs, Differ}
 use Rattle.graph_form.specs.declared.node.Arm.{Arm}
 use Rattle.interp_graph.specs.Drafts.{Comes, AreDrafts, size_of, pair_count, Draft}
 use Rattle.interp_graph.specs.Growing.{TakesTypes}
@@ -65,10 +65,6 @@ pub many_pairs : (drafts : List Draft) → length (wanted_pairs drafts) ≡ pair
 many_pairs drafts =
     in_a_row draft_pairs (λ draft. size_of draft.wanted)
     (λ draft. let pair : RrType → State × RrType = λ rtype. (draft.state, rtype) in length-map (filter (has_bit draft.wanted) types) pair) drafts
-
--- the two aren't one
-abbrev pub Differ : {A : Type 0} → A → A → Type 0
-Differ a b = a ≢ b
 
 state_told : (draft : Draft) (pair : State × RrType) → Contains (draft_pairs draft) pair → draft.state ≡ pair.0
 state_told draft pair has =

@@ -1,5 +1,5 @@
 -- What is told stays told, and what is read piece by piece is a front of it.
-use Rattle.std.proofs.Common.{◌≡◌, ℕ, ◌<◌, ◌⊎◌, List, [], length, sym, ap, ◌∙◌, inl, inr, arith, refl}
+use Rattle.std.proofs.Common.{◌≡◌, ℕ, ◌<◌, ◌⊎◌, List, [], length, sym, ◌∙◌, inl, inr, arith}
 use Rattle.std.proofs.Math.ListN.{length-take}
 use Rattle.io_edges.specs.Files.{FilesTold, Told, Untold, NotHeld, Holds, IsToldAnd, StaysTold, TellsAll, first_told}
 

@@ -6,11 +6,11 @@ use Rattle.std.proofs.lemmas.List.{append-nil, drop-drop, drop_at, get_or_defaul
 use Rattle.std.proofs.lemmas.List.Elements.{Contains-get_or}
 use Rattle.dns_data.specs.Encoding.{encoded}
 use Rattle.dns_data.specs.Label.{label_cmp}
-use Rattle.dns_data.specs.Name.{Labels, name_cmp}
+use Rattle.dns_data.specs.Name.{Labels, name_cmp, AreInOrder}
 use Rattle.dns_data.proofs.Encodings.{encoded_append}
 use Rattle.dns_data.proofs.NameOrder.{under_label}
 use Rattle.label_graph.specs.Graphs.{HasChild, AreLabelsBelow}
-use Rattle.label_graph.specs.LiveSet.{AreInOrder, name_at}
+use Rattle.label_graph.specs.LiveSet.{name_at}
 use Rattle.label_graph.specs.NameTree.{IsNextBelow, octets_from}
 use Rattle.label_graph.proofs.Saturating.{same_last}
 use Rattle.label_graph.proofs.TargetLinks.{place_among, among_place}

@@ -10,11 +10,11 @@ use Rattle.std.proofs.lemmas.Cmp.{tied_itself}
 use Rattle.std.proofs.lemmas.Map.Lookups.{CmpEqualImpliesEq}
 use Rattle.std.proofs.lemmas.List.{take_at, length-append, take-append-drop, length-drop, get_or_default}
 use Rattle.std.proofs.lemmas.List.Sorted.{searchable_from_sorted}
-use Rattle.dns_data.specs.Name.{Labels, name_cmp}
+use Rattle.dns_data.specs.Name.{Labels, name_cmp, AreInOrder}
 use Rattle.dns_data.proofs.NameOrder.{names_total}
 use Rattle.dns_data.proofs.Names.{same_names}
 use Rattle.dns_data.proofs.OrderedLists.{never_before_itself}
-use Rattle.label_graph.specs.LiveSet.{AreInOrder, name_at}
+use Rattle.label_graph.specs.LiveSet.{name_at}
 use Rattle.label_graph.specs.NameTree.{IsNextBelow}
 use Rattle.label_graph.specs.Rows.{RowHas}
 use Rattle.label_graph.proofs.RowItems.{put_there, put_keeps, from_put}

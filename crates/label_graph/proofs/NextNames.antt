@@ -4,11 +4,11 @@ use Rattle.std.specs.Prelude.{◌↔◌}
 use Rattle.std.proofs.Math.Seq.{get_or-append_seam}
 use Rattle.std.proofs.lemmas.Bool.{cases_lt}
 use Rattle.std.proofs.lemmas.List.{map-append, length-map, get_or_append_left}
-use Rattle.dns_data.specs.Name.{Labels}
+use Rattle.dns_data.specs.Name.{Labels, AreInOrder}
 use Rattle.dns_data.proofs.Membership.{all_from_contains}
 use Rattle.label_graph.specs.declared.next.NextName.{NextName}
 use Rattle.label_graph.specs.Graphs.{SomeItem, IsStep, IsFrom, IsGraph, IsLiveBelow}
-use Rattle.label_graph.specs.LiveSet.{AreInOrder, IsLiveSet, name_at}
+use Rattle.label_graph.specs.LiveSet.{IsLiveSet, name_at}
 use Rattle.label_graph.specs.NameTree.{IsNextBelow}
 use Rattle.label_graph.specs.Targets.{Targets, ground_in}
 use Rattle.label_graph.proofs.GraphSets.{step_set}

@@ -3,12 +3,12 @@ use Rattle.std.proofs.Common.{List, [], ◌++◌, Contains}
 use Rattle.std.specs.Prelude.{◌↔◌}
 use Rattle.std.specs.Cmp.Lexicographic.{nat_list_eq_equiv, lists_equiv, lists_ties, texts_ties}
 use Rattle.dns_data.specs.Label.{label_cmp}
-use Rattle.dns_data.specs.Name.{Labels, name_cmp, name_eq}
+use Rattle.dns_data.specs.Name.{Labels, name_cmp, name_eq, AreInOrder}
 use Rattle.dns_data.proofs.NameOrder.{names_total}
 use Rattle.dns_data.proofs.Names.{name_eq_decides}
 use Rattle.net_model.specs.Reading.{Ground}
 use Rattle.label_graph.specs.declared.pair.Pair.{Pair}
-use Rattle.label_graph.specs.LiveSet.{AreInOrder, HavePrefixes, IsClosed}
+use Rattle.label_graph.specs.LiveSet.{HavePrefixes, IsClosed}
 use Rattle.label_graph.specs.Pairs.{ground_with, AreSame}
 use Rattle.label_graph.specs.Sorting.{IsInOrderOf}
 use Rattle.label_graph.proofs.InOrder.{once_in_order, in_order_has, from_in_order}

@@ -2,12 +2,12 @@
 use Rattle.std.proofs.Common.{◌≡◌, ◌∙◌, ℕ, ◌-◌, ◌<◌, ◌≤◌, List, [], ◌∷◌, ◌++◌, length, drop, get_or, Contains, Less, is_gt, sym, refl, ap, subst, inl, inr, append-nil, arith}
 use Rattle.std.proofs.lemmas.Bool.{cases_lt}
 use Rattle.std.proofs.lemmas.Cmp.{tied_itself}
-use Rattle.std.proofs.lemmas.List.{length-append}
-use Rattle.dns_data.specs.Name.{Labels, name_cmp}
+use Rattle.std.proofs.lemmas.List.{length-append, nil_from_length}
+use Rattle.dns_data.specs.Name.{Labels, name_cmp, AreInOrder}
 use Rattle.dns_data.proofs.NameFronts.{Begins}
 use Rattle.dns_data.proofs.NameOrder.{UpTo, names_total, prefix_up_to, up_to_before, between}
 use Rattle.dns_data.proofs.OrderedLists.{never_before_itself}
-use Rattle.label_graph.specs.LiveSet.{AreInOrder, HavePrefixes, name_at}
+use Rattle.label_graph.specs.LiveSet.{HavePrefixes, name_at}
 use Rattle.label_graph.specs.NameTree.{IsNextBelow}
 use Rattle.label_graph.proofs.NamePlaces.{last_label}
 use Rattle.label_graph.proofs.TargetLinks.{place_among, among_place}
@@ -25,11 +25,7 @@ pub whole_front : (front name : Labels) → Begins front name → length name �
 whole_front [] [] begins few = refl
 whole_front [] (x ∷ name) begins few = absurd (omega (arith, few))
 whole_front (x ∷ front) name (below, is) few =
-    sym is ∙ ap (λ (l : Labels). (x ∷ front) ++ l) (none below (omega (arith, few, ap length is, length-append (x ∷ front) below))) ∙ append-nil (x ∷ front)
-  where
-    none : (labels : Labels) → length labels ≡ 0 → labels ≡ []
-    none [] e = refl
-    none (l ∷ labels) e = absurd (omega arith)
+    sym is ∙ ap (λ (l : Labels). (x ∷ front) ++ l) (nil_from_length below (omega (arith, few, ap length is, length-append (x ∷ front) below))) ∙ append-nil (x ∷ front)
 
 module _ (names : List Labels) (order : AreInOrder names) (closed : HavePrefixes names) where
   -- the root stands first
@@ -60,12 +56,8 @@ module _ (names : List Labels) (order : AreInOrder names) (closed : HavePrefixes
           | inl below ↦ below
           | inr here ↦ (
               let e : above ≡ 0 = omega (arith, here) in
-              absurd (has_labels (empty (name_at names place) (omega (arith, many, ap length (ap (name_at names) e ∙ root_first))))))
+              absurd (has_labels (nil_from_length (name_at names place) (omega (arith, many, ap length (ap (name_at names) e ∙ root_first))))))
         ]
-      where
-        empty : (name : Labels) → length name ≡ 0 → name ≡ []
-        empty [] e = refl
-        empty (label ∷ name) e = absurd (omega arith)
 
     -- the name one label above begins the name that stands before
     pub before_begins : (front : Labels) (label : List ℕ) → name_at names place ≡ front ++ label ∷ [] → Begins front (name_at names (place - 1))

@@ -3,13 +3,13 @@ use Rattle.std.proofs.Common.{◌≡◌, ◌∙◌, ℕ, ◌<◌, ◌≤◌, ◌
 use Rattle.std.specs.Prelude.{◌↔◌}
 use Rattle.std.proofs.lemmas.List.{take_at, take_all, take-append-drop, length-append, get_or_default}
 use Rattle.std.proofs.lemmas.List.Elements.{Contains-append_left, Contains-get_or}
-use Rattle.dns_data.specs.Name.{Labels}
+use Rattle.dns_data.specs.Name.{Labels, AreInOrder}
 use Rattle.dns_data.proofs.Membership.{none_in_nil, has_first, first_or_later, map_has, from_map}
 use Rattle.net_model.specs.Reading.{Redirection}
 use Rattle.label_graph.specs.declared.links.Link.{Link}
 use Rattle.label_graph.specs.declared.pair.Pair.{Pair}
 use Rattle.label_graph.specs.LinkRows.{LinkRows, link, AreAdded}
-use Rattle.label_graph.specs.LiveSet.{AreInOrder, HavePrefixes, IsClosed, name_at}
+use Rattle.label_graph.specs.LiveSet.{HavePrefixes, IsClosed, name_at}
 use Rattle.label_graph.specs.Pairs.{redirection, ground_with, AreSame}
 use Rattle.label_graph.specs.Targets.{IsPrefixFrom, IsLinkOf, linked, ground_in}
 use Rattle.label_graph.proofs.NamePlaces.{one_place}

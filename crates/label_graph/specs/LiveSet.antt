@@ -1,12 +1,7 @@
 -- The live set of a name: the base names to which it reads on (RFC 6672 section 2.2).
-use Rattle.std.specs.Prelude.{◌≡◌, ◌↔◌, ℕ, ◌<◌, List, [], ◌++◌, length, slice_index_or, Contains, All, AllPairs}
-use Rattle.std.specs.declared.cmp.Ordering.TheVariants.{Less}
-use Rattle.dns_data.specs.Name.{Labels, name_cmp}
+use Rattle.std.specs.Prelude.{◌≡◌, ◌↔◌, ℕ, ◌<◌, List, [], ◌++◌, length, slice_index_or, Contains, All}
+use Rattle.dns_data.specs.Name.{Labels}
 use Rattle.net_model.specs.Reading.{Redirection, Ground, ReadsOnTo}
-
--- names in order, each once
-abbrev pub AreInOrder : List Labels → Type 0
-AreInOrder names = AllPairs (λ a b. name_cmp a b ≡ Less) names
 
 -- the names have the root, and the prefixes of each of them
 pub record HavePrefixes (names : List Labels) : Type 0 where

@@ -1,8 +1,8 @@
 -- Names in order, and for each those one label below.
 use Rattle.std.specs.Prelude.{◌≡◌, ◌↔◌, ℕ, ◌<◌, List, [], ◌∷◌, ◌++◌, length, drop, slice_index_or, AllPairs}
 use Rattle.dns_data.specs.Encoding.{encoded}
-use Rattle.dns_data.specs.Name.{Labels}
-use Rattle.label_graph.specs.LiveSet.{AreInOrder, HavePrefixes, name_at}
+use Rattle.dns_data.specs.Name.{Labels, AreInOrder}
+use Rattle.label_graph.specs.LiveSet.{HavePrefixes, name_at}
 use Rattle.label_graph.specs.Rows.{RowHas}
 
 -- the name at the other place is that at the first with a label below

@@ -1,11 +1,11 @@
 -- The base names, and which of them are redirected to which fronts of targets.
 use Rattle.std.specs.Prelude.{◌≡◌, ℕ, ◌<◌, ◌≤◌, List, map, length, take}
-use Rattle.dns_data.specs.Name.{Labels}
+use Rattle.dns_data.specs.Name.{Labels, AreInOrder}
 use Rattle.net_model.specs.Reading.{Redirection, Ground}
 use Rattle.label_graph.specs.declared.links.Link.{Link}
 use Rattle.label_graph.specs.declared.pair.Pair.{Pair}
 use Rattle.label_graph.specs.LinkRows.{LinkRows, AreKept}
-use Rattle.label_graph.specs.LiveSet.{AreInOrder, HavePrefixes, IsClosed, name_at}
+use Rattle.label_graph.specs.LiveSet.{HavePrefixes, IsClosed, name_at}
 
 -- the name is a front of the other: its first so many labels, of at least this many
 abbrev pub IsPrefixFrom : ℕ → Labels → Labels → Type 0

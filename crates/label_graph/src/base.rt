@@ -1,7 +1,7 @@
 //! The base names of configurations.
 
 ghost use Rattle.std.specs.Prelude.{◌≡◌, ◌↔◌, ◌⊎◌, [], ◌++◌, map, Contains, IsPermutation, IfOk, OnOk};
-ghost use Rattle.dns_data.specs.Name.{Labels};
+ghost use Rattle.dns_data.specs.Name.{Labels, AreInOrder};
 ghost use Rattle.net_model.specs.Reading.{Redirection, redirection_of, redirections_of, ground_of, joined_ground};
 ghost use Rattle.label_graph.specs.Base.{
   IsInConfig,
@@ -11,7 +11,7 @@ ghost use Rattle.label_graph.specs.Base.{
   zone_redirections,
 };
 ghost use Rattle.label_graph.specs.Graphs.{SomeItem};
-ghost use Rattle.label_graph.specs.LiveSet.{AreInOrder, HavePrefixes, IsClosed};
+ghost use Rattle.label_graph.specs.LiveSet.{HavePrefixes, IsClosed};
 ghost use Rattle.label_graph.specs.Pairs.{redirection, ground_with, AreSame};
 ghost use Rattle.label_graph.specs.Targets.{IsPrefixFrom};
 

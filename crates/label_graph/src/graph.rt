@@ -3,9 +3,9 @@
 ghost use Rattle.std.specs.Prelude.{◌≡◌, ◌↔◌, ℕ, List, [], ◌∷◌, ◌++◌, map, IfOk, IsTrue, All, Contains, AllPairs};
 ghost use Rattle.std.specs.declared.cmp.Ordering.TheVariants.{Less};
 ghost use Rattle.dns_data.specs.Label.{label_cmp};
-ghost use Rattle.dns_data.specs.Name.{Labels};
+ghost use Rattle.dns_data.specs.Name.{Labels, AreInOrder};
 ghost use Rattle.net_model.specs.Reading.{IsNamed, ground_of, joined_ground};
-ghost use Rattle.label_graph.specs.LiveSet.{AreInOrder, IsClosed, IsLiveSet};
+ghost use Rattle.label_graph.specs.LiveSet.{IsClosed, IsLiveSet};
 ghost use Rattle.label_graph.specs.Pairs.{ground_with, AreSame};
 
 use crate::base::{BaseNames, base_of_all};

@@ -4,8 +4,8 @@ ghost use Rattle.std.specs.Prelude.{◌≡◌, ◌+◌, ◌<◌, ◌↔◌, ℕ,
 ghost use Rattle.std.specs.declared.cmp.Ordering.TheVariants.{Less};
 ghost use Rattle.dns_data.specs.Encoding.{encoded};
 ghost use Rattle.dns_data.specs.Label.{IsLabel, label_cmp};
-ghost use Rattle.dns_data.specs.Name.{Labels};
-ghost use Rattle.label_graph.specs.LiveSet.{AreInOrder, HavePrefixes, name_at};
+ghost use Rattle.dns_data.specs.Name.{Labels, AreInOrder};
+ghost use Rattle.label_graph.specs.LiveSet.{HavePrefixes, name_at};
 ghost use Rattle.label_graph.specs.NameTree.{IsNextBelow, AreParents, AreRowsBelow, octets_from};
 
 use crate::rows::Rows;

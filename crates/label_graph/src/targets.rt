@@ -1,11 +1,11 @@
 //! The base names, and which of them are redirected to which fronts of targets.
 
 ghost use Rattle.std.specs.Prelude.{◌≡◌, ◌↔◌, ◌⊎◌, ◌≤◌, [], length, List, Contains, IfOk, OnOk};
-ghost use Rattle.dns_data.specs.Name.{Labels};
+ghost use Rattle.dns_data.specs.Name.{Labels, AreInOrder};
 ghost use Rattle.label_graph.specs.declared.links.Link.{Link as LinkValue};
 ghost use Rattle.label_graph.specs.declared.pair.Pair.{Pair as PairValue};
 ghost use Rattle.label_graph.specs.LinkRows.{AreKept};
-ghost use Rattle.label_graph.specs.LiveSet.{AreInOrder, IsClosed};
+ghost use Rattle.label_graph.specs.LiveSet.{IsClosed};
 ghost use Rattle.label_graph.specs.Pairs.{ground_with, AreSame};
 ghost use Rattle.label_graph.specs.Targets.{AreTargets, IsPrefixFrom, IsLinkOf, ground_in};
 

@@ -33,7 +33,8 @@ before_spells false w text xs h = before_false w xs ∙ ap (λ (t : List ℕ). w
 before_spells true w text xs (octets, (rest, (e, is))) =
     (w ++ octets, (rest, (ap (before true w) e, append_assoc w octets (34 ∷ all rest) ∙ ap (λ (t : List ℕ). w ++ t) is)))
 
-abbrev rest_of : Bool → List ℕ → List Piece
+-- the pieces of what is left of a text, in a token in quotes or outside of one
+abbrev pub rest_of : Bool → List ℕ → List Piece
 rest_of quoted text = if quoted then in_quotes text else pieces text
 
 -- what a text's pieces spell where none is a fault

@@ -4,6 +4,7 @@ use Rattle.std.specs.Prelude.{◌||◌, ◌==◌, nat_eq, if◌then◌else◌}
 use Rattle.dns_data.specs.Octet.{is_digit}
 use Rattle.master_lex.specs.declared.fault.LexKind.TheVariants.{OpenQuote}
 use Rattle.master_lex.specs.Pieces.{Piece, Skipped, LineEnd, Opening, Closing, Written, Broken, before, bad_escape, is_code, pieces, comment, in_quotes, after_backslash, after_digit, after_two_digits, begins_broken, written_front}
+use Rattle.master_lex.proofs.Spelled.{rest_of}
 
 -- what stands behind the octets of a token in quotes
 abbrev behind_token : List Piece → List ℕ
@@ -52,9 +53,6 @@ before_fronts true w text xs (inr (octets, (later, (e, (rest, is))))) =
         ),
       ),
     )
-
-abbrev rest_of : Bool → List ℕ → List Piece
-rest_of quoted text = if quoted then in_quotes text else pieces text
 
 by_quotes : (quoted : Bool) (text : List ℕ) → Fronts true (in_quotes text) text → Fronts false (pieces text) text → Fronts quoted (rest_of quoted text) text
 by_quotes true text h k = h

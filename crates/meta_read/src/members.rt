@@ -8,14 +8,14 @@ ghost use Rattle.meta_read.specs.Members.{list_at, text_at};
 use serde_json::Value;
 
 /// The items of the list at a key, or `None` where no list stands there (RFC 8259 section 5).
-pub(crate) fn list_at<'a>(value: &'a Value, key: &str) -> Option<&'a [Value]>
+pub fn list_at<'a>(value: &'a Value, key: &str) -> Option<&'a [Value]>
     ensures { option_map (λ values. map view values.now) result ≡ list_at key.now (view value.now) }
 {
     Some(value.get(key)?.as_array()?.as_slice())
 }
 
 /// The string at a key, or `None` where no string stands there (RFC 8259 section 7).
-pub(crate) fn text_at<'a>(value: &'a Value, key: &str) -> Option<&'a str>
+pub fn text_at<'a>(value: &'a Value, key: &str) -> Option<&'a str>
     ensures { option_map (λ text. text.now) result ≡ text_at key.now (view value.now) }
 {
     value.get(key)?.as_str()

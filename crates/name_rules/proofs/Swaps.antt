@@ -1,5 +1,5 @@
 -- The target's labels in the owner's place, with labels below the name.
-use Rattle.std.proofs.Common.{◌≡◌, ◌+◌, ◌≤◌, ℕ, true, ◌++◌, length, drop, sym, ap, ◌∙◌, arith, append_assoc, length-append}
+use Rattle.std.proofs.Common.{◌≡◌, ◌+◌, ◌≤◌, true, ◌++◌, length, drop, sym, ap, ◌∙◌, arith, append_assoc, length-append}
 use Rattle.std.proofs.lemmas.List.{drop-append-le}
 use Rattle.dns_data.specs.Name.{Labels, is_prefix, swap}
 use Rattle.dns_data.proofs.NameFronts.{is_prefix_tells}

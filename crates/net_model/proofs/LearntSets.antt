@@ -4,7 +4,7 @@ use Rattle.std.proofs.lemmas.Bool.{and_parts}
 use Rattle.std.specs.Prelude.{Contains, Option, Some, None}
 use Rattle.dns_data.proofs.Membership.{none_in_nil}
 use Rattle.dns_data.proofs.Searches.{same_truth, filter_same}
-use Rattle.dns_data.specs.Name.{Labels}
+use Rattle.dns_data.specs.Name.{Labels, is_among}
 use Rattle.dns_data.specs.declared.rr_type.RrType.{RrType}
 use Rattle.dns_data.specs.declared.rr_type.RrType.TheVariants as types
 use Rattle.net_model.specs.declared.config.Config.{Config}
@@ -13,11 +13,11 @@ use Rattle.net_model.specs.Learnt.{gives_address, LearnsBy, Learns, IsRound, Aft
 use Rattle.net_model.specs.Nearest.{server_names}
 use Rattle.net_model.specs.Step.{Setting, following}
 use Rattle.net_model.specs.Walk.{walk_along}
-use Rattle.net_model.proofs.Naming.{not_both, listed}
+use Rattle.net_model.proofs.Naming.{not_both}
 use Rattle.net_model.proofs.Showing.{all_leaves_pass, walk_passes}
 
 -- the end of the walk with these numbers gives an address
-abbrev walk_gives : Option Walk → Bool
+abbrev pub walk_gives : Option Walk → Bool
 walk_gives None = false
 walk_gives (Some walk) = gives_address walk.leaf
 
@@ -47,8 +47,8 @@ pub data Learning : Type 0 where
 
 -- what is claimed of a server is so
 abbrev pub claims : Setting → List Labels → Labels → Learning → Bool
-claims setting learnt name (ByWalk numbers) = listed learnt name && walk_gives (walk_along setting name types.A numbers)
-claims setting learnt name (ByNone depth) = not (listed learnt name) && gives_none setting name depth
+claims setting learnt name (ByWalk numbers) = is_among learnt name && walk_gives (walk_along setting name types.A numbers)
+claims setting learnt name (ByNone depth) = not (is_among learnt name) && gives_none setting name depth
 
 -- what is claimed of each server is so
 abbrev pub all_claims : Setting → List Labels → List Labels → List Learning → Bool
@@ -58,26 +58,26 @@ all_claims setting learnt names rest = false
 
 -- a server is among the learnt ones exactly where its address is learnt
 claimed : (setting : Setting) (learnt : List Labels) (name : Labels) (claim : Learning) → claims setting learnt name claim ≡ true
-    → (listed learnt name ≡ true) ↔ Learns setting name
+    → (is_among learnt name ≡ true) ↔ Learns setting name
 claimed setting learnt name (ByWalk numbers) h = (
-  λ among. inl (gives_by setting name types.A numbers (walk_along setting name types.A numbers) refl (and_parts (listed learnt name) _ h).1),
-  λ learns. (and_parts (listed learnt name) _ h).0,
+  λ among. inl (gives_by setting name types.A numbers (walk_along setting name types.A numbers) refl (and_parts (is_among learnt name) _ h).1),
+  λ learns. (and_parts (is_among learnt name) _ h).0,
 )
 claimed setting learnt name (ByNone depth) h = (
-  λ among. absurd (not_both (listed learnt name) among (and_parts (not (listed learnt name)) _ h).0),
+  λ among. absurd (not_both (is_among learnt name) among (and_parts (not (is_among learnt name)) _ h).0),
   λ learns. absurd (elim learns [
-    | inl by_a ↦ gives_not setting name types.A depth (and_parts (all_leaves_pass (λ leaf. not (gives_address leaf)) setting name types.A depth) _ (and_parts (not (listed learnt name)) _ h).1).0 by_a
-    | inr by_aaaa ↦ gives_not setting name types.Aaaa depth (and_parts (all_leaves_pass (λ leaf. not (gives_address leaf)) setting name types.A depth) _ (and_parts (not (listed learnt name)) _ h).1).1 by_aaaa
+    | inl by_a ↦ gives_not setting name types.A depth (and_parts (all_leaves_pass (λ leaf. not (gives_address leaf)) setting name types.A depth) _ (and_parts (not (is_among learnt name)) _ h).1).0 by_a
+    | inr by_aaaa ↦ gives_not setting name types.Aaaa depth (and_parts (all_leaves_pass (λ leaf. not (gives_address leaf)) setting name types.A depth) _ (and_parts (not (is_among learnt name)) _ h).1).1 by_aaaa
   ]),
 )
 
 all_claimed : (setting : Setting) (learnt names : List Labels) (rest : List Learning) → all_claims setting learnt names rest ≡ true
-    → (name : Labels) → Contains names name → (listed learnt name ≡ true) ↔ Learns setting name
+    → (name : Labels) → Contains names name → (is_among learnt name ≡ true) ↔ Learns setting name
 all_claimed setting learnt [] [] h name (k, within, is) = absurd (omega arith)
 all_claimed setting learnt [] (claim ∷ rest) h name among = cc
 all_claimed setting learnt (first ∷ names) [] h name among = cc
 all_claimed setting learnt (first ∷ names) (claim ∷ rest) h name (zero, within, is) =
-    subst (λ (n : Labels). (listed learnt n ≡ true) ↔ Learns setting n) is
+    subst (λ (n : Labels). (is_among learnt n ≡ true) ↔ Learns setting n) is
     (claimed setting learnt first claim (and_parts (claims setting learnt first claim) _ h).0)
 all_claimed setting learnt (first ∷ names) (claim ∷ rest) h name (suc k, within, is) =
     all_claimed setting learnt names rest (and_parts (claims setting learnt first claim) _ h).1 name (k, omega arith, is)
@@ -85,10 +85,10 @@ all_claimed setting learnt (first ∷ names) (claim ∷ rest) h name (suc k, wit
 -- one round, where each claim is so and the learnt names are those of the servers of which it is claimed
 pub is_round : (config : Config) (rewrites : ℕ) (followed learnt : List Labels) (rest : List Learning)
     → all_claims (following config rewrites followed) learnt (server_names config) rest ≡ true
-    → learnt ≡ filter (listed learnt) (server_names config) → IsRound config rewrites followed learnt
+    → learnt ≡ filter (is_among learnt) (server_names config) → IsRound config rewrites followed learnt
 is_round config rewrites followed learnt rest h are =
     record {
-      test = listed learnt;
+      test = is_among learnt;
       tells = all_claimed (following config rewrites followed) learnt (server_names config) rest h;
       are = are;
     }

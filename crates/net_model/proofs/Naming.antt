@@ -6,7 +6,7 @@ use Rattle.std.proofs.lemmas.Bool.{and_parts, or_cases, leb-true}
 use Rattle.std.proofs.lemmas.List.{drop_at, take-append-drop}
 use Rattle.std.proofs.lemmas.List.Folds.{list_all-map}
 use Rattle.std.proofs.lemmas.Map.Views.{Contains-from_any}
-use Rattle.dns_data.specs.Name.{Labels, name_eq, is_prefix, swap}
+use Rattle.dns_data.specs.Name.{Labels, name_eq, is_prefix, swap, is_among}
 use Rattle.dns_data.proofs.Names.{name_eq_decides}
 use Rattle.dns_data.proofs.Membership.{none_in_nil}
 use Rattle.dns_data.proofs.NameFronts.{is_prefix_told}
@@ -16,21 +16,17 @@ use Rattle.net_model.specs.Class.{IsClassOf}
 use Rattle.net_model.specs.Prefix.{prefixes}
 use Rattle.net_model.specs.Reading.{Redirection, ReadsOnce, ReadsAlong, Ground, IsNamed}
 
--- the name is in the list
-abbrev pub listed : List Labels → Labels → Bool
-listed names name = list_any (name_eq name) names
-
 -- what every item passes, a listed one passes
 passed_in : (test : Labels → Bool) (names : List Labels) (name : Labels) (here : Bool) (first : Labels)
-    → here ≡ name_eq name first → (here || listed names name) ≡ true → (test first && list_all test names) ≡ true
-    → (listed names name ≡ true → test name ≡ true) → test name ≡ true
+    → here ≡ name_eq name first → (here || is_among names name) ≡ true → (test first && list_all test names) ≡ true
+    → (is_among names name ≡ true → test name ≡ true) → test name ≡ true
 passed_in test names name true first e h all later =
     let same : name ≡ first = (name_eq_decides name first).0 (sym e) in
     subst (λ (n : Labels). test n ≡ true) (sym same) (and_parts (test first) (list_all test names) all).0
 passed_in test names name false first e h all later = later h
 
 -- a listed name passes a test that every name of the list passes
-pub passed : (test : Labels → Bool) (names : List Labels) (name : Labels) → listed names name ≡ true → list_all test names ≡ true
+pub passed : (test : Labels → Bool) (names : List Labels) (name : Labels) → is_among names name ≡ true → list_all test names ≡ true
     → test name ≡ true
 passed test [] name h all = cc
 passed test (first ∷ names) name h all =
@@ -38,11 +34,11 @@ passed test (first ∷ names) name h all =
     (λ later. passed test names name later (and_parts (test first) (list_all test names) all).1)
 
 -- an item of a list of names is listed
-pub is_listed : (names : List Labels) (name : Labels) → Contains names name → listed names name ≡ true
+pub is_listed : (names : List Labels) (name : Labels) → Contains names name → is_among names name ≡ true
 is_listed names name has = any_has (name_eq name) names name has ((name_eq_decides name name).1 refl)
 
 -- and a name that is listed is an item
-pub from_listed : (names : List Labels) (name : Labels) → listed names name ≡ true → Contains names name
+pub from_listed : (names : List Labels) (name : Labels) → is_among names name ≡ true → Contains names name
 from_listed names name = Contains-from_any (λ a b. (name_eq_decides a b).0) name names
 
 -- a test that holds is not what decides
@@ -60,34 +56,34 @@ rest_of above name h =
 abbrev reads_within : List Redirection → List Labels → Labels → Bool
 reads_within redirections names name =
     list_all (λ redirection. if is_prefix redirection.owner name
-    then listed names (swap name redirection.owner redirection.target)
+    then is_among names (swap name redirection.owner redirection.target)
     else true) redirections
 
 -- the names are closed under readings, and none is a base name
 abbrev pub unnamed_all : Ground → List Labels → Bool
 unnamed_all ground names =
-    list_all (λ name. reads_within ground.redirections names name && not (listed ground.names name)) names
+    list_all (λ name. reads_within ground.redirections names name && not (is_among ground.names name)) names
 
 read_once : (redirections : List Redirection) (names : List Labels) (name next : Labels) → ReadsOnce redirections name next
-    → reads_within redirections names name ≡ true → listed names next ≡ true
+    → reads_within redirections names name ≡ true → is_among names next ≡ true
 read_once redirections names name next step within =
     let owner : Labels = step.redirection.owner in
     let target : Labels = step.redirection.target in
-    let swapped : listed names (swap name owner target) ≡ true =
-    then_branch (is_prefix owner name) (listed names (swap name owner target)) true (is_prefix_told owner name (step.below, sym step.before))
+    let swapped : is_among names (swap name owner target) ≡ true =
+    then_branch (is_prefix owner name) (is_among names (swap name owner target)) true (is_prefix_told owner name (step.below, sym step.before))
     (each_of_all _ redirections within step.redirection step.among) in
     let same : swap name owner target ≡ next =
     ap (λ (n : Labels). target ++ drop (length owner) n) step.before
     ∙ ap (λ (n : Labels). target ++ n) (drop_at owner step.below (length owner) refl) ∙ sym step.after in
-    subst (λ (n : Labels). listed names n ≡ true) same swapped
+    subst (λ (n : Labels). is_among names n ≡ true) same swapped
 
 read_along : (ground : Ground) (names : List Labels) → unnamed_all ground names ≡ true → (between : List Labels) (name last : Labels)
-    → listed names name ≡ true → ReadsAlong ground.redirections name between last → listed names last ≡ true
-read_along ground names all [] name last h is = subst (λ (n : Labels). listed names n ≡ true) is h
+    → is_among names name ≡ true → ReadsAlong ground.redirections name between last → is_among names last ≡ true
+read_along ground names all [] name last h is = subst (λ (n : Labels). is_among names n ≡ true) is h
 read_along ground names all (next ∷ rest) name last h (once, later) =
     read_along ground names all rest next last
     (read_once ground.redirections names name next once
-    (and_parts (reads_within ground.redirections names name) (not (listed ground.names name)) (passed _ names name h all)).0)
+    (and_parts (reads_within ground.redirections names name) (not (is_among ground.names name)) (passed _ names name h all)).0)
     later
 
 -- a test and its opposite don't both hold
@@ -96,23 +92,23 @@ not_both true h k = cc
 not_both false h k = cc
 
 -- a name of such a list is not named
-pub unnamed : (ground : Ground) (names : List Labels) (name : Labels) → unnamed_all ground names ≡ true → listed names name ≡ true
+pub unnamed : (ground : Ground) (names : List Labels) (name : Labels) → unnamed_all ground names ≡ true → is_among names name ≡ true
     → IsNamed ground name → ⊥
 unnamed ground names name all h named =
-    let last : listed names named.base ≡ true =
+    let last : is_among names named.base ≡ true =
     read_along ground names all named.reads.0 name named.base h named.reads.1 in
-    not_both (listed ground.names named.base) (is_listed ground.names named.base named.among)
-    (and_parts (reads_within ground.redirections names named.base) (not (listed ground.names named.base)) (passed _ names named.base last all)).1
+    not_both (is_among ground.names named.base) (is_listed ground.names named.base named.among)
+    (and_parts (reads_within ground.redirections names named.base) (not (is_among ground.names named.base)) (passed _ names named.base last all)).1
 
 -- the name is a base name, or so many readings lead to one
 abbrev pub named_within : ℕ → Ground → Labels → Bool
-named_within zero ground name = listed ground.names name
+named_within zero ground name = is_among ground.names name
 named_within (suc depth) ground name =
-    listed ground.names name
+    is_among ground.names name
     || list_any (λ redirection. is_prefix redirection.owner name
     && named_within depth ground (swap name redirection.owner redirection.target)) ground.redirections
 
-named_as_base : (ground : Ground) (name : Labels) → listed ground.names name ≡ true → IsNamed ground name
+named_as_base : (ground : Ground) (name : Labels) → is_among ground.names name ≡ true → IsNamed ground name
 named_as_base ground name h =
     record { base = name; among = from_listed ground.names name h; reads = ([], refl) }
 
@@ -151,7 +147,7 @@ by_reading depth ground name deeper (redirection, among, h) =
 pub named : (depth : ℕ) (ground : Ground) (name : Labels) → named_within depth ground name ≡ true → IsNamed ground name
 named zero ground name h = named_as_base ground name h
 named (suc depth) ground name h =
-    elim (or_cases (listed ground.names name) _ h) [
+    elim (or_cases (is_among ground.names name) _ h) [
       | inl base ↦ named_as_base ground name base
       | inr reads ↦ by_reading depth ground name (λ n k. named depth ground n k) (from_any _ ground.redirections reads)
     ]
@@ -170,9 +166,9 @@ pub class_of_named : (depth : ℕ) (ground : Ground) (name : Labels) → named_w
 class_of_named depth ground name h = (refl, named depth ground name h)
 
 not_longer : (ground : Ground) (names : List Labels) (above longer : Labels) → unnamed_all ground names ≡ true
-    → (nat_le (length longer) (length above) || listed names longer) ≡ true → IsNamed ground longer → length longer ≤ length above
+    → (nat_le (length longer) (length above) || is_among names longer) ≡ true → IsNamed ground longer → length longer ≤ length above
 not_longer ground names above longer all h is_named =
-    elim (or_cases (nat_le (length longer) (length above)) (listed names longer) h) [
+    elim (or_cases (nat_le (length longer) (length above)) (is_among names longer) h) [
       | inl short ↦ leb-true (length longer) (length above) short
       | inr unread ↦ absurd (unnamed ground names longer all unread is_named)
     ]
@@ -180,24 +176,24 @@ not_longer ground names above longer all h is_named =
 -- the name and its prefixes longer than a named one are among unnamed names
 abbrev pub longer_unnamed : Ground → List Labels → Labels → Labels → Bool
 longer_unnamed ground names above name =
-    unnamed_all ground names && listed names name
-    && list_all (λ prefix. nat_le (length prefix) (length above) || listed names prefix) (prefixes name)
+    unnamed_all ground names && is_among names name
+    && list_all (λ prefix. nat_le (length prefix) (length above) || is_among names prefix) (prefixes name)
 
 -- then the name is in the class below the named one
 pub class_below : (depth : ℕ) (ground : Ground) (names : List Labels) (above below : Labels) → named_within depth ground above ≡ true
     → longer_unnamed ground names above (above ++ below) ≡ true → IsClassOf ground (above ++ below) (Below above)
 class_below depth ground names above below h k =
-    let both : (unnamed_all ground names && listed names (above ++ below)) ≡ true = (and_parts (unnamed_all ground names && listed names (above ++ below)) _ k).0 in
-    let all : unnamed_all ground names ≡ true = (and_parts (unnamed_all ground names) (listed names (above ++ below)) both).0 in (
-      unnamed ground names (above ++ below) all (and_parts (unnamed_all ground names) (listed names (above ++ below)) both).1,
+    let both : (unnamed_all ground names && is_among names (above ++ below)) ≡ true = (and_parts (unnamed_all ground names && is_among names (above ++ below)) _ k).0 in
+    let all : unnamed_all ground names ≡ true = (and_parts (unnamed_all ground names) (is_among names (above ++ below)) both).0 in (
+      unnamed ground names (above ++ below) all (and_parts (unnamed_all ground names) (is_among names (above ++ below)) both).1,
       record {
         below = below;
         prefix = refl;
         named = named depth ground above h;
         longest = λ longer rest e. not_longer ground names above longer all
-            (prefix_passes (λ prefix. nat_le (length prefix) (length above) || listed names prefix) longer rest
-            (subst (λ (n : Labels). list_all (λ prefix. nat_le (length prefix) (length above) || listed names prefix) (prefixes n) ≡ true) e
-            (and_parts (unnamed_all ground names && listed names (above ++ below)) _ k).1));
+            (prefix_passes (λ prefix. nat_le (length prefix) (length above) || is_among names prefix) longer rest
+            (subst (λ (n : Labels). list_all (λ prefix. nat_le (length prefix) (length above) || is_among names prefix) (prefixes n) ≡ true) e
+            (and_parts (unnamed_all ground names && is_among names (above ++ below)) _ k).1));
       },
     )
 

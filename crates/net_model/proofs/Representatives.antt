@@ -8,14 +8,14 @@ use Rattle.std.specs.declared.cmp.Ordering.TheVariants.{Less, Equal, Greater}
 use Rattle.std.proofs.lemmas.Bool.{and_parts, leb-true, lt-ltb, and_right}
 use Rattle.std.proofs.lemmas.Bool.Decides.{leb_tells}
 use Rattle.dns_data.specs.Label.{IsLabel, is_label_octet}
-use Rattle.dns_data.specs.Name.{Labels}
+use Rattle.dns_data.specs.Name.{Labels, is_among}
 use Rattle.dns_data.proofs.Names.{is_name, is_name_tells}
 use Rattle.std.specs.List.{list_all}
 use Rattle.dns_data.specs.Octet.{is_lower, is_upper, is_digit}
 use Rattle.net_model.specs.declared.class.Class.TheVariants.{Below}
 use Rattle.net_model.specs.Class.{IsRepresentative, octet_rank, trial_cmp}
 use Rattle.net_model.specs.Reading.{Ground, IsNamed}
-use Rattle.net_model.proofs.Naming.{named_within, named, unnamed_all, unnamed, listed}
+use Rattle.net_model.proofs.Naming.{named_within, named, unnamed_all, unnamed}
 
 -- neither equal nor greater is less
 not_less : (x y : ℕ) → y ≤ x → nat_cmp x y ≡ Less → ⊥
@@ -115,13 +115,13 @@ letter_named depth (suc n) ground above y h low high =
 -- the name with the first letter that makes an unnamed name is the representative
 pub below_represented : (depth : ℕ) (ground : Ground) (names : List Labels) (above : Labels) (letter n : ℕ)
     → letter ≡ 97 + n → octet_rank letter ≡ n → nat_le n 25 ≡ true
-    → (unnamed_all ground names && listed names (above ++ (letter ∷ []) ∷ []) && letters_named depth n ground above
+    → (unnamed_all ground names && is_among names (above ++ (letter ∷ []) ∷ []) && letters_named depth n ground above
     && is_name (above ++ (letter ∷ []) ∷ [])) ≡ true
     → IsRepresentative ground (Below above) (above ++ (letter ∷ []) ∷ [])
 below_represented depth ground names above letter n is rank small h =
-    let three : (unnamed_all ground names && listed names (above ++ (letter ∷ []) ∷ []) && letters_named depth n ground above) ≡ true =
+    let three : (unnamed_all ground names && is_among names (above ++ (letter ∷ []) ∷ []) && letters_named depth n ground above) ≡ true =
     (and_parts _ (is_name (above ++ (letter ∷ []) ∷ [])) h).0 in
-    let two : (unnamed_all ground names && listed names (above ++ (letter ∷ []) ∷ [])) ≡ true =
+    let two : (unnamed_all ground names && is_among names (above ++ (letter ∷ []) ∷ [])) ≡ true =
     (and_parts _ (letters_named depth n ground above) three).0 in
     let bound : n ≤ 25 = leb-true n 25 small in
     record {
@@ -136,8 +136,8 @@ below_represented depth ground names above letter n is rank small h =
         first = λ other other_is before.
             let (y, (same, low, high)) = tried_before letter n rank (omega arith) other other_is before in
             subst (λ (l : List ℕ). IsNamed ground (above ++ l ∷ [])) (sym same)
-            (letter_named depth n ground above y (and_parts (unnamed_all ground names && listed names (above ++ (letter ∷ []) ∷ [])) _ three).1 low high);
+            (letter_named depth n ground above y (and_parts (unnamed_all ground names && is_among names (above ++ (letter ∷ []) ∷ [])) _ three).1 low high);
       };
       extends = refl;
-      is_name = is_name_tells _ (and_parts (unnamed_all ground names && listed names (above ++ (letter ∷ []) ∷ []) && letters_named depth n ground above) _ h).1;
+      is_name = is_name_tells _ (and_parts (unnamed_all ground names && is_among names (above ++ (letter ∷ []) ∷ []) && letters_named depth n ground above) _ h).1;
     }

@@ -1,9 +1,8 @@
 //! Which name servers may be followed.
 
 ghost use Rattle.std.specs.Prelude.{◌≡◌};
-ghost use Rattle.std.specs.List.{list_any};
 ghost use Rattle.std.specs.Option.{option_map};
-ghost use Rattle.dns_data.specs.Name.{name_eq};
+ghost use Rattle.dns_data.specs.Name.{is_among};
 ghost use Rattle.net_model.specs.Nearest.{server_named, zone_with_origin, held_zone, is_top};
 ghost use Rattle.net_model.specs.Step.{has_glue, may_follow};
 ghost use Rattle.net_model.specs.Zone.{is_of, owns, has_address};
@@ -21,9 +20,9 @@ pub fn may_follow(config: &Config, cut: &Cut, followed: &[Name]) -> bool
     is_top(config, &cut.ns) || has_glue(config, cut) || is_among(followed, &cut.ns)
 }
 
-/// Whether the name is among these.
-fn is_among(names: &[Name], name: &Name) -> bool
-    ensures { result ≡ list_any (name_eq name.now) names.now }
+/// Whether the name is among these. It passes over them once.
+pub fn is_among(names: &[Name], name: &Name) -> bool
+    ensures { result ≡ is_among names.now name.now }
 {
     names.iter().any(|other| *name == *other)
 }

@@ -16,7 +16,7 @@ pub use class::Class;
 pub use config::{Config, Server, Zone};
 pub use deps::Deps;
 pub use fault::Fault;
-pub use follow::{held_zone, may_follow};
+pub use follow::{held_zone, is_among, may_follow};
 pub use found::Found;
 pub use place::{Cut, Place};
 pub use walk::{Hop, Leaf, State, Walk, copied_hops, copied_states};

@@ -1,10 +1,9 @@
 -- The class tree, a level at a time.
 use Rattle.std.specs.Prelude.{◌≡◌, ◌↔◌, ℕ, List, [], ◌∷◌, ◌++◌, Contains, map, nat_le, Option, MatchOption}
 use Rattle.std.specs.List.{filter}
-use Rattle.dns_data.specs.Name.{Labels, IsName, wire_octets}
+use Rattle.dns_data.specs.Name.{Labels, IsName, wire_octets, AreInOrder}
 use Rattle.net_model.specs.declared.class.Class.TheVariants.{Below}
 use Rattle.net_model.specs.Reading.{Ground, IsNamed}
-use Rattle.label_graph.specs.LiveSet.{AreInOrder}
 use Rattle.label_graph.specs.declared.next.NextName.{NextName}
 use Rattle.query_classes.specs.declared.live_name.LiveName.{LiveName}
 use Rattle.query_classes.specs.Members.{IsEmptyClass, RepresentsClass}

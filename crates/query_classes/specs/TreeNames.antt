@@ -1,7 +1,7 @@
 -- The live sets that the names of a class tree keep: for the contracts of the calls on such names alone.
 use Rattle.std.specs.Prelude.{ℕ, List}
-use Rattle.dns_data.specs.Name.{Labels}
-use Rattle.label_graph.specs.LiveSet.{AreInOrder, IsLiveSet}
+use Rattle.dns_data.specs.Name.{Labels, AreInOrder}
+use Rattle.label_graph.specs.LiveSet.{IsLiveSet}
 use Rattle.label_graph.specs.Pairs.{AreSame}
 use Rattle.net_model.specs.Reading.{Ground}
 

@@ -5,13 +5,12 @@ use Rattle.std.specs.Prelude.{slice_get, option_and_then, option_map, ifâ—Œthenâ
 use Rattle.std.specs.BTreeSet as tree
 use Rattle.std.specs.List.{AllZip, list_all, list_any}
 use Rattle.std.proofs.lemmas.Bool.{or_cases, or_left}
-use Rattle.dns_data.specs.Name.{Labels, name_cmp, name_eq}
+use Rattle.dns_data.specs.Name.{Labels, name_cmp, name_eq, is_among}
 use Rattle.dns_data.specs.declared.rr_type.RrType.{RrType}
 use Rattle.dns_data.proofs.Membership.{from_map}
 use Rattle.dns_data.proofs.Names.{name_eq_decides}
 use Rattle.dns_data.proofs.Searches.{each_of_all, from_any}
 use Rattle.zone_lookup.specs.LearntSets.{IsSetOf}
-use Rattle.zone_lookup.specs.LearntSets.{is_among}
 use Rattle.graph_form.specs.Graph.{PlainGraph}
 use Rattle.graph_form.specs.GraphOf.{IsExactIn, IsGraphOf, TellsStep}
 use Rattle.interp_graph.specs.Asked.{IsBuilt}

@@ -7,8 +7,7 @@ ghost use Rattle.address_deps.specs.Told.{AreTold};
 ghost use Rattle.query_verdicts.specs.Learnt.{AreLearnt, FollowsAll, IsLearntOf};
 ghost use Rattle.query_verdicts.specs.Queries.{AreSets};
 ghost use Rattle.query_verdicts.specs.Verdict.{SomeServerPasses};
-ghost use Rattle.dns_data.specs.Name.{name_cmp};
-ghost use Rattle.zone_lookup.specs.LearntSets.{is_among};
+ghost use Rattle.dns_data.specs.Name.{name_cmp, is_among};
 
 use crate::queries::Queries;
 use crate::servers::servers_told;

@@ -1,7 +1,7 @@
 -- The faults that one walk shows by itself, one after the other: for the contracts of inner calls alone.
 use Rattle.std.specs.Prelude.{◌-◌, ◌&&◌, not, List, [], ◌∷◌, ◌++◌, length, Option, Some, None, slice_get}
 use Rattle.std.specs.List.{flat_map}
-use Rattle.dns_data.specs.Name.{Labels, name_eq}
+use Rattle.dns_data.specs.Name.{Labels, name_eq, is_among}
 use Rattle.net_model.specs.declared.config.Config.{Config}
 use Rattle.net_model.specs.declared.deps.Deps.{Deps}
 use Rattle.net_model.specs.declared.fault.Fault.{Fault}
@@ -13,7 +13,6 @@ use Rattle.net_model.specs.declared.walk.Leaf.{Leaf}
 use Rattle.net_model.specs.declared.walk.Leaf.TheVariants as leaves
 use Rattle.net_model.specs.declared.walk.State.{State}
 use Rattle.net_model.specs.declared.walk.Walk.{Walk}
-use Rattle.zone_lookup.specs.LearntSets.{is_among}
 use Rattle.zone_lookup.specs.ReferralFaults.{hop_faults, if_shown}
 
 -- the last of some

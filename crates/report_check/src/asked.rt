@@ -11,8 +11,8 @@ ghost use Rattle.serde_json.specs.Find.{get};
 ghost use Rattle.serde_json.specs.View.{view};
 ghost use Rattle.report_check.specs.Right.{NamesQuery};
 
-use crate::members::text_at;
 use dns_data::{Name, NameFault, NoMemory, RrType};
+use meta_read::text_at;
 use serde_json::Value;
 use std::alloc::Global;
 

@@ -1,9 +1,7 @@
 //! What is read in a report's value.
 
-ghost use Rattle.std.specs.Prelude.{◌≡◌, map};
-ghost use Rattle.std.specs.Option.{option_map};
+ghost use Rattle.std.specs.Prelude.{◌≡◌};
 ghost use Rattle.serde_json.specs.View.{view};
-ghost use Rattle.meta_read.specs.Members.{list_at, text_at};
 ghost use Rattle.report_check.specs.ReportIn.{if_allowed, rewrites_in};
 
 use serde_json::Value;
@@ -24,18 +22,4 @@ fn if_allowed(number: u64) -> Option<u32>
     } else {
         None
     }
-}
-
-/// The items of the list at a key, or `None` where no list stands there.
-pub(crate) fn list_at<'a>(value: &'a Value, key: &str) -> Option<&'a [Value]>
-    ensures { option_map (λ values. map view values.now) result ≡ list_at key.now (view value.now) }
-{
-    Some(value.get(key)?.as_array()?.as_slice())
-}
-
-/// The string at a key, or `None` where no string stands there.
-pub(crate) fn text_at<'a>(value: &'a Value, key: &str) -> Option<&'a str>
-    ensures { option_map (λ text. text.now) result ≡ text_at key.now (view value.now) }
-{
-    value.get(key)?.as_str()
 }

@@ -1,19 +1,15 @@
 -- A subject has one view of each class, and so one list of views.
-use Rattle.std.proofs.Common.{◌≡◌, List, [], ◌∷◌, map, Some, refl, sym, ap, ◌∙◌, subst}
-use Rattle.std.specs.Cmp.Lexicographic.{nat_list_cmp_total}
+use Rattle.std.proofs.Common.{◌≡◌, List, [], ◌∷◌, map, sym, ap, ◌∙◌, subst}
 use Rattle.std.specs.Ordering.{on}
 use Rattle.std.proofs.lemmas.Cmp.{on_total}
 use Rattle.dns_data.specs.Distinct.{distinct}
 use Rattle.dns_data.specs.Name.{Labels}
 use Rattle.dns_data.specs.RrType.{types}
-use Rattle.dns_data.specs.declared.rr_type.RrType.{RrType}
 use Rattle.dns_data.proofs.OrderedLists.{same_rising}
 use Rattle.graph_form.specs.Report.{Subject}
 use Rattle.net_model.specs.Class.{class_cmp, IsRepresentative}
 use Rattle.net_model.specs.Step.{Setting, following}
-use Rattle.net_model.specs.Walk.{path_cmp, walk_along, AreWalks}
 use Rattle.net_model.specs.declared.class.Class.{Class}
-use Rattle.net_model.specs.declared.walk.Walk.{Walk}
 use Rattle.net_model.proofs.FaultOrder.{classes_total}
 use Rattle.net_model.proofs.InForce.{one_in_force}
 use Rattle.net_model.proofs.TrialOrder.{one_representative}

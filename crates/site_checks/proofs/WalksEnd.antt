@@ -1,16 +1,15 @@
 -- The ends of the paths of a graph of a query are those of its walks.
-use Rattle.std.proofs.Common.{◌≡◌, ℕ, zero, suc, ◌+◌, ◌≤◌, List, [], ◌∷◌, ◌++◌, map, length, Contains, Option, Some, None, is_some, true, Less, refl, sym, ap, ◌∙◌, subst, inl, inr, arith}
-use Rattle.std.specs.Prelude.{IsSome, slice_get}
+use Rattle.std.proofs.Common.{◌≡◌, ℕ, zero, suc, ◌+◌, ◌≤◌, List, [], ◌∷◌, ◌++◌, map, length, Contains, Option, Some, None, is_some, true, refl, sym, ap, ◌∙◌, subst, inl, inr, arith}
+use Rattle.std.specs.Prelude.{slice_get}
 use Rattle.std.specs.List.{AllByRecursion, AllZip, flat_map, fold}
 use Rattle.std.specs.Option.{option_map_or, option_to_list}
 use Rattle.std.proofs.lemmas.List.{map-append}
-use Rattle.std.proofs.lemmas.Simd.{map-map}
 use Rattle.dns_data.specs.Distinct.{distinct}
 use Rattle.dns_data.specs.Name.{Labels}
 use Rattle.dns_data.specs.RrType.{types}
 use Rattle.dns_data.specs.TypeSet.{has_bit}
 use Rattle.dns_data.specs.declared.rr_type.RrType.{RrType}
-use Rattle.dns_data.proofs.Membership.{none_in_nil, has_first, has_later, first_or_later, map_has, from_map, from_flat_map, pairs_of_images}
+use Rattle.dns_data.proofs.Membership.{none_in_nil, has_first, has_later, first_or_later, from_map, from_flat_map}
 use Rattle.dns_data.proofs.Searches.{found_there}
 use Rattle.graph_form.specs.Graph.{PlainGraph, arm_of, branches_of}
 use Rattle.graph_form.specs.GraphOf.{HasState, HasType, IsArm, IsGraphOf, TellsStep}
@@ -21,11 +20,11 @@ use Rattle.graph_form.specs.declared.node.Node.{Node}
 use Rattle.graph_form.proofs.Paths.{same_item}
 use Rattle.net_model.specs.Step.{Setting, next, start}
 use Rattle.net_model.specs.Step as step
-use Rattle.net_model.specs.Walk.{led_on, walk_along, path_cmp, AreWalks}
+use Rattle.net_model.specs.Walk.{led_on, AreWalks}
 use Rattle.net_model.specs.declared.walk.Hop.{Hop}
 use Rattle.net_model.specs.declared.walk.State.{State}
 use Rattle.net_model.specs.declared.walk.Walk.{Walk}
-use Rattle.net_model.proofs.AllWalks.{Numbered, LeadsTo, Settled, all_along, all_along_are, along_ordered, none_missing_along, same_walks_along, walk_of, walks_by, walks_within}
+use Rattle.net_model.proofs.AllWalks.{LeadsTo, Settled, walks_by, walks_within}
 use Rattle.net_model.proofs.RoundsExist.{query_settles}
 use Rattle.net_model.proofs.WalkLists.{are_walks, total}
 use Rattle.site_checks.specs.Ends.{AreEnds, end_eq, end_of, last_server}

@@ -47,9 +47,13 @@ leaf_eq a b = false
 abbrev pub end_eq : TypedEnd → TypedEnd → Bool
 end_eq a b = type_eq a.rtype b.rtype && name_eq a.server b.server && leaf_eq a.leaf b.leaf
 
--- the ends of these walks with each type: type by type in the order of their numbers, each end once, where it comes first
+-- the end of each of these walks: type by type in the order of the types' numbers
+abbrev pub all_ends : (RrType → List Walk) → List TypedEnd
+all_ends walks = flat_map (λ rtype. map (end_of rtype) (walks rtype)) types
+
+-- each of these ends once, where it comes first
 abbrev pub ends_of : (RrType → List Walk) → List TypedEnd
-ends_of walks = distinct end_eq (flat_map (λ rtype. map (end_of rtype) (walks rtype)) types)
+ends_of walks = distinct end_eq (all_ends walks)
 
 -- the ends are those of all walks of the query
 pub record AreEnds (setting : Setting) (query : Labels) (ends : List TypedEnd) : Type 0 where

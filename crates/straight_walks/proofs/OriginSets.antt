@@ -2,27 +2,19 @@
 use Rattle.std.proofs.Common.{◌≡◌, ℕ, ◌+◌, ◌<◌, List, [], ◌∷◌, ◌++◌, length, map, take, get_or, Bor, Ordering, Less, Equal, Greater, refl, sym, ◌∙◌, subst, inl, inr}
 use Rattle.std.specs.Prelude.{◌⊎◌, Contains}
 use Rattle.std.specs.BTreeSet.{insert_key}
-use Rattle.std.specs.List.{AllByRecursion}
 use Rattle.std.specs.List.Sorted.{IsStrictlySortedBy}
 use Rattle.std.specs.Ordering.{match_ordering}
 use Rattle.std.proofs.lemmas.List.{take_more}
 use Rattle.std.proofs.lemmas.List.Elements.{Contains-append_cases}
+use Rattle.zone_lookup.proofs.FirstsByName.{borrowed_cmp, all_rise}
 use Rattle.dns_data.specs.Name.{Labels, name_cmp}
 use Rattle.dns_data.proofs.Membership.{first_or_later, has_first, has_later, none_in_nil}
 use Rattle.dns_data.proofs.Names.{same_names}
-
--- borrowed names, by their order
-abbrev pub borrowed_cmp : Bor Labels → Bor Labels → Ordering
-borrowed_cmp a b = name_cmp a.now b.now
 
 -- the names behind references
 abbrev pub names_of : List (Bor Labels) → List Labels
 names_of names = map (λ name. name.now) names
 
-all_rise : (name : Bor Labels) (names : List (Bor Labels)) → AllByRecursion (λ (other : Bor Labels). borrowed_cmp name other ≡ Less) names
-    → AllByRecursion (λ (other : Labels). name_cmp name.now other ≡ Less) (names_of names)
-all_rise name [] rise = tt
-all_rise name (other ∷ names) rise = (rise.0, all_rise name names rise.1)
 
 -- what they borrow is in the order of names
 pub names_rise : (names : List (Bor Labels)) → IsStrictlySortedBy borrowed_cmp names → IsStrictlySortedBy name_cmp (names_of names)

@@ -1,7 +1,8 @@
 -- The owner of a DNAME record that decides at a name with its tail is at or above the known name.
-use Rattle.std.proofs.Common.{◌≡◌, ℕ, ◌<◌, ◌≤◌, Bool, true, false, cond, ◌&&◌, List, [], ◌∷◌, ◌++◌, length, Option, Some, None, inl, inr, sym, refl, ap, ◌∙◌, arith, append-nil, length-append}
+use Rattle.std.proofs.Common.{◌≡◌, ℕ, ◌<◌, ◌≤◌, Bool, true, false, cond, ◌&&◌, List, [], ◌∷◌, ◌++◌, length, Option, Some, None, inl, inr, sym, ap, ◌∙◌, arith, append-nil, length-append}
 use Rattle.std.specs.Prelude.{nat_lt, nat_le}
 use Rattle.std.proofs.lemmas.Bool.{and_parts, ltb-true}
+use Rattle.std.proofs.lemmas.List.{nil_from_length}
 use Rattle.dns_data.specs.Name.{Labels, is_prefix}
 use Rattle.dns_data.specs.declared.rr_type.RrType.TheVariants as types
 use Rattle.dns_data.proofs.Searches.{found_there}
@@ -45,12 +46,8 @@ owner_of_known known owner tail (below, e) shorter =
       | inr beneath ↦ (
           let none : length beneath.0 ≡ 0 =
           omega (arith, shorter, tail_is_short tail, ap (λ (x : Labels). length x) beneath.1, length-append known beneath.0, length-append known (tail_labels tail)) in
-          is_prefix_told owner known ([], append-nil owner ∙ sym (sym (append-nil known) ∙ ap (λ (x : Labels). known ++ x) (sym (nothing beneath.0 none)) ∙ beneath.1)))
+          is_prefix_told owner known ([], append-nil owner ∙ sym (sym (append-nil known) ∙ ap (λ (x : Labels). known ++ x) (sym (nil_from_length beneath.0 none)) ∙ beneath.1)))
     ]
-  where
-    nothing : (xs : Labels) → length xs ≡ 0 → xs ≡ []
-    nothing [] e = refl
-    nothing (x ∷ xs) e = absurd (omega (arith, e))
 
 -- where a redirection decides, it is by the DNAME owner
 owner_decides : (zone : Zone) (name owner : Labels) (target : Option Labels) (cut first : Option Labels)

@@ -59,11 +59,6 @@ module _ {X : Type 0} where
   both_ok (Ok x) P Q R p q each = each x p q
   both_ok (Err e) P Q R p q each = tt
 
-  -- a list of length 0 is empty
-  pub none_left : (xs : List X) → length xs ≡ 0 → xs ≡ []
-  none_left [] e = refl
-  none_left (x ∷ xs) e = absurd cc
-
   -- an item that is counted takes the place of one
   pub count_set : (p : X → Bool) (xs : List X) (k : ℕ) (x y : X) → slice_get xs k ≡ Some x → count_by p (set xs k y) + cond (p x) 1 0 ≡ count_by p xs + cond (p y) 1 0
   count_set p xs k x y h = ap (λ v. count_by p (set xs k y) + cond (p v) 1 0) (sym (get_or_from_slice_get xs k x x h)) ∙ sum_by-set (λ v. cond (p v) 1 0) xs k y x (slice_get_within xs k x h)

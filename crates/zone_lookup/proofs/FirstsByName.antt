@@ -29,7 +29,8 @@ borrowed_cmp a b = name_cmp a.now b.now
 same_test : (key name : Labels) → name_eq key name ≡ is_eq (name_cmp name key)
 same_test key name = (lists_equiv nat_list_eq_equiv).symm key name ∙ lists_ties label_cmp texts_ties name key
 
-all_rise : (key : Bor Labels) (keys : List (Bor Labels)) → AllByRecursion (λ (other : Bor Labels). borrowed_cmp key other ≡ Less) keys
+-- a borrowed name that stands before others stands so as what it borrows
+pub all_rise : (key : Bor Labels) (keys : List (Bor Labels)) → AllByRecursion (λ (other : Bor Labels). borrowed_cmp key other ≡ Less) keys
     → AllByRecursion (λ (other : Labels). name_cmp key.now other ≡ Less) (map (λ (k : Bor Labels). k.now) keys)
 all_rise key [] rise = tt
 all_rise key (other ∷ keys) rise = (rise.0, all_rise key keys rise.1)

@@ -7,18 +7,14 @@ use Rattle.std.proofs.lemmas.Bool.{cases_lt}
 use Rattle.std.proofs.lemmas.List.{take-append-drop, take-take, take_all, length-take-le, get_or-map, get_or_default, length-map}
 use Rattle.std.proofs.lemmas.Cmp.{tied_itself}
 use Rattle.std.proofs.lemmas.List.Sorted.{searchable_from_sorted}
+use Rattle.zone_tree.proofs.LastUpTo.{not_itself}
 use Rattle.dns_data.specs.Label.{label_eq}
 use Rattle.dns_data.specs.Name.{Labels, name_eq, name_cmp}
 use Rattle.dns_data.proofs.CommonFronts.{common_front, shared_front}
 use Rattle.dns_data.proofs.NameOrder.{UpTo, Before, names_total, prefix_up_to, before_up_to, between, before_later}
 use Rattle.dns_data.proofs.Names.{name_eq_decides}
-use Rattle.dns_data.proofs.OrderedLists.{never_before_itself}
 use Rattle.dns_data.proofs.Searches.{find_none}
 use Rattle.zone_lookup.proofs.FirstsByName.{found_in_order, rises}
-
--- no name stands before itself
-not_itself : (name : Labels) → Before name name → ⊥
-not_itself name less = never_before_itself name_cmp names_total name less
 
 module _ {X : Type 0} (key : X → Labels) (xs : List X) (sorted : IsStrictlySortedBy name_cmp (map key xs)) (name : Labels) (count : ℕ) (within : count ≤ length name) where
   abbrev found : Labels → Option X

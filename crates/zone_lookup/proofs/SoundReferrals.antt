@@ -1,7 +1,7 @@
 -- Sound referrals.
 use Rattle.std.proofs.Common.{◌≡◌, Bool, true, false, not, Option, Some, None, refl, ap, ◌∙◌}
 use Rattle.std.specs.Prelude.{◌&&◌, is_some, option_and_then}
-use Rattle.dns_data.specs.Name.{is_prefix}
+use Rattle.dns_data.specs.Name.{is_prefix, is_among}
 use Rattle.net_model.specs.Nearest.{held_zone, is_top, server_named, zone_with_origin}
 use Rattle.net_model.specs.Step.{has_glue}
 use Rattle.net_model.specs.declared.config.Config.{Config}
@@ -9,7 +9,6 @@ use Rattle.net_model.specs.declared.config.Server.{Server}
 use Rattle.net_model.specs.declared.config.Zone.{Zone}
 use Rattle.net_model.specs.declared.deps.Deps.{Deps}
 use Rattle.net_model.specs.declared.place.Cut.{Cut}
-use Rattle.zone_lookup.specs.LearntSets.{is_among}
 use Rattle.zone_lookup.specs.Sides.{glue_of_sides, sides_differ}
 use Rattle.zone_lookup.specs.Sound.{IsSound, wants_glue}
 

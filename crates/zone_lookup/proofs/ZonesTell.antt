@@ -5,7 +5,7 @@ use Rattle.std.specs.List.{filter, filter_map}
 use Rattle.std.specs.Cmp.Lexicographic.{pointwise_decides}
 use Rattle.std.proofs.lemmas.Bool.{and_from, and_parts, ne_eqb, not-true, not_from_false, false_from_ne_true}
 use lib.Pointwise.{pointwise}
-use Rattle.dns_data.specs.Name.{Labels, name_eq, name_cmp, is_prefix}
+use Rattle.dns_data.specs.Name.{Labels, name_eq, name_cmp, is_prefix, is_among}
 use Rattle.dns_data.specs.Rdata.{data_eq}
 use Rattle.dns_data.specs.declared.rr_type.RrType.{RrType}
 use Rattle.dns_data.specs.declared.rr_type.RrType.TheVariants as types
@@ -23,7 +23,6 @@ use Rattle.net_model.specs.declared.config.Zone.{Zone}
 use Rattle.net_model.specs.declared.place.Cut.{Cut}
 use Rattle.dns_data.specs.declared.rdata.Rdata.{Rdata}
 use Rattle.dns_data.specs.declared.rdata.Rr.{Rr}
-use Rattle.zone_lookup.specs.LearntSets.{is_among}
 use Rattle.zone_lookup.specs.Sides.{addresses_differ, both_differ, glue_of_sides, names_eq, sides_differ, zones_differ}
 use Rattle.zone_lookup.specs.Sound.{depends_on_itself, wants_glue}
 use Rattle.zone_lookup.proofs.Glue.{missing_owns}

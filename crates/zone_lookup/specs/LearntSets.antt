@@ -1,13 +1,8 @@
 -- Sets of names, as those of learnt addresses, in which a name is found without a pass over the others.
-use Rattle.std.specs.Prelude.{◌≡◌, Bool, List}
+use Rattle.std.specs.Prelude.{◌≡◌, List}
 use Rattle.std.specs.BTreeSet as tree
-use Rattle.std.specs.List.{list_any}
-use Rattle.dns_data.specs.Name.{Labels, name_cmp, name_eq}
+use Rattle.dns_data.specs.Name.{Labels, name_cmp, is_among}
 use Rattle.net_model.specs.declared.deps.Deps.{Deps}
-
--- the name is among these
-abbrev pub is_among : List Labels → Labels → Bool
-is_among names name = list_any (name_eq name) names
 
 -- the set has the names of the list
 abbrev pub IsSetOf : List Labels → tree.BTreeSet Labels → Type 0

@@ -1,12 +1,11 @@
 -- Sound referrals: what a referral to a name server shows, whatever comes behind it and whatever is asked.
 use Rattle.std.specs.Prelude.{◌≡◌, Bool, false, ◌&&◌, not}
-use Rattle.dns_data.specs.Name.{is_prefix}
+use Rattle.dns_data.specs.Name.{is_prefix, is_among}
 use Rattle.net_model.specs.Nearest.{is_configured, is_top}
 use Rattle.net_model.specs.Step.{has_glue}
 use Rattle.net_model.specs.declared.config.Config.{Config}
 use Rattle.net_model.specs.declared.deps.Deps.{Deps}
 use Rattle.net_model.specs.declared.place.Cut.{Cut}
-use Rattle.zone_lookup.specs.LearntSets.{is_among}
 use Rattle.zone_lookup.specs.Sides.{addresses_differ, zones_differ}
 
 -- the name server is at or below the cut and has no glue

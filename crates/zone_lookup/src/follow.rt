@@ -1,8 +1,7 @@
 //! Which name servers may be followed.
 
 ghost use Rattle.std.specs.Prelude.{◌≡◌, ◌||◌, true};
-ghost use Rattle.std.specs.List.{list_any};
-ghost use Rattle.dns_data.specs.Name.{name_eq, is_prefix};
+ghost use Rattle.dns_data.specs.Name.{is_prefix};
 ghost use Rattle.net_model.specs.Nearest.{is_top};
 ghost use Rattle.net_model.specs.Step.{has_glue, may_follow};
 ghost use Rattle.net_model.specs.Zone.{has_address};
@@ -11,7 +10,7 @@ ghost use Rattle.zone_tree.specs.Tree.{IsNode, name_of};
 use crate::hosts::Hosts;
 use crate::learnt_sets::LearntSets;
 use dns_data::{Name, RrType};
-use net_model::{Cut, may_follow};
+use net_model::{Cut, is_among, may_follow};
 use zone_tree::{NodeId, Tree};
 
 impl<'a> Hosts<'a> {
@@ -61,13 +60,6 @@ impl LearntSets {
     {
         hosts.is_known(cut) || self.has_least(&cut.ns)
     }
-}
-
-/// Whether the name is among these.
-pub fn is_among(names: &[Name], name: &Name) -> bool
-    ensures { result ≡ list_any (name_eq name.now) names.now }
-{
-    names.iter().any(|other| *name == *other)
 }
 
 /// Whether the zone holds an address of the name server of a zone cut, which is at or below the zone's origin. The

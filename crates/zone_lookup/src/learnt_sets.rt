@@ -1,7 +1,8 @@
 //! The sets of learnt addresses, in which a name is found without a pass over the others.
 
 ghost use Rattle.std.specs.Prelude.{◌≡◌, IfOk};
-ghost use Rattle.zone_lookup.specs.LearntSets.{IsSetOf, is_among};
+ghost use Rattle.dns_data.specs.Name.{is_among};
+ghost use Rattle.zone_lookup.specs.LearntSets.{IsSetOf};
 
 use dns_data::{Name, NoMemory};
 use net_model::Deps;

@@ -36,7 +36,7 @@ mod steps;
 mod walker;
 
 pub use ends::gives_address;
-pub use follow::{has_glue_below, is_among};
+pub use follow::has_glue_below;
 pub use hosts::{Host, Hosts, Near};
 pub use learnt_sets::{LearntSets, set_of};
 pub use lookup::find;

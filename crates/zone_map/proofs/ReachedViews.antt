@@ -1,7 +1,7 @@
 -- A row is reached exactly where the view of its origin shows it.
 use Rattle.std.proofs.Common.{◌≡◌, Bool, true, false, ◌&&◌, cond, List, [], ◌∷◌, ◌++◌, map, Contains, Some, refl, sym, ap, subst, inl, inr, true≢false}
 use Rattle.std.specs.Prelude.{◌↔◌, ◌⊎◌, Option, is_some}
-use Rattle.std.specs.List.{flat_map, list_any}
+use Rattle.std.specs.List.{list_any}
 use Rattle.std.proofs.lemmas.Bool.{and_parts, and_from, eqb-true, or_left, or_right}
 use Rattle.std.proofs.lemmas.List.Elements.{Contains-append_cases}
 use Rattle.dns_data.specs.Distinct.{distinct, distinct_behind}
@@ -23,7 +23,7 @@ use Rattle.net_model.specs.Walk.{AreWalks, IsWalk, walk_along}
 use Rattle.net_model.proofs.FaultOrder.{one_type}
 use Rattle.net_model.proofs.InForce.{one_in_force}
 use Rattle.config_load.specs.declared.loaded.RowFiles.{RowFiles}
-use Rattle.site_checks.specs.Ends.{end_eq, end_of, ends_of, is_answer, last_server, leaf_eq}
+use Rattle.site_checks.specs.Ends.{end_eq, end_of, ends_of, is_answer, last_server, leaf_eq, all_ends}
 use Rattle.site_checks.specs.declared.views.TypedEnd.{TypedEnd}
 use Rattle.site_checks.specs.declared.views.View.{View}
 use Rattle.zone_map.specs.Limits.{reached_queries}
@@ -129,10 +129,6 @@ ends_alike server a b e h =
     (subst (λ (name : Labels). (type_eq b.rtype Soa && name_eq name server) ≡ true) same_server
     (subst (λ (rtype : RrType). (type_eq rtype Soa && name_eq a.server server) ≡ true) same_type parts.0))
     (answers_alike a.leaf b.leaf two.1 parts.1)
-
--- the ends of walks, before equal ones are left out
-abbrev all_ends : (RrType → List Walk) → List TypedEnd
-all_ends walks = flat_map (λ rtype. map (end_of rtype) (walks rtype)) types
 
 -- ---- views
 

@@ -11,7 +11,7 @@ use Rattle.std.proofs.lemmas.List.Elements.{Contains-get_or}
 use Rattle.std.proofs.lemmas.List.Sorted.{searchable_from_sorted}
 use Rattle.std.proofs.lemmas.List.Sums.{common_prefix_len-le}
 use Rattle.dns_data.specs.Label.{label_eq}
-use Rattle.dns_data.specs.Name.{Labels, is_prefix, name_cmp}
+use Rattle.dns_data.specs.Name.{Labels, is_prefix, name_cmp, AreInOrder}
 use Rattle.dns_data.proofs.CommonFronts.{common_front, both_begin}
 use Rattle.dns_data.proofs.NameFronts.{Begins, is_prefix_tells}
 use Rattle.dns_data.proofs.NameOrder.{UpTo, Before, names_total, before_up_to, between}
@@ -21,7 +21,7 @@ use Rattle.net_model.specs.declared.config.Zone.{Zone}
 use Rattle.net_model.specs.Lookup.{closest_encloser}
 use Rattle.net_model.specs.Zone.{exists_in}
 use Rattle.net_model.proofs.Descent.{prefix_exists}
-use Rattle.zone_tree.specs.Names.{Ordered, AreExisting}
+use Rattle.zone_tree.specs.Names.{AreExisting}
 use Rattle.zone_tree.specs.Preceding.{IsLastUpTo, IsPreceding}
 use Rattle.zone_tree.specs.Tree.{ZoneTree}
 use Rattle.zone_tree.specs.declared.places.Preceding.{Preceding}
@@ -48,7 +48,7 @@ not_itself name less = never_before_itself name_cmp names_total name less
 
 -- ---- where a search leaves it
 
-module _ (names : List Labels) (name : Labels) (ordered : Ordered names) where
+module _ (names : List Labels) (name : Labels) (ordered : AreInOrder names) where
   -- a name that is found at a place stands at the last place up to it
   pub last_found : (place : ℕ) → place < length names → name_cmp (get_or names place []) name ≡ Equal → IsLastUpTo names name place
   last_found place within tied = record {
@@ -85,7 +85,7 @@ pub front_begins : (name : Labels) (k : ℕ) → Begins (take k name) name
 front_begins name k = (drop k name, take-append-drop k name)
 
 -- a prefix of a name that is among the names, and not behind the place of a name up to it, begins that one
-pub begins_last : (names : List Labels) (place : ℕ) (front name : Labels) → Ordered names → place < length names → UpTo (get_or names place []) name
+pub begins_last : (names : List Labels) (place : ℕ) (front name : Labels) → AreInOrder names → place < length names → UpTo (get_or names place []) name
     → Begins front name → Contains names front → ((later : ℕ) → place < later → later < length names → get_or names later [] ≡ front → ⊥)
     → Begins front (get_or names place [])
 begins_last names place front name ordered within low begins has never =

@@ -4,14 +4,13 @@ use Rattle.std.proofs.lemmas.Bool.{cases_lt, cases_eq}
 use Rattle.std.proofs.lemmas.Cmp.{tied_itself}
 use Rattle.std.proofs.lemmas.List.{get_or_default}
 use Rattle.std.specs.Ordering.{ordering_reverse}
-use Rattle.dns_data.specs.Name.{Labels, name_eq, name_cmp, is_prefix}
+use Rattle.dns_data.specs.Name.{Labels, name_eq, name_cmp, is_prefix, AreInOrder}
 use Rattle.dns_data.specs.declared.rdata.Rdata.{Rdata}
 use Rattle.dns_data.specs.declared.rdata.Rr.{Rr}
 use Rattle.dns_data.proofs.Membership.{has_first, has_later}
 use Rattle.dns_data.proofs.NameOrder.{UpTo, Before, names_total, before_up_to, before_differs, behind_differs}
 use Rattle.dns_data.proofs.Names.{name_eq_decides, same_names}
 use Rattle.dns_data.proofs.OrderedLists.{never_before_itself}
-use Rattle.zone_tree.specs.Names.{Ordered}
 use Rattle.zone_tree.specs.Owners.{leading}
 use Rattle.zone_tree.specs.Records.{data_of}
 use Rattle.zone_tree.proofs.SortedTree.{InOrder, in_order_after}
@@ -112,7 +111,7 @@ from_drop (suc n) (first ∷ rrs) rr has = has_later first rrs rr (from_drop n r
 itself : (name : Labels) → UpTo name name
 itself name = ap is_gt (tied_itself names_total name)
 
-module _ (names : List Labels) (ordered : Ordered names) where
+module _ (names : List Labels) (ordered : AreInOrder names) where
   -- where a name of the list stands
   place_of : (name : Labels) → Contains names name → (k : ℕ) × (k < length names) × (get_or names k [] ≡ name)
   place_of name has = (has.0, has.1, get_or_default names has.0 [] name has.1 ∙ has.2)

@@ -8,15 +8,15 @@ use Rattle.std.proofs.lemmas.Cmp.{tied_itself}
 use Rattle.std.proofs.lemmas.List.{get_or_default}
 use Rattle.std.proofs.lemmas.List.Sorted.{searchable_from_sorted}
 use Rattle.std.specs.Ordering.{ordering_reverse}
-use Rattle.dns_data.specs.Name.{Labels, is_prefix, name_cmp, name_eq}
+use Rattle.dns_data.specs.Name.{Labels, is_prefix, name_cmp, name_eq, AreInOrder}
 use Rattle.dns_data.proofs.NameFronts.{is_prefix_told}
 use Rattle.dns_data.proofs.Names.{same_names}
 use Rattle.dns_data.proofs.NameOrder.{UpTo, Before, names_total, before_differs, behind_differs, prefix_up_to, up_to_before, between}
 use Rattle.dns_data.proofs.OrderedLists.{never_before_itself}
-use Rattle.zone_tree.specs.Names.{Ordered, StandsBelow}
+use Rattle.zone_tree.specs.Names.{StandsBelow}
 
 -- names in order rise
-pub rises : (names : List Labels) → Ordered names → IsSortedBy (λ a b. is_lt (name_cmp a b)) names
+pub rises : (names : List Labels) → AreInOrder names → IsSortedBy (λ a b. is_lt (name_cmp a b)) names
 rises names ordered = λ k d low high.
     ap is_lt (names_total.antisymm (get_or names (k + 1) d) (get_or names k d) ∙ ap ordering_reverse (ordered k (k + 1) d (omega arith) high))
 
@@ -25,7 +25,7 @@ pub read_at : (names : List Labels) (place : ℕ) (name : Labels) → place < le
 read_at names place name within is = is ∙ get_or_default names place name [] within
 
 -- what a search finds
-pub found_at : (names : List Labels) (name : Labels) (r : Result ℕ ℕ) → Ordered names → IsSearchInRange r (length names)
+pub found_at : (names : List Labels) (name : Labels) (r : Result ℕ ℕ) → AreInOrder names → IsSearchInRange r (length names)
     → IsBinarySearchResult (λ (other : Labels). name_cmp other name) names r
     → MatchResult r (λ place. (place < length names) × (get_or names place [] ≡ name)) (λ _. Contains names name → ⊥)
 found_at names name (Ok i) ordered below holds = (below, same_names (get_or names i []) name (holds []))
@@ -46,7 +46,7 @@ found_at names name (Err i) ordered within holds =
     greater_not_equal e = cc
 
 -- the name at a place isn't that at another
-pub apart : (names : List Labels) (i j : ℕ) → Ordered names → i < length names → j < length names → (i ≡ j → ⊥)
+pub apart : (names : List Labels) (i j : ℕ) → AreInOrder names → i < length names → j < length names → (i ≡ j → ⊥)
     → name_eq (get_or names i []) (get_or names j []) ≡ false
 apart names i j ordered first second other =
     elim (cases_lt i j) [
@@ -54,7 +54,7 @@ apart names i j ordered first second other =
       | inr higher ↦ behind_differs (get_or names i []) (get_or names j []) (ordered j i [] (let e : i ≢ j = other in omega arith) first)
     ]
 
-module _ (names : List Labels) (place : ℕ) (ordered : Ordered names) (within : place < length names)
+module _ (names : List Labels) (place : ℕ) (ordered : AreInOrder names) (within : place < length names)
     (name : Labels) (below : StandsBelow name (get_or names place [])) (has : Contains names name) where
   abbrev above : Labels
   above = get_or names place []
@@ -102,7 +102,7 @@ module _ (names : List Labels) (place : ℕ) (ordered : Ordered names) (within :
       is_prefix_told above next (between above next (below.first ∷ below.rest) low (subst (UpTo next) below.is next_up_to))
 
 -- where the next name isn't below the one at a place, or there is none, no name is
-pub none_below : (names : List Labels) (place : ℕ) → Ordered names → place < length names
+pub none_below : (names : List Labels) (place : ℕ) → AreInOrder names → place < length names
     → (place + 1 < length names → is_prefix (get_or names place []) (get_or names (place + 1) []) ≡ false)
     → (name : Labels) → StandsBelow name (get_or names place []) → Contains names name → ⊥
 none_below names place ordered within apart name below has =
@@ -110,14 +110,14 @@ none_below names place ordered within apart name below has =
     ∙ apart (omega (arith, stands_behind names place ordered within name below has, has.1)))
 
 -- where the next name stands behind one below the name at a place, that one isn't there
-pub none_between : (names : List Labels) (place : ℕ) → Ordered names → place < length names
+pub none_between : (names : List Labels) (place : ℕ) → AreInOrder names → place < length names
     → (name : Labels) → StandsBelow name (get_or names place []) → name_cmp (get_or names (place + 1) []) name ≡ Greater → Contains names name → ⊥
 none_between names place ordered within name below greater has =
     true≢false (sym (ap is_gt greater) ∙ next_up_to names place ordered within name below has)
 
 -- ---- names on both sides of one
 
-module _ (names : List Labels) (name : Labels) (middle : ℕ) (ordered : Ordered names) (within : middle < length names) where
+module _ (names : List Labels) (name : Labels) (middle : ℕ) (ordered : AreInOrder names) (within : middle < length names) where
   -- where one stands before a name, so do those before it
   pub all_before : name_cmp (get_or names middle []) name ≡ Less → AllWithin (λ other. name_cmp other name ≡ Less) names 0 (middle + 1)
   all_before less k d low high = elim (cases_lt k middle) [

@@ -2,8 +2,7 @@
 use Rattle.std.specs.Prelude.{◌≡◌, ℕ, ◌<◌, true, List, [], ◌∷◌, ◌++◌, length, slice_index, slice_index_or}
 use Rattle.std.specs.Int.{w64, from_be_bytes}
 use Rattle.dns_data.specs.Label.{IsLabel}
-use Rattle.dns_data.specs.Name.{Labels, is_prefix}
-use Rattle.zone_tree.specs.Names.{Ordered}
+use Rattle.dns_data.specs.Name.{Labels, is_prefix, AreInOrder}
 
 -- the first eight octets of a label, with zeros behind those of a shorter one
 abbrev pub first_octets : List ℕ → List ℕ
@@ -28,13 +27,13 @@ pub record IsKeyBelow (above name : Labels) (key : ℕ) : Type 0 where
 
 -- the names are in order, and the first is above each
 pub record AreBelowFirst (names : List Labels) : Type 0 where
-  pub ordered : Ordered names
+  pub ordered : AreInOrder names
   pub some : 0 < length names
   pub below : (k : ℕ) → k < length names → is_prefix (slice_index_or names 0 []) (slice_index_or names k []) ≡ true
 
 -- the names are in order, and beside each stands the key of what it has below the first
 pub record AreKeyed (names : List Labels) (keys : List ℕ) : Type 0 where
-  pub ordered : Ordered names
+  pub ordered : AreInOrder names
   pub some : 0 < length names
   pub many : length keys ≡ length names
   pub each : (k : ℕ) → k < length names → IsKeyBelow (slice_index_or names 0 []) (slice_index_or names k []) (slice_index keys k)

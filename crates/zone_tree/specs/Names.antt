@@ -1,9 +1,8 @@
 -- The names that exist in a zone, in order: its origin, and what each owner in order adds. The contracts of inner calls
 -- alone cite it.
-use Rattle.std.specs.Prelude.{◌≡◌, ℕ, true, not, List, [], ◌∷◌, ◌++◌, ◌↔◌, ◌<◌, length, slice_index_or, Contains, AllPairs}
+use Rattle.std.specs.Prelude.{◌≡◌, ℕ, true, not, List, [], ◌∷◌, ◌++◌, ◌↔◌, ◌<◌, length, slice_index_or, Contains}
 use Rattle.std.specs.List.{filter}
-use Rattle.std.specs.declared.cmp.Ordering.TheVariants.{Less}
-use Rattle.dns_data.specs.Name.{Labels, is_prefix, name_cmp}
+use Rattle.dns_data.specs.Name.{Labels, is_prefix, AreInOrder}
 use Rattle.net_model.specs.declared.config.Zone.{Zone}
 use Rattle.net_model.specs.Prefix.{prefixes}
 use Rattle.net_model.specs.Zone.{exists_in}
@@ -17,10 +16,6 @@ abbrev pub tree_after : Labels → List Labels → List Labels
 tree_after before [] = []
 tree_after before (name ∷ names) = new_prefixes before name ++ tree_after name names
 
--- each name stands before the later ones
-abbrev pub Ordered : List Labels → Type 0
-Ordered names = AllPairs (λ a b. name_cmp a b ≡ Less) names
-
 -- the first name stands below the second
 pub record StandsBelow (name above : Labels) : Type 0 where
   pub first : List ℕ
@@ -29,7 +24,7 @@ pub record StandsBelow (name above : Labels) : Type 0 where
 
 -- the names are those that exist in the zone, each once and in order
 pub record AreExisting (zone : Zone) (names : List Labels) : Type 0 where
-  pub ordered : Ordered names
+  pub ordered : AreInOrder names
   pub some : 0 < length names
   pub origin_first : slice_index_or names 0 [] ≡ zone.origin
   pub all : (name : Labels) → Contains names name ↔ (exists_in zone name ≡ true)

@@ -1,8 +1,8 @@
 //! Names in order, each with a number that mostly tells where it stands.
 
 ghost use Rattle.std.specs.Prelude.{◌≡◌, ◌<◌, length, IfOk};
+ghost use Rattle.dns_data.specs.Name.{AreInOrder};
 ghost use Rattle.zone_tree.specs.Keys.{AreBelowFirst, AreKeyed};
-ghost use Rattle.zone_tree.specs.Names.{Ordered};
 
 use crate::keys::key_of;
 use dns_data::{Name, NoMemory};
@@ -41,7 +41,7 @@ impl OrderedNames {
     /// The names.
     pub fn items(&self) -> &[Name]
         ensures same { result.now ≡ self.now }
-        ensures ordered { Ordered self.now }
+        ensures ordered { AreInOrder self.now }
         ensures some { 0 < length self.now }
     {
         self.names.as_slice()

@@ -2,9 +2,8 @@
 
 ghost use Rattle.std.specs.Prelude.{◌≡◌, ℕ, ◌<◌, ◌≤◌, [], All, map, length, slice_index_or, Contains, IsSorted, IfOk};
 ghost use Rattle.std.specs.List.{filter};
-ghost use Rattle.dns_data.specs.Name.{name_cmp, is_prefix};
+ghost use Rattle.dns_data.specs.Name.{name_cmp, is_prefix, AreInOrder};
 ghost use Rattle.dns_data.specs.declared.rdata.Rr.{Rr};
-ghost use Rattle.zone_tree.specs.Names.{Ordered};
 ghost use Rattle.zone_tree.specs.KeyedRecords.{HasKey, keyed_cmp};
 ghost use Rattle.zone_tree.specs.Owners.{AreByOwner, leading};
 ghost use Rattle.zone_tree.specs.Records.{data_of, TellsData};
@@ -74,7 +73,7 @@ pub(crate) fn records_by_name<'a>(
     names: &[Name],
     rrs: &[&'a Rr],
 ) -> Result<Vec<OwnedRecords<'a>>, NoMemory>
-    requires names { Ordered names.now }
+    requires names { AreInOrder names.now }
     requires sorted { IsSorted name_cmp (map (λ rr. rr.owner) (map (λ rr. rr.now) rrs.now)) }
     requires among { (rr : Rr) → Contains (map (λ rr. rr.now) rrs.now) rr → Contains names.now rr.owner }
     ensures many { IfOk result (λ all. length all.items ≡ length names.now) }

@@ -2,9 +2,9 @@
 
 ghost use Rattle.std.specs.Prelude.{◌≡◌, ◌+◌, ◌<◌, true, false, [], ◌∷◌, ◌++◌, length, slice_index_or, Contains, IfSome, IfNone};
 ghost use Rattle.std.specs.List.Sorted.{IsSearchInRange, IsBinarySearchResult};
-ghost use Rattle.dns_data.specs.Name.{Labels, name_cmp, is_prefix};
+ghost use Rattle.dns_data.specs.Name.{Labels, name_cmp, is_prefix, AreInOrder};
 ghost use Rattle.zone_tree.specs.Keys.{IsKeyBelow, AreKeyed};
-ghost use Rattle.zone_tree.specs.Names.{Ordered, StandsBelow};
+ghost use Rattle.zone_tree.specs.Names.{StandsBelow};
 ghost use Rattle.zone_tree.specs.Preceding.{IsLastUpTo};
 
 use crate::keys::{key_if_below, key_of};
@@ -97,7 +97,7 @@ pub(crate) fn place_behind(names: &[Name], place: usize, labels: &Labels<'_>) ->
 /// The place among names in order of the name with this label directly below the one at a place. The name right behind
 /// that one is looked at first: it tells where the label stands before those that are there, as the asterisk mostly does.
 pub(crate) fn place_of_child(names: &[Name], place: usize, label: &[u8]) -> Option<usize>
-    requires ordered { Ordered names.now }
+    requires ordered { AreInOrder names.now }
     requires within { place < length names.now }
     ensures some { IfSome result (λ child. (child < length names.now) × (slice_index_or names.now child [] ≡ slice_index_or names.now place [] ++ label.now ∷ [])) }
     ensures none { IfNone result (Contains names.now (slice_index_or names.now place [] ++ label.now ∷ []) → ⊥) }
@@ -115,7 +115,7 @@ pub(crate) fn place_of_child(names: &[Name], place: usize, label: &[u8]) -> Opti
 
 /// Whether none of the names in order stands below the one at a place: the first that did would stand right behind it.
 fn is_leaf_at(names: &[Name], place: usize) -> bool
-    requires ordered { Ordered names.now }
+    requires ordered { AreInOrder names.now }
     requires within { place < length names.now }
     ensures leaf { result ≡ true → (name : Labels) → StandsBelow name (slice_index_or names.now place []) → Contains names.now name → ⊥ }
     ensures next { result ≡ false → place + 1 < length names.now }
@@ -129,7 +129,7 @@ fn is_leaf_at(names: &[Name], place: usize) -> bool
 
 /// The place among names in order of the name with this label directly below these.
 fn place_below(names: &[Name], above: &Labels<'_>, label: &[u8]) -> Option<usize>
-    requires { Ordered names.now }
+    requires { AreInOrder names.now }
     ensures some { IfSome result (λ place. (place < length names.now) × (slice_index_or names.now place [] ≡ above.now ++ label.now ∷ [])) }
     ensures none { IfNone result (Contains names.now (above.now ++ label.now ∷ []) → ⊥) }
 {

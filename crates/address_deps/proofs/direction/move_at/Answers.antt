@@ -3,8 +3,7 @@ use Rattle.std.specs.Cmp.{booleans_Decides}
 use Rattle.std.proofs.Math.Bool.{beq}
 use Rattle.std.proofs.lemmas.Bool.{not-false, not-true}
 use Rattle.std.proofs.lemmas.Option.{slice_get_read}
-use Rattle.dns_data.specs.Name.{Labels}
-use Rattle.zone_lookup.specs.LearntSets.{is_among}
+use Rattle.dns_data.specs.Name.{Labels, is_among}
 use Rattle.address_deps.specs.Direction.{IsMoved}
 use Rattle.address_deps.proofs.Moves.{TellsLearnt, are_servers, by_told, contrary, fewer_unmoved, kept_settled, still_fair, told_settled}
 use Rattle.address_deps.proofs.Waking.{server_at}

@@ -1,8 +1,7 @@
 use Rattle.std.proofs.Common.{◌++◌, ◌∷◌, [], List, map, take, sym, ap, ◌∙◌}
 use Rattle.std.proofs.lemmas.List.{take_more, map-append}
-use Rattle.dns_data.specs.Name.{Labels}
+use Rattle.dns_data.specs.Name.{Labels, is_among}
 use Rattle.net_model.specs.declared.config.Server.{Server}
-use Rattle.zone_lookup.specs.LearntSets.{is_among}
 use Rattle.address_deps.proofs.Growing.{put_last}
 use Rattle.address_deps.proofs.sets.all_servers.Goals as goal
 

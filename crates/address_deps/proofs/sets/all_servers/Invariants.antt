@@ -1,6 +1,5 @@
 use Rattle.std.proofs.Common.{◌≡◌, map, take}
-use Rattle.dns_data.specs.Name.{Labels}
-use Rattle.zone_lookup.specs.LearntSets.{is_among}
+use Rattle.dns_data.specs.Name.{Labels, is_among}
 use Rattle.address_deps.proofs.sets.all_servers.Given as goal
 
 -- the servers so far

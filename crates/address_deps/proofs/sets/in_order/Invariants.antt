@@ -1,5 +1,5 @@
 use Rattle.std.proofs.Common.{◌≡◌, filter, map, take}
-use Rattle.zone_lookup.specs.LearntSets.{is_among}
+use Rattle.dns_data.specs.Name.{is_among}
 use Rattle.address_deps.proofs.sets.in_order.Given as goal
 
 -- those of the servers so far

@@ -1,9 +1,9 @@
-use Rattle.std.proofs.Common.{◌≡◌, [], ap, sym, ◌∙◌, subst, arith, rules, length, length-drop}
+use Rattle.std.proofs.Common.{◌≡◌, [], sym, ◌∙◌, subst, rules}
 use Rattle.std.specs.List.Sorted.{IsPermutation}
 use Rattle.std.specs.Ordering.{is_lt}
 use Rattle.std.proofs.lemmas.List.Sorted.{answers_always, ranks_by}
 use Rattle.graph_form.specs.FirstFaults.{item_cmp}
-use Rattle.graph_form.proofs.FirstFaults.{IsMerging, InOrder, items_total, merging_begins, merging_ends, merging_step, none_left, sorted_in_order}
+use Rattle.graph_form.proofs.FirstFaults.{IsMerging, InOrder, items_total, merging_begins, merging_ends, merging_step, sorted_in_order}
 use Rattle.graph_form.proofs.first_faults.first_of_each.Goals as goal
 
 pub loop-next-init : goal.loop-next-init

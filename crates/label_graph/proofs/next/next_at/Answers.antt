@@ -1,8 +1,8 @@
 use Rattle.std.proofs.Common.{◌≡◌, ◌∙◌, ℕ, List, [], ◌∷◌, ◌++◌, Contains, ap, subst, sym}
 use Rattle.std.specs.Prelude.{◌↔◌}
-use Rattle.dns_data.specs.Name.{Labels}
+use Rattle.dns_data.specs.Name.{Labels, AreInOrder}
 use Rattle.label_graph.specs.Graphs.{SomeItem, IsFrom}
-use Rattle.label_graph.specs.LiveSet.{AreInOrder, name_at}
+use Rattle.label_graph.specs.LiveSet.{name_at}
 use Rattle.label_graph.specs.Targets.{Targets}
 use Rattle.label_graph.proofs.NextNames.{live_below_one}
 use Rattle.label_graph.proofs.next.next_at.Goals as goal

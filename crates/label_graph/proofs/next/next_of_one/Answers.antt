@@ -1,11 +1,10 @@
 use Rattle.std.proofs.Common.{◌∙◌, ℕ, List, [], ◌∷◌, ◌+◌, length, get_or, All, Contains, ap, subst, sym, arith}
 use Rattle.std.specs.Prelude.{◌↔◌}
-use Rattle.dns_data.specs.Name.{Labels}
+use Rattle.dns_data.specs.Name.{Labels, AreInOrder}
 use Rattle.std.proofs.lemmas.List.{length-append, length-map}
 use Rattle.std.proofs.lemmas.List.Elements.{All-push, Contains-get_or}
 use Rattle.label_graph.specs.declared.next.NextName.{NextName}
 use Rattle.label_graph.specs.Graphs.{IsLiveBelow}
-use Rattle.label_graph.specs.LiveSet.{AreInOrder}
 use Rattle.label_graph.specs.NameTree.{IsNextBelow}
 use Rattle.label_graph.specs.Targets.{Targets}
 use Rattle.label_graph.proofs.Children.{are_labels_below}

@@ -1,11 +1,11 @@
 use Rattle.std.proofs.Common.{◌≡◌, ◌∙◌, ℕ, ◌<◌, ◌⊎◌, List, [], ◌∷◌, ◌++◌, length, Contains, inl, inr, sym, ap, subst}
 use Rattle.std.specs.Prelude.{◌↔◌}
 use Rattle.std.proofs.lemmas.List.Elements.{Contains-append_left, Contains-append_right, Contains-append_cases}
-use Rattle.dns_data.specs.Name.{Labels}
+use Rattle.dns_data.specs.Name.{Labels, AreInOrder}
 use Rattle.dns_data.proofs.Membership.{none_in_nil, has_first, first_or_later}
 use Rattle.label_graph.specs.declared.links.Link.{Link}
 use Rattle.label_graph.specs.LinkRows.{link}
-use Rattle.label_graph.specs.LiveSet.{AreInOrder, name_at}
+use Rattle.label_graph.specs.LiveSet.{name_at}
 use Rattle.label_graph.specs.NameTree.{IsNextBelow}
 use Rattle.label_graph.specs.Saturation.{IsNextLink}
 use Rattle.label_graph.specs.Targets.{Targets}

@@ -1,4 +1,4 @@
-use Rattle.std.proofs.Common.{◌≡◌, ◌++◌, map, take}
+use Rattle.std.proofs.Common.{◌≡◌, ◌++◌, take}
 use Rattle.std.specs.List.{flat_map}
 use Rattle.graph_form.specs.Branches.{branch_seen, plain_branch}
 use Rattle.graph_form.specs.declared.branches.TypedBranch.{TypedBranch}

@@ -1,10 +1,9 @@
 use Rattle.std.proofs.Common.{◌≡◌, Bor, List, map, sym, subst}
 use Rattle.std.proofs.lemmas.Result.{IfOk-weaker}
-use Rattle.dns_data.specs.Name.{Labels}
+use Rattle.dns_data.specs.Name.{Labels, AreInOrder}
 use Rattle.net_model.specs.declared.config.Config.{Config}
 use Rattle.net_model.specs.Reading.{Ground, joined_ground}
 use Rattle.label_graph.specs.declared.pair.Pair.{Pair}
-use Rattle.label_graph.specs.LiveSet.{AreInOrder}
 use Rattle.label_graph.specs.Pairs.{ground_with, AreSame}
 use Rattle.label_graph.proofs.OrderedNames.{same_then}
 use Rattle.label_graph.proofs.graph.LabelGraph.of_names.Goals as goal

@@ -1,7 +1,7 @@
 use Rattle.std.proofs.Common.{List, Contains, sym, subst}
 use Rattle.std.specs.Prelude.{◌↔◌}
-use Rattle.dns_data.specs.Name.{Labels}
-use Rattle.label_graph.specs.LiveSet.{AreInOrder, HavePrefixes}
+use Rattle.dns_data.specs.Name.{Labels, AreInOrder}
+use Rattle.label_graph.specs.LiveSet.{HavePrefixes}
 use Rattle.std.proofs.lemmas.Result.{IfOk-weaker}
 use Rattle.label_graph.proofs.OrderedNames.{names_ordered, names_same, prefixes_ordered}
 use Rattle.label_graph.proofs.names.NameTree.build.Goals as goal

@@ -1,8 +1,7 @@
 use Rattle.std.proofs.Common.{◌≡◌, ◌∙◌, ℕ, List, get_or, Option, Some, None, AllPairs, Less, sym, ap, subst}
 use Rattle.std.specs.Prelude.{MatchOption}
 use Rattle.dns_data.specs.Label.{label_cmp}
-use Rattle.dns_data.specs.Name.{Labels}
-use Rattle.label_graph.specs.LiveSet.{AreInOrder}
+use Rattle.dns_data.specs.Name.{Labels, AreInOrder}
 use Rattle.label_graph.specs.NameTree.{octets_from}
 use Rattle.label_graph.proofs.Children.{last_of, lasts_rise, child_found, none_found, read_last}
 use Rattle.label_graph.proofs.NamePlaces.{read_at}

@@ -1,8 +1,8 @@
 use Rattle.std.proofs.Common.{◌≡◌, ◌⊎◌, List, [], Contains, inr, sym, subst}
 use Rattle.std.specs.Prelude.{◌↔◌}
-use Rattle.dns_data.specs.Name.{Labels}
+use Rattle.dns_data.specs.Name.{Labels, AreInOrder}
 use Rattle.label_graph.specs.declared.pair.Pair.{Pair}
-use Rattle.label_graph.specs.LiveSet.{AreInOrder, HavePrefixes}
+use Rattle.label_graph.specs.LiveSet.{HavePrefixes}
 use Rattle.label_graph.specs.Targets.{IsPrefixFrom}
 use Rattle.label_graph.proofs.TargetLinks.{fronts_have_prefixes, front_itself, has_owner, same_ground, closed_ground}
 use Rattle.label_graph.proofs.targets.TargetTable.build.Goals as goal
