@@ -15,7 +15,6 @@ use Rattle.dns_data.proofs.Names.{same_names}
 abbrev pub names_of : List (Bor Labels) → List Labels
 names_of names = map (λ name. name.now) names
 
-
 -- what they borrow is in the order of names
 pub names_rise : (names : List (Bor Labels)) → IsStrictlySortedBy borrowed_cmp names → IsStrictlySortedBy name_cmp (names_of names)
 unfolding IsStrictlySortedBy
