@@ -65,10 +65,11 @@ def version(name, pattern):
 
 
 def sentences(text):
-    """The sentences of a page: of its paragraphs, its points and the cells of its tables, but not of what it quotes."""
+    """The sentences of a page: of its paragraphs, its points and the cells of its tables, but not of blocks of code. A word in
+    backquotes is a word, and ends no sentence."""
     text = re.sub(r"^```.*?^```$", "", text, flags=re.S | re.M)
     text = re.sub(r"\]\([^)]*\)", "]", text)
-    text = re.sub(r"`[^`\n]*`", "`", text)
+    text = re.sub(r"`[^`\n]*`", lambda found: re.sub(r"\S+", "`", found[0]), text)
     for line in text.splitlines():
         for cell in line.split("|"):
             yield from re.split(r"(?<=[.?!])\s", cell)
