@@ -10,6 +10,7 @@ h3 { font-size: 1rem; margin: 0; } h3 a { color: inherit; text-decoration: none;
 p, ul { margin: .3rem 0; }
 table { border-collapse: collapse; margin-top: 1rem; }
 th, td { text-align: left; vertical-align: top; padding: .2rem 1.2rem .2rem 0; border-bottom: 1px solid var(--line); }
+th { overflow-wrap: normal; }
 .number { text-align: right; }
 article { border-left: .3rem solid var(--error); padding-left: 1rem; margin: 1.5rem 0; break-inside: avoid; }
 article.warning { border-color: var(--warning); } article.note { border-color: var(--note); }
@@ -19,7 +20,7 @@ ol li b { display: block; }
 ol li:not(:last-child)::after { content: \"\\2192\"; position: absolute; left: calc(100% + .55rem); top: 50%; transform: translateY(-50%); }
 ol li.fault { border: 2px solid var(--error); }
 @media print { body { font-size: .8rem; padding: 0; } }
-@media (max-width: 40rem) { ol { flex-direction: column; gap: 1.5rem; padding: 0; }
+@media (max-width: 40rem) { th, td { padding-right: .7rem; } ol { flex-direction: column; gap: 1.5rem; padding: 0; }
   ol li:not(:last-child)::after { content: \"\\2193\"; left: 1rem; top: calc(100% + .75rem); } }
 ";
 def place($kinds): "<li>\(if $kinds[1] then "\(.kind): " else "" end | marked)<code>\(.subject | marked)</code>\(details | marked)</li>";
