@@ -3,7 +3,8 @@
 
 Unlike times, these are the same on every machine and under every load. Each input is made by make_zone.py and checked with
 one worker under valgrind's callgrind, and a table is printed: of the whole check, and of reading alone, with what is wanted
-of the whole inputs beside. --tenth takes inputs of a tenth of the size.
+of the whole inputs beside. --tenth takes inputs of a tenth of the size. Of a whole input it prints also how many times the
+instructions are that are kept of the tenth.
 
 Beside each number stands how many times the one it is that instructions.json keeps for this input and size. The script ends
 with status 1 if a number is more than 1.1 times the kept one, or if none is kept. With --keep it writes the numbers into
@@ -25,6 +26,7 @@ from measure import GROOT, HERE, metadata, program
 SECONDS = 1800
 KEPT = os.path.join(HERE, "instructions.json")
 MOST_TIMES = 1.1
+MOST_GROWTH = 10.5
 READING = re.compile(r"ZoneReader.*feed")
 
 
@@ -36,19 +38,20 @@ def mixed(octets, folder):
 
 class Input(NamedTuple):
     """What is made, and of which size; a function of the size and the folder that returns the rows of the metadata; and how
-    many millions of instructions are wanted of the whole check and of reading, at most."""
+    many millions of instructions are wanted of the whole check and of reading, and how many times those of a tenth, at most."""
 
     title: str
     size: int
     make: Callable
     check: int
     reading: Optional[int] = None
+    growth: Optional[float] = None
 
 
 INPUTS = [
-    Input("registry, delegations", 10_000, lambda size, folder: write_example(registry(size), folder), 400, 110),
-    Input("hosted zones of 100 records", 100, lambda size, folder: write_hosted(size, size // 10, 100, folder), 115, 32),
-    Input("mixed zone, octets", 1_677_721, mixed, 500, 140),
+    Input("registry, delegations", 10_000, lambda size, folder: write_example(registry(size), folder), 400, 110, MOST_GROWTH),
+    Input("hosted zones of 100 records", 100, lambda size, folder: write_hosted(size, size // 10, 100, folder), 115, 32, MOST_GROWTH),
+    Input("mixed zone, octets", 1_677_721, mixed, 500, 140, MOST_GROWTH),
     Input("DNAME records onto 40 names", 2_000, lambda size, folder: write_example(redirected(size), folder), 2_200),
     Input("chain of aliases", 5_000, lambda size, folder: write_example(aliases(size), folder), 1_000),
 ]
@@ -91,13 +94,14 @@ def millions(number):
     return f"{number / 1e6:,.1f}" if number else ""
 
 
-def row(given, size, got, wanted, times):
-    """A row of the table: an input of this size, what is counted of it, whether what is wanted stands beside, and how many times
-    the kept number it is."""
-    most = (f"{given.check:,}", given.reading or "") if wanted else ("", "")
+def row(given, size, got, wanted, tenth, times):
+    """A row of the table: an input of this size, what is counted of it, whether what is wanted stands beside, the number that is
+    kept of a tenth of it, or None, and how many times its own kept number it is."""
+    most = (f"{given.check:,}", given.reading or "", given.growth or "") if wanted else ("", "", "")
     return (
         f"| {given.title} | {size:,} | {got.classes:,} | {millions(got.check)} | {most[0]} | {got.check // got.classes:,}"
-        f" | {millions(got.reading)} | {most[1]} | {f'{times:.3f}' if times else 'none is kept'} |"
+        f" | {millions(got.reading)} | {most[1]} | {f'{got.check / tenth:.1f}' if tenth else ''} | {most[2]}"
+        f" | {f'{times:.3f}' if times else 'none is kept'} |"
     )
 
 
@@ -125,14 +129,15 @@ def main():
     if not shutil.which("valgrind"):
         raise SystemExit("bench/instructions.py: needs valgrind")
     numbers, slipped = kept_numbers(), []
-    print("| Input | Size | Classes | Check, millions | Wanted | For each class | Reading, millions | Wanted | Times the kept number |")
-    print("|---|---|---|---|---|---|---|---|---|")
+    print("| Input | Size | Classes | Check, millions | Wanted | For each class | Reading, millions | Wanted | Times a tenth | Wanted | Times the kept number |")
+    print("|---|---|---|---|---|---|---|---|---|---|---|")
     for one in INPUTS:
         size = one.size // 10 if given.tenth else one.size
         got = counted_of(groot, one, size)
         kept = numbers.get(one.title, {}).get(str(size))
+        tenth = None if given.tenth else numbers.get(one.title, {}).get(str(size // 10))
         times = got.check / kept if kept else None
-        print(row(one, size, got, not given.tenth, times), flush=True)
+        print(row(one, size, got, not given.tenth, tenth, times), flush=True)
         if times is None or times > MOST_TIMES:
             slipped.append(one.title)
         numbers.setdefault(one.title, {})[str(size)] = got.check
