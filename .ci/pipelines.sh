@@ -58,15 +58,22 @@ chmod +x "$scratch"/runner/*
 ln -s "$(python3 -c 'import sys; print(sys.executable)')" "$scratch/bare/python3"
 PATH=$scratch/bin:$PATH:/usr/sbin
 
+command -v named-checkconf >/dev/null \
+    || echo "pipelines: named-checkconf isn't there (Debian: bind9-utils), so the gate reads the configuration as printed"
+
+# name_server: the options for the server of the repository, in the array server.
+name_server() {
+    if command -v named-checkconf >/dev/null; then
+        sed -i "s#/etc/bind#$repository/etc/bind#" etc/bind/named.conf
+        server=(--server ns1.example.com.=bind:etc/bind/named.conf)
+    else
+        server=(--server ns1.example.com.=bind-printed:etc/bind/named.conf --root ns1.example.com.="$repository")
+    fi
+}
+
 # 1. The steps of the gate: make metadata, check, new faults only, SARIF, fail.
 make_repository steps
-if command -v named-checkconf >/dev/null; then
-    sed -i "s#/etc/bind#$repository/etc/bind#" etc/bind/named.conf
-    server=(--server ns1.example.com.=bind:etc/bind/named.conf)
-else
-    echo "pipelines: named-checkconf isn't there (Debian: bind9-utils), so the gate reads the configuration as printed"
-    server=(--server ns1.example.com.=bind-printed:etc/bind/named.conf --root ns1.example.com.="$repository")
-fi
+name_server
 steps=(groot-gate --old ci/known.json metadata.json "${server[@]}")
 zone=etc/bind/zones/example.com.zone
 expect 0 "no fault" "${steps[@]}"
@@ -124,6 +131,20 @@ said "$zone:7: bad-address"
 rm $zone
 expect 2 "no zone file" "${steps[@]}"
 said "no metadata, so nothing was checked"
+
+# With a zone above that is made, what leads out of the zones is no fault, and delegations are checked.
+if knows records; then
+    make_repository above
+    name_server
+    printf '%s\n' 'office  IN CNAME autodiscover.outlook.com.' 'old     IN DNAME elsewhere.example.' >>$zone
+    expect 0 "aliases that leave the zones" groot-gate metadata.json "${server[@]}" --above above
+    said "no fault"
+    holds report.json '.names == 19'
+    echo '@       IN NS    ns2' >>$zone
+    expect 1 "a name server without an address" groot-gate metadata.json "${server[@]}" --above above
+    said "missing-glue"
+    holds report.json '.faults | map(.kind) == ["missing-glue"]'
+fi
 
 # 2. The lines of the pipelines, as their runners run them.
 make_repository runner
