@@ -48,23 +48,6 @@ pub fn take_all(
     ensures fed { lexer.new.fed ≡ lexer.old.fed }
 {
     lexer.take_ready(entries);
-    take_others(alloc, lexer, entries)
-}
-
-/// Takes the entries that the lexer has to give one by one, and answers the fault in the spelling of the next one, if
-/// the lexer knows it.
-fn take_others(
-    alloc: Global,
-    lexer: &mut Lexer,
-    entries: &mut VecDeque<Entry>,
-) -> Result<Option<LexFault>, NoMemory>
-    ensures stands { (text : List ℕ) (taken : List LexEntry) → IsLexerOf lexer.old text taken
-        → OnOk result ((more : List LexEntry) × (entries.new.items ≡ entries.old.items ++ more) × IsLexerOf lexer.new text (taken ++ more)) }
-    ensures all { lexer.old.finished ≡ true → (text : List ℕ) (taken : List LexEntry) → IsLexerOf lexer.old text taken
-        → IfOk result (λ fault. (more : List LexEntry) × (entries.new.items ≡ entries.old.items ++ more) × (text_entries text ≡ taken ++ more) × (fault ≡ text_fault text)) }
-    ensures finished { lexer.new.finished ≡ lexer.old.finished }
-    ensures fed { lexer.new.fed ≡ lexer.old.fed }
-{
     loop {
         match lexer.take(alloc) {
             Ok(Taken::Entry(entry)) => entries.push_back(entry)?,
