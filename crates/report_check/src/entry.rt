@@ -33,6 +33,7 @@ pub(crate) fn is_entry_of(
     ensures { IfOk result (λ same. (value : Data) → IsWritten value text.now
         → (same ≡ true) ↔ (value ≡ entry_value (entry_with asked.now.query asked.now.rtype (first_repeats (map (λ walk. walk.now) walks.now)) (map (λ walk. walk.now) walks.now) fault))) }
 {
+    // What holds a fault is dropped by a call: dropped where a block ends, it is taken apart there by the kinds of faults.
     match parts_of(alloc, asked, walks) {
         Ok(parts) => {
             let entry = entry_of(parts, fault);
