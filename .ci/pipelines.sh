@@ -1,5 +1,6 @@
 #!/usr/bin/env bash
-# Tries tools/gate, and the pipelines that call it, on a repository made of examples/own-servers: pipelines.sh PROGRAM
+# Tries tools/gate, the pipelines that call it, and the lines of docs/COMMANDS.md for the scopes of a change, on a repository
+# made of examples/own-servers: pipelines.sh PROGRAM
 #
 # PROGRAM is the built groot. groot-map is used as far as it is on the path. The lines of the pipelines run as they stand, with
 # stand-ins for what only a runner has. Ends with status 1 if a step ends in another way than it should.
@@ -50,6 +51,7 @@ make_repository() {
 mkdir "$scratch/bin" "$scratch/runner" "$scratch/bare"
 ln -s "$program" "$scratch/bin/groot"
 ln -s "$top/tools/gate" "$scratch/bin/groot-gate"
+ln -s "$top/tools/metadata" "$scratch/bin/groot-metadata"
 for tool in apt-get dpkg ln mkdir sudo; do
     printf '#!/bin/sh\necho "%s $*" >>"%s/runner/said"\n' "$tool" "$scratch" >"$scratch/runner/$tool"
 done
@@ -217,5 +219,32 @@ sed -i 's/^shop .*/shop    IN CNAME wwww/' $zone
 expect 0 "hook: a fault that isn't committed" "${commit[@]}"
 [ -z "$(git status --porcelain -- groot-report metadata.json)" ] || { echo "pipelines: the hook leaves files"; wrong=1; }
 
-[ $wrong -ne 0 ] || echo "pipelines: the gate, the lines of two pipelines and the hook end as they should"
+# 4. The scopes of the zones that a change touches: the lines of docs/COMMANDS.md, in a repository with a second zone.
+make_repository scopes
+# scopes_are COUNT: the last command printed the reports of so many scopes.
+scopes_are() {
+    [ "$(grep -c '"scope":' "$scratch/said")" -eq "$1" ] || { echo "pipelines: scopes: not $1"; cat "$scratch/said"; wrong=1; }
+}
+second=$(sed -n '/^zone/,$p' etc/bind/named.conf)
+echo "${second//example.com/example.org}" >>etc/bind/named.conf
+cp $zone etc/bind/zones/example.org.zone
+git init -q .
+git add .
+expect 0 "scopes: a commit" "${commit[@]}"
+git update-ref refs/remotes/origin/main HEAD
+awk '/^For the zones whose files a change touches/ { found = 1 } found && /^```$/ { if (inside) exit; inside = 1; next } inside' \
+    "$top/docs/COMMANDS.md" >"$scratch/scopes.sh"
+run=(env PATH="$scratch/runner:$PATH" bash --noprofile --norc -e -o pipefail "$scratch/scopes.sh")
+expect 0 "scopes: no change" "${run[@]}"
+scopes_are 0
+echo 'news    IN CNAME www' >>$zone
+expect 0 "scopes: a change without a fault" "${run[@]}"
+said '"faults":[]'
+said '"scope":"example.com."'
+scopes_are 1
+sed -i 's/^shop .*/shop    IN CNAME wwww/' $zone
+expect 123 "scopes: a change with a fault" "${run[@]}"
+said '"query":"shop.example.com."'
+
+[ $wrong -ne 0 ] || echo "pipelines: the gate, the lines of two pipelines, the hook and the scopes of a change end as they should"
 exit $wrong
