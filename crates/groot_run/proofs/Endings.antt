@@ -31,16 +31,16 @@ use Rattle.run_endings.specs.declared.status.Status.{Status}
 use Rattle.run_endings.specs.declared.status.Status.TheVariants.{Clean, Faults, ReadFault, WriteFault}
 use Rattle.run_endings.specs.Ends.{IsNotLoaded}
 use Rattle.groot_run.specs.Counted.{EndsPast}
-use Rattle.groot_run.specs.JobEnds.{JobEnds, EndsOver, EndsWithout}
+use Rattle.groot_run.specs.JobEnds.{JobEnds, EndsOverConfig, EndsWithoutConfig}
 use Rattle.run_endings.specs.Endings.{OfReading, writes_nothing, no_memory}
-use Rattle.groot_run.specs.Outcome.{status_of, WithinNames, WithinStates, IsReported, Checks, ListsClasses, IsAnswerWith, Asks, IsDrilled, Drills, drill_names, drill_rewrites, AreTold, ShowsClasses, site_names, site_rewrites, answered_to, IsRechecked, Rechecks, Outcome, IsEnding, JobComesTo, NoJobReadFailed, Compares, ComparesWith, compared_of, told_same, IsScoped, Scopes, WithinScope}
+use Rattle.groot_run.specs.Outcome.{status_of, WithinNames, WithinStates, IsReported, Checks, ListsClasses, IsAnswerWith, Asks, IsDrilled, Drills, drill_names, drill_rewrites, TellsFindings, ShowsClasses, site_names, site_rewrites, answered_to, IsRechecked, Rechecks, Outcome, IsEnding, JobComesTo, NoJobReadFailed, Compares, ComparesWith, compared_of, told_same, IsScoped, Scopes, WithinScope}
 
 -- ---- by what the files give
 
 -- a fault of loading says how the run ends
 pub not_loaded : (told : FilesTold) (before after : List ℕ → ℕ) (meta : List ℕ) (fault : LoadFault) (ending : Ending)
     → Gives {T = Config} (conf meta told) (Err fault) → FailedWhereItCame {T = Config} (conf meta) told (Err fault) → FailedAt {T = Config} before after (Err fault)
-    → IsNotLoaded meta fault ending ⊎ (ending ≡ no_memory) → EndsWithout meta told before after ending
+    → IsNotLoaded meta fault ending ⊎ (ending ≡ no_memory) → EndsWithoutConfig meta told before after ending
 not_loaded told before after meta fault ending gives came failed (inr ran_out) = inr (inr ran_out)
 not_loaded told before after meta (load_faults.Read file) ending gives came failed (inl is) = inr (inl (file, is, came, failed))
 not_loaded told before after meta load_faults.NoMemory ending gives came failed (inl is) = inr (inr is)
@@ -48,16 +48,16 @@ not_loaded told before after meta fault ending gives came failed (inl is) = inl 
 
 module _ (told : FilesTold) (before after : List ℕ → ℕ) (of_config : Config → Ending → Type 0) (own meta : List ℕ) (same : own ≡ meta) (ending : Ending) where
   -- with the configuration, or without one
-  pub over_config : (config : Config) → conf own told ≡ Reads config → of_config config ending ⊎ (ending ≡ no_memory) → EndsOver meta of_config told before after ending
+  pub over_config : (config : Config) → conf own told ≡ Reads config → of_config config ending ⊎ (ending ≡ no_memory) → EndsOverConfig meta of_config told before after ending
   over_config config reads (inl gives) =
       inl (subst (λ (m : List ℕ). OfReading m of_config (conf m told) ending) same
       (subst (λ (read : Reading Config). OfReading own of_config read ending) (sym reads) gives))
   over_config config reads (inr ran_out) = inr (inr ran_out)
 
   -- how a run ends whose files give no configuration is how one over the files of the metadata ends
-  pub over_none : EndsWithout own told before after ending → EndsOver meta of_config told before after ending
-  over_none ends = subst (λ (m : List ℕ). EndsOver m of_config told before after ending) same (by ends) where
-    by : EndsWithout own told before after ending → EndsOver own of_config told before after ending
+  pub over_none : EndsWithoutConfig own told before after ending → EndsOverConfig meta of_config told before after ending
+  over_none ends = subst (λ (m : List ℕ). EndsOverConfig m of_config told before after ending) same (by ends) where
+    by : EndsWithoutConfig own told before after ending → EndsOverConfig own of_config told before after ending
     by (inl (fault, refuses, is)) = inl (subst (λ (read : Reading Config). OfReading own of_config read ending) (sym refuses) is)
     by (inr failed) = inr failed
 
@@ -147,7 +147,7 @@ module _ (told : FilesTold) (said : Result Job LineFault) (sites : List Site) (b
       (conf (codes "meta.json") (drill_told zones))
   of_outcome files (Ok (jobs.Site meta)) ending =
       of_reading meta (ShowsClasses sites) ending
-      (λ config. within config site_names site_rewrites (AreTold config sites ending) ending (λ are. subst Tells (sym are.as_text) tt))
+      (λ config. within config site_names site_rewrites (TellsFindings config sites ending) ending (λ are. subst Tells (sym are.as_text) tt))
       (conf meta files)
   of_outcome files (Ok (jobs.Recheck meta report)) ending =
       of_reading meta (Rechecks files report) ending

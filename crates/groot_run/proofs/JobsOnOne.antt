@@ -9,7 +9,7 @@ use Rattle.net_model.specs.declared.config.Config.{Config}
 use Rattle.run_endings.specs.declared.ending.Ending.{Ending}
 use Rattle.run_endings.specs.Endings.{no_memory}
 use Rattle.site_checks.specs.Views.{Site}
-use Rattle.groot_run.specs.JobEnds.{EndsOver, GivesOf, JobEnds, meta_of}
+use Rattle.groot_run.specs.JobEnds.{EndsOverConfig, GivesOf, JobEnds, meta_of}
 use Rattle.groot_run.specs.Outcome.{Asks, Checks, ListsClasses, Scopes, ShowsClasses}
 
 -- a job that is another gives what that one gives
@@ -19,11 +19,11 @@ gives job other sites config ending same = subst (λ (one : Job). GivesOf one si
 
 module _ (told : FilesTold) (sites : List Site) (before after : List ℕ → ℕ) (ending : Ending) where
   over : (of_config : Config → Ending → Type 0) (own meta : List ℕ) → Some own ≡ Some meta
-      → EndsOver meta of_config told before after ending → EndsOver own of_config told before after ending
-  over of_config own meta is = subst (λ (m : List ℕ). EndsOver m of_config told before after ending) (sym (same_Some own meta is))
+      → EndsOverConfig meta of_config told before after ending → EndsOverConfig own of_config told before after ending
+  over of_config own meta is = subst (λ (m : List ℕ). EndsOverConfig m of_config told before after ending) (sym (same_Some own meta is))
 
   -- the job ends as the run over the files ends
-  pub ends : (job : Job) (meta : List ℕ) → meta_of job ≡ Some meta → EndsOver meta (GivesOf job sites) told before after ending
+  pub ends : (job : Job) (meta : List ℕ) → meta_of job ≡ Some meta → EndsOverConfig meta (GivesOf job sites) told before after ending
       → JobEnds told (Ok job) sites before after ending
   ends (jobs.Check own workers classes rewrites) meta is ended = over (Checks classes rewrites) own meta is ended
   ends (jobs.Classes own classes) meta is ended = over (ListsClasses classes) own meta is ended

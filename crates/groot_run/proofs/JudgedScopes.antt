@@ -26,7 +26,7 @@ use Rattle.run_endings.specs.declared.status.Status.{Status}
 use Rattle.run_endings.specs.Endings.{too_many_names, no_memory, with_output}
 use Rattle.groot_run.specs.Outcome.{HasMoreNamesBelow, IsScoped, Scopes, WithinScope, most_states, too_many_states, scope_names, scope_of, scope_rewrites, status_of}
 use Rattle.groot_run.specs.ScopeJudged.{IsScopeJudged}
-use Rattle.groot_run.specs.ShownClasses.{AreShown, EndsAmong}
+use Rattle.groot_run.specs.ShownClasses.{AreShown, EndsAmongClasses}
 use Rattle.groot_run.proofs.Budgets.{no_longer}
 use Rattle.groot_run.proofs.SiteViews.{all_views, is_first_passed}
 
@@ -116,9 +116,9 @@ module _ (config : Config) (name : Labels) (rewrites states : ℕ) (rewrites_are
       subst P same is
 
   -- no run ends among the classes unless memory ran out
-  pub ran_out_among : (ending : Ending) → EndsAmong queries (classes_of_rows rows) ending → ending ≡ no_memory
-  ran_out_among ending ends = by (of_scoped (λ (q : LimitedQueries). EndsAmong q (classes_of_rows rows) ending) ends) where
-    by : EndsAmong (queries_of (scope_of config name) most_states) (classes_of_rows rows) ending → ending ≡ no_memory
+  pub ran_out_among : (ending : Ending) → EndsAmongClasses queries (classes_of_rows rows) ending → ending ≡ no_memory
+  ran_out_among ending ends = by (of_scoped (λ (q : LimitedQueries). EndsAmongClasses q (classes_of_rows rows) ending) ends) where
+    by : EndsAmongClasses (queries_of (scope_of config name) most_states) (classes_of_rows rows) ending → ending ≡ no_memory
     by (inl (query, first, is)) =
         let passed = is_first_passed (scope_of config name) most_states (classes_of_rows rows) are query first in
         absurd (none.no_class (passed.class, query, passed.passes))

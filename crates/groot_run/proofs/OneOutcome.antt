@@ -18,7 +18,7 @@ use Rattle.groot_line.specs.declared.job.Job.{Job}
 use Rattle.groot_line.specs.declared.job.Job.TheVariants as jobs
 use Rattle.run_endings.specs.declared.ending.Ending.{Ending}
 use Rattle.run_endings.specs.Endings.{OfReading}
-use Rattle.groot_run.specs.Outcome.{reported, listed, WithinNames, WithinStates, IsReported, most_states, too_many_states, Checks, IsClassList, ListsClasses, ask_rewrites, most_learning_walks, IsAnswerWith, Asks, walks_written, too_many_to_learn, Outcome, Drills, IsDrilled, drilled, drill_names, drill_rewrites, answered_to, IsRechecked, Rechecks, AreTold, ShowsClasses, told_of_views, site_names, site_rewrites, Compares, ComparesWith, compared_of, told_same, IsScoped, Scopes, WithinScope, scope_of, scope_written}
+use Rattle.groot_run.specs.Outcome.{reported, listed, WithinNames, WithinStates, IsReported, most_states, too_many_states, Checks, IsClassList, ListsClasses, ask_rewrites, most_learning_walks, IsAnswerWith, Asks, walks_written, too_many_to_learn, Outcome, Drills, IsDrilled, drilled, drill_names, drill_rewrites, answered_to, IsRechecked, Rechecks, TellsFindings, ShowsClasses, told_of_views, site_names, site_rewrites, Compares, ComparesWith, compared_of, told_same, IsScoped, Scopes, WithinScope, scope_of, scope_written}
 use Rattle.report_check.proofs.OneAnswer.{only_answer}
 use Rattle.same_answers.specs.Compared.{Compared}
 use Rattle.same_answers.proofs.OneSameness.{one_sameness, one_passed as one_passed_in_one}
@@ -62,8 +62,8 @@ one_drill zones config a b =
 
 one_told : (sites : List Site) (config : Config) (a b : Ending) → ShowsClasses sites config a → ShowsClasses sites config b → a ≡ b
 one_told sites config a b =
-    one_within config site_names (WithinStates config site_rewrites (AreTold config sites a) a) (WithinStates config site_rewrites (AreTold config sites b) b) a b
-    (one_within_states config site_rewrites (AreTold config sites a) (AreTold config sites b) a b
+    one_within config site_names (WithinStates config site_rewrites (TellsFindings config sites a) a) (WithinStates config site_rewrites (TellsFindings config sites b) b) a b
+    (one_within_states config site_rewrites (TellsFindings config sites a) (TellsFindings config sites b) a b
     (λ p q. p.as_text ∙ ap (told_of_views sites) (one_list_of_views (whole config site_rewrites) p.views q.views p.are_views q.are_views) ∙ sym q.as_text))
 
 -- two configurations that are compared give one thing

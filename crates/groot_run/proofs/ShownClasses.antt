@@ -22,7 +22,7 @@ use Rattle.site_checks.proofs.Seen.{nothing_seen, more_seen}
 use Rattle.run_endings.specs.declared.ending.Ending.{Ending}
 use Rattle.run_endings.specs.Endings.{no_memory}
 use Rattle.groot_run.specs.Outcome.{too_many_states}
-use Rattle.groot_run.specs.ShownClasses.{Passes, ServerPasses, NonePasses, exact_class, below_class, class_of, HasEnds, AreViewsOf, AreShown, EndsAmong}
+use Rattle.groot_run.specs.ShownClasses.{Passes, ServerPasses, NoListedPasses, exact_class, below_class, class_of, HasEnds, AreViewsOfClasses, AreShown, EndsAmongClasses}
 
 -- ---- the classes of rows
 
@@ -45,26 +45,26 @@ classes_split rows i row there is =
 module _ (queries : LimitedQueries) where
   -- ---- representatives that pass
 
-  none_of_none : NonePasses queries []
+  none_of_none : NoListedPasses queries []
   none_of_none listed has = absurd (none_in_nil listed has)
 
   -- where none of some classes and none of some more passes, none of all does
-  none_of_more : (classes more : List ListedClass) → NonePasses queries classes → NonePasses queries more → NonePasses queries (classes ++ more)
+  none_of_more : (classes more : List ListedClass) → NoListedPasses queries classes → NoListedPasses queries more → NoListedPasses queries (classes ++ more)
   none_of_more classes more none also listed has =
       elim (Contains-append_cases classes more listed has) [
         | inl first ↦ none listed first
         | inr later ↦ also listed later
       ]
 
-  none_of_one : (class : Class) (query : Labels) → (Passes queries query → ⊥) → NonePasses queries (record { class = class; representative = query } ∷ [])
+  none_of_one : (class : Class) (query : Labels) → (Passes queries query → ⊥) → NoListedPasses queries (record { class = class; representative = query } ∷ [])
   none_of_one class query few listed has passes = elim (first_or_later (record { class = class; representative = query }) [] listed has) [
     | inl same ↦ few (subst (λ (one : ListedClass). Passes queries one.representative) (sym same) passes)
     | inr none ↦ none_in_nil listed none
   ]
 
   -- the views of some classes and of some more
-  views_of_more : (classes more : List ListedClass) (views others : List View) → AreViewsOf queries classes views → AreViewsOf queries more others
-      → AreViewsOf queries (classes ++ more) (views ++ others)
+  views_of_more : (classes more : List ListedClass) (views others : List View) → AreViewsOfClasses queries classes views → AreViewsOfClasses queries more others
+      → AreViewsOfClasses queries (classes ++ more) (views ++ others)
   views_of_more classes more views others are also = record {
     of_classes = map-append class_of views others ∙ (λ i. are.of_classes i ++ also.of_classes i);
     have_ends = λ view has. elim (Contains-append_cases views others view has) [
@@ -76,7 +76,7 @@ module _ (queries : LimitedQueries) where
   -- ---- where a run ends
 
   -- among some classes, so among these and more
-  pub ends_before : (classes more : List ListedClass) (ending : Ending) → EndsAmong queries classes ending → EndsAmong queries (classes ++ more) ending
+  pub ends_before : (classes more : List ListedClass) (ending : Ending) → EndsAmongClasses queries classes ending → EndsAmongClasses queries (classes ++ more) ending
   ends_before classes more ending (inl (query, first, is)) =
       inl (
         query,
@@ -94,8 +94,8 @@ module _ (queries : LimitedQueries) where
   ends_before classes more ending (inr ran_out) = inr ran_out
 
   -- behind classes of which none passes
-  pub ends_behind : (classes more : List ListedClass) (ending : Ending) → NonePasses queries classes → EndsAmong queries more ending
-      → EndsAmong queries (classes ++ more) ending
+  pub ends_behind : (classes more : List ListedClass) (ending : Ending) → NoListedPasses queries classes → EndsAmongClasses queries more ending
+      → EndsAmongClasses queries (classes ++ more) ending
   ends_behind classes more ending none (inl (query, first, is)) =
       inl (
         query,
@@ -114,7 +114,7 @@ module _ (queries : LimitedQueries) where
 
   -- at a class whose representative passes
   pub ends_there : (class : Class) (query : Labels) (ending : Ending) → Passes queries query → (ending ≡ too_many_states query) ⊎ (ending ≡ no_memory)
-      → EndsAmong queries (record { class = class; representative = query } ∷ []) ending
+      → EndsAmongClasses queries (record { class = class; representative = query } ∷ []) ending
   ends_there class query ending passes (inl is) =
       inl (
         query,
@@ -132,23 +132,23 @@ module _ (queries : LimitedQueries) where
   ends_there class query ending passes (inr ran_out) = inr ran_out
 
   -- among the classes of a row
-  pub ends_exact : (row : ClassRow) (ending : Ending) → EndsAmong queries (exact_class row.name ∷ []) ending → EndsAmong queries (classes_of_row row) ending
+  pub ends_exact : (row : ClassRow) (ending : Ending) → EndsAmongClasses queries (exact_class row.name ∷ []) ending → EndsAmongClasses queries (classes_of_row row) ending
   ends_exact row ending ends = ends_before (exact_class row.name ∷ []) (class_below row.name row.below) ending ends
 
   -- an ending among the class below the row's name, if none passes before, is one among the row's classes
   pub ends_below : (row : ClassRow) (representative : Labels) (ending : Ending) → row.below ≡ Some representative
-      → NonePasses queries (exact_class row.name ∷ []) → EndsAmong queries (below_class row.name representative ∷ []) ending
-      → EndsAmong queries (classes_of_row row) ending
+      → NoListedPasses queries (exact_class row.name ∷ []) → EndsAmongClasses queries (below_class row.name representative ∷ []) ending
+      → EndsAmongClasses queries (classes_of_row row) ending
   ends_below row representative ending below none ends =
-      subst (λ (found : Option Labels). EndsAmong queries (exact_class row.name ∷ class_below row.name found) ending) (sym below)
+      subst (λ (found : Option Labels). EndsAmongClasses queries (exact_class row.name ∷ class_below row.name found) ending) (sym below)
       (ends_behind (exact_class row.name ∷ []) (below_class row.name representative ∷ []) ending none ends)
 
   -- among those of a row behind others
   pub ends_at_row : (rows : List ClassRow) (i : ℕ) (row : ClassRow) (ending : Ending) → i < length rows → row ≡ get_or rows i row
-      → NonePasses queries (classes_of_rows (take i rows)) → EndsAmong queries (classes_of_row row) ending → EndsAmong queries (classes_of_rows rows) ending
+      → NoListedPasses queries (classes_of_rows (take i rows)) → EndsAmongClasses queries (classes_of_row row) ending → EndsAmongClasses queries (classes_of_rows rows) ending
   ends_at_row rows i row ending there is none ends =
       let rest = classes_of_rows (drop (i + 1) rows) in
-      subst (λ (classes : List ListedClass). EndsAmong queries classes ending) (sym (classes_split rows i row there is))
+      subst (λ (classes : List ListedClass). EndsAmongClasses queries classes ending) (sym (classes_split rows i row there is))
       (ends_behind (classes_of_rows (take i rows)) (classes_of_row row ++ rest) ending none (ends_before (classes_of_row row) rest ending ends))
 
   -- ---- what checks have seen

@@ -30,13 +30,13 @@ use Rattle.site_checks.proofs.Seen.{told_after}
 use Rattle.run_endings.specs.declared.ending.Ending.{Ending}
 use Rattle.run_endings.specs.declared.status.Status.TheVariants.{Clean}
 use Rattle.run_endings.specs.Endings.{with_output, no_memory}
-use Rattle.groot_run.specs.Outcome.{WithinStates, AreTold, most_states, site_rewrites}
-use Rattle.groot_run.specs.ShownClasses.{ServerPasses, NonePasses, class_of, AreViewsOf, AreShown, IsFirstOf, EndsAmong}
+use Rattle.groot_run.specs.Outcome.{WithinStates, TellsFindings, most_states, site_rewrites}
+use Rattle.groot_run.specs.ShownClasses.{ServerPasses, NoListedPasses, class_of, AreViewsOfClasses, AreShown, IsFirstOf, EndsAmongClasses}
 
 module _ (subject : Subject) (states : ℕ) (classes : List ListedClass) (are : AreListed subject.ground subject.below classes) where
   -- ---- the views
 
-  module _ (views : List View) (of : AreViewsOf (queries_of subject states) classes views) where
+  module _ (views : List View) (of : AreViewsOfClasses (queries_of subject states) classes views) where
     is_view : (view : View) → Contains views view → IsView subject view
     is_view view has =
         let listed = (are.all (class_of view)).0 (subst (λ (cs : List ListedClass). Contains cs (class_of view)) of.of_classes (map_has class_of views view has)) in
@@ -71,7 +71,7 @@ module _ (subject : Subject) (states : ℕ) (classes : List ListedClass) (are : 
   is_listed : (class : Class) (query : Labels) → ClassPasses subject states class query → Contains classes (record { class = class; representative = query })
   is_listed class query it = (are.all (record { class = class; representative = query })).1 (it.is_class, it.represents)
 
-  pub no_class_passes : NonePasses (queries_of subject states) classes → SomeClassPasses subject states → ⊥
+  pub no_class_passes : NoListedPasses (queries_of subject states) classes → SomeClassPasses subject states → ⊥
   no_class_passes none (class, query, it) = none (record { class = class; representative = query }) (is_listed class query it) it.passes
 
   -- the first of the listed classes that passes is the first class of the subject that does
@@ -117,11 +117,11 @@ module _ (queries : LimitedQueries) (same : queries ≡ limited_to queries.confi
   limited : (P : LimitedQueries → Type 0) → P queries → P (limited_to queries.config site_rewrites most_states)
   limited P = subst P same
 
-  none : NonePasses queries classes → SomeClassPasses subject most_states → ⊥
-  none few = no_class_passes subject most_states classes are (limited (λ q. NonePasses q classes) few)
+  none : NoListedPasses queries classes → SomeClassPasses subject most_states → ⊥
+  none few = no_class_passes subject most_states classes are (limited (λ q. NoListedPasses q classes) few)
 
   -- where none of the representatives passes, no server's name does
-  pub no_server : NonePasses queries classes → (name : Labels) → IsFirstServerPassed queries.config queries.rewrites queries.states name → ⊥
+  pub no_server : NoListedPasses queries classes → (name : Labels) → IsFirstServerPassed queries.config queries.rewrites queries.states name → ⊥
   no_server few name first =
       none few
       (class_passes queries.config site_rewrites most_states (ground_of queries.config) (own_covers queries.config)
@@ -131,7 +131,7 @@ module _ (queries : LimitedQueries) (same : queries ≡ limited_to queries.confi
   pub told : {B : Type 0} (name : B → List ℕ) (held : B → List (List ℕ)) (step : B → List (List ℕ) → View → List (List ℕ)) (olds news lent : List B)
       → AreShown name held step queries classes olds news → lent ≡ news → (ServerPasses queries → ⊥)
       → (ending : Ending) → ending ≡ with_output Clean (sites_text (map (λ b. record { title = name b; findings = held b }) lent))
-      → WithinStates queries.config site_rewrites (AreTold queries.config (map (λ b. record { name = name b; held = held b; step = step b }) olds) ending) ending
+      → WithinStates queries.config site_rewrites (TellsFindings queries.config (map (λ b. record { name = name b; held = held b; step = step b }) olds) ending) ending
   told name held step olds news lent shown same_now clear ending is =
       let seen = shown.shown clear in
       let tells = ap (map (λ b. record { title = name b; findings = held b })) same_now ∙ told_after name held step seen.views olds news seen.seen in
@@ -139,13 +139,13 @@ module _ (queries : LimitedQueries) (same : queries ≡ limited_to queries.confi
         none shown.none_passes,
         record {
           views = seen.views;
-          are_views = all_views subject most_states classes are seen.views (limited (λ q. AreViewsOf q classes seen.views) seen.are_views);
+          are_views = all_views subject most_states classes are seen.views (limited (λ q. AreViewsOfClasses q classes seen.views) seen.are_views);
           as_text = is ∙ ap (λ (told : List Told). with_output Clean (sites_text told)) tells;
         },
       )
 
   -- at the first representative that passes, or because memory ran out
-  pub ended : (P : Type 0) (ending : Ending) → EndsAmong queries classes ending → WithinStates queries.config site_rewrites P ending ⊎ (ending ≡ no_memory)
+  pub ended : (P : Type 0) (ending : Ending) → EndsAmongClasses queries classes ending → WithinStates queries.config site_rewrites P ending ⊎ (ending ≡ no_memory)
   ended P ending (inl (query, first, is)) =
       inl (inl (query, is_first_passed subject most_states classes are query (limited (λ q. IsFirstOf q classes query) first), is))
   ended P ending (inr ran_out) = inr ran_out

@@ -9,7 +9,7 @@ use Rattle.io_edges.specs.Counts.{NoneFell}
 use Rattle.io_edges.specs.Files.{FilesTold, StaysTold}
 use Rattle.net_model.specs.declared.config.Config.{Config}
 use Rattle.run_endings.specs.Ends.{EndsOrFails}
-use Rattle.groot_run.specs.JobEnds.{EndsWithout}
+use Rattle.groot_run.specs.JobEnds.{EndsWithoutConfig}
 use Rattle.run_endings.specs.Endings.{OfReading}
 use Rattle.run_endings.specs.declared.ending.Ending.{Ending}
 
@@ -30,7 +30,7 @@ module _ {T : Type 0} (meta : List ℕ) (second : FilesTold → Reading T) (of_c
     by (inr (inr ran_out)) = inr (inr ran_out)
 
   -- there is no configuration, so it doesn't come
-  pub over_neither : (told : FilesTold) (before after : List ℕ → ℕ) → EndsWithout meta told before after ending
+  pub over_neither : (told : FilesTold) (before after : List ℕ → ℕ) → EndsWithoutConfig meta told before after ending
       → EndsOrFails (OfReading meta of_config (conf meta told) ending) (Comes (both (conf meta) second) told) before after ending
   over_neither told before after (inl (fault, refuses, is)) = inl (subst (λ (read : Reading Config). OfReading meta of_config read ending) (sym refuses) is)
   over_neither told before after (inr (inl (file, is, comes, rose))) = inr (inl (file, is, comes_first (conf meta) second told file comes, rose))

@@ -22,12 +22,12 @@ data_redirect (Dname target) = true
 data_redirect rdata = false
 
 -- the record is a DNAME record
-abbrev pub redirects : Rr → Bool
-redirects rr = data_redirect rr.rdata
+abbrev pub is_redirect : Rr → Bool
+is_redirect rr = data_redirect rr.rdata
 
 -- the zone has one
 abbrev pub zone_redirects : Zone → Bool
-zone_redirects zone = list_any redirects zone.rrs
+zone_redirects zone = list_any is_redirect zone.rrs
 
 -- a zone of the server has
 abbrev pub server_redirects : Server → Bool

@@ -9,8 +9,8 @@ abbrev pub zone_records : List Zone → ℕ
 zone_records zones = sum_by (λ zone. length zone.rrs) zones
 
 -- how many records the zones of servers have together
-abbrev pub records_of : List Server → ℕ
-records_of servers = sum_by (λ server. zone_records server.zones) servers
+abbrev pub record_count : List Server → ℕ
+record_count servers = sum_by (λ server. zone_records server.zones) servers
 
 -- the line: how many zones were asked for, how many zone files and records there are, how many names the class tree
 -- has, and how many faults there are

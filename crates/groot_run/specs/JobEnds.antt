@@ -16,12 +16,12 @@ abbrev pub JobEnds : FilesTold → Result Job LineFault → List Site → (List 
 JobEnds told job sites before after ending = ends.EndsOrFails (Outcome told job sites ending) (JobComesTo told job) before after ending
 
 -- how a run over the files of this metadata file ends, by what it gives of a configuration
-abbrev pub EndsOver : List ℕ → (Config → Ending → Type 0) → FilesTold → (List ℕ → ℕ) → (List ℕ → ℕ) → Ending → Type 0
-EndsOver meta of_config told before after ending = ends.EndsOver {T = Config} meta (conf meta) of_config told before after ending
+abbrev pub EndsOverConfig : List ℕ → (Config → Ending → Type 0) → FilesTold → (List ℕ → ℕ) → (List ℕ → ℕ) → Ending → Type 0
+EndsOverConfig meta of_config told before after ending = ends.EndsOver {T = Config} meta (conf meta) of_config told before after ending
 
 -- how a run over the files of this metadata file ends, where they give no configuration
-abbrev pub EndsWithout : List ℕ → FilesTold → (List ℕ → ℕ) → (List ℕ → ℕ) → Ending → Type 0
-EndsWithout meta told before after ending = ends.EndsWithout {T = Config} meta (conf meta) told before after ending
+abbrev pub EndsWithoutConfig : List ℕ → FilesTold → (List ℕ → ℕ) → (List ℕ → ℕ) → Ending → Type 0
+EndsWithoutConfig meta told before after ending = ends.EndsWithout {T = Config} meta (conf meta) told before after ending
 
 -- the metadata file of a job on one configuration, which reads the files of that one and no others
 abbrev pub meta_of : Job → Option (List ℕ)

@@ -50,7 +50,7 @@ use Rattle.zone_maker.specs.Source.{drill_told}
 use Rattle.report_json.specs.Sites.{sites_text, scope_text}
 use Rattle.site_checks.specs.Views.{AreViews, Site, told_by}
 use Rattle.site_checks.specs.declared.views.View.{View}
-use Rattle.groot_run.specs.DrillLine.{drill_line, records_of}
+use Rattle.groot_run.specs.DrillLine.{drill_line, record_count}
 use Rattle.query_classes.specs.ClassList.{ListedClass, AreListed}
 use Rattle.groot_run.specs.ClassList.{class_list_text}
 
@@ -86,12 +86,12 @@ abbrev pub walks_written : Labels → RrType → List Walk → Ending
 walks_written name rtype walks = with_output Clean (ask_text name rtype walks)
 
 -- how many walks of the query are written at most
-abbrev pub most_walks : ℕ
-most_walks = 1000
+abbrev pub most_walks_written : ℕ
+most_walks_written = 1000
 
 -- the query has more walks than are written
 abbrev pub too_many_walks : Ending
-too_many_walks = without_output Walks (codes "walks: more than " ++ (decimal most_walks ++ codes "\n"))
+too_many_walks = without_output Walks (codes "walks: more than " ++ (decimal most_walks_written ++ codes "\n"))
 
 -- how many walks of a server's name, with type A or with type AAAA, are followed at most to learn its address
 abbrev pub most_learning_walks : ℕ
@@ -163,8 +163,8 @@ pub record AreWritten (config : Config) (followed : List Labels) (name : Labels)
 -- the answer of the query while these servers are followed: its walks, unless there are more than may be written
 abbrev pub IsAnswerWith : Config → List Labels → Labels → RrType → Ending → Type 0
 IsAnswerWith config followed name rtype ending =
-    (HasMoreWalks (following config ask_rewrites followed) name rtype most_walks × (ending ≡ too_many_walks))
-    ⊎ ((HasMoreWalks (following config ask_rewrites followed) name rtype most_walks → ⊥)
+    (HasMoreWalks (following config ask_rewrites followed) name rtype most_walks_written × (ending ≡ too_many_walks))
+    ⊎ ((HasMoreWalks (following config ask_rewrites followed) name rtype most_walks_written → ⊥)
     × AreWritten config followed name rtype ending)
 
 -- the answer of the query with the set in force, in whose rounds no server's name has more walks than are followed
@@ -183,7 +183,7 @@ Asks name rtype config ending =
 -- a drill with this report; a count of records ends at its last number
 abbrev pub drilled : ℕ → Config → Report → Ending
 drilled zones config report =
-    with_output (status_of report.entries) (drill_line zones (min (records_of config.servers) last_count) report.names (length report.entries))
+    with_output (status_of report.entries) (drill_line zones (min (record_count config.servers) last_count) report.names (length report.entries))
 
 -- how many rewrites a query of a drill may use
 abbrev pub drill_rewrites : ℕ
@@ -214,7 +214,7 @@ abbrev pub site_rewrites : ℕ
 site_rewrites = usual_rewrites
 
 -- the run ends with what the checks tell that were shown the views of all classes of the configuration
-pub record AreTold (config : Config) (sites : List Site) (ending : Ending) : Type 0 where
+pub record TellsFindings (config : Config) (sites : List Site) (ending : Ending) : Type 0 where
   pub views : List View
   pub are_views : AreViews (whole config site_rewrites) views
   pub as_text : ending ≡ told_of_views sites views
@@ -223,7 +223,7 @@ pub record AreTold (config : Config) (sites : List Site) (ending : Ending) : Typ
 -- reaches too many pairs of state and type
 abbrev pub ShowsClasses : List Site → Config → Ending → Type 0
 ShowsClasses sites config ending =
-    WithinNames config site_names (WithinStates config site_rewrites (AreTold config sites ending) ending) ending
+    WithinNames config site_names (WithinStates config site_rewrites (TellsFindings config sites ending) ending) ending
 
 -- ---- a report that is checked
 

@@ -24,8 +24,8 @@ abbrev pub ServerPasses : LimitedQueries → Type 0
 ServerPasses queries = SomeServerPasses queries.config queries.rewrites queries.states
 
 -- the representative of none of these classes does
-abbrev pub NonePasses : LimitedQueries → List ListedClass → Type 0
-NonePasses queries classes = (listed : ListedClass) → Contains classes listed → Passes queries listed.representative → ⊥
+abbrev pub NoListedPasses : LimitedQueries → List ListedClass → Type 0
+NoListedPasses queries classes = (listed : ListedClass) → Contains classes listed → Passes queries listed.representative → ⊥
 
 -- a name that is alone in its class
 abbrev pub exact_class : Labels → ListedClass
@@ -46,7 +46,7 @@ pub record HasEnds (queries : LimitedQueries) (view : View) : Type 0 where
   pub ends : AreEnds (following queries.config queries.rewrites followed) view.query view.ends
 
 -- the views are those of these classes, in order
-pub record AreViewsOf (queries : LimitedQueries) (classes : List ListedClass) (views : List View) : Type 0 where
+pub record AreViewsOfClasses (queries : LimitedQueries) (classes : List ListedClass) (views : List View) : Type 0 where
   pub of_classes : map class_of views ≡ classes
   pub have_ends : (view : View) → Contains views view → HasEnds queries view
 
@@ -54,14 +54,14 @@ pub record AreViewsOf (queries : LimitedQueries) (classes : List ListedClass) (v
 pub record HaveSeen {B : Type 0} (name : B → List ℕ) (held : B → List (List ℕ)) (step : B → List (List ℕ) → View → List (List ℕ)) (queries : LimitedQueries)
     (classes : List ListedClass) (before after : List B) : Type 0 where
   pub views : List View
-  pub are_views : AreViewsOf queries classes views
+  pub are_views : AreViewsOfClasses queries classes views
   pub seen : AllZip (HasSeen name held step views) before after
 
 -- None of these classes' representatives passes; and where no server's name does, checks were shown the views of all of
 -- them, in order.
 pub record AreShown {B : Type 0} (name : B → List ℕ) (held : B → List (List ℕ)) (step : B → List (List ℕ) → View → List (List ℕ)) (queries : LimitedQueries)
     (classes : List ListedClass) (before after : List B) : Type 0 where
-  pub none_passes : NonePasses queries classes
+  pub none_passes : NoListedPasses queries classes
   pub shown : (ServerPasses queries → ⊥) → HaveSeen name held step queries classes before after
 
 -- the query is the first representative of these classes that passes
@@ -70,11 +70,11 @@ pub record IsFirstOf (queries : LimitedQueries) (classes : List ListedClass) (qu
   pub listed : ListedClass
   pub after : List ListedClass
   pub splits : classes ≡ before ++ listed ∷ after
-  pub none_before : NonePasses queries before
+  pub none_before : NoListedPasses queries before
   pub represents : query ≡ listed.representative
   pub passes : Passes queries query
 
 -- a run ends among these classes: at the first whose representative passes, or because memory ran out
-abbrev pub EndsAmong : LimitedQueries → List ListedClass → Ending → Type 0
-EndsAmong queries classes ending =
+abbrev pub EndsAmongClasses : LimitedQueries → List ListedClass → Ending → Type 0
+EndsAmongClasses queries classes ending =
     ((query : Labels) × IsFirstOf queries classes query × (ending ≡ too_many_states query)) ⊎ (ending ≡ no_memory)

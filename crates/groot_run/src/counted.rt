@@ -5,7 +5,7 @@ ghost use Rattle.std.specs.List.{list_any};
 ghost use Rattle.net_model.specs.Reading.{ground_of};
 ghost use Rattle.query_classes.specs.Children.{IsInTree};
 ghost use Rattle.same_answers.specs.Compared.{joint};
-ghost use Rattle.groot_run.specs.Counted.{EndsPast, redirects, server_redirects, zone_redirects};
+ghost use Rattle.groot_run.specs.Counted.{EndsPast, is_redirect, server_redirects, zone_redirects};
 ghost use Rattle.groot_run.specs.Outcome.{compared_of};
 
 use crate::classes::{rows_at, rows_within};
@@ -84,12 +84,12 @@ fn server_redirects(server: &Server) -> bool
 fn zone_redirects(zone: &Zone) -> bool
     ensures { result ≡ zone_redirects zone.now }
 {
-    zone.rrs.items().iter().any(|rr| redirects(rr))
+    zone.rrs.items().iter().any(|rr| is_redirect(rr))
 }
 
 /// Whether it is a DNAME record.
-fn redirects(rr: &Rr) -> bool
-    ensures { result ≡ redirects rr.now }
+fn is_redirect(rr: &Rr) -> bool
+    ensures { result ≡ is_redirect rr.now }
 {
     matches!(rr.rdata, Rdata::Dname(_))
 }

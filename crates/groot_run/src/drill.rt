@@ -2,7 +2,7 @@
 
 ghost use Rattle.std.specs.Prelude.{◌≡◌, ◌⊎◌, ◌≤◌, ◌+◌, codes, length, min, IfOk};
 ghost use Rattle.config_load.specs.Conf.{conf};
-ghost use Rattle.groot_run.specs.DrillLine.{drill_line, records_of, zone_records};
+ghost use Rattle.groot_run.specs.DrillLine.{drill_line, record_count, zone_records};
 ghost use Rattle.run_endings.specs.Endings.{OfReading, no_memory};
 ghost use Rattle.groot_run.specs.Outcome.{Drills, drilled};
 ghost use Rattle.io_edges.specs.Counts.{last_count};
@@ -100,7 +100,7 @@ fn line_of(
 
 /// How many records a configuration has; where there are more than a count tells, the last count.
 fn records(config: &Config) -> u64
-    ensures { result ≡ min (records_of config.now.servers) last_count }
+    ensures { result ≡ min (record_count config.now.servers) last_count }
 {
     let mut count = 0;
     for server in config.servers.items() {

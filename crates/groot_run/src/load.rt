@@ -6,7 +6,7 @@ ghost use Rattle.io_edges.specs.Files.{StaysTold, TellsAll};
 ghost use Rattle.config_load.specs.Conf.{conf};
 ghost use Rattle.config_load.specs.Load.{OpensNoOther};
 ghost use Rattle.config_load.specs.Reading.{Reads};
-ghost use Rattle.groot_run.specs.JobEnds.{EndsWithout};
+ghost use Rattle.groot_run.specs.JobEnds.{EndsWithoutConfig};
 
 use config_load::load;
 use io_edges::Files;
@@ -21,7 +21,7 @@ pub(crate) fn configuration<F: Files>(
     meta: &str,
 ) -> Result<Config, Ending>
     ensures ok { IfOk result (λ config. conf meta.now (F.told files.new) ≡ Reads config) }
-    ensures err { IfErr result (EndsWithout meta.now (F.told files.new) (F.faults files.old) (F.faults files.new)) }
+    ensures err { IfErr result (EndsWithoutConfig meta.now (F.told files.new) (F.faults files.old) (F.faults files.new)) }
     ensures stays { StaysTold (F.told files.old) (F.told files.new) }
     ensures never_fall { NoneFell (F.faults files.old) (F.faults files.new) }
     ensures from_the_start { TellsAll (F.told files.old) → F.told files.new ≡ F.told files.old }

@@ -6,8 +6,8 @@ ghost use Rattle.query_classes.specs.ClassList.{AreListed, classes_of_row, class
 ghost use Rattle.query_verdicts.specs.Queries.{limited_to};
 ghost use Rattle.report_json.specs.Sites.{sites_text};
 ghost use Rattle.run_endings.specs.Endings.{no_memory};
-ghost use Rattle.groot_run.specs.Outcome.{AreTold, ShowsClasses, WithinStates, most_states, site_rewrites};
-ghost use Rattle.groot_run.specs.ShownClasses.{AreShown, EndsAmong, below_class, exact_class};
+ghost use Rattle.groot_run.specs.Outcome.{TellsFindings, ShowsClasses, WithinStates, most_states, site_rewrites};
+ghost use Rattle.groot_run.specs.ShownClasses.{AreShown, EndsAmongClasses, below_class, exact_class};
 
 use crate::classes::rows_within;
 use crate::ending::too_many_states;
@@ -46,7 +46,7 @@ fn find(
 ) -> Ending
     requires { AreListed (ground_of config.now) [] (classes_of_rows rows.now) }
     ensures { WithinStates config.now site_rewrites
-        (AreTold config.now (map (λ b. record { name = name b; held = held b; step = step b }) sites.old.items) result) result
+        (TellsFindings config.now (map (λ b. record { name = name b; held = held b; step = step b }) sites.old.items) result) result
         ⊎ (result ≡ no_memory) }
 {
     match QueryGraphs::prepare(alloc, config, USUAL_REWRITES, MOST_STATES) {
@@ -65,7 +65,7 @@ fn find_by(
     requires limits { graphs.now ≡ limited_to graphs.now.config site_rewrites most_states }
     requires listed { AreListed (ground_of graphs.now.config) [] (classes_of_rows rows.now) }
     ensures { WithinStates graphs.now.config site_rewrites
-        (AreTold graphs.now.config (map (λ b. record { name = name b; held = held b; step = step b }) sites.old.items) result) result
+        (TellsFindings graphs.now.config (map (λ b. record { name = name b; held = held b; step = step b }) sites.old.items) result) result
         ⊎ (result ≡ no_memory) }
 {
     match show_rows(alloc, graphs, rows, sites) {
@@ -95,7 +95,7 @@ pub(crate) fn show_rows(
     sites: &mut Vec<Box<dyn SiteCheck>>,
 ) -> Result<(), Ending>
     ensures ok { OnOk result (AreShown (λ b. name b) (λ b. held b) (λ b. step b) graphs.now (classes_of_rows rows.now) sites.old.items sites.new.items) }
-    ensures err { IfErr result (EndsAmong graphs.now (classes_of_rows rows.now)) }
+    ensures err { IfErr result (EndsAmongClasses graphs.now (classes_of_rows rows.now)) }
 {
     for row in rows {
         show_row(alloc, graphs, row, sites)?;
@@ -111,7 +111,7 @@ fn show_row(
     sites: &mut Vec<Box<dyn SiteCheck>>,
 ) -> Result<(), Ending>
     ensures ok { OnOk result (AreShown (λ b. name b) (λ b. held b) (λ b. step b) graphs.now (classes_of_row row.now) sites.old.items sites.new.items) }
-    ensures err { IfErr result (EndsAmong graphs.now (classes_of_row row.now)) }
+    ensures err { IfErr result (EndsAmongClasses graphs.now (classes_of_row row.now)) }
 {
     show_exact(alloc, graphs, &row.name, sites)?;
     match &row.below {
@@ -129,7 +129,7 @@ fn show_exact(
 ) -> Result<(), Ending>
     ensures ok { OnOk result (AreShown (λ b. name b) (λ b. held b) (λ b. step b) graphs.now
         (exact_class query.now ∷ []) sites.old.items sites.new.items) }
-    ensures err { IfErr result (EndsAmong graphs.now (exact_class query.now ∷ [])) }
+    ensures err { IfErr result (EndsAmongClasses graphs.now (exact_class query.now ∷ [])) }
 {
     let class = Class::Exact(query.copy(alloc)?);
     show_class(alloc, graphs, &class, query, sites)
@@ -145,7 +145,7 @@ fn show_below(
 ) -> Result<(), Ending>
     ensures ok { OnOk result (AreShown (λ b. name b) (λ b. held b) (λ b. step b) graphs.now
         (below_class above.now representative.now ∷ []) sites.old.items sites.new.items) }
-    ensures err { IfErr result (EndsAmong graphs.now (below_class above.now representative.now ∷ [])) }
+    ensures err { IfErr result (EndsAmongClasses graphs.now (below_class above.now representative.now ∷ [])) }
 {
     let class = Class::Below(above.copy(alloc)?);
     show_class(alloc, graphs, &class, representative, sites)
@@ -162,7 +162,7 @@ fn show_class(
 ) -> Result<(), Ending>
     ensures ok { OnOk result (AreShown (λ b. name b) (λ b. held b) (λ b. step b) graphs.now
         (record { class = class.now; representative = query.now } ∷ []) sites.old.items sites.new.items) }
-    ensures err { IfErr result (EndsAmong graphs.now (record { class = class.now; representative = query.now } ∷ [])) }
+    ensures err { IfErr result (EndsAmongClasses graphs.now (record { class = class.now; representative = query.now } ∷ [])) }
 {
     match graphs.graph(query) {
         Ok(Some(graph)) => {

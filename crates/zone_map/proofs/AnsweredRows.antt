@@ -16,7 +16,7 @@ use Rattle.site_checks.specs.Ends.{is_answer}
 use Rattle.site_checks.specs.declared.views.TypedEnd.{TypedEnd}
 use Rattle.site_checks.specs.declared.views.View.{View}
 use Rattle.zone_map.specs.Reached.{after_view, answers_at, is_alone, reached_word, shows_reached}
-use Rattle.zone_map.specs.ReachedRows.{answering_at, answers, is_answered, tells}
+use Rattle.zone_map.specs.ReachedRows.{answering_at, is_answering, is_row_answered, tells}
 use Rattle.zone_map.specs.declared.answered.Answered.{Answered}
 use Rattle.zone_map.proofs.SeenRows.{one_view}
 
@@ -38,22 +38,22 @@ any_server server (end ∷ ends) =
 
 -- a view of an origin shows that a row is reached exactly where the row's server is one of those that answer there
 pub shows_answers : (view : View) (origin : Labels) (one : Answered) (row : RowFiles) → view.class ≡ Exact origin → one.origin ≡ origin → one.servers ≡ flat_map answering_at view.ends
-    → shows_reached view row ≡ answers row.server row.origin one
+    → shows_reached view row ≡ is_answering row.server row.origin one
 shows_answers view origin one row of_class at servers =
     ap (λ (class : Class). is_alone row.origin class && list_any (answers_at row.server) view.ends) of_class
     ∙ (λ i. name_eq (sym at i) row.origin && (sym (any_server row.server view.ends) ∙ ap (list_any (name_eq row.server)) (sym servers)) i)
 
 -- the words once it was shown
-pub words_more : (view : View) (rows : List RowFiles) (answered : List Answered) (one : Answered) → ((row : RowFiles) → shows_reached view row ≡ answers row.server row.origin one)
-    → map (λ row. reached_word (is_answered (answered ++ one ∷ []) row)) rows ≡ after_view view rows (map (λ row. reached_word (is_answered answered row)) rows)
+pub words_more : (view : View) (rows : List RowFiles) (answered : List Answered) (one : Answered) → ((row : RowFiles) → shows_reached view row ≡ is_answering row.server row.origin one)
+    → map (λ row. reached_word (is_row_answered (answered ++ one ∷ []) row)) rows ≡ after_view view rows (map (λ row. reached_word (is_row_answered answered row)) rows)
 words_more view rows answered one shows =
-    sym (one_view view (is_answered answered) rows ∙ (λ i. map (λ row. reached_word (each row i)) rows))
+    sym (one_view view (is_row_answered answered) rows ∙ (λ i. map (λ row. reached_word (each row i)) rows))
   where
-    each : (row : RowFiles) → (shows_reached view row || is_answered answered row) ≡ is_answered (answered ++ one ∷ []) row
+    each : (row : RowFiles) → (shows_reached view row || is_row_answered answered row) ≡ is_row_answered (answered ++ one ∷ []) row
     each row =
-        or_comm (shows_reached view row) (is_answered answered row)
-        ∙ (λ i. is_answered answered row || (shows row ∙ sym (or-false (answers row.server row.origin one))) i)
-        ∙ sym (list_any-append (answers row.server row.origin) answered (one ∷ []))
+        or_comm (shows_reached view row) (is_row_answered answered row)
+        ∙ (λ i. is_row_answered answered row || (shows row ∙ sym (or-false (is_answering row.server row.origin one))) i)
+        ∙ sym (list_any-append (is_answering row.server row.origin) answered (one ∷ []))
 
 -- the words once another view was shown
 pub words_stay : (view : View) (above : Labels) (rows : List RowFiles) (told : RowFiles → Bool) → view.class ≡ Below above

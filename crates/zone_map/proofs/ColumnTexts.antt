@@ -3,7 +3,7 @@ use Rattle.std.proofs.Common.{◌≡◌, ℕ, ◌<◌, List, [], ◌∷◌, ◌+
 use Rattle.dns_data.specs.DataText.{separated}
 use Rattle.dns_data.proofs.Pieces.{separated-push}
 use Rattle.std.proofs.lemmas.List.{length-append}
-use Rattle.zone_map.specs.Columns.{line_of, tab}
+use Rattle.zone_map.specs.Columns.{columns_line, tab}
 
 -- one column more, behind a tab
 more : (t x : List ℕ) (columns : List (List ℕ)) → 0 < length columns → (s : List ℕ) → s ≡ t ++ separated tab columns
@@ -41,7 +41,7 @@ seven_columns t a b c d e f g =
 
 -- three columns more, and the end of the line
 pub three_more : (t : List ℕ) (columns : List (List ℕ)) (a b c : List ℕ) → 0 < length columns
-    → (((((((t ++ separated tab columns) ++ tab) ++ a) ++ tab) ++ b) ++ tab) ++ c) ++ 10 ∷ [] ≡ t ++ line_of (columns ++ a ∷ b ∷ c ∷ [])
+    → (((((((t ++ separated tab columns) ++ tab) ++ a) ++ tab) ++ b) ++ tab) ++ c) ++ 10 ∷ [] ≡ t ++ columns_line (columns ++ a ∷ b ∷ c ∷ [])
 three_more t columns a b c some =
     let one = more t a columns some (t ++ separated tab columns) refl in
     let two = more t b (columns ++ a ∷ []) (omega (arith, some, length-append columns (a ∷ []))) _ one in

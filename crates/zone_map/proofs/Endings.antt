@@ -17,7 +17,7 @@ use Rattle.run_endings.specs.declared.ending.Ending.{Ending}
 use Rattle.run_endings.specs.declared.status.Status.{Status}
 use Rattle.run_endings.specs.declared.status.Status.TheVariants.{Clean, Faults, ReadFault, WriteFault}
 use Rattle.zone_map.specs.JobEnds.{JobEnds}
-use Rattle.zone_map.specs.Outcome.{Tells, Outcome, IsEnding, JobComesTo, NoJobReadFailed}
+use Rattle.zone_map.specs.Outcome.{TellsAsked, Outcome, IsEnding, JobComesTo, NoJobReadFailed}
 use Rattle.zone_map.specs.Reached.{reached_text}
 use Rattle.zone_map.specs.Targets.{targets_status, targets_text}
 use Rattle.zone_map.specs.declared.words.Asked.{Asked}
@@ -41,10 +41,10 @@ module _ (told : FilesTold) (before after : List ℕ → ℕ) where
     Ends file = JobEnds told (Some (record { asked = asked; meta = file })) before after ending
 
     -- with what was read
-    pub over_loaded : (all : Loaded) → loaded own told ≡ Reads all → Tells asked all ending ⊎ (ending ≡ no_memory) → Ends meta
+    pub over_loaded : (all : Loaded) → loaded own told ≡ Reads all → TellsAsked asked all ending ⊎ (ending ≡ no_memory) → Ends meta
     over_loaded all reads tells = subst Ends same (by tells) where
-      by : Tells asked all ending ⊎ (ending ≡ no_memory) → Ends own
-      by (inl is) = inl (subst (λ (read : Reading Loaded). OfReading own (Tells asked) read ending) (sym reads) is)
+      by : TellsAsked asked all ending ⊎ (ending ≡ no_memory) → Ends own
+      by (inl is) = inl (subst (λ (read : Reading Loaded). OfReading own (TellsAsked asked) read ending) (sym reads) is)
       by (inr ran_out) = inr (inr ran_out)
 
     -- with nothing that was read
@@ -53,7 +53,7 @@ module _ (told : FilesTold) (before after : List ℕ → ℕ) where
         → IsNotLoaded own fault ending ⊎ (ending ≡ no_memory) → Ends meta
     over_none fault gives came failed is = subst Ends same (by (not_loaded own fault ending gives came failed is)) where
       by : EndsWithout own (loaded own) told before after ending → Ends own
-      by (inl (refusal, refuses, so)) = inl (subst (λ (read : Reading Loaded). OfReading own (Tells asked) read ending) (sym refuses) so)
+      by (inl (refusal, refuses, so)) = inl (subst (λ (read : Reading Loaded). OfReading own (TellsAsked asked) read ending) (sym refuses) so)
       by (inr failed) = inr failed
 
 -- ---- the clauses
@@ -75,7 +75,7 @@ module _ (told : FilesTold) (said : Option Job) (before after : List ℕ → ℕ
   by_test true out = tt
   by_test false out = tt
 
-  of_asked : (asked : Asked) (all : Loaded) (ending : Ending) → Tells asked all ending → SaysSo ending
+  of_asked : (asked : Asked) (all : Loaded) (ending : Ending) → TellsAsked asked all ending → SaysSo ending
   of_asked Records all ending is = subst SaysSo (sym is) tt
   of_asked Reached all ending (inl (server, first, is)) = subst SaysSo (sym is) refl
   of_asked Reached all ending (inr (few, inl (origin, first, is))) = subst SaysSo (sym is) refl
@@ -86,7 +86,7 @@ module _ (told : FilesTold) (said : Option Job) (before after : List ℕ → ℕ
     by [] out = tt
     by (octet ∷ text) out = tt
 
-  of_reading : (meta : List ℕ) (asked : Asked) (ending : Ending) (reading : Reading Loaded) → OfReading meta (Tells asked) reading ending → SaysSo ending
+  of_reading : (meta : List ℕ) (asked : Asked) (ending : Ending) (reading : Reading Loaded) → OfReading meta (TellsAsked asked) reading ending → SaysSo ending
   of_reading meta asked ending (Reads all) tells = of_asked asked all ending tells
   of_reading meta asked ending (Refuses fault) is = subst SaysSo (sym is) refl
   of_reading meta asked ending (Misses file) never = absurd never
@@ -145,7 +145,7 @@ module _ (told : FilesTold) (said : Option Job) (before after : List ℕ → ℕ
 
 -- a run whose job's outcome is this, of what was read, tells it
 pub told_of_read : (told : FilesTold) (said : Option Job) (job : Job) (all : Loaded) (ending : Ending) → said ≡ Some job → loaded job.meta told ≡ Reads all
-    → Outcome told said ending → Tells job.asked all ending
+    → Outcome told said ending → TellsAsked job.asked all ending
 told_of_read told said job all ending is reads outcome =
-    subst (λ (read : Reading Loaded). OfReading job.meta (Tells job.asked) read ending) reads
+    subst (λ (read : Reading Loaded). OfReading job.meta (TellsAsked job.asked) read ending) reads
     (subst (λ (other : Option Job). Outcome told other ending) is outcome)

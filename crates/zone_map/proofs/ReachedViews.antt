@@ -27,9 +27,9 @@ use Rattle.site_checks.specs.Ends.{end_eq, end_of, ends_of, is_answer, last_serv
 use Rattle.site_checks.specs.declared.views.TypedEnd.{TypedEnd}
 use Rattle.site_checks.specs.declared.views.View.{View}
 use Rattle.zone_map.specs.Limits.{reached_queries}
-use Rattle.zone_map.specs.Reached.{IsReached, answers_at, is_alone, shows_reached}
+use Rattle.zone_map.specs.Reached.{IsRowReached, answers_at, is_alone, shows_reached}
 use Rattle.zone_map.specs.Rewrites.{most_rewrites}
-use Rattle.zone_map.specs.ShownOrigins.{AreViewsOf, IsViewOf}
+use Rattle.zone_map.specs.ShownOrigins.{AreViewsOfRows, IsViewOf}
 use Rattle.zone_map.proofs.SeenRows.{is_seen}
 
 -- ---- of equal items the first
@@ -134,7 +134,7 @@ ends_alike server a b e h =
 
 module _ (config : Config) (row : RowFiles) where
   -- a view that shows that the row is reached tells a walk
-  by_view : (name : Labels) (view : View) → IsViewOf (reached_queries config) name view → shows_reached view row ≡ true → IsReached config row
+  by_view : (name : Labels) (view : View) → IsViewOf (reached_queries config) name view → shows_reached view row ≡ true → IsRowReached config row
   by_view name view is shown =
       let both = and_parts (is_alone row.origin view.class) (list_any (answers_at row.server) view.ends) shown in
       let own : name ≡ row.origin = (name_eq_decides name row.origin).0 (subst (λ (class : Class). is_alone row.origin class ≡ true) is.is_class both.0) in
@@ -158,7 +158,7 @@ module _ (config : Config) (row : RowFiles) where
       }
 
   -- where the row is reached, the view of its origin shows it
-  by_walk : (view : View) → IsViewOf (reached_queries config) row.origin view → IsReached config row → shows_reached view row ≡ true
+  by_walk : (view : View) → IsViewOf (reached_queries config) row.origin view → IsRowReached config row → shows_reached view row ≡ true
   by_walk view is reached =
       let walks = is.ends.walks in
       let setting : Setting = following config most_rewrites is.followed in
@@ -179,8 +179,8 @@ module _ (config : Config) (row : RowFiles) where
 -- ---- rows and their views
 
 -- a row is reached exactly where some view of the rows' origins shows it
-pub seen_means : (config : Config) (rows : List RowFiles) (views : List View) → AreViewsOf (reached_queries config) rows views
-    → (row : RowFiles) → Contains rows row → (is_seen views row ≡ true) ↔ IsReached config row
+pub seen_means : (config : Config) (rows : List RowFiles) (views : List View) → AreViewsOfRows (reached_queries config) rows views
+    → (row : RowFiles) → Contains rows row → (is_seen views row ≡ true) ↔ IsRowReached config row
 seen_means config rows views are row has = (
   λ seen.
       let (view, among, shown) = from_any (λ (v : View). shows_reached v row) views seen in

@@ -9,7 +9,7 @@ use Rattle.std.proofs.lemmas.List.{length-map}
 use Rattle.dns_data.proofs.Membership.{has_first, has_later}
 use Rattle.config_load.specs.declared.loaded.RowFiles.{RowFiles}
 use Rattle.site_checks.specs.declared.views.View.{View}
-use Rattle.zone_map.specs.Columns.{line_of}
+use Rattle.zone_map.specs.Columns.{columns_line}
 use Rattle.zone_map.specs.Reached.{after_view, reached_text, reached_word, row_columns, shows_reached}
 
 -- ---- all views
@@ -91,12 +91,12 @@ module _ (test : RowFiles → Bool) where
 -- one line more, and those that are left
 pub line_more : (text all : List ℕ) (told : List Bool) (rows : List RowFiles) (i : ℕ) (d : Bool) (row : RowFiles) → i < length rows → row ≡ get_or rows i row → i < length told
     → text ++ reached_text (i + 1) (drop i told) (drop i rows) ≡ all
-    → (text ++ line_of (row_columns (i + 1) (get_or told i d) row)) ++ reached_text (i + 1 + 1) (drop (i + 1) told) (drop (i + 1) rows) ≡ all
+    → (text ++ columns_line (row_columns (i + 1) (get_or told i d) row)) ++ reached_text (i + 1 + 1) (drop (i + 1) told) (drop (i + 1) rows) ≡ all
 line_more text all told rows i d row there is also before =
     let next : suc i ≡ i + 1 = omega arith in
     let of_rows = drop-cons rows i row there ∙ (λ j. sym is j ∷ drop (next j) rows) in
     let of_told = drop-cons told i d also ∙ ap (λ n. get_or told i d ∷ drop n told) next in
-    append_assoc text (line_of (row_columns (i + 1) (get_or told i d) row)) (reached_text (i + 1 + 1) (drop (i + 1) told) (drop (i + 1) rows))
+    append_assoc text (columns_line (row_columns (i + 1) (get_or told i d) row)) (reached_text (i + 1 + 1) (drop (i + 1) told) (drop (i + 1) rows))
     ∙ sym (λ j. text ++ reached_text (i + 1) (of_told j) (of_rows j)) ∙ before
 
 -- at last none is left

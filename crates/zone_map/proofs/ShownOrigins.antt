@@ -24,7 +24,7 @@ use Rattle.run_endings.specs.declared.ending.Ending.{Ending}
 use Rattle.site_checks.specs.Ends.{AreEnds}
 use Rattle.site_checks.specs.declared.views.View.{View}
 use Rattle.zone_map.specs.Limits.{NoOriginPasses, Passes}
-use Rattle.zone_map.specs.ShownOrigins.{EndsAmong, EndsAt, HasSeenNew, HasSeenOrigin, HasSeenOrigins, IsViewOf, is_shown}
+use Rattle.zone_map.specs.ShownOrigins.{EndsAmongRows, EndsAt, HasSeenNew, HasSeenOrigin, HasSeenOrigins, IsViewOf, is_shown}
 
 -- what a list with one item more has
 has_more : {X : Type 0} (items : List X) (item x : X) → Contains (items ++ item ∷ []) x → Contains items x ⊎ (item ≡ x)
@@ -148,7 +148,7 @@ module _ (queries : LimitedQueries) where
 
   -- at a row behind others, none of which passes
   pub ends_at_row : (rows : List RowFiles) (i : ℕ) (row : RowFiles) (ending : Ending) → i < length rows → row ≡ get_or rows i row → NoOriginPasses queries (take i rows)
-      → EndsAt queries row.origin ending → EndsAmong queries rows ending
+      → EndsAt queries row.origin ending → EndsAmongRows queries rows ending
   ends_at_row rows i row ending there is none (inl (passes, so)) =
       let next : suc i ≡ i + 1 = omega arith in
       inl (

@@ -12,8 +12,8 @@ use Rattle.net_model.proofs.RoundsExist.{query_settles}
 use Rattle.net_model.proofs.WalkLists.{are_walks, one_walks, total}
 use Rattle.plain_resolver.specs.Passed.{HasMoreWalks}
 use Rattle.plain_resolver.proofs.Resolved.{has_more, has_no_more}
-use Rattle.zone_map.specs.Targets.{AreEnds, EndSo, dead_ends, most_target_walks}
-use Rattle.zone_map.specs.TargetsAsked.{ends_in, ends_with}
+use Rattle.zone_map.specs.Targets.{AreTargetEnds, EndSo, dead_ends, most_target_walks}
+use Rattle.zone_map.specs.TargetsAsked.{ends_in, type_ends}
 use Rattle.zone_map.specs.declared.target_ends.DeadEnds.TheVariants.{TooMany}
 
 module _ (setting : Setting) (name : Labels) (rtype : RrType) where
@@ -35,8 +35,8 @@ module _ (setting : Setting) (name : Labels) (rtype : RrType) where
   few e = has_no_more setting rtype depth name most_target_walks (grind (arith, nat_tests, e)) (query_settles setting rtype name).1
 
   -- where there are more than are followed
-  pub ends_many : HasMoreWalks setting name rtype most_target_walks → Some TooMany ≡ ends_with setting name rtype
-  unfolding ends_with
+  pub ends_many : HasMoreWalks setting name rtype most_target_walks → Some TooMany ≡ type_ends setting name rtype
+  unfolding type_ends
   ends_many more = by (nat_lt most_target_walks (length all)) refl where
     by : (b : Bool) → nat_lt most_target_walks (length all) ≡ b → Some TooMany ≡ cond b (Some TooMany) (dead_ends all)
     by true e = refl
@@ -44,21 +44,21 @@ module _ (setting : Setting) (name : Labels) (rtype : RrType) where
 
   -- where there are no more, as these end, which are all
   pub ends_few : (walks : List Walk) → AreWalks setting name rtype walks → (HasMoreWalks setting name rtype most_target_walks → ⊥)
-      → dead_ends walks ≡ ends_with setting name rtype
-  unfolding ends_with
+      → dead_ends walks ≡ type_ends setting name rtype
+  unfolding type_ends
   ends_few walks they none = by (nat_lt most_target_walks (length all)) refl where
     by : (b : Bool) → nat_lt most_target_walks (length all) ≡ b → dead_ends walks ≡ cond b (Some TooMany) (dead_ends all)
     by true e = absurd (none (many e))
     by false e = ap dead_ends (one_walks setting name rtype walks all they are)
 
   -- this is how they end
-  pub ends_so : EndSo setting name rtype (ends_with setting name rtype)
-  unfolding ends_with
+  pub ends_so : EndSo setting name rtype (type_ends setting name rtype)
+  unfolding type_ends
   ends_so = by (nat_lt most_target_walks (length all)) refl where
     by : (b : Bool) → nat_lt most_target_walks (length all) ≡ b → EndSo setting name rtype (cond b (Some TooMany) (dead_ends all))
     by true e = inl (many e, refl)
     by false e = inr (few e, (all, are, refl))
 
 -- of both types
-pub ends_are : (setting : Setting) (name : Labels) → AreEnds setting name (ends_in setting name)
+pub ends_are : (setting : Setting) (name : Labels) → AreTargetEnds setting name (ends_in setting name)
 ends_are setting name = record { four = ends_so setting name types.A; six = ends_so setting name types.Aaaa }

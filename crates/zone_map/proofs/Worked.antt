@@ -9,7 +9,7 @@ use Rattle.net_model.specs.declared.walk.Leaf.{Leaf}
 use Rattle.net_model.specs.declared.walk.Leaf.TheVariants as leaves
 use Rattle.net_model.specs.declared.walk.Walk.{Walk}
 use Rattle.config_load.specs.declared.loaded.RowFiles.{RowFiles}
-use Rattle.zone_map.specs.Columns.{file_text, line_of, written}
+use Rattle.zone_map.specs.Columns.{file_text, columns_line, as_written}
 use Rattle.zone_map.specs.Records.{records_text, told_data, type_text}
 use Rattle.zone_map.specs.Targets.{dead_ends, is_reverse, target_in, targets_text}
 use Rattle.zone_map.specs.Words.{job_of}
@@ -21,12 +21,12 @@ use Rattle.zone_map.specs.declared.words.Asked.TheVariants.{Records, Targets}
 escapes : file_text (97 ∷ 9 ∷ 10 ∷ 92 ∷ 98 ∷ []) ≡ codes "a\\t\\n\\\\b"
 escapes = refl
 
-columns : line_of (codes "a" ∷ codes "b" ∷ []) ≡ 97 ∷ 9 ∷ 98 ∷ 10 ∷ []
+columns : columns_line (codes "a" ∷ codes "b" ∷ []) ≡ 97 ∷ 9 ∷ 98 ∷ 10 ∷ []
 columns = refl
 
 -- A token of another type stands as it was written, a space and an octet that isn't printable in three digits.
 
-token : written (92 ∷ 35 ∷ 7 ∷ []) ≡ codes "\\#\\007"
+token : as_written (92 ∷ 35 ∷ 7 ∷ []) ≡ codes "\\#\\007"
 token = refl
 
 other_type : type_text (Other (codes "DS") (codes "1" ∷ codes "x y" ∷ [])) ≡ codes "DS"

@@ -9,8 +9,8 @@ abbrev pub tab : List ℕ
 tab = 9 ∷ []
 
 -- a line of columns
-abbrev pub line_of : List (List ℕ) → List ℕ
-line_of columns = separated tab columns ++ codes "\n"
+abbrev pub columns_line : List (List ℕ) → List ℕ
+columns_line columns = separated tab columns ++ codes "\n"
 
 -- an octet of a file's name: a tab, a line feed and a backslash stand behind a backslash, the first two as letters
 abbrev pub file_octet_text : ℕ → List ℕ
@@ -26,5 +26,5 @@ abbrev pub written_octet : ℕ → List ℕ
 written_octet octet = escaped_as false (nat_le 33 octet && nat_le octet 126) octet
 
 -- a token as it was written
-abbrev pub written : List ℕ → List ℕ
-written token = flat_map written_octet token
+abbrev pub as_written : List ℕ → List ℕ
+as_written token = flat_map written_octet token

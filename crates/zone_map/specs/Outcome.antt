@@ -19,15 +19,15 @@ use Rattle.zone_map.specs.declared.words.Job.{Job}
 
 -- what is told of what was read: for `records` the lines of all records, for `reached` those of all rows, for `targets`
 -- those of records whose target leads nowhere
-abbrev pub Tells : Asked → Loaded → Ending → Type 0
-Tells Records all ending = ending ≡ with_output Clean (records_text all)
-Tells Reached all ending = WithinLimits all.config all.rows (TellsRows all.config all.rows ending) ending
-Tells Targets all ending = IsTargets all ending
+abbrev pub TellsAsked : Asked → Loaded → Ending → Type 0
+TellsAsked Records all ending = ending ≡ with_output Clean (records_text all)
+TellsAsked Reached all ending = WithinLimits all.config all.rows (TellsRows all.config all.rows ending) ending
+TellsAsked Targets all ending = IsTargets all ending
 
 -- what the words' job gives, by what is told of the files
 abbrev pub Outcome : FilesTold → Option Job → Ending → Type 0
 Outcome told None ending = ending ≡ without_output Usage usage_line
-Outcome told (Some job) ending = OfReading job.meta (Tells job.asked) (loaded job.meta told) ending
+Outcome told (Some job) ending = OfReading job.meta (TellsAsked job.asked) (loaded job.meta told) ending
 
 -- a run ends in the outcome of its job, in a failed read or because memory ran out
 abbrev pub IsEnding : FilesTold → Option Job → Ending → Type 0

@@ -21,11 +21,11 @@ use Rattle.run_endings.specs.declared.status.Status.TheVariants.{Clean, Faults}
 use Rattle.site_checks.specs.Ends.{is_answer, last_server}
 use Rattle.site_checks.specs.declared.views.TypedEnd.{TypedEnd}
 use Rattle.site_checks.specs.declared.views.View.{View}
-use Rattle.zone_map.specs.Columns.{line_of, file_text}
+use Rattle.zone_map.specs.Columns.{columns_line, file_text}
 use Rattle.zone_map.specs.Rewrites.{most_rewrites}
 
 -- a walk of the SOA query at the origin ends in an answer at the server, while the servers of the set in force are followed
-pub record IsReached (config : Config) (row : RowFiles) : Type 0 where
+pub record IsRowReached (config : Config) (row : RowFiles) : Type 0 where
   pub followed : List Labels
   pub in_force : IsInForce config most_rewrites followed
   pub walk : Walk
@@ -44,7 +44,7 @@ row_columns number told row =
 
 -- the lines of rows, which are counted from this number on
 abbrev pub reached_text : ℕ → List Bool → List RowFiles → List ℕ
-reached_text number (one ∷ told) (row ∷ rows) = line_of (row_columns number one row) ++ reached_text (number + 1) told rows
+reached_text number (one ∷ told) (row ∷ rows) = columns_line (row_columns number one row) ++ reached_text (number + 1) told rows
 reached_text number told rows = []
 
 -- the status says whether each row is reached
@@ -54,7 +54,7 @@ reached_status told = if list_all (λ one. one) told then Clean else Faults
 -- the run ends with the lines of all rows
 pub record TellsRows (config : Config) (rows : List RowFiles) (ending : Ending) : Type 0 where
   pub told : List Bool
-  pub tells : AllZip (λ (row : RowFiles) (one : Bool). (one ≡ true) ↔ IsReached config row) rows told
+  pub tells : AllZip (λ (row : RowFiles) (one : Bool). (one ≡ true) ↔ IsRowReached config row) rows told
   pub as_text : ending ≡ with_output (reached_status told) (reached_text 1 told rows)
 
 -- ---- the check

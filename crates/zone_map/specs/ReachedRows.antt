@@ -20,17 +20,17 @@ abbrev pub answering_at : TypedEnd → List Labels
 answering_at end = if is_soa_answer end then end.server ∷ [] else []
 
 -- the server is one of those that answer at the origin
-abbrev pub answers : Labels → Labels → Answered → Bool
-answers server origin one = name_eq one.origin origin && list_any (name_eq server) one.servers
+abbrev pub is_answering : Labels → Labels → Answered → Bool
+is_answering server origin one = name_eq one.origin origin && list_any (name_eq server) one.servers
 
 -- the row's server answers at the origin of its zone
-abbrev pub is_answered : List Answered → RowFiles → Bool
-is_answered answered row = list_any (answers row.server row.origin) answered
+abbrev pub is_row_answered : List Answered → RowFiles → Bool
+is_row_answered answered row = list_any (is_answering row.server row.origin) answered
 
 -- a set of pairs of names tells of this server and of this origin
 abbrev pub tells : tree.BTreeSet (List Labels) → Labels → Labels → Bool
 tells tellers server origin = tree.contains (slice_cmp name_cmp) tellers (server ∷ origin ∷ [])
 
 -- it tells of each server that answers at an origin, and of no others
-abbrev pub AreTellers : List Answered → tree.BTreeSet (List Labels) → Type 0
-AreTellers answered tellers = (server origin : Labels) → tells tellers server origin ≡ list_any (answers server origin) answered
+abbrev pub TellOfAnswers : List Answered → tree.BTreeSet (List Labels) → Type 0
+TellOfAnswers answered tellers = (server origin : Labels) → tells tellers server origin ≡ list_any (is_answering server origin) answered

@@ -14,11 +14,11 @@ use Rattle.net_model.specs.Nearest.{held_zone}
 use Rattle.config_load.specs.Faults.{name_numbered}
 use Rattle.config_load.specs.declared.loaded.Loaded.{Loaded}
 use Rattle.config_load.specs.declared.loaded.RowFiles.{RowFiles}
-use Rattle.zone_map.specs.Columns.{line_of, file_text, written}
+use Rattle.zone_map.specs.Columns.{columns_line, file_text, as_written}
 
 -- the word of a type beyond the twelve
 abbrev pub other_word : Rdata → List ℕ
-other_word (Other word tokens) = written word
+other_word (Other word tokens) = as_written word
 other_word rdata = []
 
 -- the word of the data's type
@@ -27,7 +27,7 @@ type_text rdata = option_map_or word_of (type_of_data rdata) (other_word rdata)
 
 -- the tokens of data of a type beyond the twelve
 abbrev pub other_tokens : Rdata → List ℕ
-other_tokens (Other word tokens) = separated (codes " ") (map written tokens)
+other_tokens (Other word tokens) = separated (codes " ") (map as_written tokens)
 other_tokens rdata = []
 
 -- the data of a record: those of the twelve types as a report prints them, those of another type as they were written
@@ -47,7 +47,7 @@ records_of config row = option_map_or (λ zone. zone.rrs) (held_zone config row.
 
 -- the lines of a row's records
 abbrev pub row_text : Config → RowFiles → List ℕ
-row_text config row = flat_map (λ rr. line_of (record_columns row rr)) (records_of config row)
+row_text config row = flat_map (λ rr. columns_line (record_columns row rr)) (records_of config row)
 
 -- the lines of all records, in the order of rows
 abbrev pub records_text : Loaded → List ℕ

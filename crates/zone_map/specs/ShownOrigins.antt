@@ -23,7 +23,7 @@ pub record IsViewOf (queries : LimitedQueries) (name : Labels) (view : View) : T
   pub ends : AreEnds (following queries.config queries.rewrites followed) name view.ends
 
 -- the views are those of the rows' origins: each is that of a row's, and each row's has one
-pub record AreViewsOf (queries : LimitedQueries) (rows : List RowFiles) (views : List View) : Type 0 where
+pub record AreViewsOfRows (queries : LimitedQueries) (rows : List RowFiles) (views : List View) : Type 0 where
   pub of_rows : (view : View) → Contains views view → (row : RowFiles) × Contains rows row × IsViewOf queries row.origin view
   pub for_rows : (row : RowFiles) → Contains rows row → (view : View) × Contains views view × IsViewOf queries row.origin view
 
@@ -47,7 +47,7 @@ HasSeenNew step queries was_shown origin before after =
 pub record HasSeenOrigins (step : List (List ℕ) → View → List (List ℕ)) (queries : LimitedQueries) (rows : List RowFiles) (before after : List (List ℕ)) : Type 0 where
   pub none_passes : NoOriginPasses queries rows
   pub views : List View
-  pub are_views : AreViewsOf queries rows views
+  pub are_views : AreViewsOfRows queries rows views
   pub holds : after ≡ fold step before views
 
 -- a run ends at the origin: it passes, or memory ran out
@@ -55,6 +55,6 @@ abbrev pub EndsAt : LimitedQueries → Labels → Ending → Type 0
 EndsAt queries origin ending = (Passes queries origin × (ending ≡ too_many_states reached_states origin)) ⊎ (ending ≡ no_memory)
 
 -- a run ends among the rows: at the first whose origin passes, or because memory ran out
-abbrev pub EndsAmong : LimitedQueries → List RowFiles → Ending → Type 0
-EndsAmong queries rows ending =
+abbrev pub EndsAmongRows : LimitedQueries → List RowFiles → Ending → Type 0
+EndsAmongRows queries rows ending =
     ((origin : Labels) × IsFirstOriginPassed queries rows origin × (ending ≡ too_many_states reached_states origin)) ⊎ (ending ≡ no_memory)

@@ -25,7 +25,7 @@ use Rattle.run_endings.specs.Endings.{with_output, without_output}
 use Rattle.run_endings.specs.declared.ending.Ending.{Ending}
 use Rattle.run_endings.specs.declared.status.Status.{Status}
 use Rattle.run_endings.specs.declared.status.Status.TheVariants.{Clean, Faults, Walks}
-use Rattle.zone_map.specs.Columns.{line_of}
+use Rattle.zone_map.specs.Columns.{columns_line}
 use Rattle.zone_map.specs.Records.{record_columns, records_of}
 use Rattle.zone_map.specs.Rewrites.{most_rewrites}
 use Rattle.zone_map.specs.declared.target_ends.DeadEnds.{DeadEnds}
@@ -93,7 +93,7 @@ EndSo setting name rtype ends =
     × ((walks : List Walk) × AreWalks setting name rtype walks × (ends ≡ dead_ends walks)))
 
 -- this is how those of type A and those of type AAAA end
-pub record AreEnds (setting : Setting) (name : Labels) (ends : TargetEnds) : Type 0 where
+pub record AreTargetEnds (setting : Setting) (name : Labels) (ends : TargetEnds) : Type 0 where
   pub four : EndSo setting name types.A ends.four
   pub six : EndSo setting name types.Aaaa ends.six
 
@@ -109,7 +109,7 @@ ends_word TooMany = codes "too many walks"
 -- the line of a record whose target's walks of type A and of type AAAA end so; none where one of them ends otherwise
 abbrev pub target_line : RowFiles → Rr → Labels → Option DeadEnds → Option DeadEnds → List ℕ
 target_line row rr target (Some four) (Some six) =
-    line_of (record_columns row rr ++ name_text target ∷ ends_word four ∷ ends_word six ∷ [])
+    columns_line (record_columns row rr ++ name_text target ∷ ends_word four ∷ ends_word six ∷ [])
 target_line row rr target four six = []
 
 -- the line of a record, by how the walks of each name end
@@ -137,7 +137,7 @@ pub record TellsTargets (all : Loaded) (ending : Ending) : Type 0 where
   pub in_force : IsInForce all.config most_rewrites followed
   pub few : NoneInRounds all.config most_rewrites most_learning_walks [] (length all.config.servers)
   pub ends : Labels → TargetEnds
-  pub are : (name : Labels) → AreEnds (following all.config most_rewrites followed) name (ends name)
+  pub are : (name : Labels) → AreTargetEnds (following all.config most_rewrites followed) name (ends name)
   pub as_text : ending ≡ with_output (targets_status (targets_text ends all)) (targets_text ends all)
 
 -- the server's name has more walks than are followed to learn its address

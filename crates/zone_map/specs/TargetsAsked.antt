@@ -24,13 +24,13 @@ abbrev pub ends_among : List Walk → Option DeadEnds
 ends_among walks = if nat_lt most_target_walks (length walks) then Some TooMany else dead_ends walks
 
 -- how all walks of a name with a type end
-unfoldable pub ends_with : Setting → Labels → RrType → Option DeadEnds
-ends_with setting name rtype =
+unfoldable pub type_ends : Setting → Labels → RrType → Option DeadEnds
+type_ends setting name rtype =
     ends_among (flat_map (walks_within (query_settles setting rtype name).0 setting rtype) (start setting.config name))
 
 -- how those of type A and of type AAAA end
 abbrev pub ends_in : Setting → Labels → TargetEnds
-ends_in setting name = record { four = ends_with setting name types.A; six = ends_with setting name types.Aaaa }
+ends_in setting name = record { four = type_ends setting name types.A; six = type_ends setting name types.Aaaa }
 
 -- what is known of names is how their walks end
 abbrev pub AreKnown : Setting → map.BTreeMap Labels TargetEnds → Type 0

@@ -17,8 +17,8 @@ abbrev pub all_asked : List Asked
 all_asked = Records ∷ Reached ∷ Targets ∷ []
 
 -- what a word asks for, which is compared as written
-abbrev pub asked_by : List ℕ → Option Asked
-asked_by word = find (λ asked. octets_eq word (asked_word asked)) all_asked
+abbrev pub asked_by_word : List ℕ → Option Asked
+asked_by_word word = find (λ asked. octets_eq word (asked_word asked)) all_asked
 
 -- the word names a metadata file: it isn't empty and doesn't begin with a dash
 abbrev pub is_file : List ℕ → Bool
@@ -30,7 +30,7 @@ job_over meta asked = option_map (λ asked. record { asked = asked; meta = meta 
 
 -- the job that the words ask for
 abbrev pub job_of : List (List ℕ) → Option Job
-job_of (word ∷ meta ∷ []) = if is_file meta then job_over meta (asked_by word) else None
+job_of (word ∷ meta ∷ []) = if is_file meta then job_over meta (asked_by_word word) else None
 job_of words = None
 
 -- the line on err where the words are no job

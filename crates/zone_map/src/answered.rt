@@ -3,7 +3,7 @@
 ghost use Rattle.std.specs.Prelude.{◌≡◌, ◌||◌, ◌++◌, ◌∷◌, [], map, IfOk, OnOk};
 ghost use Rattle.std.specs.List.{flat_map};
 ghost use Rattle.dns_data.specs.Name.{Labels};
-ghost use Rattle.zone_map.specs.ReachedRows.{AreTellers, answering_at, answers, is_answered, is_soa_answer, tells};
+ghost use Rattle.zone_map.specs.ReachedRows.{TellOfAnswers, answering_at, is_answering, is_row_answered, is_soa_answer, tells};
 
 use config_load::RowFiles;
 use dns_data::{List, Name, NoMemory, RrType};
@@ -68,7 +68,7 @@ pub(crate) fn rows_told(
     rows: &[RowFiles],
     answered: &[Answered],
 ) -> Result<Vec<bool>, NoMemory>
-    ensures { IfOk result (λ told. told.items ≡ map (is_answered answered.now) rows.now) }
+    ensures { IfOk result (λ told. told.items ≡ map (is_row_answered answered.now) rows.now) }
 {
     let tellers = tellers_of(alloc, answered)?;
     told_by(alloc, rows, &tellers)
@@ -76,7 +76,7 @@ pub(crate) fn rows_told(
 
 /// What tells of each server that answers, and of the origin there.
 fn tellers_of(alloc: Global, answered: &[Answered]) -> Result<BTreeSet<List<Name>>, NoMemory>
-    ensures { IfOk result (AreTellers answered.now) }
+    ensures { IfOk result (TellOfAnswers answered.now) }
 {
     let mut tellers = BTreeSet::new(alloc);
     for one in answered {
@@ -91,7 +91,7 @@ fn put_tellers(
     one: &Answered,
     tellers: &mut BTreeSet<List<Name>>,
 ) -> Result<(), NoMemory>
-    ensures { OnOk result ((server origin : Labels) → tells tellers.new server origin ≡ (tells tellers.old server origin || answers server origin one.now)) }
+    ensures { OnOk result ((server origin : Labels) → tells tellers.new server origin ≡ (tells tellers.old server origin || is_answering server origin one.now)) }
 {
     for server in one.servers.items() {
         tellers.insert(teller(alloc, server, &one.origin)?)?;

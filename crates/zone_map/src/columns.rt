@@ -3,7 +3,7 @@
 ghost use Rattle.std.specs.Prelude.{◌≡◌, ◌++◌, codes, decimal, OnOk};
 ghost use Rattle.dns_data.specs.Octet.{decimal_escape};
 ghost use Rattle.dns_data.specs.Spelling.{name_text};
-ghost use Rattle.zone_map.specs.Columns.{file_octet_text, file_text, tab, written, written_octet};
+ghost use Rattle.zone_map.specs.Columns.{file_octet_text, file_text, tab, as_written, written_octet};
 
 use dns_data::{Name, NoMemory, Octets};
 use itoa::Buffer;
@@ -56,7 +56,7 @@ fn put_file_octet(alloc: Global, text: &mut Octets, octet: u8) -> Result<(), NoM
 
 /// Puts a token at the end, as it was written.
 pub(crate) fn put_written(alloc: Global, text: &mut Octets, token: &[u8]) -> Result<(), NoMemory>
-    ensures { OnOk result (text.new ≡ text.old ++ written token.now) }
+    ensures { OnOk result (text.new ≡ text.old ++ as_written token.now) }
 {
     for octet in token {
         put_written_octet(alloc, text, *octet)?;

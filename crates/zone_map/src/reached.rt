@@ -4,7 +4,7 @@ ghost use Rattle.std.specs.Prelude.{◌≡◌, ℕ, true, List, codes, map, IfOk
 ghost use Rattle.site_checks.specs.Line.{is_line};
 ghost use Rattle.site_checks.specs.declared.views.View.{View as Seen};
 ghost use Rattle.zone_map.specs.Reached.{after_view, reached_word};
-ghost use Rattle.zone_map.specs.ReachedRows.{is_answered};
+ghost use Rattle.zone_map.specs.ReachedRows.{is_row_answered};
 
 use crate::answered::{Answered, answers_of, rows_told};
 use config_load::RowFiles;
@@ -43,7 +43,7 @@ impl<'a> Reached<'a> {
 impl<'a> SiteCheck for Reached<'a> {
     ghost name = { λ check. codes "reached" };
 
-    ghost held = { λ check. map (λ row. reached_word (is_answered check.answered row)) check.rows.now };
+    ghost held = { λ check. map (λ row. reached_word (is_row_answered check.answered row)) check.rows.now };
 
     ghost step = { λ check words view. after_view view check.rows.now words };
 

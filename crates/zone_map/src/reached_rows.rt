@@ -6,7 +6,7 @@ ghost use Rattle.config_load.specs.Faults.{name_numbered};
 ghost use Rattle.dns_data.specs.DataText.{separated};
 ghost use Rattle.query_verdicts.specs.Verdict.{SomeServerPasses};
 ghost use Rattle.run_endings.specs.Endings.{no_memory, with_output};
-ghost use Rattle.zone_map.specs.Columns.{file_text, line_of, tab};
+ghost use Rattle.zone_map.specs.Columns.{file_text, columns_line, tab};
 ghost use Rattle.zone_map.specs.Limits.{WithinLimits, WithinOrigins, reached_queries};
 ghost use Rattle.zone_map.specs.Reached.{TellsRows, reached_status, reached_text, reached_word, row_columns};
 
@@ -116,7 +116,7 @@ fn put_row(
     told: bool,
     row: &RowFiles,
 ) -> Result<(), NoMemory>
-    ensures { OnOk result (text.new ≡ text.old ++ line_of (row_columns number told row.now)) }
+    ensures { OnOk result (text.new ≡ text.old ++ columns_line (row_columns number told row.now)) }
 {
     put_columns(alloc, text, number, told, row)?;
     text.push(alloc, b'\n')

@@ -4,7 +4,7 @@ ghost use Rattle.std.specs.Prelude.{◌≡◌, ◌++◌, [], decimal, codes, map
 ghost use Rattle.std.specs.List.{flat_map};
 ghost use Rattle.dns_data.specs.DataText.{separated};
 ghost use Rattle.config_load.specs.Faults.{name_numbered};
-ghost use Rattle.zone_map.specs.Columns.{file_text, line_of, tab, written};
+ghost use Rattle.zone_map.specs.Columns.{file_text, columns_line, tab, as_written};
 ghost use Rattle.zone_map.specs.Records.{other_tokens, other_word, record_columns, records_text, row_text, told_data, type_text};
 
 use crate::columns::{put_file, put_name, put_number, put_tab, put_written};
@@ -48,7 +48,7 @@ fn put_row(
 
 /// Puts the lines of records at the end.
 fn put_records(alloc: Global, text: &mut Octets, row: &RowFiles, rrs: &[Rr]) -> Result<(), NoMemory>
-    ensures { OnOk result (text.new ≡ text.old ++ flat_map (λ rr. line_of (record_columns row.now rr)) rrs.now) }
+    ensures { OnOk result (text.new ≡ text.old ++ flat_map (λ rr. columns_line (record_columns row.now rr)) rrs.now) }
 {
     for rr in rrs {
         put_record(alloc, text, row, rr)?;
@@ -58,7 +58,7 @@ fn put_records(alloc: Global, text: &mut Octets, row: &RowFiles, rrs: &[Rr]) -> 
 
 /// Puts the line of a record at the end.
 fn put_record(alloc: Global, text: &mut Octets, row: &RowFiles, rr: &Rr) -> Result<(), NoMemory>
-    ensures { OnOk result (text.new ≡ text.old ++ line_of (record_columns row.now rr.now)) }
+    ensures { OnOk result (text.new ≡ text.old ++ columns_line (record_columns row.now rr.now)) }
 {
     put_columns(alloc, text, row, rr)?;
     text.push(alloc, b'\n')
@@ -151,7 +151,7 @@ fn put_other_tokens(alloc: Global, text: &mut Octets, rdata: &Rdata) -> Result<(
 
 /// Tokens as they were written, with a space between.
 fn tokens_text(alloc: Global, tokens: &[Octets]) -> Result<Octets, NoMemory>
-    ensures { IfOk result (λ text. text ≡ separated (codes " ") (map written tokens.now)) }
+    ensures { IfOk result (λ text. text ≡ separated (codes " ") (map as_written tokens.now)) }
 {
     let mut text = Octets::new();
     for (i, token) in tokens.iter().enumerate() {

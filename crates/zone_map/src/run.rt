@@ -12,7 +12,7 @@ ghost use Rattle.run_endings.specs.Writing.{IsLeft, TookLine};
 ghost use Rattle.run_endings.specs.declared.ending.Ending.{Ending as Ended};
 ghost use Rattle.zone_map.specs.JobEnds.{JobEnds};
 ghost use Rattle.zone_map.specs.Limits.{WithinLimits};
-ghost use Rattle.zone_map.specs.Outcome.{IsEnding, JobComesTo, JobOpensNoOther, NoJobReadFailed, Outcome, Tells};
+ghost use Rattle.zone_map.specs.Outcome.{IsEnding, JobComesTo, JobOpensNoOther, NoJobReadFailed, Outcome, TellsAsked};
 ghost use Rattle.zone_map.specs.Reached.{TellsRows};
 ghost use Rattle.zone_map.specs.Records.{records_text};
 ghost use Rattle.zone_map.specs.Targets.{IsTargets};
@@ -144,7 +144,7 @@ fn of_job<F: Files>(alloc: Global, files: &mut F, job: &Job) -> Ending
 
 /// What is told of what was read.
 fn told(alloc: Global, asked: Asked, all: &Loaded) -> Ending
-    ensures { Tells asked all.now result ⊎ (result ≡ no_memory) }
+    ensures { TellsAsked asked all.now result ⊎ (result ≡ no_memory) }
 {
     match asked {
         Asked::Records => Ending::written(Status::Clean, records_text(alloc, all)),

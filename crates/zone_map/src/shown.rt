@@ -4,7 +4,7 @@ ghost use Rattle.std.specs.Prelude.{◌≡◌, ◌||◌, not, ℕ, List, IfErr, 
 ghost use Rattle.dns_data.specs.Name.{Labels, name_eq};
 ghost use Rattle.query_verdicts.specs.Verdict.{SomeServerPasses};
 ghost use Rattle.site_checks.specs.declared.views.View.{View as Seen};
-ghost use Rattle.zone_map.specs.ShownOrigins.{EndsAmong, EndsAt, HasSeenNew, HasSeenOrigin, HasSeenOrigins, is_shown};
+ghost use Rattle.zone_map.specs.ShownOrigins.{EndsAmongRows, EndsAt, HasSeenNew, HasSeenOrigin, HasSeenOrigins, is_shown};
 
 use crate::limits::MOST_STATES;
 use config_load::RowFiles;
@@ -28,7 +28,7 @@ pub(crate) fn show_origins<S: SiteCheck>(
     requires clear { SomeServerPasses graphs.now.config graphs.now.rewrites graphs.now.states → ⊥ }
     ensures step { (words : List (List ℕ)) (view : Seen) → S.step check.new words view ≡ S.step check.old words view }
     ensures ok { OnOk result (HasSeenOrigins (S.step check.old) graphs.now rows.now (S.held check.old) (S.held check.new)) }
-    ensures err { IfErr result (EndsAmong graphs.now rows.now) }
+    ensures err { IfErr result (EndsAmongRows graphs.now rows.now) }
 {
     let mut shown = BTreeSet::new(alloc);
     for row in rows {

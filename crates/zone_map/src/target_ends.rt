@@ -7,7 +7,7 @@ ghost use Rattle.net_model.specs.Step.{Setting, following};
 ghost use Rattle.std.specs.Option.{option_map};
 ghost use Rattle.zone_map.specs.Targets.{dead_ends, ends_word, host_of, is_no_data, is_no_name, is_reverse, origins_of, target_in};
 ghost use Rattle.zone_map.specs.Rewrites.{most_rewrites};
-ghost use Rattle.zone_map.specs.TargetsAsked.{AreKnown, ends_in, ends_with};
+ghost use Rattle.zone_map.specs.TargetsAsked.{AreKnown, ends_in, type_ends};
 
 use crate::limits::REWRITES;
 use config_load::RowFiles;
@@ -223,7 +223,7 @@ fn type_ends(
     name: &Name,
     rtype: RrType,
 ) -> Result<Option<DeadEnds>, NoMemory>
-    ensures { IfOk result (λ ends. ends ≡ ends_with (following hosts.now most_rewrites followed.now) name.now rtype) }
+    ensures { IfOk result (λ ends. ends ≡ type_ends (following hosts.now most_rewrites followed.now) name.now rtype) }
 {
     match resolve_at(alloc, hosts, REWRITES, followed, name, rtype, MOST_WALKS) {
         Ok(walks) => Ok(dead_ends(walks.items())),

@@ -1,7 +1,7 @@
 //! What the words of the command line ask for.
 
 ghost use Rattle.std.specs.Prelude.{◌≡◌, map, IfOk};
-ghost use Rattle.zone_map.specs.Words.{asked_by, asked_word, is_file, job_of, job_over, usage_line};
+ghost use Rattle.zone_map.specs.Words.{asked_by_word, asked_word, is_file, job_of, job_over, usage_line};
 
 use dns_data::{NoMemory, Text};
 use std::alloc::Global;
@@ -41,7 +41,7 @@ impl Asked {
 
     /// What a word asks for. It is compared as written.
     fn by_word(word: &[u8]) -> Option<Asked>
-        ensures { result ≡ asked_by word.now }
+        ensures { result ≡ asked_by_word word.now }
     {
         Asked::ALL
             .iter()

@@ -6,7 +6,7 @@ use Rattle.io_edges.specs.MemoryFiles.{FilesInMemory}
 use Rattle.zone_maker.specs.Drill.{drill}
 use Rattle.zone_maker.specs.Source.{drill_told, no_failures, told_of}
 use Rattle.zone_maker.proofs.UnfailingFiles.{drill_tells_all}
-use Rattle.groot_run.specs.JobEnds.{EndsOver}
+use Rattle.groot_run.specs.JobEnds.{EndsOverConfig}
 use Rattle.run_endings.specs.Endings.{OfReading, no_memory}
 use Rattle.groot_run.specs.Outcome.{Drills}
 use Rattle.run_endings.specs.declared.ending.Ending.{Ending}
@@ -15,7 +15,7 @@ use Rattle.groot_run.proofs.drill.drill.Goals as goal
 
 -- the files told all from the start and no read fails, so the run ends as they give, or memory ran out
 unfailing : (zones : ℕ) (made left : FilesInMemory) (ending : Ending) → made ≡ drill zones → (TellsAll (told_of made) → told_of left ≡ told_of made)
-    → EndsOver (codes "meta.json") (Drills zones) (told_of left) (no_failures made) (no_failures left) ending
+    → EndsOverConfig (codes "meta.json") (Drills zones) (told_of left) (no_failures made) (no_failures left) ending
     → OfReading (codes "meta.json") (Drills zones) (conf (codes "meta.json") (drill_told zones)) ending ⊎ (ending ≡ no_memory)
 unfailing zones made left ending is stays (inl gives) =
     let same : told_of left ≡ drill_told zones = stays (subst (λ (files : FilesInMemory). TellsAll (told_of files)) (sym is) (drill_tells_all zones)) ∙ ap told_of is in

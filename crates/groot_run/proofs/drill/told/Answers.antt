@@ -3,7 +3,7 @@ use Rattle.std.specs.Prelude.{min}
 use Rattle.graph_form.specs.declared.report.Report.{Report}
 use Rattle.io_edges.specs.Counts.{last_count}
 use Rattle.net_model.specs.declared.config.Config.{Config}
-use Rattle.groot_run.specs.DrillLine.{drill_line, records_of}
+use Rattle.groot_run.specs.DrillLine.{drill_line, record_count}
 use Rattle.run_endings.specs.declared.status.Status.{Status}
 use Rattle.run_endings.specs.Endings.{with_output}
 use Rattle.groot_run.specs.Outcome.{drilled, status_of}
@@ -11,12 +11,12 @@ use Rattle.groot_run.proofs.drill.told.Goals as goal
 
 -- an ending with a report's status and a drill's line
 with_line : (zones : ℕ) (config : Config) (report : Report) (how : Status) (records faults : ℕ) → how ≡ status_of report.entries
-    → records ≡ min (records_of config.servers) last_count → faults ≡ length report.entries
+    → records ≡ min (record_count config.servers) last_count → faults ≡ length report.entries
     → with_output how (drill_line zones records report.names faults) ≡ drilled zones config report
 with_line zones config report how records faults same counted many =
     ap (λ (s : Status). with_output s (drill_line zones records report.names faults)) same
     ∙ ap (λ (n : ℕ). with_output (status_of report.entries) (drill_line zones n report.names faults)) counted
-    ∙ ap (λ (n : ℕ). with_output (status_of report.entries) (drill_line zones (min (records_of config.servers) last_count) report.names n)) many
+    ∙ ap (λ (n : ℕ). with_output (status_of report.entries) (drill_line zones (min (record_count config.servers) last_count) report.names n)) many
 
 pub returns : goal.returns
 returns c =

@@ -1,13 +1,13 @@
 use Rattle.std.proofs.lemmas.Result.{IfErr-weaker, on_ok_weaker}
 use Rattle.dns_data.proofs.Answers.{if_err_handed_on}
-use Rattle.groot_run.specs.ShownClasses.{EndsAmong}
+use Rattle.groot_run.specs.ShownClasses.{EndsAmongClasses}
 use Rattle.query_classes.specs.ClassList.{classes_of_row}
 use Rattle.groot_run.proofs.ShownClasses.{shown_alone, shown_both, ends_exact, ends_below}
 use Rattle.groot_run.proofs.site.show_row.Goals as goal
 
 pub returns-in_err-show_exact-clause-err : goal.returns-in_err-show_exact-clause-err
 returns-in_err-show_exact-clause-err g c =
-    if_err_handed_on (EndsAmong c.args.graphs.now (classes_of_row c.args.row.now)) c.in_err-show_exact.field-0.0 c.from_residual.result c.from_residual.ensures.1
+    if_err_handed_on (EndsAmongClasses c.args.graphs.now (classes_of_row c.args.row.now)) c.in_err-show_exact.field-0.0 c.from_residual.result c.from_residual.ensures.1
     (ends_exact c.args.graphs.now c.args.row.now c.in_err-show_exact.field-0.0 c.in_err-show_exact.ensures.err)
 
 pub returns-in-Some-clause-ok : goal.returns-in-Some-clause-ok

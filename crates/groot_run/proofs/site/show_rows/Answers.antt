@@ -1,6 +1,6 @@
 use Rattle.dns_data.proofs.Answers.{if_err_handed_on}
 use Rattle.query_classes.specs.ClassList.{classes_of_rows}
-use Rattle.groot_run.specs.ShownClasses.{EndsAmong}
+use Rattle.groot_run.specs.ShownClasses.{EndsAmongClasses}
 use Rattle.groot_run.proofs.ShownClasses.{shown_none, shown_row, shown_all, ends_at_row}
 use Rattle.groot_run.proofs.site.show_rows.Goals as goal
 
@@ -17,6 +17,6 @@ returns-clause-ok g c = shown_all _ _ _ _ c.args.rows.now c.loop-row.row-index _
 
 pub returns-in_err-show_row-clause-err : goal.returns-in_err-show_row-clause-err
 returns-in_err-show_row-clause-err g c =
-    if_err_handed_on (EndsAmong c.args.graphs.now (classes_of_rows c.args.rows.now)) c.in_err-show_row.field-0.0 c.from_residual.result c.from_residual.ensures.1
+    if_err_handed_on (EndsAmongClasses c.args.graphs.now (classes_of_rows c.args.rows.now)) c.in_err-show_row.field-0.0 c.from_residual.result c.from_residual.ensures.1
     (ends_at_row c.args.graphs.now c.args.rows.now c.loop-row.row-index c.row-item.result c.in_err-show_row.field-0.0 c.loop-row-test.true c.row-item.is
     c.loop-row.invariant.none_passes c.in_err-show_row.ensures.err)

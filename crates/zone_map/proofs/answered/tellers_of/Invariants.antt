@@ -1,7 +1,7 @@
 -- So far the set tells of the first origins' servers.
 use Rattle.std.proofs.Common.{take}
-use Rattle.zone_map.specs.ReachedRows.{AreTellers}
+use Rattle.zone_map.specs.ReachedRows.{TellOfAnswers}
 use Rattle.zone_map.proofs.answered.tellers_of.Given as goal
 
 abbrev pub invariant-loop-one : goal.invariant-loop-one
-invariant-loop-one l = AreTellers (take l.one-index l.answered) l.tellers
+invariant-loop-one l = TellOfAnswers (take l.one-index l.answered) l.tellers

@@ -1,8 +1,8 @@
 use Rattle.std.proofs.Common.{ap, inl, inr, subst, length, ◌∙◌}
 use Rattle.std.proofs.lemmas.List.{length-map}
 use Rattle.query_verdicts.specs.Queries.{LimitedQueries}
-use Rattle.zone_map.specs.Reached.{IsReached, reached_word}
-use Rattle.zone_map.specs.ShownOrigins.{AreViewsOf}
+use Rattle.zone_map.specs.Reached.{IsRowReached, reached_word}
+use Rattle.zone_map.specs.ShownOrigins.{AreViewsOfRows}
 use Rattle.zone_map.proofs.ReachedViews.{seen_means}
 use Rattle.zone_map.proofs.SeenRows.{is_seen, tell_rows, words_seen}
 use Rattle.zone_map.proofs.reached_rows.by_views.Goals as goal
@@ -20,11 +20,11 @@ returns-in-Ok c =
     let config = c.args.graphs.now.config in
     let rows = c.args.rows.now in
     let words = words_seen _ rows seen.views _ _ c.of_rows-check.ensures.step c.of_rows-check.ensures.held seen.holds in
-    let views = subst (λ (queries : LimitedQueries). AreViewsOf queries rows seen.views) c.requires.limits seen.are_views in
+    let views = subst (λ (queries : LimitedQueries). AreViewsOfRows queries rows seen.views) c.requires.limits seen.are_views in
     elim c.as_told.ensures [
       | inl (told, as_words, is) ↦ inl (inr (
         seen.none_passes,
-        record { told = told; tells = tell_rows (is_seen seen.views) (IsReached config) told rows (as_words ∙ words) (seen_means config rows seen.views views); as_text = is },
+        record { told = told; tells = tell_rows (is_seen seen.views) (IsRowReached config) told rows (as_words ∙ words) (seen_means config rows seen.views views); as_text = is },
       ))
       | inr ran_out ↦ inr ran_out
     ]

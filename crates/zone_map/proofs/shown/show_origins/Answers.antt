@@ -3,7 +3,7 @@ use Rattle.dns_data.specs.Name.{name_eq}
 use Rattle.dns_data.proofs.Answers.{if_err_handed_on}
 use Rattle.dns_data.proofs.FirstItems.{any-next}
 use Rattle.config_load.specs.declared.loaded.RowFiles.{RowFiles}
-use Rattle.zone_map.specs.ShownOrigins.{EndsAmong, is_shown}
+use Rattle.zone_map.specs.ShownOrigins.{EndsAmongRows, is_shown}
 use Rattle.zone_map.proofs.ShownOrigins.{ends_at_row, none_shown, seen_all, seen_more, seen_none}
 use Rattle.zone_map.proofs.shown.show_origins.Goals as goal
 
@@ -34,6 +34,6 @@ returns-clause-ok g c = seen_all c.args.graphs.now _ c.args.rows.now c.loop-row.
 
 pub returns-in_err-show_new-clause-err : goal.returns-in_err-show_new-clause-err
 returns-in_err-show_new-clause-err g c =
-    if_err_handed_on (EndsAmong c.args.graphs.now c.args.rows.now) c.in_err-show_new.field-0.0 c.from_residual.result c.from_residual.ensures.1
+    if_err_handed_on (EndsAmongRows c.args.graphs.now c.args.rows.now) c.in_err-show_new.field-0.0 c.from_residual.result c.from_residual.ensures.1
     (ends_at_row c.args.graphs.now c.args.rows.now c.loop-row.row-index c.row-item.result c.in_err-show_new.field-0.0 c.loop-row-test.true c.row-item.is
     c.loop-row.invariant.seen.none_passes c.in_err-show_new.ensures.err)
