@@ -13,6 +13,7 @@ pub mod OneEntry
 pub mod OneOutcome
 pub mod OneReport
 mod PrintedLines
+pub mod PassedNames
 pub mod Places
 pub mod Rechecked
 pub mod ShownClasses

@@ -1,18 +1,18 @@
 //! Names that are counted before any is judged.
 
-ghost use Rattle.std.specs.Prelude.{◌≡◌, IfErr};
+ghost use Rattle.std.specs.Prelude.{◌≡◌, [], ◌++◌, reverse, IfErr, IsErrOf, OnOk};
 ghost use Rattle.std.specs.List.{list_any};
 ghost use Rattle.net_model.specs.Reading.{ground_of};
+ghost use Rattle.net_model.specs.Tree.{HasMoreThan, IsInPart};
 ghost use Rattle.query_classes.specs.Children.{IsInTree};
 ghost use Rattle.same_answers.specs.Compared.{joint};
 ghost use Rattle.groot_run.specs.Counted.{EndsPast, is_redirect, server_redirects, zone_redirects};
 ghost use Rattle.groot_run.specs.Outcome.{compared_of};
 
-use crate::classes::{rows_at, rows_within};
-use dns_data::{List, Name, NoMemory, Rdata, Rr};
-use label_graph::LabelGraph;
+use dns_data::{List, NoMemory, Rdata, Rr};
+use label_graph::{LabelGraph, laws};
 use net_model::{Config, Server, Zone};
-use query_classes::ClassRow;
+use query_classes::{LiveName, TreeFault};
 use run_endings::Ending;
 use std::alloc::Global;
 
@@ -25,9 +25,9 @@ pub(crate) fn count_redirected(alloc: Global, config: &Config, limit: u32) -> Re
     if !some_redirects(config.servers.items()) {
         return Ok(());
     }
-    match rows_within(alloc, config, limit) {
-        Ok(_) => Ok(()),
-        Err(ending) => Err(ending),
+    match LabelGraph::of_config(alloc, config) {
+        Ok(graph) => count_names(alloc, &graph, limit),
+        Err(NoMemory) => Err(Ending::no_memory()),
     }
 }
 
@@ -44,26 +44,50 @@ pub(crate) fn count_joint(
     if !some_redirects(first.servers.items()) && !some_redirects(second.servers.items()) {
         return Ok(());
     }
-    match joint_rows(alloc, first, second, limit) {
-        Ok(_) => Ok(()),
-        Err(ending) => Err(ending),
+    match LabelGraph::of_names(alloc, &[first, second], &[]) {
+        Ok(graph) => count_names(alloc, &graph, limit),
+        Err(NoMemory) => Err(Ending::no_memory()),
     }
 }
 
-/// The rows of the class tree of two configurations, or how a run ends since it has more names than the limit.
-fn joint_rows(
-    alloc: Global,
-    first: &Config,
-    second: &Config,
-    limit: u32,
-) -> Result<List<ClassRow>, Ending>
-    ensures { IfErr result (EndsPast (IsInTree (joint (compared_of first.now second.now))) limit) }
+/// Counts the names of the class tree of a graph: it is `Err` where there are more than the limit.
+fn count_names(alloc: Global, graph: &LabelGraph, limit: u32) -> Result<(), Ending>
+    ensures { IfErr result (EndsPast (IsInPart graph.now []) limit) }
 {
-    let top = Name::root();
-    match LabelGraph::of_names(alloc, &[first, second], &[]) {
-        Ok(graph) => rows_at(alloc, &graph, &top, limit),
-        Err(NoMemory) => Err(Ending::no_memory()),
+    match count_up_to(alloc, graph, limit) {
+        Ok(()) => Ok(()),
+        Err(TreeFault::TooMany) => Err(Ending::too_many_names(alloc, limit)),
+        Err(TreeFault::NoMemory) => Err(Ending::no_memory()),
     }
+}
+
+/// Counts the names of the class tree of a graph: it is `TooMany` where there are more than so many. No name is kept but
+/// those that wait beside the way down.
+fn count_up_to(alloc: Global, graph: &LabelGraph, most: u32) -> Result<(), TreeFault>
+    ensures { IsErrOf result TreeFault.TooMany → HasMoreThan (IsInPart graph.now []) most }
+{
+    laws::graph_is_closed(graph);
+    let mut waiting = Vec::new(alloc);
+    waiting.push(LiveName::root(alloc, graph)?)?;
+    let mut counted = 0;
+    while let Some(next) = waiting.pop() {
+        if counted == most {
+            return Err(TreeFault::TooMany);
+        }
+        counted += 1;
+        put_last_first(next.children(alloc, graph)?, &mut waiting)?;
+    }
+    Ok(())
+}
+
+/// Puts the names at the end, the last one first.
+fn put_last_first(names: List<LiveName>, waiting: &mut Vec<LiveName>) -> Result<(), NoMemory>
+    ensures { OnOk result (waiting.new.items ≡ waiting.old.items ++ reverse names) }
+{
+    let mut names = names.into_vec();
+    names.reverse();
+    waiting.append(&mut names)?;
+    Ok(())
 }
 
 /// Whether some server has a DNAME record.
