@@ -17,8 +17,8 @@ use Rattle.groot_line.specs.declared.fault.LineFault.{LineFault}
 use Rattle.groot_line.specs.declared.job.Job.{Job}
 use Rattle.groot_line.specs.declared.job.Job.TheVariants as jobs
 use Rattle.run_endings.specs.declared.ending.Ending.{Ending}
-use Rattle.run_endings.specs.Endings.{OfReading}
-use Rattle.groot_run.specs.Outcome.{reported, listed, WithinNames, WithinStates, IsReported, most_states, too_many_states, Checks, IsClassList, ListsClasses, ask_rewrites, most_learning_walks, IsAnswerWith, Asks, walks_written, too_many_to_learn, Outcome, Drills, IsDrilled, drilled, drill_names, drill_rewrites, answered_to, IsRechecked, Rechecks, TellsFindings, ShowsClasses, told_of_views, site_names, site_rewrites, Compares, ComparesWith, compared_of, told_same, IsScoped, Scopes, WithinScope, scope_of, scope_written}
+use Rattle.run_endings.specs.Endings.{OfReading, most_learning_walks, too_many_to_learn}
+use Rattle.groot_run.specs.Outcome.{reported, listed, WithinNames, WithinStates, IsReported, most_states, too_many_states, Checks, IsClassList, ListsClasses, ask_rewrites, IsAnswerWith, Asks, walks_written, Outcome, Drills, IsDrilled, drilled, drill_names, drill_rewrites, answered_to, IsRechecked, Rechecks, TellsFindings, ShowsClasses, told_of_views, site_names, site_rewrites, Compares, ComparesWith, compared_of, told_same, IsScoped, Scopes, WithinScope, scope_of, scope_written}
 use Rattle.report_check.proofs.OneAnswer.{only_answer}
 use Rattle.same_answers.specs.Compared.{Compared}
 use Rattle.same_answers.proofs.OneSameness.{one_sameness, one_passed as one_passed_in_one}

@@ -2,7 +2,8 @@
 use Rattle.std.proofs.Common.{◌≡◌, [], ◌∷◌, codes, refl}
 use Rattle.std.specs.Fmt.{digits}
 use Rattle.run_endings.specs.Endings.{too_many_names}
-use Rattle.groot_run.specs.Outcome.{too_many_states, too_many_walks, too_many_to_learn}
+use Rattle.run_endings.specs.Endings.{too_many_to_learn}
+use Rattle.groot_run.specs.Outcome.{too_many_states, too_many_walks}
 
 names : (too_many_names 1000000).err ≡ codes "classes: more than 1000000\n"
 unfolding digits

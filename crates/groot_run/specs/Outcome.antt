@@ -36,7 +36,7 @@ use Rattle.groot_line.specs.declared.job.Job.{Job}
 use Rattle.groot_line.specs.declared.job.Job.TheVariants as jobs
 use Rattle.run_endings.specs.declared.ending.Ending.{Ending}
 use Rattle.run_endings.specs.declared.status.Status.{Status}
-use Rattle.run_endings.specs.Endings.{OfReading, with_output, without_output, read_failed, no_memory, too_many_names, too_many_states as too_many_states_than}
+use Rattle.run_endings.specs.Endings.{OfReading, with_output, without_output, read_failed, no_memory, too_many_names, too_many_states as too_many_states_than, most_learning_walks, too_many_to_learn}
 use Rattle.run_endings.specs.declared.status.Status.TheVariants.{Clean, Faults, Usage, Refused, Walks}
 use Rattle.job_scope.specs.Scoped.{scoped, widened}
 use Rattle.same_answers.specs.Compared.{Compared, joint}
@@ -92,15 +92,6 @@ most_walks_written = 1000
 -- the query has more walks than are written
 abbrev pub too_many_walks : Ending
 too_many_walks = without_output Walks (codes "walks: more than " ++ (decimal most_walks_written ++ codes "\n"))
-
--- how many walks of a server's name, with type A or with type AAAA, are followed at most to learn its address
-abbrev pub most_learning_walks : ℕ
-most_learning_walks = 10000
-
--- the server's name has more walks than are followed to learn its address
-abbrev pub too_many_to_learn : Labels → Ending
-too_many_to_learn server =
-    without_output Walks (codes "walks: more than " ++ (decimal most_learning_walks ++ (codes " for " ++ (name_text server ++ codes "\n"))))
 
 -- what checks tell that were shown these views
 abbrev pub told_of_views : List Site → List View → Ending

@@ -4,21 +4,18 @@ ghost use Rattle.std.specs.Prelude.{◌≡◌, ◌⊎◌};
 ghost use Rattle.run_endings.specs.Endings.{no_memory};
 ghost use Rattle.groot_run.specs.Outcome.{Asks, IsAnswerWith};
 
-use crate::ending::{too_many_to_learn, too_many_walks};
+use crate::ending::too_many_walks;
 use dns_data::{List, Name, NoMemory, RrType};
 use groot_line::USUAL_REWRITES;
 use net_model::Config;
 use plain_resolver::{LearntFault, ResolveFault, learnt_at, resolve_at};
 use report_json::ask_text;
-use run_endings::{Ending, Status};
+use run_endings::{Ending, MOST_LEARNING_WALKS, Status};
 use std::alloc::Global;
 use zone_lookup::Hosts;
 
 /// How many walks are written at most.
 pub(crate) const MOST_WALKS: u32 = 1_000;
-
-/// How many walks of a server's name with one type are followed at most to learn its address.
-pub(crate) const MOST_LEARNING_WALKS: u32 = 10_000;
 
 /// All walks of the query, unless there are too many; or the first server whose name has too many to learn its address.
 pub(crate) fn ask(alloc: Global, config: &Config, name: &Name, rtype: RrType) -> Ending
@@ -38,7 +35,7 @@ fn ask_at(alloc: Global, hosts: &Hosts<'_>, name: &Name, rtype: RrType) -> Endin
     let none = List::new(alloc);
     match learnt_at(alloc, hosts, USUAL_REWRITES, &none, MOST_LEARNING_WALKS) {
         Ok(followed) => answer(alloc, hosts, followed.items(), name, rtype),
-        Err(LearntFault::WalksPassed(server)) => too_many_to_learn(alloc, &server),
+        Err(LearntFault::WalksPassed(server)) => Ending::too_many_to_learn(alloc, &server),
         Err(LearntFault::NoMemory) => Ending::no_memory(),
     }
 }

@@ -4,13 +4,13 @@ ghost use Rattle.std.specs.Prelude.{◌≡◌, ◌⊎◌, ◌++◌, codes, decim
 ghost use Rattle.run_endings.specs.Endings.{no_memory};
 ghost use Rattle.groot_run.specs.Outcome as outcome;
 
-use crate::ask::{MOST_LEARNING_WALKS, MOST_WALKS};
+use crate::ask::MOST_WALKS;
 use crate::judging::MOST_STATES;
 use dns_data::{Name, NoMemory};
 use groot_line::usage_line;
 use itoa::Buffer;
 use report_check::MOST_WALKS as MOST_WALKS_CHECKED;
-use run_endings::{Ending, Line, Status, more_than, more_than_for, refusal_line};
+use run_endings::{Ending, Line, Status, more_than, refusal_line};
 use std::alloc::Global;
 
 /// The words are no job.
@@ -25,16 +25,6 @@ pub(crate) fn too_many_walks(alloc: Global) -> Ending
     ensures { (result ≡ outcome.too_many_walks) ⊎ (result ≡ no_memory) }
 {
     match more_than(alloc, b"walks: more than ", MOST_WALKS) {
-        Ok(line) => Ending::without_output(Status::Walks, line),
-        Err(NoMemory) => Ending::no_memory(),
-    }
-}
-
-/// The server's name has more walks than are followed to learn its address.
-pub(crate) fn too_many_to_learn(alloc: Global, server: &Name) -> Ending
-    ensures { (result ≡ outcome.too_many_to_learn server.now) ⊎ (result ≡ no_memory) }
-{
-    match more_than_for(alloc, b"walks: more than ", MOST_LEARNING_WALKS, server) {
         Ok(line) => Ending::without_output(Status::Walks, line),
         Err(NoMemory) => Ending::no_memory(),
     }

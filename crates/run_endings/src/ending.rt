@@ -13,6 +13,9 @@ use dns_data::{Name, NoMemory, Octets, Text};
 use itoa::Buffer;
 use std::alloc::Global;
 
+/// How many walks of a server's name, with type A or with type AAAA, are followed at most to learn its address.
+pub const MOST_LEARNING_WALKS: u32 = 10_000;
+
 /// How a run ends: its status, the text for out, and the line for err.
 #[derive(Debug, Drop)]
 pub struct Ending {
@@ -91,6 +94,16 @@ impl Ending {
             Err(NoMemory) => Ending::no_memory(),
         }
     }
+
+    /// The server's name has more walks than are followed to learn its address.
+    pub fn too_many_to_learn(alloc: Global, server: &Name) -> Ending
+        ensures { (result ≡ endings.too_many_to_learn server.now) ⊎ (result ≡ endings.no_memory) }
+    {
+        match more_than_for(alloc, b"walks: more than ", MOST_LEARNING_WALKS, server) {
+            Ok(line) => Ending::without_output(Status::Walks, line),
+            Err(NoMemory) => Ending::no_memory(),
+        }
+    }
 }
 
 impl From<NoMemory> for Ending {
@@ -132,7 +145,7 @@ pub fn more_than<'a>(alloc: Global, front: &'a [u8], limit: u32) -> Result<Line,
 
 /// The line that says what there is more of than a limit for this name: what stands in front, the limit in digits, `for`,
 /// the name's text, and a line feed. An error means that memory ran out.
-pub fn more_than_for<'a>(
+fn more_than_for<'a>(
     alloc: Global,
     front: &'a [u8],
     limit: u32,

@@ -21,10 +21,10 @@ use Rattle.net_model.specs.Walk.{AreWalks}
 use Rattle.plain_resolver.specs.Passed.{HasMoreWalks, NoneInRounds, IsFirstWithTooMany}
 use Rattle.config_load.specs.declared.loaded.Loaded.{Loaded}
 use Rattle.config_load.specs.declared.loaded.RowFiles.{RowFiles}
-use Rattle.run_endings.specs.Endings.{with_output, without_output}
+use Rattle.run_endings.specs.Endings.{most_learning_walks, too_many_to_learn, with_output}
 use Rattle.run_endings.specs.declared.ending.Ending.{Ending}
 use Rattle.run_endings.specs.declared.status.Status.{Status}
-use Rattle.run_endings.specs.declared.status.Status.TheVariants.{Clean, Faults, Walks}
+use Rattle.run_endings.specs.declared.status.Status.TheVariants.{Clean, Faults}
 use Rattle.zone_map.specs.Columns.{columns_line}
 use Rattle.zone_map.specs.Records.{record_columns, records_of}
 use Rattle.zone_map.specs.Rewrites.{most_rewrites}
@@ -35,10 +35,6 @@ use Rattle.zone_map.specs.declared.target_ends.TargetEnds.{TargetEnds}
 -- how many walks of a target with one type are followed at most
 abbrev pub most_target_walks : ℕ
 most_target_walks = 1000
-
--- how many walks of a server's name, with type A or with type AAAA, are followed at most to learn its address
-abbrev pub most_learning_walks : ℕ
-most_learning_walks = 10000
 
 -- ---- which targets count
 
@@ -139,10 +135,6 @@ pub record TellsTargets (all : Loaded) (ending : Ending) : Type 0 where
   pub ends : Labels → TargetEnds
   pub are : (name : Labels) → AreTargetEnds (following all.config most_rewrites followed) name (ends name)
   pub as_text : ending ≡ with_output (targets_status (targets_text ends all)) (targets_text ends all)
-
--- the server's name has more walks than are followed to learn its address
-abbrev pub too_many_to_learn : Labels → Ending
-too_many_to_learn server = without_output Walks (codes "walks: more than 10000 for " ++ (name_text server ++ codes "\n"))
 
 -- what `targets` gives of what was read, unless a server's name has more walks than are followed
 abbrev pub IsTargets : Loaded → Ending → Type 0

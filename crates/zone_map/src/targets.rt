@@ -1,11 +1,10 @@
 //! The lines of records whose target leads nowhere.
 
-ghost use Rattle.std.specs.Prelude.{◌≡◌, ◌⊎◌, ◌++◌, Some, codes, IfOk, OnOk};
+ghost use Rattle.std.specs.Prelude.{◌≡◌, ◌⊎◌, ◌++◌, Some, IfOk, OnOk};
 ghost use Rattle.std.specs.List.{flat_map};
-ghost use Rattle.dns_data.specs.Spelling.{name_text};
 ghost use Rattle.net_model.specs.Step.{following};
 ghost use Rattle.run_endings.specs.Endings.{no_memory, with_output};
-ghost use Rattle.zone_map.specs.Targets.{IsTargets, line_by, row_lines, target_line, targets_status, targets_text, too_many_to_learn, ends_word};
+ghost use Rattle.zone_map.specs.Targets.{IsTargets, line_by, row_lines, target_line, targets_status, targets_text, ends_word};
 ghost use Rattle.zone_map.specs.Rewrites.{most_rewrites};
 ghost use Rattle.zone_map.specs.TargetsAsked.{ends_in};
 
@@ -16,12 +15,9 @@ use crate::target_ends::{DeadEnds, TargetEnds, Targeting};
 use config_load::{Loaded, RowFiles};
 use dns_data::{List, Name, NoMemory, Octets, Rr};
 use plain_resolver::{LearntFault, learnt_at};
-use run_endings::{Ending, Line, Status};
+use run_endings::{Ending, MOST_LEARNING_WALKS, Status};
 use std::alloc::Global;
 use zone_lookup::Hosts;
-
-/// How many walks of a server's name with one type are followed at most to learn its address.
-const MOST_LEARNING_WALKS: u32 = 10_000;
 
 /// What is told of the targets of records: a line for each that leads nowhere; or the first server whose name has too many
 /// walks to learn its address.
@@ -41,38 +37,9 @@ fn targets_at(alloc: Global, hosts: &Hosts<'_>, rows: &[RowFiles]) -> Ending
     let none = List::new(alloc);
     match learnt_at(alloc, hosts, REWRITES, &none, MOST_LEARNING_WALKS) {
         Ok(followed) => targets_while(alloc, hosts, followed.items(), rows),
-        Err(LearntFault::WalksPassed(server)) => passed_ending(alloc, &server),
+        Err(LearntFault::WalksPassed(server)) => Ending::too_many_to_learn(alloc, &server),
         Err(LearntFault::NoMemory) => Ending::no_memory(),
     }
-}
-
-/// The server's name has more walks than are followed to learn its address.
-fn passed_ending(alloc: Global, server: &Name) -> Ending
-    ensures { (result ≡ too_many_to_learn server.now) ⊎ (result ≡ no_memory) }
-{
-    match passed_line(alloc, server) {
-        Ok(err) => Ending {
-            status: Status::Walks,
-            out: Octets::new(),
-            err,
-        },
-        Err(NoMemory) => Ending::no_memory(),
-    }
-}
-
-/// The line of a server whose name has more walks than are followed to learn its address.
-fn passed_line(alloc: Global, server: &Name) -> Result<Line, NoMemory>
-    ensures { IfOk result (λ line. line ≡ codes "walks: more than 10000 for " ++ (name_text server.now ++ codes "\n")) }
-{
-    let server = server.to_text(alloc)?;
-    Line::of_pieces(
-        alloc,
-        &[
-            b"walks: more than 10000 for ",
-            server.as_str().as_bytes(),
-            b"\n",
-        ],
-    )
 }
 
 /// What is told of the targets of rows, while these servers are followed.

@@ -5,7 +5,8 @@ use Rattle.net_model.specs.declared.config.Config.{Config}
 use Rattle.net_model.specs.Learnt.{AfterRounds, IsLeast}
 use Rattle.plain_resolver.specs.Passed.{NoneInRounds, IsFirstWithTooMany}
 use Rattle.plain_resolver.specs.declared.fault.LearntFault.{LearntFault}
-use Rattle.groot_run.specs.Outcome.{ask_rewrites, most_learning_walks, too_many_to_learn}
+use Rattle.run_endings.specs.Endings.{most_learning_walks, too_many_to_learn}
+use Rattle.groot_run.specs.Outcome.{ask_rewrites}
 use Rattle.groot_run.proofs.ask.ask_at.Goals as goal
 
 learnt_from_none : (config : Config) (begin followed viewed : List Labels) → begin ≡ [] → followed ≡ viewed

@@ -6,7 +6,7 @@ use Rattle.net_model.specs.Learnt.{AfterRounds, IsLeast}
 use Rattle.net_model.specs.Step.{following}
 use Rattle.plain_resolver.specs.Passed.{NoneInRounds, IsFirstWithTooMany}
 use Rattle.plain_resolver.specs.declared.fault.LearntFault.{LearntFault}
-use Rattle.zone_map.specs.Targets.{most_learning_walks}
+use Rattle.run_endings.specs.Endings.{most_learning_walks}
 use Rattle.zone_map.specs.Rewrites.{most_rewrites}
 use Rattle.zone_map.specs.TargetsAsked.{ends_in}
 use Rattle.zone_map.proofs.TargetWalks.{ends_are}
@@ -45,7 +45,7 @@ returns-in-Ok c =
 
 pub returns-in-Err-WalksPassed : goal.returns-in-Err-WalksPassed
 returns-in-Err-WalksPassed c =
-    elim c.passed_ending.ensures [
+    elim c.too_many_to_learn.ensures [
       | inl is ↦ inl (inl (
         c.in-Err-WalksPassed.server,
         first_from_none c.args.hosts.now c.new-none.result c.in-Err-WalksPassed.server c.new-none.ensures
