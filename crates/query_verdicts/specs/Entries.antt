@@ -4,9 +4,9 @@ use Rattle.std.specs.List.{AllZip, AllByRecursion}
 use Rattle.std.specs.Ordering.{is_lt}
 use Rattle.std.specs.declared.cmp.Ordering.TheVariants.{Less}
 use Rattle.query_verdicts.specs.Carried.{SomeClassShows}
-use Rattle.query_verdicts.specs.declared.entries.EntryParts.{EntryParts}
-use Rattle.query_verdicts.specs.declared.entries.ClassFault.{ClassFault}
-use Rattle.query_verdicts.specs.declared.entries.Walked.{Walked}
+use Rattle.query_verdicts.specs.declared.report.EntryParts.{EntryParts}
+use Rattle.query_verdicts.specs.declared.report.ClassFault.{ClassFault}
+use Rattle.query_verdicts.specs.declared.report.Walked.{Walked}
 use Rattle.query_verdicts.specs.Queries.{IsLeastGraph}
 use Rattle.dns_data.specs.Name.{Labels}
 use Rattle.dns_data.specs.RrType.{number_of}

@@ -6,7 +6,7 @@ use Rattle.std.specs.declared.cmp.Ordering.{Ordering}
 use Rattle.std.specs.declared.cmp.Ordering.TheVariants.{Less}
 use Rattle.query_verdicts.specs.Passed.{ClassPasses}
 use Rattle.query_verdicts.specs.Verdict.{IsNameVerdict}
-use Rattle.query_verdicts.specs.declared.entries.ClassFault.{ClassFault}
+use Rattle.query_verdicts.specs.declared.report.ClassFault.{ClassFault}
 use Rattle.query_verdicts.specs.declared.verdict.ClassVerdict.{ClassVerdict}
 use Rattle.query_verdicts.specs.declared.verdict.ClassVerdict.TheVariants.{Faults, StatesPassed}
 use Rattle.query_verdicts.specs.declared.verdict.NameVerdict.{NameVerdict}

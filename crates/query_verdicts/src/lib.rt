@@ -8,6 +8,10 @@
 //! queries. A subject is a configuration with its limits, the names that are told apart in it, and the name at or below
 //! which queries are looked at.
 //!
+//! The way of a fault, from the graph of a query's walks to its entry, goes through four files: `verdicts` finds the faults
+//! in the graph, `verdict` has what is told of a class and of a name and how that is filed, `name_judge` judges the two
+//! classes of a name, and `report` picks the first class that shows a fault and makes the entry.
+//!
 //! Costs: `prepare` makes the trees of all zones and, where walks of a server's name may lead on from the top servers or
 //! these are few, a graph of that name, once. A name of the tree keeps its own
 //! live set, found once, one label on from that of the name above it: none is walked to from the root to be judged, and
@@ -20,7 +24,6 @@
 //! all these faults in it.
 #![tactic(auto)]
 
-mod entries;
 mod graphs;
 pub mod laws;
 mod learnt;

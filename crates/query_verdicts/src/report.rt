@@ -1,18 +1,31 @@
-//! The report of a subject, from the verdicts of the names of its class tree.
+//! The report of a subject, from the verdicts of the names of its class tree: how many names and classes these have, and
+//! an entry for each fault, with the first class that shows it and the first walks of that class's representative.
 
-ghost use Rattle.std.specs.Prelude.{◌≡◌, ◌≤◌, ◌<◌, ◌^◌, length, IfOk, IfErr, OnOk};
+ghost use Rattle.std.specs.Prelude.{◌≡◌, ◌++◌, ◌≤◌, ◌<◌, ◌^◌, All, length, IfOk, IfErr, IfSome, IsPermutation, OnOk, Some, slice_get};
+ghost use Rattle.std.specs.List.Sorted.{IsSortedBy};
+ghost use Rattle.std.proofs.lemmas.Cmp.{on_total};
+ghost use Rattle.query_verdicts.specs.Entries.{AreEntries, AreEntriesOf, IsEntryOf, IsRightFound, IsWalked, PutsEntry, entry_with, is_before};
 ghost use Rattle.query_verdicts.specs.Passed.{NonePasses, IsReportFault};
-ghost use Rattle.query_verdicts.specs.Rows.{AreRows, below_count};
-ghost use Rattle.graph_form.specs.Report.{IsReport};
+ghost use Rattle.query_verdicts.specs.Rows.{AreRows, below_count, class_rank, found_at, found_fault, found_in, found_of};
+ghost use Rattle.query_verdicts.specs.Queries.{IsLeastGraph};
+ghost use Rattle.query_verdicts.specs.Verdict.{PassesStates};
+ghost use Rattle.dns_data.specs.Name.{Labels};
+ghost use Rattle.graph_form.specs.Report.{IsClass, IsReport, repeats};
+ghost use Rattle.net_model.specs.Class.{IsRepresentative};
+ghost use Rattle.net_model.specs.declared.walk.Walk.{Walk as WalkValue};
+ghost use Rattle.net_model.proofs.FaultOrder.{classes_total};
 
-use crate::entries::entries_of;
 use crate::name_judge::NameJudge;
 use crate::passed::first_passed;
 use crate::subject::{OnSubject, SubjectGround};
-use crate::verdict::FiledVerdict;
+use crate::verdict::{ClassVerdict, FiledVerdict, NameVerdict};
 use dns_data::{List, Name, NoMemory};
-use graph_form::Report;
+use graph_form::{Graph, OfFault, Report, ReportEntry, Seen, first_of_each, repeats, trails};
+use interp_graph::GraphFault;
+use net_model::{Class, Fault, Walk};
 use query_classes::TreeName;
+use std::alloc::Global;
+use std::cmp::Ordering;
 use thiserror::Error;
 use verdict_book::{Filed, Work};
 
@@ -98,4 +111,317 @@ fn below_count<S: OnSubject, W: Work<Item = TreeName<SubjectGround<S>>, Verdict 
         }
     }
     count
+}
+
+/// The entries of the faults that the classes of the names show, in fault order, where no class passes the limit.
+fn entries_of<S: OnSubject, W: Work<Item = TreeName<SubjectGround<S>>, Verdict = FiledVerdict>>(
+    judge: &NameJudge<'_, S>,
+    filed: List<Filed<W>>,
+) -> Result<List<ReportEntry>, NoMemory>
+    requires rows { AreRows S.subject S.states filed }
+    requires none_passes { NonePasses S.subject S.states }
+    ensures { IfOk result (AreEntries S.subject) }
+{
+    let found = found_of(judge.alloc(), filed)?;
+    let firsts = first_of_each(judge.alloc(), found)?;
+    let by_class = in_class_order(firsts)?;
+    let made = entries_by_class(judge, by_class)?;
+    // Named, since the proof speaks of the list that comes where memory suffices.
+    let entries = in_fault_order(made)?;
+    Ok(entries)
+}
+
+/// A fault with its first type, and a class that shows it.
+#[derive(Drop)]
+struct ClassFault {
+    seen: Seen,
+    class: Class,
+}
+
+impl OfFault for ClassFault {
+    ghost fault_of = { found_fault };
+
+    ghost rank = { class_rank };
+
+    fn its_fault(&self) -> &Fault {
+        &self.seen.fault
+    }
+
+    fn compare_rank(&self, other: &ClassFault) -> Ordering {
+        self.class.compare(&other.class)
+    }
+
+    ghost total = { on_total (λ found. found.class) classes_total };
+}
+
+/// The faults of the names, each with its class.
+fn found_of<S: OnSubject, W: Work<Item = TreeName<SubjectGround<S>>, Verdict = FiledVerdict>>(
+    alloc: Global,
+    filed: List<Filed<W>>,
+) -> Result<List<ClassFault>, NoMemory>
+    ensures { IfOk result (λ found. found ≡ found_of filed) }
+{
+    let mut found = List::new(alloc);
+    for one in filed {
+        let Filed { item, verdict } = one;
+        put_name(alloc, item.into_name(), verdict, &mut found)?;
+    }
+    Ok(found)
+}
+
+/// Puts the faults of the classes of a name at the end.
+#[tactic(auto, using(crate::proofs::FoundNothing::none_found))]
+fn put_name(
+    alloc: Global,
+    name: Name,
+    verdict: FiledVerdict,
+    found: &mut List<ClassFault>,
+) -> Result<(), NoMemory>
+    ensures { OnOk result (found.new ≡ found.old ++ found_at name verdict) }
+{
+    match verdict.into_told() {
+        Some(verdict) => put_classes(alloc, name, verdict, found),
+        None => Ok(()),
+    }
+}
+
+/// Puts the faults of the class of a name alone and of the class below it at the end.
+fn put_classes(
+    alloc: Global,
+    name: Name,
+    verdict: NameVerdict,
+    found: &mut List<ClassFault>,
+) -> Result<(), NoMemory>
+    ensures { OnOk result (found.new ≡ found.old ++ found_at name verdict) }
+{
+    let class = Class::Exact(name.copy(alloc)?);
+    let NameVerdict { exact, below } = verdict;
+    put_class(alloc, &class, exact, found)?;
+    match below {
+        Some(verdict) => put_class(alloc, &Class::Below(name), verdict, found),
+        None => Ok(()),
+    }
+}
+
+/// Puts the faults of a class at the end.
+fn put_class(
+    alloc: Global,
+    class: &Class,
+    verdict: ClassVerdict,
+    found: &mut List<ClassFault>,
+) -> Result<(), NoMemory>
+    ensures { OnOk result (found.new ≡ found.old ++ found_in class.now verdict) }
+{
+    if let ClassVerdict::Faults(shown) = verdict {
+        for seen in shown {
+            let class = class.copy(alloc)?;
+            found.push(ClassFault { seen, class })?;
+        }
+    }
+    Ok(())
+}
+
+/// The faults, those of one class one after the other.
+fn in_class_order(found: List<ClassFault>) -> Result<List<ClassFault>, NoMemory>
+    ensures { IfOk result (IsPermutation found) }
+{
+    let mut sorted = found.into_vec();
+    sorted.sort_by(|a, b| a.class.compare(&b.class))?;
+    Ok(List::from_vec(sorted))
+}
+
+/// A class with its representative, and the graph of that one's walks while the servers of the least set are followed.
+#[derive(Drop)]
+struct Walked {
+    class: Class,
+    query: Name,
+    graph: Graph,
+}
+
+/// The entries of faults with their classes, one for each. A graph is made where the class is another than that of the
+/// fault before: once for each class, if the faults of one class stand together.
+fn entries_by_class<S: OnSubject>(
+    judge: &NameJudge<'_, S>,
+    found: List<ClassFault>,
+) -> Result<List<ReportEntry>, NoMemory>
+    requires none_passes { NonePasses S.subject S.states }
+    requires right { All (IsRightFound S.subject) found }
+    ensures { IfOk result (AreEntriesOf S.subject found) }
+{
+    let mut entries = List::new(judge.alloc());
+    let mut last = None;
+    for one in found {
+        let walked = put_entry(judge, last, one, &mut entries)?;
+        last = Some(walked);
+    }
+    Ok(entries)
+}
+
+/// Puts the entry of a fault with its class at the end, and gives the walks of that class, for the next one.
+fn put_entry<S: OnSubject>(
+    judge: &NameJudge<'_, S>,
+    last: Option<Walked>,
+    found: ClassFault,
+    entries: &mut List<ReportEntry>,
+) -> Result<Walked, NoMemory>
+    requires none_passes { NonePasses S.subject S.states }
+    requires last { IfSome last (IsWalked S.subject) }
+    requires right { IsRightFound S.subject found }
+    ensures walked { IfOk result (IsWalked S.subject) }
+    ensures put { OnOk result (PutsEntry S.subject found entries.old entries.new) }
+{
+    let walked = walked_for(judge, last, &found)?;
+    let entry = entry_of(judge, &walked, found)?;
+    entries.push(entry)?;
+    Ok(walked)
+}
+
+/// The walks of the representative of the class of a fault: the last ones, where these are of this class, or else new ones.
+fn walked_for<S: OnSubject>(
+    judge: &NameJudge<'_, S>,
+    last: Option<Walked>,
+    found: &ClassFault,
+) -> Result<Walked, NoMemory>
+    requires none_passes { NonePasses S.subject S.states }
+    requires last { IfSome last (IsWalked S.subject) }
+    requires right { IsRightFound S.subject found.now }
+    ensures walked { IfOk result (IsWalked S.subject) }
+    ensures class { IfOk result (λ walked. walked.class ≡ found.now.class) }
+{
+    match last {
+        Some(walked) => {
+            if walked.class.compare(&found.class).is_eq() {
+                Ok(walked)
+            } else {
+                // The one graph goes before the next is made.
+                drop(walked);
+                walked_of(judge, &found.class)
+            }
+        }
+        None => walked_of(judge, &found.class),
+    }
+}
+
+/// The walks of the representative of a class.
+fn walked_of<S: OnSubject>(judge: &NameJudge<'_, S>, class: &Class) -> Result<Walked, NoMemory>
+    requires none_passes { NonePasses S.subject S.states }
+    requires is_class { IsClass S.subject class.now }
+    requires some { (query : Labels) × IsRepresentative S.subject.ground class.now query }
+    ensures walked { IfOk result (IsWalked S.subject) }
+    ensures class { IfOk result (λ walked. walked.class ≡ class.now) }
+{
+    let query = query_of(judge, class)?;
+    let graph = least_graph(judge, &query)?;
+    let class = class.copy(judge.alloc())?;
+    Ok(Walked {
+        class,
+        query,
+        graph,
+    })
+}
+
+/// The representative of a class of the tree that isn't empty.
+fn query_of<S: OnSubject>(judge: &NameJudge<'_, S>, class: &Class) -> Result<Name, NoMemory>
+    requires is_class { IsClass S.subject class.now }
+    requires some { (query : Labels) × IsRepresentative S.subject.ground class.now query }
+    ensures { IfOk result (IsRepresentative S.subject.ground class.now) }
+{
+    match class {
+        Class::Exact(name) => Ok(name.copy(judge.alloc())?),
+        Class::Below(above) => match judge.representative_below(above)? {
+            Some(query) => Ok(query),
+            None => unreachable!(),
+        },
+    }
+}
+
+/// The graph of the walks of a query while the servers of the least set are followed. Where the name of no server
+/// passes the limit there is that set.
+fn least_graph<S: OnSubject>(judge: &NameJudge<'_, S>, query: &Name) -> Result<Graph, NoMemory>
+    requires none_passes { NonePasses S.subject S.states }
+    requires few { PassesStates S.subject.config S.subject.rewrites S.states query.now → ⊥ }
+    ensures { IfOk result (IsLeastGraph S.subject.config S.subject.rewrites query.now) }
+{
+    match judge.graph(query) {
+        Ok(Some(graph)) => Ok(graph),
+        Ok(None) => unreachable!(),
+        Err(GraphFault::StatesPassed) => unreachable!(),
+        Err(GraphFault::NoMemory) => Err(NoMemory),
+    }
+}
+
+/// The entry of a fault, from the walks of the class that shows it.
+fn entry_of<S: OnSubject>(
+    judge: &NameJudge<'_, S>,
+    walked: &Walked,
+    found: ClassFault,
+) -> Result<ReportEntry, NoMemory>
+    requires walked { IsWalked S.subject walked.now }
+    requires class { walked.now.class ≡ found.class }
+    requires right { IsRightFound S.subject found }
+    ensures { IfOk result (IsEntryOf S.subject found) }
+{
+    let parts = parts_of(judge, walked, &found)?;
+    Ok(entry_with(found, parts))
+}
+
+/// What an entry has beside its fault.
+#[derive(Drop)]
+struct EntryParts {
+    query: Name,
+    repeats: bool,
+    walks: List<Walk>,
+}
+
+/// What the entry of a fault has beside it, from the walks of the class that shows it.
+fn parts_of<S: OnSubject>(
+    judge: &NameJudge<'_, S>,
+    walked: &Walked,
+    found: &ClassFault,
+) -> Result<EntryParts, NoMemory>
+    requires walked { IsWalked S.subject walked.now }
+    requires class { walked.now.class ≡ found.now.class }
+    requires right { IsRightFound S.subject found.now }
+    ensures { IfOk result (λ parts. IsEntryOf S.subject found.now (entry_with found.now parts)) }
+{
+    let query = walked.query.copy(judge.alloc())?;
+    let walks = trails(judge.alloc(), &walked.graph, &found.seen)?;
+    let repeats = repeated(judge.alloc(), walks.items())?;
+    Ok(EntryParts {
+        query,
+        repeats,
+        walks,
+    })
+}
+
+/// The entry of a fault with these parts.
+fn entry_with(found: ClassFault, parts: EntryParts) -> ReportEntry
+    ensures { result ≡ entry_with found parts }
+{
+    ReportEntry {
+        seen: found.seen,
+        query: parts.query,
+        repeats: parts.repeats,
+        walks: parts.walks,
+    }
+}
+
+/// Whether the first of the walks comes to a server twice with one name.
+fn repeated(alloc: Global, walks: &[Walk]) -> Result<bool, NoMemory>
+    ensures { IfOk result (λ answer. (first : WalkValue) → slice_get walks.now 0 ≡ Some first → answer ≡ repeats first.states) }
+{
+    match walks.first() {
+        Some(first) => repeats(alloc, first),
+        None => Ok(false),
+    }
+}
+
+/// The entries in fault order.
+fn in_fault_order(entries: List<ReportEntry>) -> Result<List<ReportEntry>, NoMemory>
+    ensures same { IfOk result (IsPermutation entries) }
+    ensures sorted { IfOk result (IsSortedBy is_before) }
+{
+    let mut sorted = entries.into_vec();
+    sorted.sort_by(|a, b| a.seen.fault.compare(&b.seen.fault))?;
+    Ok(List::from_vec(sorted))
 }

@@ -1,6 +1,6 @@
 use Rattle.std.proofs.Common.{◌≡◌, ◌++◌}
 use Rattle.query_verdicts.specs.Rows.{with_class}
-use Rattle.query_verdicts.proofs.entries.put_class.Given as goal
+use Rattle.query_verdicts.proofs.report.put_class.Given as goal
 
 -- those put so far, and those that are left
 abbrev pub invariant-loop-seen : goal.invariant-loop-seen

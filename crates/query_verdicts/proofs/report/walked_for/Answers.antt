@@ -4,8 +4,8 @@ use Rattle.std.specs.Prelude.{IfSome}
 use Rattle.std.proofs.lemmas.Map.Views.{tells_apart}
 use Rattle.net_model.proofs.FaultOrder.{one_class}
 use Rattle.query_verdicts.specs.Entries.{IsWalked}
-use Rattle.query_verdicts.specs.declared.entries.Walked.{Walked}
-use Rattle.query_verdicts.proofs.entries.walked_for.Goals as goal
+use Rattle.query_verdicts.specs.declared.report.Walked.{Walked}
+use Rattle.query_verdicts.proofs.report.walked_for.Goals as goal
 
 pub walked_of-requires-clause-none_passes : goal.walked_of-requires-clause-none_passes
 walked_of-requires-clause-none_passes g c = c.requires.none_passes

@@ -1,5 +1,5 @@
 use Rattle.query_verdicts.proofs.ReportEntry.{listing_step, listing_ends, next_right}
-use Rattle.query_verdicts.proofs.entries.entries_by_class.Goals as goal
+use Rattle.query_verdicts.proofs.report.entries_by_class.Goals as goal
 
 pub put_entry-requires-clause-right : goal.put_entry-requires-clause-right
 put_entry-requires-clause-right g c =

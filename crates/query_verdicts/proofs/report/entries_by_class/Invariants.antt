@@ -1,7 +1,7 @@
 use Rattle.std.specs.Prelude.{IfSome}
 use Rattle.query_verdicts.specs.Entries.{IsWalked}
 use Rattle.query_verdicts.proofs.ReportEntry.{IsListing}
-use Rattle.query_verdicts.proofs.entries.entries_by_class.Given as goal
+use Rattle.query_verdicts.proofs.report.entries_by_class.Given as goal
 
 -- the entries so far are those of what was passed over, and the last walks are those of their class
 abbrev pub invariant-loop-one : goal.invariant-loop-one

@@ -3,7 +3,7 @@ use Rattle.std.specs.Prelude.{MatchOption}
 use Rattle.graph_form.specs.Graph.{PlainGraph}
 use Rattle.query_verdicts.specs.Queries.{IsLeastGraph}
 use Rattle.query_verdicts.specs.Verdict.{SomeServerPasses}
-use Rattle.query_verdicts.proofs.entries.least_graph.Goals as goal
+use Rattle.query_verdicts.proofs.report.least_graph.Goals as goal
 
 pub unreachable-requires : goal.unreachable-requires
 unreachable-requires g c =

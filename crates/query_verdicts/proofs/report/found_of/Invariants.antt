@@ -1,6 +1,6 @@
 use Rattle.std.proofs.Common.{◌≡◌, ◌++◌}
 use Rattle.query_verdicts.specs.Rows.{found_of}
-use Rattle.query_verdicts.proofs.entries.found_of.Given as goal
+use Rattle.query_verdicts.proofs.report.found_of.Given as goal
 
 -- those of the names so far, and those of what is left
 abbrev pub invariant-loop-one : goal.invariant-loop-one

@@ -1,7 +1,7 @@
 use Rattle.std.proofs.Common.{sym, subst}
 use Rattle.net_model.specs.Class.{IsRepresentative}
 use Rattle.net_model.specs.declared.class.Class.{Class}
-use Rattle.query_verdicts.proofs.entries.walked_of.Goals as goal
+use Rattle.query_verdicts.proofs.report.walked_of.Goals as goal
 
 pub least_graph-requires-clause-few : goal.least_graph-requires-clause-few
 least_graph-requires-clause-few g c =

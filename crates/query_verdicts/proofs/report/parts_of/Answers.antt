@@ -3,7 +3,7 @@ use Rattle.std.specs.Prelude.{slice_get}
 use Rattle.net_model.specs.Step.{following}
 use Rattle.net_model.specs.declared.walk.Walk.{Walk}
 use Rattle.query_verdicts.proofs.ReportEntry.{fault_shown, is_entry}
-use Rattle.query_verdicts.proofs.entries.parts_of.Goals as goal
+use Rattle.query_verdicts.proofs.report.parts_of.Goals as goal
 
 pub trails-requires-clause-of_query : goal.trails-requires-clause-of_query
 trails-requires-clause-of_query g c =

@@ -4,11 +4,11 @@ use Rattle.dns_data.proofs.Membership.{all_from_contains}
 use Rattle.graph_form.specs.FirstFaults.{AreFirsts}
 use Rattle.query_verdicts.specs.Entries.{IsRightFound}
 use Rattle.query_verdicts.specs.Rows.{class_rank, found_fault, found_of}
-use Rattle.query_verdicts.specs.declared.entries.ClassFault.{ClassFault}
+use Rattle.query_verdicts.specs.declared.report.ClassFault.{ClassFault}
 use Rattle.query_verdicts.proofs.FoundRight.{found_is_right, shown_is_found}
 use Rattle.net_model.proofs.InForce.{some_in_force}
 use Rattle.query_verdicts.proofs.WholeReport.{are_entries}
-use Rattle.query_verdicts.proofs.entries.entries_of.Goals as goal
+use Rattle.query_verdicts.proofs.report.entries_of.Goals as goal
 
 pub entries_by_class-requires-clause-right : goal.entries_by_class-requires-clause-right
 entries_by_class-requires-clause-right g c =

@@ -1,6 +1,6 @@
 use Rattle.std.proofs.Common.{sym, subst}
 use Rattle.query_verdicts.specs.Entries.{IsEntryOf}
-use Rattle.query_verdicts.proofs.entries.entry_of.Goals as goal
+use Rattle.query_verdicts.proofs.report.entry_of.Goals as goal
 
 pub returns : goal.returns
 returns g c =

@@ -4,7 +4,7 @@ use Rattle.net_model.specs.Class.{class_name, IsRepresentative}
 use Rattle.net_model.specs.declared.class.Class.{Class}
 use Rattle.query_classes.specs.Children.{IsInTree}
 use Rattle.query_verdicts.specs.Subjects.{RepresentsBelow}
-use Rattle.query_verdicts.proofs.entries.query_of.Goals as goal
+use Rattle.query_verdicts.proofs.report.query_of.Goals as goal
 
 pub representative_below-requires : goal.representative_below-requires
 representative_below-requires g c =

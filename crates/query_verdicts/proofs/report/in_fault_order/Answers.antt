@@ -5,7 +5,7 @@ use Rattle.std.proofs.lemmas.List.Sorted.{answers_always, ranks_by}
 use Rattle.graph_form.specs.declared.report.ReportEntry.{ReportEntry}
 use Rattle.net_model.proofs.FaultOrder.{faults_total}
 use Rattle.query_verdicts.specs.Entries.{is_before}
-use Rattle.query_verdicts.proofs.entries.in_fault_order.Goals as goal
+use Rattle.query_verdicts.proofs.report.in_fault_order.Goals as goal
 
 pub returns-clause-same : goal.returns-clause-same
 returns-clause-same c =
