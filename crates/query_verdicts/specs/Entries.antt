@@ -42,8 +42,8 @@ pub record IsEntryOf (subject : Subject) (found : ClassFault) (entry : ReportEnt
   pub is_entry : IsFirstClass subject found → IsEntry subject entry
 
 -- the entry of a fault with these parts
-abbrev pub entry_with : ClassFault → EntryParts → ReportEntry
-entry_with found parts = record { seen = found.seen; query = parts.query; repeats = parts.repeats; walks = parts.walks }
+abbrev pub entry_of_parts : ClassFault → EntryParts → ReportEntry
+entry_of_parts found parts = record { seen = found.seen; query = parts.query; repeats = parts.repeats; walks = parts.walks }
 
 -- the entry of the fault is put behind the others
 abbrev pub PutsEntry : Subject → ClassFault → List ReportEntry → List ReportEntry → Type 0

@@ -24,7 +24,7 @@ FollowsAll config followed = (cut : Cut) → is_configured config cut.ns ≡ tru
 
 -- the sets are those of the configuration, and the regions are of both; where it is told that all servers are followed, the
 -- least set follows them
-pub record AreLearnt (config : Config) (rewrites states : ℕ) (learnt : Learnt) : Type 0 where
+pub record IsRightLearnt (config : Config) (rewrites states : ℕ) (learnt : Learnt) : Type 0 where
   pub sets : AreSets config rewrites states learnt.sets
   pub regions : AreRegionsFor config learnt.sets learnt.regions
   pub all_followed : learnt.all_followed ≡ true → FollowsAll config learnt.sets.least
@@ -37,5 +37,5 @@ AreToldOrPassed config rewrites states (Err server) = IsFirstServerPassed config
 
 -- what is learnt, or else the first server whose name reaches too many pairs
 abbrev pub IsLearntOf : Config → ℕ → ℕ → Result Learnt Labels → Type 0
-IsLearntOf config rewrites states (Ok learnt) = AreLearnt config rewrites states learnt
+IsLearntOf config rewrites states (Ok learnt) = IsRightLearnt config rewrites states learnt
 IsLearntOf config rewrites states (Err server) = IsFirstServerPassed config rewrites states server

@@ -4,7 +4,7 @@ ghost use Rattle.std.specs.Prelude.{◌≡◌, ◌||◌, true, IfOk};
 ghost use Rattle.std.specs.BTreeSet as tree;
 ghost use Rattle.std.specs.List.{list_all};
 ghost use Rattle.address_deps.specs.Told.{AreTold};
-ghost use Rattle.query_verdicts.specs.Learnt.{AreLearnt, FollowsAll, IsLearntOf};
+ghost use Rattle.query_verdicts.specs.Learnt.{FollowsAll, IsLearntOf, IsRightLearnt};
 ghost use Rattle.query_verdicts.specs.Queries.{AreSets};
 ghost use Rattle.query_verdicts.specs.Verdict.{SomeServerPasses};
 ghost use Rattle.dns_data.specs.Name.{name_cmp, is_among};
@@ -45,7 +45,7 @@ pub(crate) fn learnt_of<'a>(queries: &Queries<'a>) -> Result<Result<Learnt<'a>, 
 fn learnt_from<'a>(queries: &Queries<'a>, told: &[AddressTold]) -> Result<Learnt<'a>, NoMemory>
     requires told { AreTold queries.now.trees queries.now.rewrites told.now }
     requires few { SomeServerPasses queries.now.trees queries.now.rewrites queries.now.states → ⊥ }
-    ensures { IfOk result (AreLearnt queries.now.trees queries.now.rewrites queries.now.states) }
+    ensures { IfOk result (IsRightLearnt queries.now.trees queries.now.rewrites queries.now.states) }
 {
     let sets = sets_from(queries, told)?;
     let regions = Regions::build(queries.alloc, &queries.trees, &sets)?;

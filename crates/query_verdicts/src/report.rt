@@ -4,7 +4,7 @@
 ghost use Rattle.std.specs.Prelude.{◌≡◌, ◌++◌, ◌≤◌, ◌<◌, ◌^◌, All, length, IfOk, IfErr, IfSome, IsPermutation, OnOk, Some, slice_get};
 ghost use Rattle.std.specs.List.Sorted.{IsSortedBy};
 ghost use Rattle.std.proofs.lemmas.Cmp.{on_total};
-ghost use Rattle.query_verdicts.specs.Entries.{AreEntries, AreEntriesOf, IsEntryOf, IsRightFound, IsWalked, PutsEntry, entry_with, is_before};
+ghost use Rattle.query_verdicts.specs.Entries.{AreEntries, AreEntriesOf, IsEntryOf, IsRightFound, IsWalked, PutsEntry, entry_of_parts, is_before};
 ghost use Rattle.query_verdicts.specs.Passed.{NonePasses, IsReportFault};
 ghost use Rattle.query_verdicts.specs.Rows.{AreRows, below_count, class_rank, found_at, found_fault, found_in, found_of};
 ghost use Rattle.query_verdicts.specs.Queries.{IsLeastGraph};
@@ -362,7 +362,7 @@ fn entry_of<S: OnSubject>(
     ensures { IfOk result (IsEntryOf S.subject found) }
 {
     let parts = parts_of(judge, walked, &found)?;
-    Ok(entry_with(found, parts))
+    Ok(entry_of_parts(found, parts))
 }
 
 /// What an entry has beside its fault.
@@ -382,7 +382,7 @@ fn parts_of<S: OnSubject>(
     requires walked { IsWalked S.subject walked.now }
     requires class { walked.now.class ≡ found.now.class }
     requires right { IsRightFound S.subject found.now }
-    ensures { IfOk result (λ parts. IsEntryOf S.subject found.now (entry_with found.now parts)) }
+    ensures { IfOk result (λ parts. IsEntryOf S.subject found.now (entry_of_parts found.now parts)) }
 {
     let query = walked.query.copy(judge.alloc())?;
     let walks = trails(judge.alloc(), &walked.graph, &found.seen)?;
@@ -395,8 +395,8 @@ fn parts_of<S: OnSubject>(
 }
 
 /// The entry of a fault with these parts.
-fn entry_with(found: ClassFault, parts: EntryParts) -> ReportEntry
-    ensures { result ≡ entry_with found parts }
+fn entry_of_parts(found: ClassFault, parts: EntryParts) -> ReportEntry
+    ensures { result ≡ entry_of_parts found parts }
 {
     ReportEntry {
         seen: found.seen,

@@ -1,7 +1,7 @@
 //! The verdict of a query: the graph of its walks, and the faults that these show.
 
 ghost use Rattle.std.specs.Prelude.{◌≡◌, ◌++◌, [], true, ℕ, IfOk};
-ghost use Rattle.query_verdicts.specs.Learnt.{AreLearnt};
+ghost use Rattle.query_verdicts.specs.Learnt.{IsRightLearnt};
 ghost use Rattle.query_verdicts.specs.Queries.{IsOwnClass};
 ghost use Rattle.query_verdicts.specs.Verdict.{AreFaultsOf, IsClassVerdict, SomeServerPasses};
 ghost use Rattle.query_verdicts.specs.declared.verdict.ClassVerdict.TheVariants.{Faults};
@@ -36,7 +36,7 @@ pub(crate) fn verdict_with(
     own: &OwnClass<'_>,
     query: &Name,
 ) -> Result<ClassVerdict, NoMemory>
-    requires learnt { AreLearnt queries.now.trees queries.now.rewrites queries.now.states learnt.now }
+    requires learnt { IsRightLearnt queries.now.trees queries.now.rewrites queries.now.states learnt.now }
     requires own { IsOwnClass queries.now.trees own.now query.now }
     ensures { IfOk result (IsClassVerdict queries.now.trees queries.now.rewrites queries.now.states query.now) }
 {
@@ -73,7 +73,7 @@ fn shows_nothing(
     near: &mut usize,
     query: &Name,
 ) -> Result<bool, NoMemory>
-    requires { AreLearnt queries.now.trees queries.now.rewrites queries.now.states learnt.now }
+    requires { IsRightLearnt queries.now.trees queries.now.rewrites queries.now.states learnt.now }
     ensures { IfOk result (λ nothing. nothing ≡ true → IsClassVerdict queries.now.trees queries.now.rewrites queries.now.states query.now (Faults [])) }
 {
     let found = straight_ends(
@@ -98,7 +98,7 @@ fn faults_of(
     query: &Name,
     graph: Graph,
 ) -> Result<List<Seen>, NoMemory>
-    requires learnt { AreLearnt queries.now.trees queries.now.rewrites queries.now.states learnt.now }
+    requires learnt { IsRightLearnt queries.now.trees queries.now.rewrites queries.now.states learnt.now }
     requires own { IsOwnClass queries.now.trees own.now query.now }
     requires built { IsBuilt queries.now.trees queries.now.rewrites query.now graph }
     ensures { IfOk result (AreFaultsOf queries.now.trees queries.now.rewrites queries.now.states query.now) }
@@ -144,7 +144,7 @@ pub(crate) fn graph_in_least(
     learnt: &Learnt<'_>,
     graph: Graph,
 ) -> Result<Graph, NoMemory>
-    requires learnt { AreLearnt queries.now.trees queries.now.rewrites queries.now.states learnt.now }
+    requires learnt { IsRightLearnt queries.now.trees queries.now.rewrites queries.now.states learnt.now }
     requires built { (query : Labels) × IsBuilt queries.now.trees queries.now.rewrites query graph }
     ensures graph { IfOk result (λ limited. (query : Labels) → IsBuilt queries.now.trees queries.now.rewrites query graph
         → IsGraphOf (following queries.now.trees queries.now.rewrites learnt.now.sets.least) query limited) }

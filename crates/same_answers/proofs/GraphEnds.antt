@@ -28,7 +28,7 @@ use Rattle.net_model.specs.declared.walk.Leaf.{Leaf}
 use Rattle.net_model.specs.declared.walk.Leaf.TheVariants.{Overlong}
 use Rattle.net_model.specs.declared.walk.Walk.{Walk}
 use Rattle.walk_laws.specs.Outcome.{HasOutcome, outcome_of}
-use Rattle.same_answers.specs.Ends.{branch_ends, branch_overlong, ends_of, graph_overlong, is_bounded, node_ends, node_overlong, outcome_eq, are_within}
+use Rattle.same_answers.specs.Ends.{branch_leaves, branch_overlong, leaves_of, graph_overlong, is_bounded, node_leaves, node_overlong, outcome_eq, are_within}
 
 -- what holds of each item holds of all
 pub all_have : {X : Type 0} (test : X → Bool) (xs : List X) → ((x : X) → Contains xs x → test x ≡ true) → list_all test xs ≡ true
@@ -65,34 +65,34 @@ any_given f test of_all agree (x ∷ xs) =
     ap (λ (b : Bool). b || list_any of_all xs) (agree x)
     ∙ (ap (λ (b : Bool). list_any test (f x) || b) (any_given f test of_all agree xs) ∙ sym (list_any-append test (f x) (flat_map f xs)))
 
-branch_by_ends : (branch : Branch) → branch_overlong branch ≡ list_any is_overlong (branch_ends branch)
+branch_by_ends : (branch : Branch) → branch_overlong branch ≡ list_any is_overlong (branch_leaves branch)
 branch_by_ends (Go hop to) = refl
 branch_by_ends (End hop leaf) = sym (or-false (is_overlong leaf))
 
 -- the graph ends in a name that is too long exactly where one of its ends is one
-overlong_by_ends : (graph : PlainGraph) (rtype : RrType) → graph_overlong graph rtype ≡ list_any is_overlong (ends_of graph rtype)
+overlong_by_ends : (graph : PlainGraph) (rtype : RrType) → graph_overlong graph rtype ≡ list_any is_overlong (leaves_of graph rtype)
 overlong_by_ends graph rtype =
-    any_given (node_ends rtype) is_overlong (node_overlong rtype)
-    (λ node. any_given branch_ends is_overlong branch_overlong branch_by_ends (branches_of node rtype)) graph.nodes
+    any_given (node_leaves rtype) is_overlong (node_overlong rtype)
+    (λ node. any_given branch_leaves is_overlong branch_overlong branch_by_ends (branches_of node rtype)) graph.nodes
 
 module _ (setting : Setting) (query : Labels) (graph : PlainGraph) (is : IsGraphOf setting query graph) (exact : IsExactIn setting query graph) (rtype : RrType) where
   -- a walk ends in one of the ends
-  pub end_there : (walk : Walk) → IsWalk setting query rtype walk → Contains (ends_of graph rtype) walk.leaf
+  pub end_there : (walk : Walk) → IsWalk setting query rtype walk → Contains (leaves_of graph rtype) walk.leaf
   end_there walk is_walk =
       let end = end_of_walk graph rtype setting query is exact walk is_walk in
-      subst (Contains (ends_of graph rtype)) (sym end.leaf_is)
-      (flat_map_has (node_ends rtype) graph.nodes end.node end.leaf (item_there graph.nodes end.at end.node end.has.here)
-      (flat_map_has branch_ends (branches_of end.node rtype) (End end.hop end.leaf) end.leaf
+      subst (Contains (leaves_of graph rtype)) (sym end.leaf_is)
+      (flat_map_has (node_leaves rtype) graph.nodes end.node end.leaf (item_there graph.nodes end.at end.node end.has.here)
+      (flat_map_has branch_leaves (branches_of end.node rtype) (End end.hop end.leaf) end.leaf
       (item_there (branches_of end.node rtype) end.number (End end.hop end.leaf) end.has.there) (has_first end.leaf [])))
 
   -- and in each of the ends a walk ends
-  pub end_from : (leaf : Leaf) → Contains (ends_of graph rtype) leaf → (walk : Walk) × IsWalk setting query rtype walk × (walk.leaf ≡ leaf)
+  pub end_from : (leaf : Leaf) → Contains (leaves_of graph rtype) leaf → (walk : Walk) × IsWalk setting query rtype walk × (walk.leaf ≡ leaf)
   end_from leaf has =
-      let (node, among, in_node) = from_flat_map (node_ends rtype) graph.nodes leaf has in
-      let (branch, of_node, in_branch) = from_flat_map branch_ends (branches_of node rtype) leaf in_node in
+      let (node, among, in_node) = from_flat_map (node_leaves rtype) graph.nodes leaf has in
+      let (branch, of_node, in_branch) = from_flat_map branch_leaves (branches_of node rtype) leaf in_node in
       by node among branch of_node in_branch
     where
-      by : (node : Node) → Contains graph.nodes node → (branch : Branch) → Contains (branches_of node rtype) branch → Contains (branch_ends branch) leaf
+      by : (node : Node) → Contains graph.nodes node → (branch : Branch) → Contains (branches_of node rtype) branch → Contains (branch_leaves branch) leaf
           → (walk : Walk) × IsWalk setting query rtype walk × (walk.leaf ≡ leaf)
       by node among (Go hop to) of_node none = absurd (none_in_nil leaf none)
       by node among (End hop last) of_node in_branch =
@@ -107,11 +107,11 @@ module _ (setting : Setting) (query : Labels) (graph : PlainGraph) (is : IsGraph
   pub bounded_with : (graph_overlong graph rtype ≡ false) ↔ IsBoundedWith setting query rtype
   bounded_with = (
     λ none walk place is_walk e.
-        true≢false (sym (any_has is_overlong (ends_of graph rtype) walk.leaf (end_there walk is_walk) (ap is_overlong e)) ∙ (sym (overlong_by_ends graph rtype) ∙ none)),
+        true≢false (sym (any_has is_overlong (leaves_of graph rtype) walk.leaf (end_there walk is_walk) (ap is_overlong e)) ∙ (sym (overlong_by_ends graph rtype) ∙ none)),
     λ bounded.
-        overlong_by_ends graph rtype ∙ any_none is_overlong (ends_of graph rtype) (λ leaf has. never leaf has (is_overlong leaf) refl bounded),
+        overlong_by_ends graph rtype ∙ any_none is_overlong (leaves_of graph rtype) (λ leaf has. never leaf has (is_overlong leaf) refl bounded),
   ) where
-    never : (leaf : Leaf) → Contains (ends_of graph rtype) leaf → (b : Bool) → is_overlong leaf ≡ b → IsBoundedWith setting query rtype → is_overlong leaf ≡ false
+    never : (leaf : Leaf) → Contains (leaves_of graph rtype) leaf → (b : Bool) → is_overlong leaf ≡ b → IsBoundedWith setting query rtype → is_overlong leaf ≡ false
     never leaf has false e bounded = e
     never leaf has true e bounded =
         let (walk, is_walk, leaf_is) = end_from leaf has in
@@ -119,7 +119,7 @@ module _ (setting : Setting) (query : Labels) (graph : PlainGraph) (is : IsGraph
         absurd (bounded walk place is_walk (leaf_is ∙ overlong))
 
   -- and its outcomes are those of the ends
-  pub outcome_there : (outcome : Option Leaf) → HasOutcome setting query rtype outcome ↔ ((leaf : Leaf) × Contains (ends_of graph rtype) leaf × (outcome_of leaf ≡ outcome))
+  pub outcome_there : (outcome : Option Leaf) → HasOutcome setting query rtype outcome ↔ ((leaf : Leaf) × Contains (leaves_of graph rtype) leaf × (outcome_of leaf ≡ outcome))
   outcome_there outcome = (
     λ (walk, is_walk, told). (walk.leaf, end_there walk is_walk, told),
     λ (leaf, has, told). (let (walk, is_walk, leaf_is) = end_from leaf has in (walk, is_walk, ap outcome_of leaf_is ∙ told)),

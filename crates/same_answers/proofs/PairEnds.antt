@@ -32,10 +32,10 @@ use Rattle.straight_walks.proofs.SameOutcomes.{alike_decides}
 use Rattle.walk_laws.specs.Outcome.{HasOutcome, outcome_of}
 use Rattle.same_answers.specs.Alike.{AnswersAlike, AreBounded, HasOutcomeIn, IsBoundedIn}
 use Rattle.same_answers.specs.Compared.{Compared}
-use Rattle.same_answers.specs.Ends.{are_alike, are_within, ends_of, graphs_alike, graphs_end, is_bounded}
+use Rattle.same_answers.specs.Ends.{are_alike, are_within, leaves_of, graphs_alike, graphs_end, is_bounded}
 use Rattle.same_answers.specs.Looked.{IsLooked, looked_end}
 use Rattle.same_answers.specs.Straight.{straight_end}
-use Rattle.same_answers.specs.Verdict.{IsLookedAt, IsPairEnd, PassesInOne, SomeServerPassesInOne}
+use Rattle.same_answers.specs.Verdict.{CanBeCompared, IsPairEnd, PassesInOne, SomeServerPassesInOne}
 use Rattle.same_answers.specs.declared.looked.Looked.{Looked}
 use Rattle.same_answers.specs.declared.looked.Looked.TheVariants.{Passed, Unlearnt, Walks}
 use Rattle.same_answers.specs.declared.verdict.PairEnd.{PairEnd}
@@ -59,7 +59,7 @@ module _ (config : Config) (rewrites : ℕ) (query : Labels) where
     )
 
   -- the ends of the graph are such
-  pub ends_of_graph : (graph : PlainGraph) → IsLeastGraph config rewrites query graph → (rtype : RrType) → AreEndsOf rtype (ends_of graph rtype)
+  pub ends_of_graph : (graph : PlainGraph) → IsLeastGraph config rewrites query graph → (rtype : RrType) → AreEndsOf rtype (leaves_of graph rtype)
   ends_of_graph graph least rtype outcome =
       let in_one = in_setting rtype least.followed least.in_force outcome in
       let by_ends = outcome_there (following config rewrites least.followed) query graph least.is_graph least.exact rtype outcome in
@@ -159,7 +159,7 @@ module _ (two : Compared) (query : Labels) (rtype : RrType) (some others : List 
 
 -- ---- what is told of a bounded query by tests that tell with which types it is alike in both
 
-module _ (two : Compared) (query : Labels) (looked : IsLookedAt two query) (bounded : AreBounded two query)
+module _ (two : Compared) (query : Labels) (looked : CanBeCompared two query) (bounded : AreBounded two query)
     (test : RrType → Bool) (tells : (rtype : RrType) → (test rtype ≡ true) ↔ AnswersAlike two query rtype) where
   told_so : (b : Bool) → not b ≡ false → b ≡ true
   told_so true e = refl
@@ -200,7 +200,7 @@ module _ (two : Compared) (query : Labels) where
   no_server_passes one other (inl passes) = one passes
   no_server_passes one other (inr passes) = other passes
 
-  by_graphs : (first second : PlainGraph) → IsLookedAt two query → IsLeastGraph two.first two.rewrites query first
+  by_graphs : (first second : PlainGraph) → CanBeCompared two query → IsLeastGraph two.first two.rewrites query first
       → IsLeastGraph two.second two.rewrites query second → IsPairEnd two query (graphs_end first second)
   by_graphs first second looked of_first of_second = by (is_bounded first) (is_bounded second) refl refl where
     bounds_first : (is_bounded first ≡ true) ↔ IsBoundedIn two.first two.rewrites query
@@ -213,7 +213,7 @@ module _ (two : Compared) (query : Labels) where
         → IsPairEnd two query (if one && other then option_map_or Apart (find (λ rtype. not (graphs_alike first second rtype)) types) Equal else Unbounded)
     by true true e f =
         end_by_tests two query looked (bounds_first.0 e, bounds_second.0 f) (graphs_alike first second)
-        (λ rtype. alike_by_ends two query rtype (ends_of first rtype) (ends_of second rtype)
+        (λ rtype. alike_by_ends two query rtype (leaves_of first rtype) (leaves_of second rtype)
         (ends_of_graph two.first two.rewrites query first of_first rtype) (ends_of_graph two.second two.rewrites query second of_second rtype))
         (find (λ rtype. not (graphs_alike first second rtype)) types) refl
     by true false e f = (looked, λ bounded. true≢false (sym (bounds_second.1 bounded.1) ∙ f))
@@ -273,7 +273,7 @@ module _ (two : Compared) (query : Labels) where
 
   -- ---- so of each query something is told
 
-  bounded_end : IsLookedAt two query → AreBounded two query → (end : PairEnd) × IsPairEnd two query end
+  bounded_end : CanBeCompared two query → AreBounded two query → (end : PairEnd) × IsPairEnd two query end
   bounded_end looked bounded = (
     option_map_or Apart (find (λ rtype. not (test rtype)) types) Equal,
     end_by_tests two query looked bounded test
@@ -289,7 +289,7 @@ module _ (two : Compared) (query : Labels) where
     test : RrType → Bool
     test rtype = are_alike (of_first rtype).0 (of_second rtype).0
 
-  looked_end_exists : IsLookedAt two query → (end : PairEnd) × IsPairEnd two query end
+  looked_end_exists : CanBeCompared two query → (end : PairEnd) × IsPairEnd two query end
   looked_end_exists looked = by (both (bounded_decided two.first two.rewrites query) (bounded_decided two.second two.rewrites query)) where
     by : Decided (AreBounded two query) → (end : PairEnd) × IsPairEnd two query end
     by (inl bounded) = bounded_end looked bounded

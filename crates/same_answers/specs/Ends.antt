@@ -16,18 +16,18 @@ use Rattle.net_model.specs.declared.walk.Leaf.{Leaf}
 use Rattle.same_answers.specs.declared.verdict.PairEnd.{PairEnd}
 use Rattle.same_answers.specs.declared.verdict.PairEnd.TheVariants.{Equal, Apart, Unbounded}
 
--- the end of a branch, if it is one
-abbrev pub branch_ends : Branch → List Leaf
-branch_ends (Go hop to) = []
-branch_ends (End hop leaf) = leaf ∷ []
+-- the leaf in which a branch ends, if it ends
+abbrev pub branch_leaves : Branch → List Leaf
+branch_leaves (Go hop to) = []
+branch_leaves (End hop leaf) = leaf ∷ []
 
--- the ends of a node with a type
-abbrev pub node_ends : RrType → Node → List Leaf
-node_ends rtype node = flat_map branch_ends (branches_of node rtype)
+-- the leaves in which the branches of a node end, with a type
+abbrev pub node_leaves : RrType → Node → List Leaf
+node_leaves rtype node = flat_map branch_leaves (branches_of node rtype)
 
--- the ends of all nodes of a graph with a type
-abbrev pub ends_of : PlainGraph → RrType → List Leaf
-ends_of graph rtype = flat_map (node_ends rtype) graph.nodes
+-- the leaves in which the branches of all nodes of a graph end, with a type
+abbrev pub leaves_of : PlainGraph → RrType → List Leaf
+leaves_of graph rtype = flat_map (node_leaves rtype) graph.nodes
 
 -- the branch ends in a name of more than 255 octets
 abbrev pub branch_overlong : Branch → Bool
@@ -60,7 +60,7 @@ are_alike some others = are_within some others && are_within others some
 
 -- the two graphs have the same outcomes with the type
 abbrev pub graphs_alike : PlainGraph → PlainGraph → RrType → Bool
-graphs_alike first second rtype = are_alike (ends_of first rtype) (ends_of second rtype)
+graphs_alike first second rtype = are_alike (leaves_of first rtype) (leaves_of second rtype)
 
 -- what the graphs of a query's walks tell of it
 abbrev pub graphs_end : PlainGraph → PlainGraph → PairEnd

@@ -21,8 +21,8 @@ PassesInOne two query = PassesStates two.first two.rewrites two.states query ⊎
 abbrev pub SomeServerPassesInOne : Compared → Type 0
 SomeServerPassesInOne two = SomeServerPasses two.first two.rewrites two.states ⊎ SomeServerPasses two.second two.rewrites two.states
 
--- the query can be looked at in both: neither it nor the name of a server passes
-pub record IsLookedAt (two : Compared) (query : Labels) : Type 0 where
+-- the query can be compared: in neither configuration does it or the name of a server pass
+pub record CanBeCompared (two : Compared) (query : Labels) : Type 0 where
   pub few : PassesInOne two query → ⊥
   pub learnt : SomeServerPassesInOne two → ⊥
 
@@ -35,8 +35,8 @@ pub record IsFirstApart (two : Compared) (query : Labels) (rtype : RrType) : Typ
 -- for, and nothing is told apart: some representative passes then.
 abbrev pub IsPairEnd : Compared → Labels → PairEnd → Type 0
 IsPairEnd two query StatesPassed = PassesInOne two query
-IsPairEnd two query Unbounded = IsLookedAt two query × (AreBounded two query → ⊥)
-IsPairEnd two query (Apart rtype) = IsLookedAt two query × AreBounded two query × IsFirstApart two query rtype
+IsPairEnd two query Unbounded = CanBeCompared two query × (AreBounded two query → ⊥)
+IsPairEnd two query (Apart rtype) = CanBeCompared two query × AreBounded two query × IsFirstApart two query rtype
 IsPairEnd two query Equal =
     (PassesInOne two query → ⊥)
     × ((SomeServerPassesInOne two → ⊥) → AreBounded two query × ((rtype : RrType) → AnswersAlike two query rtype))

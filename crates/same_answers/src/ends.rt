@@ -1,20 +1,20 @@
 //! The ends of the graph of a query's walks.
 
 ghost use Rattle.std.specs.Prelude.{◌≡◌, ◌++◌, map, IfOk, OnOk};
-ghost use Rattle.same_answers.specs.Ends.{branch_ends, branch_overlong, ends_of, graph_overlong, is_bounded, node_ends, node_overlong};
+ghost use Rattle.same_answers.specs.Ends.{branch_leaves, branch_overlong, leaves_of, graph_overlong, is_bounded, node_leaves, node_overlong};
 
 use dns_data::{NoMemory, RrType};
 use graph_form::{Branch, Graph, Node};
 use net_model::Leaf;
 use std::alloc::Global;
 
-/// The ends of the graph with a type, node by node. Nothing is copied.
-pub(crate) fn ends_of<'g>(
+/// The leaves in which the graph ends with a type, node by node. Nothing is copied.
+pub(crate) fn leaves_of<'g>(
     alloc: Global,
     graph: &'g Graph,
     rtype: RrType,
 ) -> Result<Vec<&'g Leaf>, NoMemory>
-    ensures { IfOk result (λ ends. map (λ leaf. leaf.now) ends.items ≡ ends_of graph.now rtype) }
+    ensures { IfOk result (λ ends. map (λ leaf. leaf.now) ends.items ≡ leaves_of graph.now rtype) }
 {
     let mut ends = Vec::new(alloc);
     for i in 0..graph.nodes() {
@@ -23,9 +23,9 @@ pub(crate) fn ends_of<'g>(
     Ok(ends)
 }
 
-/// Puts the ends of a node with a type behind the others.
+/// Puts the leaves in which a node ends with a type behind the others.
 fn put_ends<'g>(node: &'g Node, rtype: RrType, ends: &mut Vec<&'g Leaf>) -> Result<(), NoMemory>
-    ensures { OnOk result (map (λ leaf. leaf.now) ends.new.items ≡ map (λ leaf. leaf.now) ends.old.items ++ node_ends rtype node.now) }
+    ensures { OnOk result (map (λ leaf. leaf.now) ends.new.items ≡ map (λ leaf. leaf.now) ends.old.items ++ node_leaves rtype node.now) }
 {
     for branch in node.branches(rtype) {
         put_end(branch, ends)?;
@@ -33,9 +33,9 @@ fn put_ends<'g>(node: &'g Node, rtype: RrType, ends: &mut Vec<&'g Leaf>) -> Resu
     Ok(())
 }
 
-/// Puts the end of a branch behind the others, if it is one.
+/// Puts the leaf in which a branch ends behind the others, if it ends.
 fn put_end<'g>(branch: &'g Branch, ends: &mut Vec<&'g Leaf>) -> Result<(), NoMemory>
-    ensures { OnOk result (map (λ leaf. leaf.now) ends.new.items ≡ map (λ leaf. leaf.now) ends.old.items ++ branch_ends branch.now) }
+    ensures { OnOk result (map (λ leaf. leaf.now) ends.new.items ≡ map (λ leaf. leaf.now) ends.old.items ++ branch_leaves branch.now) }
 {
     if let Branch::End { leaf, .. } = branch {
         ends.push(leaf)?;

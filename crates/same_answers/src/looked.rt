@@ -6,7 +6,7 @@ ghost use Rattle.dns_data.specs.RrType.{types};
 ghost use Rattle.same_answers.specs.Ends.{graphs_alike, graphs_end};
 ghost use Rattle.same_answers.specs.Looked.{IsLooked, looked_end};
 
-use crate::ends::{ends_of, is_bounded};
+use crate::ends::{is_bounded, leaves_of};
 use crate::outcomes::are_alike;
 use crate::verdict::PairEnd;
 use dns_data::{Name, NoMemory, RrType};
@@ -90,7 +90,7 @@ fn graphs_alike<'g>(
 ) -> Result<bool, NoMemory>
     ensures { IfOk result (λ alike. alike ≡ graphs_alike first.now second.now rtype) }
 {
-    let of_first = ends_of(alloc, first, rtype)?;
-    let of_second = ends_of(alloc, second, rtype)?;
+    let of_first = leaves_of(alloc, first, rtype)?;
+    let of_second = leaves_of(alloc, second, rtype)?;
     are_alike(alloc, of_first.as_slice(), of_second.as_slice())
 }

@@ -4,4 +4,4 @@ use Rattle.query_verdicts.proofs.report.entry_of.Goals as goal
 
 pub returns : goal.returns
 returns g c =
-    subst (IsEntryOf g.S.OnSubject.subject c.args.found) (sym c.entry_with.ensures) c.in_ok-parts.ensures
+    subst (IsEntryOf g.S.OnSubject.subject c.args.found) (sym c.entry_of_parts.ensures) c.in_ok-parts.ensures
