@@ -10,12 +10,9 @@ use Rattle.dns_data.proofs.Membership.{none_in_nil, has_first, has_later, first_
 use Rattle.graph_form.specs.Verdict.{AreFirstTypes, IsCovered}
 use Rattle.graph_form.specs.declared.report.Seen.{Seen}
 use Rattle.graph_form.proofs.FirstTypes.{one_fault, none_yet}
+use Rattle.graph_form.proofs.Verdicts.{Rises}
 use Rattle.net_model.specs.FaultOrder.{fault_cmp}
 use Rattle.net_model.proofs.FaultOrder.{faults_total}
-
--- faults rise
-abbrev Rises : Seen → Seen → Type 0
-Rises a b = fault_cmp a.fault b.fault ≡ Less
 
 -- what is greater one way is less the other
 turned_less : (a b : Seen) → fault_cmp a.fault b.fault ≡ Greater → Rises b a
