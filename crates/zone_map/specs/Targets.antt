@@ -1,5 +1,6 @@
 -- Targets that lead nowhere: names that MX, SRV, NS and PTR records give to a host, of which no query finds an address,
--- though every walk for one ends in no data or in no such name.
+-- though every walk for one ends in no data or in no such name. A name with more than 1,000 walks of a type isn't looked
+-- at, and is told too.
 use Rattle.std.specs.Prelude.{◌≡◌, ◌⊎◌, ℕ, Bool, true, false, ◌&&◌, ◌||◌, List, [], ◌∷◌, ◌++◌, length, map, codes, Option, Some, None, if◌then◌else◌, ◌==◌}
 use Rattle.std.specs.List.{flat_map, list_all, list_any}
 use Rattle.std.specs.Option.{option_map_or}

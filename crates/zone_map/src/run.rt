@@ -56,7 +56,7 @@ pub fn groot_map<F: Files, O: Sink, E: Sink>(
         × (result ≡ ending.status) × Appends (O.taken out.old) (O.taken out.new) ending.out) ⊎ (result ≡ Status.NoMemory) }
 
     // `targets` writes exactly the records whose target leads nowhere, with the ends of its walks of type A and of type
-    // AAAA.
+    // AAAA, or has too many walks to be looked at.
     ensures targets { (meta : List ℕ) (all : Read) →
         job_of (map (λ word. word.now) words.now) ≡ Some (record { asked = Asked.Targets; meta = meta }) →
         loaded meta (F.told files.new) ≡ Reads all →
