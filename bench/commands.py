@@ -36,12 +36,6 @@ def blackholes(count):
         yield f"alias{number} CNAME none{number}\n"
 
 
-def elsewhere(count):
-    """The lines of so many delegations to one name server outside."""
-    for number in range(count):
-        yield f"d{number:06} NS ns1.elsewhere.\n"
-
-
 def without_addresses(count):
     """The lines of so many delegations, each to a name server below it that has no address."""
     for number in range(count):
@@ -52,7 +46,7 @@ def commands(part):
     """Each command, with an input as large as this part of the whole."""
     return [
         Command("site", lambda: make_zone.registry(30_000 // part), 10),
-        Command("site", lambda: elsewhere(99_990 // part), 10),
+        Command("site", lambda: make_zone.elsewhere(99_990 // part), 10),
         Command("recheck", lambda: blackholes(10_000 // part), 2),
         Command("recheck", lambda: without_addresses(10_000 // part), 2),
     ]

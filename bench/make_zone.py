@@ -80,6 +80,12 @@ def registry(count):
             yield f"ns1.{own} AAAA 2001:db8::{number % 65536:x}\n"
 
 
+def elsewhere(count):
+    """The lines of so many delegations to one name server outside."""
+    for number in range(count):
+        yield f"d{number:06} NS ns1.elsewhere.\n"
+
+
 def redirected(count, onto=lambda number: "t"):
     """The lines of so many DNAME records onto a tree of 40 names, or onto what is made of their numbers."""
     for number in range(40):

@@ -3,6 +3,7 @@
 
 GROOT is the built program, crates/groot/out/groot if none is given. It makes
 - a registry of 33,000 delegations to name servers below them (99,004 names, nearly as many as a comparison may have),
+- a registry of 99,990 delegations to a name server elsewhere,
 - 400 hosted zones of 100 records on three servers and the zone above them,
 - 1,000 DNAME records onto a tree of 40 names,
 and of each a second configuration: a copy, and a copy in which the data of one record are others. Its owner is the last name.
@@ -35,6 +36,7 @@ def hosted(count, data, folder):
 
 INPUTS = [
     ("registry of 33,000 delegations", example(make_zone.registry), 33_000),
+    ("registry of 99,990 delegations to a name server elsewhere", example(make_zone.elsewhere), 99_990),
     ("400 hosted zones of 100 records", hosted, 400),
     ("1,000 DNAME records onto a tree of 40 names", example(make_zone.redirected), 1_000),
 ]
