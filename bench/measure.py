@@ -20,7 +20,8 @@ SECONDS = 1800
 
 
 class Taken(NamedTuple):
-    """What a run takes: processor seconds, seconds by the clock, and MiB at its peak."""
+    """What a run takes: processor seconds, seconds by the clock, and MiB at its peak. A run begins as a copy of this script, so
+    the peak is never told lower than that of the script, some 15 MiB."""
 
     processor: float
     clock: float
