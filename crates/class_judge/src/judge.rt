@@ -5,6 +5,8 @@ ghost use Rattle.class_judge.specs.Refused.{IsRefusalOf};
 ghost use Rattle.dns_data.proofs.Names.{same_names};
 ghost use Rattle.dns_data.specs.Name.{name_cmp};
 ghost use Rattle.graph_form.specs.Report.{IsReport};
+ghost use Rattle.label_graph.specs.Pairs.{AreSame};
+ghost use Rattle.net_model.specs.Reading.{ground_of};
 ghost use Rattle.query_verdicts.specs.Carried.{whole};
 ghost use Rattle.query_verdicts.specs.Passed.{SomeClassPasses};
 ghost use Rattle.query_verdicts.specs.Values.{AreValues};
@@ -102,6 +104,13 @@ impl<'a, N: Naming> Judge<'a, N> {
         let base = LabelGraph::of_config(alloc, config)?;
         let names = NameJudge::new(alloc, graphs, base, None, Name::root());
         Ok(Judge { names })
+    }
+
+    /// The graph of the configuration's base names.
+    pub fn base_names(&self) -> &LabelGraph
+        ensures { AreSame result.now (ground_of N.config) }
+    {
+        self.names.base_names()
     }
 }
 

@@ -7,6 +7,7 @@ use Rattle.dns_data.specs.declared.rdata.Rdata.TheVariants.{Dname}
 use Rattle.dns_data.specs.declared.rdata.Rr.{Rr}
 use Rattle.dns_data.specs.Name.{Labels}
 use Rattle.net_model.specs.Tree.{HasMoreThan}
+use Rattle.net_model.specs.declared.config.Config.{Config}
 use Rattle.net_model.specs.declared.config.Server.{Server}
 use Rattle.net_model.specs.declared.config.Zone.{Zone}
 use Rattle.run_endings.specs.declared.ending.Ending.{Ending}
@@ -32,3 +33,7 @@ zone_redirects zone = list_any is_redirect zone.rrs
 -- a zone of the server has
 abbrev pub server_redirects : Server → Bool
 server_redirects server = list_any zone_redirects server.zones
+
+-- a server of the configuration has
+abbrev pub config_redirects : Config → Bool
+config_redirects config = list_any server_redirects config.servers

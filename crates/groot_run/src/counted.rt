@@ -1,13 +1,8 @@
 //! Names that are counted before any is judged.
 
-ghost use Rattle.std.specs.Prelude.{◌≡◌, [], ◌++◌, reverse, IfErr, IsErrOf, OnOk};
-ghost use Rattle.std.specs.List.{list_any};
-ghost use Rattle.net_model.specs.Reading.{ground_of};
+ghost use Rattle.std.specs.Prelude.{◌≡◌, ◌||◌, [], ◌++◌, reverse, IfErr, IsErrOf, OnOk};
 ghost use Rattle.net_model.specs.Tree.{HasMoreThan, IsInPart};
-ghost use Rattle.query_classes.specs.Children.{IsInTree};
-ghost use Rattle.same_answers.specs.Compared.{joint};
-ghost use Rattle.groot_run.specs.Counted.{EndsPast, is_redirect, server_redirects, zone_redirects};
-ghost use Rattle.groot_run.specs.Outcome.{compared_of};
+ghost use Rattle.groot_run.specs.Counted.{EndsPast, config_redirects, is_redirect, server_redirects, zone_redirects};
 
 use dns_data::{List, NoMemory, Rdata, Rr};
 use label_graph::{LabelGraph, laws};
@@ -16,38 +11,21 @@ use query_classes::{LiveName, TreeFault};
 use run_endings::Ending;
 use std::alloc::Global;
 
-/// Counts the names of the configuration's class tree where a DNAME record may multiply them, so that none is judged where
-/// there are more than the limit: it is `Err` where so many were counted. Without such a record none is counted, since the
-/// tree has only names then that the files have.
-pub(crate) fn count_redirected(alloc: Global, config: &Config, limit: u32) -> Result<(), Ending>
-    ensures { IfErr result (EndsPast (IsInTree (ground_of config.now)) limit) }
-{
-    if !some_redirects(config.servers.items()) {
-        return Ok(());
-    }
-    match LabelGraph::of_config(alloc, config) {
-        Ok(graph) => count_names(alloc, &graph, limit),
-        Err(NoMemory) => Err(Ending::no_memory()),
-    }
-}
-
-/// Counts the names of the class tree of two configurations where a DNAME record of one of them may multiply them, so that
-/// none is judged where there are more than the limit: it is `Err` where so many were counted.
-pub(crate) fn count_joint(
+/// Counts the names of the class tree of a graph where DNAME records may multiply them, so that none is judged where there
+/// are more than the limit: it is `Err` where so many were counted. Without such a record none is counted, since the tree
+/// has only names then that the files have.
+pub(crate) fn count_redirected(
     alloc: Global,
-    first: &Config,
-    second: &Config,
+    redirected: bool,
+    graph: &LabelGraph,
     limit: u32,
 ) -> Result<(), Ending>
-    ensures { IfErr result (EndsPast (IsInTree (joint (compared_of first.now second.now))) limit) }
+    ensures { IfErr result (EndsPast (IsInPart graph.now []) limit) }
 {
-    if !some_redirects(first.servers.items()) && !some_redirects(second.servers.items()) {
+    if !redirected {
         return Ok(());
     }
-    match LabelGraph::of_names(alloc, &[first, second], &[]) {
-        Ok(graph) => count_names(alloc, &graph, limit),
-        Err(NoMemory) => Err(Ending::no_memory()),
-    }
+    count_names(alloc, graph, limit)
 }
 
 /// Counts the names of the class tree of a graph: it is `Err` where there are more than the limit.
@@ -90,11 +68,22 @@ fn put_last_first(names: List<LiveName>, waiting: &mut Vec<LiveName>) -> Result<
     Ok(())
 }
 
-/// Whether some server has a DNAME record.
-fn some_redirects(servers: &[Server]) -> bool
-    ensures { result ≡ list_any server_redirects servers.now }
+/// Whether one of the configurations has a DNAME record.
+pub(crate) fn either_redirects(first: &Config, second: &Config) -> bool
+    ensures { result ≡ (config_redirects first.now || config_redirects second.now) }
 {
-    servers.iter().any(|server| server_redirects(server))
+    config_redirects(first) || config_redirects(second)
+}
+
+/// Whether the configuration has a DNAME record.
+pub(crate) fn config_redirects(config: &Config) -> bool
+    ensures { result ≡ config_redirects config.now }
+{
+    config
+        .servers
+        .items()
+        .iter()
+        .any(|server| server_redirects(server))
 }
 
 /// Whether the server has a DNAME record.

@@ -6,7 +6,7 @@ ghost use Rattle.query_verdicts.specs.Values.{AreValues};
 ghost use Rattle.groot_run.specs.Judged.{AreLimits, IsJudged};
 ghost use Rattle.groot_run.specs.Outcome.{most_states};
 
-use crate::counted::count_redirected;
+use crate::counted::{config_redirects, count_redirected};
 use crate::ending::too_many_states;
 use class_judge::{Judge, Naming, ReportFault, laws};
 use dns_data::NoMemory;
@@ -44,10 +44,7 @@ pub(crate) fn report_of<G: Gate + Sync, R: Threads + Wait + Sync>(
     requires { AreLimits limits }
     ensures { IsJudged limits.classes limits.rewrites config.now result }
 {
-    match count_redirected(alloc, config, limits.classes) {
-        Ok(()) => judged::<Brand, G, R>(rt, alloc, config, limits, gate),
-        Err(ending) => Err(ending),
-    }
+    judged::<Brand, G, R>(rt, alloc, config, limits, gate)
 }
 
 /// What the judge of this name tells of the configuration.
@@ -64,12 +61,38 @@ fn judged<N: Naming + Send + Sync, G: Gate + Sync, R: Threads + Wait + Sync>(
     ensures { IsJudged limits.classes N.rewrites N.config result }
 {
     match Judge::<N>::prepare(alloc, config, limits.rewrites, MOST_STATES) {
-        Ok(judge) => told(rt, alloc, &judge, limits, gate),
+        Ok(judge) => counted(rt, alloc, config, &judge, limits, gate),
         Err(NoMemory) => Err(Ending::no_memory()),
     }
 }
 
-/// What a judge tells of its configuration.
+/// What a judge tells of its configuration. Where a DNAME record of it may multiply the names of its class tree, they are
+/// counted before one is judged.
+fn counted<N: Naming + Send + Sync, G: Gate + Sync, R: Threads + Wait + Sync>(
+    rt: &R,
+    alloc: Global,
+    config: &Config,
+    judge: &Judge<'_, N>,
+    limits: CheckLimits,
+    gate: &G,
+) -> Result<Report, Ending>
+    requires limits { AreLimits limits }
+    requires states { most_states ≡ N.states }
+    requires values { AreValues (whole N.config N.rewrites) N.states N.children_of N.verdict_of }
+    ensures { IsJudged limits.classes N.rewrites N.config result }
+{
+    match count_redirected(
+        alloc,
+        config_redirects(config),
+        judge.base_names(),
+        limits.classes,
+    ) {
+        Ok(()) => told(rt, alloc, judge, limits, gate),
+        Err(ending) => Err(ending),
+    }
+}
+
+/// What a judge tells of its configuration, once it has judged its class tree.
 fn told<N: Naming + Send + Sync, G: Gate + Sync, R: Threads + Wait + Sync>(
     rt: &R,
     alloc: Global,

@@ -12,7 +12,7 @@ ghost use Rattle.run_endings.specs.Ends.{EndsOrFails};
 ghost use Rattle.run_endings.specs.Endings.{OfReading, no_memory};
 ghost use Rattle.groot_run.specs.Outcome.{Compares, ComparesWith, compared_of, most_states, same_rewrites, told_same};
 
-use crate::counted::count_joint;
+use crate::counted::{count_redirected, either_redirects};
 use crate::counts::put_count;
 use crate::ending::too_many_states;
 use crate::judging::MOST_STATES;
@@ -86,10 +86,7 @@ fn compared<G: Gate + Sync, R: Threads + Wait + Sync>(
     requires { 1 ≤ workers }
     ensures { Compares (compared_of first.now second.now) result ⊎ (result ≡ no_memory) }
 {
-    match count_joint(alloc, first, second, USUAL_NAMES) {
-        Ok(()) => judged::<Brand, G, R>(rt, alloc, first, second, workers, gate),
-        Err(ending) => ending,
-    }
+    judged::<Brand, G, R>(rt, alloc, first, second, workers, gate)
 }
 
 /// What the comparison of this name tells of the configurations.
@@ -108,12 +105,38 @@ fn judged<N: PairNaming + Send + Sync, G: Gate + Sync, R: Threads + Wait + Sync>
     ensures { Compares N.compared result ⊎ (result ≡ no_memory) }
 {
     match Pairing::<N>::prepare(alloc, first, second, USUAL_REWRITES, MOST_STATES) {
-        Ok(pairing) => told_by(rt, alloc, &pairing, workers, gate),
+        Ok(pairing) => counted(rt, alloc, first, second, &pairing, workers, gate),
         Err(NoMemory) => Ending::no_memory(),
     }
 }
 
-/// What a comparison tells of its configurations.
+/// What a comparison tells of its configurations. Where a DNAME record of one of them may multiply the names of their class
+/// tree, they are counted before one is judged.
+fn counted<N: PairNaming + Send + Sync, G: Gate + Sync, R: Threads + Wait + Sync>(
+    rt: &R,
+    alloc: Global,
+    first: &Config,
+    second: &Config,
+    pairing: &Pairing<'_, N>,
+    workers: u32,
+    gate: &G,
+) -> Ending
+    requires workers { 1 ≤ workers }
+    requires values { ArePairValues N.compared N.children_of N.verdict_of }
+    ensures { Compares N.compared result ⊎ (result ≡ no_memory) }
+{
+    match count_redirected(
+        alloc,
+        either_redirects(first, second),
+        pairing.base_names(),
+        USUAL_NAMES,
+    ) {
+        Ok(()) => told_by(rt, alloc, pairing, workers, gate),
+        Err(ending) => ending,
+    }
+}
+
+/// What a comparison tells of its configurations, once it has judged their class tree.
 fn told_by<N: PairNaming + Send + Sync, G: Gate + Sync, R: Threads + Wait + Sync>(
     rt: &R,
     alloc: Global,

@@ -215,6 +215,17 @@ impl<'a, N: PairNaming> Pairing<'a, N> {
     }
 }
 
+impl<'a, N: PairNaming> Pairing<'a, N> {
+    ghost use Rattle.label_graph.specs.Pairs.{AreSame};
+
+    /// The graph of the base names of both configurations.
+    pub fn base_names(&self) -> &LabelGraph
+        ensures { AreSame result.now (joint N.compared) }
+    {
+        &self.names
+    }
+}
+
 /// Places near which the regions of a query are looked for, in the one configuration and in the other.
 #[derive(Drop)]
 struct PairNear {

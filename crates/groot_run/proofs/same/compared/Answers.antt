@@ -1,14 +1,6 @@
-use Rattle.std.proofs.Common.{inl, inr}
 use Rattle.same_answers.proofs.PairValues.{values}
 use Rattle.groot_run.specs.Outcome.{compared_of}
 use Rattle.groot_run.proofs.same.compared.Goals as goal
 
 pub judged-requires-clause-values : goal.judged-requires-clause-values
 judged-requires-clause-values g c κs within = values (compared_of c.args.first.now c.args.second.now)
-
-pub returns-in-Err : goal.returns-in-Err
-returns-in-Err g c =
-    elim c.in-Err.ensures [
-      | inl past ↦ inl (inl past)
-      | inr ran_out ↦ inr ran_out
-    ]
