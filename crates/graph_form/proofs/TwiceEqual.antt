@@ -4,7 +4,7 @@ use Rattle.std.specs.List.{list_any}
 use Rattle.std.proofs.lemmas.Bool.{or_left, or_right}
 use Rattle.std.proofs.lemmas.List.{take_more, take-append-drop}
 use Rattle.std.proofs.lemmas.List.Folds.{list_any-append}
-use Rattle.std.proofs.Math.Bool.{or-false}
+use Rattle.std.proofs.Math.Bool.{and_comm, or-false}
 use Rattle.dns_data.specs.Name.{name_eq}
 use Rattle.net_model.specs.declared.walk.State.{State}
 use Rattle.graph_form.specs.Repeated.{equal_twice, names_asked, place_at}
@@ -80,3 +80,7 @@ twice_asked (q ∷ questions) (s ∷ states) e =
 pub both_fail : (a b : Bool) → a ≡ false → b ≡ false → (a || b) ≡ false
 both_fail true b e f = cc
 both_fail false b e f = f
+
+-- names and servers may be compared in either order
+pub either_first : (one other : State) → (name_eq one.name other.name && name_eq one.server other.server) ≡ is_same_place one other
+either_first one other = and_comm (name_eq one.name other.name) (name_eq one.server other.server)

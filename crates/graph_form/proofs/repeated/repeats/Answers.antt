@@ -9,4 +9,4 @@ pub returns : goal.returns
 returns c =
     c.in_ok-repeats.ensures
     ∙ (ap (λ (questions : List Question). equal_twice (question_impl.ghosts).eq questions) c.as_slice.ensures.value
-    ∙ twice_asked c.in_ok-questions.questions.items c.args.walk.now.states (c.in_ok-questions.ensures ∙ ap (map place_at) c.items.ensures))
+    ∙ twice_asked c.in_ok-questions.questions.items c.args.walk.now.states (c.in_ok-questions.ensures ∙ ap (map place_at) c.items-states.ensures))
