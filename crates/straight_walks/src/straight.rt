@@ -29,6 +29,13 @@ use zone_tree::{NodeId, Tree};
 /// No more states than these are looked at.
 pub(crate) const MOST: u32 = 32;
 
+/// How many rewrites each walk may use, and how many states may be looked at, with those behind aliases.
+#[derive(Clone, Copy)]
+struct Limits {
+    rewrites: u32,
+    states: usize,
+}
+
 /// What the walks of a query end in, where they are seen to go straight over few enough pairs of state and type, or
 /// `None`. Each walk may use so many rewrites. Then the query shows no fault, with no type does a walk of it end in a
 /// name of more than 255 octets (RFC 6672 section 2.2), and it has the outcomes of these ends and no others. The sets
@@ -55,20 +62,15 @@ pub fn straight_ends<'h, 'a>(
         → HasOutcome (following hosts.now rewrites sets.now.least) query.now rtype outcome ↔ IsOutcomeOf ends rtype outcome)) }
 {
     let most = (states / 12).min(MOST);
-    ends_by_region(
-        alloc,
-        hosts,
-        sets,
-        regions,
-        near,
-        query,
+    let limits = Limits {
         rewrites,
-        most as usize,
-    )
+        states: most as usize,
+    };
+    ends_by_region(alloc, hosts, sets, regions, near, query, limits)
 }
 
-/// What walks end in that go straight over at most so many states, from those of the search of the query's region, or
-/// from those at the top servers where it is in none. Each walk may use so many rewrites.
+/// What walks end in that go straight within the limits, from the states of the search of the query's region, or from
+/// those at the top servers where it is in none.
 fn ends_by_region<'h, 'a>(
     alloc: Global,
     hosts: &'h Hosts<'a>,
@@ -76,37 +78,35 @@ fn ends_by_region<'h, 'a>(
     regions: &Regions<'a>,
     near: &mut usize,
     query: &Name,
-    rewrites: u32,
-    most: usize,
+    limits: Limits,
 ) -> Result<Option<StraightEnds<'h, 'a>>, NoMemory>
     requires { AreRegionsFor hosts.now sets.now regions.now }
-    ensures { IfOk result (λ found. IfSome found (GoesStraightIn hosts.now sets.now rewrites most query.now)) }
+    ensures { IfOk result (λ found. IfSome found (GoesStraightIn hosts.now sets.now limits.rewrites limits.states query.now)) }
 {
     match regions.search_for(near, query) {
-        Some(searched) => ends_from(alloc, hosts, sets, query, searched, rewrites, most),
+        Some(searched) => ends_from(alloc, hosts, sets, query, searched, limits),
         None => {
             let searched = Search::at_top(alloc, hosts, query)?;
-            ends_from(alloc, hosts, sets, query, &searched, rewrites, most)
+            ends_from(alloc, hosts, sets, query, &searched, limits)
         }
     }
 }
 
-/// What walks end in that go straight from all states of a search that has begun, over at most so many. The states are
-/// copied where a server refers the query, and the search goes on from there. Each walk may use so many rewrites.
+/// What walks end in that go straight within the limits from all states of a search that has begun. The states are
+/// copied where a server refers the query, and the search goes on from there.
 fn ends_from<'h, 'a>(
     alloc: Global,
     hosts: &'h Hosts<'a>,
     sets: &LearntSets,
     query: &Name,
     searched: &Search<'a>,
-    rewrites: u32,
-    most: usize,
+    limits: Limits,
 ) -> Result<Option<StraightEnds<'h, 'a>>, NoMemory>
     requires { IsSearch hosts.now sets.now query.now searched.now }
-    ensures { IfOk result (λ found. IfSome found (GoesStraightIn hosts.now sets.now rewrites most query.now)) }
+    ensures { IfOk result (λ found. IfSome found (GoesStraightIn hosts.now sets.now limits.rewrites limits.states query.now)) }
 {
     let queue = searched.queue.as_slice();
-    if queue.len() > most {
+    if queue.len() > limits.states {
         return Ok(None);
     }
     let mut ends = StraightEnds {
@@ -115,7 +115,7 @@ fn ends_from<'h, 'a>(
         rewrites: 0,
     };
     match next_referral(hosts, query, queue, searched.passed, &mut ends) {
-        NextReferral::Ends => Ok(ends_within(ends, queue.len(), rewrites, most)),
+        NextReferral::Ends => Ok(ends_within(ends, queue.len(), limits)),
         NextReferral::Unclear => Ok(None),
         NextReferral::Refers { passed, tree, cut } => {
             let mut queue = Vec::from_slice(alloc, queue)?;
@@ -124,24 +124,13 @@ fn ends_from<'h, 'a>(
             )? {
                 return Ok(None);
             }
-            all_ends(
-                alloc,
-                hosts,
-                sets,
-                query,
-                queue,
-                passed + 1,
-                ends,
-                rewrites,
-                most,
-            )
+            all_ends(alloc, hosts, sets, query, queue, passed + 1, ends, limits)
         }
     }
 }
 
-/// What walks end in that go straight from all queued states, and from those to which their servers refer the query,
-/// over at most so many. A search has passed the first so many of them; what walks end in there is told. Each walk may
-/// use so many rewrites.
+/// What walks end in that go straight within the limits from all queued states, and from those to which their servers
+/// refer the query. A search has passed the first so many of them; what walks end in there is told.
 fn all_ends<'h, 'a>(
     alloc: Global,
     hosts: &'h Hosts<'a>,
@@ -150,18 +139,17 @@ fn all_ends<'h, 'a>(
     queue: Vec<Queued<'a>>,
     passed: usize,
     ends: StraightEnds<'h, 'a>,
-    rewrites: u32,
-    most: usize,
+    limits: Limits,
 ) -> Result<Option<StraightEnds<'h, 'a>>, NoMemory>
     requires { HasPassed hosts.now sets.now query.now queue.items passed ends }
-    ensures { IfOk result (λ found. IfSome found (GoesStraightIn hosts.now sets.now rewrites most query.now)) }
+    ensures { IfOk result (λ found. IfSome found (GoesStraightIn hosts.now sets.now limits.rewrites limits.states query.now)) }
 {
     let mut queue = queue;
     let mut passed = passed;
     let mut ends = ends;
-    while queue.len() <= most {
+    while queue.len() <= limits.states {
         match next_referral(hosts, query, queue.as_slice(), passed, &mut ends) {
-            NextReferral::Ends => return Ok(ends_within(ends, queue.len(), rewrites, most)),
+            NextReferral::Ends => return Ok(ends_within(ends, queue.len(), limits)),
             NextReferral::Unclear => return Ok(None),
             NextReferral::Refers {
                 passed: place,
@@ -213,20 +201,19 @@ fn passes_referral<'h, 'a>(
     )
 }
 
-/// The ends, where no walk is rewritten more often than so, and so many states are no more than these with as many
-/// behind each of them as there are rewrites.
+/// The ends, where no walk is rewritten more often than it may be, and so many states are no more than may be looked
+/// at, with as many behind each of them as there are rewrites.
 #[tactic(auto, using(crate::proofs::GivenEnds::times_fit))]
 fn ends_within<'h, 'a>(
     ends: StraightEnds<'h, 'a>,
     states: usize,
-    rewrites: u32,
-    most: usize,
+    limits: Limits,
 ) -> Option<StraightEnds<'h, 'a>>
     ensures same { IfSome result (λ found. found ≡ ends.entry) }
-    ensures few { IfSome result (λ found. states * (ends.entry.rewrites + 1) ≤ most) }
-    ensures rewrites { IfSome result (λ found. ends.entry.rewrites ≤ rewrites) }
+    ensures few { IfSome result (λ found. states * (ends.entry.rewrites + 1) ≤ limits.states) }
+    ensures rewrites { IfSome result (λ found. ends.entry.rewrites ≤ limits.rewrites) }
 {
-    if ends.rewrites <= rewrites && states <= most / (ends.rewrites as usize + 1) {
+    if ends.rewrites <= limits.rewrites && states <= limits.states / (ends.rewrites as usize + 1) {
         return Some(ends);
     }
     None

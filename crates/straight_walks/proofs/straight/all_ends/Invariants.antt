@@ -7,4 +7,4 @@ abbrev pub invariant-loop-ends : goal.invariant-loop-ends
 invariant-loop-ends l = HasPassed l.hosts l.sets l.query l.queue.items l.passed l.ends
 
 abbrev pub decreases-loop-ends : goal.decreases-loop-ends
-decreases-loop-ends l = l.most - l.passed
+decreases-loop-ends l = l.limits.states - l.passed

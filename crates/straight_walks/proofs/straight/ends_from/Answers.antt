@@ -32,7 +32,7 @@ returns-in-Ends c =
     let config = c.args.hosts.now in
     let deps = c.args.sets.now in
     let query = c.args.query.now in
-    given_within config deps query c.args.rewrites c.args.most (length c.as_slice-queue.result.now) c.next_referral.new.ends c.ends_within.result c.ends_within.ensures.same c.ends_within.ensures.few c.ends_within.ensures.rewrites
+    given_within config deps query c.args.limits.rewrites c.args.limits.states (length c.as_slice-queue.result.now) c.next_referral.new.ends c.ends_within.result c.ends_within.ensures.same c.ends_within.ensures.few c.ends_within.ensures.rewrites
     (λ few. c.in-Ends.ensures deps
     (subst (λ (all : List Queued). HasPassed config deps query all c.args.searched.now.passed (unanswered c.args.searched.now.fails)) (sym c.as_slice-queue.ensures.value) c.requires)
-    c.args.most few)
+    c.args.limits.states few)
