@@ -1,5 +1,5 @@
--- Walks by aliases to an answer.
-use Rattle.std.proofs.Common.{◌≡◌, ◌==◌, true, false, List, [], ◌∷◌, length, Option, None, refl, sym, ap, ◌∙◌, subst, inl, inr}
+-- Walks by rewrites to an answer.
+use Rattle.std.proofs.Common.{◌≡◌, ◌==◌, true, List, [], ◌∷◌, length, Option, None, refl, sym, ap, ◌∙◌, subst, inl, inr}
 use Rattle.std.specs.Prelude.{Contains, Some, option_map, slice_get}
 use Rattle.std.specs.List.{AllByRecursion}
 use Rattle.std.specs.Option.{option_to_list}
@@ -31,18 +31,18 @@ ends_by_branch setting rtype state hop leaf outcome has told =
       told,
     )
 
--- and so are aliases that end in an answer
+-- and so are rewrites that end in an answer
 pub ends_along : (setting : Setting) (rtype : RrType) (leaf : Leaf) (state : State) (behind : List State) → AnswersAlong setting rtype leaf state behind
     → EndsWith setting rtype state (outcome_of leaf)
 ends_along setting rtype leaf state [] (ends, exists) =
     ends_by_branch setting rtype state None leaf (outcome_of leaf)
     (subst (λ (all : List Branch). Contains all (End None leaf)) (sym ends) (has_first (End None leaf) [])) refl
-ends_along setting rtype leaf state (to ∷ behind) (place, target, goes, along) =
+ends_along setting rtype leaf state (to ∷ behind) (place, by_dname, target, goes, along) =
     let (numbers, walk, is, told) = ends_along setting rtype leaf to behind along in (
       0 ∷ numbers,
-      led_on state (Rewrite place false target) walk,
+      led_on state (Rewrite place by_dname target) walk,
       ap (λ (all : List Branch). branched state (length numbers == 0) (walk_from setting rtype numbers) (slice_get all 0)) goes
-          ∙ ap (option_map (led_on state (Rewrite place false target))) is,
+          ∙ ap (option_map (led_on state (Rewrite place by_dname target))) is,
       told,
     )
 
@@ -54,7 +54,7 @@ along_steps setting deps ends rtype all leaf is told state [] (ends_so, exists) 
   subst (AllByRecursion (BranchStraight setting deps ends rtype all state)) (sym ends_so) (inr (inl (leaf, is, told, exists, refl)), tt),
   tt,
 )
-along_steps setting deps ends rtype all leaf is told state (to ∷ behind) (place, target, goes, along) among = (
-  subst (AllByRecursion (BranchStraight setting deps ends rtype all state)) (sym goes) (inr (inr (place, target, to, refl, among.0)), tt),
+along_steps setting deps ends rtype all leaf is told state (to ∷ behind) (place, by_dname, target, goes, along) among = (
+  subst (AllByRecursion (BranchStraight setting deps ends rtype all state)) (sym goes) (inr (inr (place, by_dname, target, to, refl, among.0)), tt),
   along_steps setting deps ends rtype all leaf is told to behind along among.1,
 )

@@ -15,6 +15,7 @@ pub mod StraightWalks
 pub mod Unhosted
 pub mod BelowOrigins
 pub mod OtherNames
+pub mod RedirectedAnswers
 pub mod RegionSearch
 pub mod NearestRegions
 pub mod OriginSets

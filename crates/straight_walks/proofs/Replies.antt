@@ -1,18 +1,19 @@
 -- What a server replies, by what its zone has for the name.
-use Rattle.std.proofs.Common.{◌≡◌, ℕ, ◌+◌, ◌<◌, Bool, true, false, ◌&&◌, List, [], ◌∷◌, map, Option, Some, None, Bor, refl, sym, ap, ◌∙◌, lt-ltb}
+use Rattle.std.proofs.Common.{◌≡◌, ℕ, ◌+◌, ◌<◌, nat_le, Bool, true, false, ◌&&◌, List, [], ◌∷◌, map, Option, Some, None, Bor, refl, sym, ap, ◌∙◌, lt-ltb}
 use Rattle.std.specs.Prelude.{if◌then◌else◌, is_some}
-use Rattle.dns_data.specs.Name.{Labels, is_prefix}
+use Rattle.dns_data.specs.Name.{Labels, is_prefix, swap, wire_octets}
 use Rattle.dns_data.specs.RrType.{type_eq}
 use Rattle.dns_data.specs.declared.rdata.Rdata.{Rdata}
 use Rattle.dns_data.specs.declared.rr_type.RrType.{RrType}
 use Rattle.dns_data.specs.declared.rr_type.RrType.TheVariants as types
 use Rattle.dns_data.proofs.NameFronts.{is_prefix_tells}
-use Rattle.net_model.specs.Lookup.{Deciding, ByCut, ByNothing, ByRecords, aliased, answer_of, answered, deciding, first_name, found}
+use Rattle.net_model.specs.Lookup.{Deciding, ByCut, ByNothing, ByRecords, ByRedirection, aliased, answer_of, answered, by_dname, deciding, first_name, found}
 use Rattle.net_model.specs.Nearest.{nearest_of}
 use Rattle.net_model.specs.Step.{Setting, Branch, Go, End, after_lookup, arrived, in_zone, next, rewritten}
 use Rattle.net_model.specs.Zone.{ns_names, targets_at}
 use Rattle.net_model.specs.declared.config.Config.{Config}
 use Rattle.net_model.specs.declared.config.Zone.{Zone}
+use Rattle.net_model.specs.declared.found.Found.TheVariants as found_as
 use Rattle.net_model.specs.declared.place.Place.{Place}
 use Rattle.net_model.specs.declared.walk.Hop.TheVariants.{Rewrite}
 use Rattle.net_model.specs.declared.walk.Leaf.TheVariants.{Limit, Outside}
@@ -57,6 +58,32 @@ module _ (config : Config) (query server : Labels) (setting : Setting) (rtype : 
       ∙ ap (λ (name : Labels). after_lookup setting state zone.origin (found zone name rtype)) named
       ∙ ap (λ (d : Deciding). after_lookup setting state zone.origin (answered zone query rtype d)) decides
 
+  -- the place of a rewrite by a record of the owner
+  abbrev place_of : Labels → Labels → Place
+  place_of origin owner = record { server = state.server; zone = origin; owner = owner }
+
+  -- the state with the name to which it leads, at the same server
+  abbrev rewritten_to : Labels → Labels → Bool → Labels → State
+  rewritten_to origin owner redirects to =
+      arrived setting.config to (state.carried && redirects) (state.used + 1) (Some (place_of origin owner)) state.server
+
+  -- walks go on to it, if they may and the server has a zone for the name
+  rewritten_goes : (origin owner : Labels) (redirects : Bool) (to : Labels) → state.used < setting.rewrites → is_some (nearest_of config server to) ≡ true
+      → after_lookup setting state origin (found_as.Rewrite redirects owner to)
+      ≡ Go (Rewrite (place_of origin owner) redirects to) (rewritten_to origin owner redirects to) ∷ []
+  rewritten_goes origin owner redirects to fewer held =
+      ap (λ (may : Bool). if may then rewritten setting.config state (place_of origin owner) redirects to else End None (Limit (place_of origin owner)) ∷ [])
+      (lt-ltb state.used setting.rewrites fewer)
+      ∙ ap (map (λ (name : Labels). Go (Rewrite (place_of origin owner) redirects to)
+      (arrived setting.config to (state.carried && redirects) (state.used + 1) (Some (place_of origin owner)) name)))
+      (ap (λ (there : Bool). if there then state.server ∷ [] else setting.config.tops) held_there)
+    where
+      held_there : is_some (nearest_of setting.config state.server to) ≡ true
+      held_there =
+          ap (λ (c : Config). is_some (nearest_of c state.server to)) same
+          ∙ ap (λ (name : Labels). is_some (nearest_of config name to)) at
+          ∙ held
+
   -- a name at which an alias stands
   module _ (tree : Bor ZoneTree) (owner : ℕ) (target : Bor Labels) (so : IsReply config query server (reply.Alias tree owner target)) where
     abbrev alias : Option Labels
@@ -76,11 +103,11 @@ module _ (config : Config) (query server : Labels) (setting : Setting) (rtype : 
 
     -- where the alias stands
     abbrev pub place : Place
-    place = record { server = state.server; zone = tree.now.zone.origin; owner = name_of tree.now owner }
+    place = place_of tree.now.zone.origin (name_of tree.now owner)
 
     -- the state with its target at the same server
     abbrev pub aliased_to : State
-    aliased_to = arrived setting.config target.now (state.carried && false) (state.used + 1) (Some place) state.server
+    aliased_to = rewritten_to tree.now.zone.origin (name_of tree.now owner) false target.now
 
     -- with each other type walks go on to it, if they may and the server has a zone for it
     pub alias_goes : type_eq rtype types.Cname ≡ false → state.used < setting.rewrites → is_some (nearest_of config server target.now) ≡ true
@@ -88,15 +115,31 @@ module _ (config : Config) (query server : Labels) (setting : Setting) (rtype : 
     alias_goes other fewer held =
         decided_alias ∙ ap by_alias other
         ∙ ap (λ (to : Option Labels). after_lookup setting state tree.now.zone.origin (aliased tree.now.zone (name_of tree.now owner) rtype to)) so.3
-        ∙ ap (λ (may : Bool). if may then rewritten setting.config state place false target.now else End None (Limit place) ∷ []) (lt-ltb state.used setting.rewrites fewer)
-        ∙ ap (map (λ (name : Labels). Go (Rewrite place false target.now) (arrived setting.config target.now (state.carried && false) (state.used + 1) (Some place) name)))
-        (ap (λ (there : Bool). if there then state.server ∷ [] else setting.config.tops) held_there)
+        ∙ rewritten_goes tree.now.zone.origin (name_of tree.now owner) false target.now fewer held
+
+  -- a name that a DNAME record redirects
+  module _ (owner target : Bor Labels) (so : IsReply config query server (reply.Redirects owner target)) where
+    -- where the record stands
+    abbrev pub dname_place : Place
+    dname_place = place_of so.0.origin owner.now
+
+    -- the state with the name that it makes, at the same server
+    abbrev pub redirected_to : Labels → State
+    redirected_to to = rewritten_to so.0.origin owner.now true to
+
+    -- walks go on to it with each type, if the name isn't too long, and they may and the server has a zone for it
+    pub redirection_goes : (to : Labels) → to ≡ swap query owner.now target.now → nat_le (wire_octets to) 255 ≡ true
+        → state.used < setting.rewrites → is_some (nearest_of config server to) ≡ true
+        → next setting rtype state ≡ Go (Rewrite dname_place true to) (redirected_to to) ∷ []
+    redirection_goes to is short fewer held =
+        decided_by so.0 (sym so.1) (ByRedirection owner.now (Some target.now)) so.2
+        ∙ ap (λ (name : Labels). by_length name (nat_le (wire_octets name) 255)) (sym is)
+        ∙ ap (by_length to) short
+        ∙ rewritten_goes so.0.origin owner.now true to fewer held
       where
-        held_there : is_some (nearest_of setting.config state.server target.now) ≡ true
-        held_there =
-            ap (λ (c : Config). is_some (nearest_of c state.server target.now)) same
-            ∙ ap (λ (name : Labels). is_some (nearest_of config name target.now)) at
-            ∙ held
+        by_length : Labels → Bool → List Branch
+        by_length name fits =
+            after_lookup setting state so.0.origin (if fits then found_as.Rewrite true owner.now name else found_as.TooLong owner.now)
 
 -- ---- the query at the server
 
@@ -135,6 +178,15 @@ module _ (config : Config) (query server : Labels) where
         → (target : Bor Labels) → first_name (targets_at tree.now.zone (name_of tree.now owner) types.Cname) ≡ Some target.now
         → IsReply config query server (reply.Alias tree owner target)
     alias_decides owner node decides target alias = (node, sym is, decides, alias)
+
+    -- a server whose zone has a DNAME record that decides at the name redirects the query
+    pub redirection_decides : (name : Labels) (owner target : Bor Labels) → owner.now ≡ name → deciding tree.now.zone query ≡ by_dname tree.now.zone name
+        → first_name (targets_at tree.now.zone name types.Dname) ≡ Some target.now → IsReply config query server (reply.Redirects owner target)
+    redirection_decides name owner target named decides found = (
+      tree.now.zone,
+      sym is,
+      decides ∙ ap (ByRedirection name) found ∙ ap (λ (name : Labels). ByRedirection name (Some target.now)) (sym named),
+    )
 
     -- a server whose zone has nothing that decides at the name answers the query
     pub nothing_decides : deciding tree.now.zone query ≡ ByNothing → IsReply config query server (reply.Nothing tree)

@@ -124,7 +124,7 @@ module _ (setting : Setting) (deps : Deps) (most : ℕ) (query : Labels) (ends :
     apart e = cc
   branch_so state branch (inr (inl (leaf, is, told, exists, answers))) = subst (BranchSo state) (sym answers) (tt, ends_answered ends rtype leaf is told, exists)
   branch_so state branch (inl (inr (cut, to, sound, goes, has))) = subst (BranchSo state) (sym goes) (sound, has)
-  branch_so state branch (inr (inr (place, target, to, goes, has))) = subst (BranchSo state) (sym goes) (tt, has)
+  branch_so state branch (inr (inr (place, by_dname, target, to, goes, has))) = subst (BranchSo state) (sym goes) (tt, has)
 
   -- each walk from one of the states goes so
   walk_straight : (numbers : List ℕ) (state : State) (walk : Walk) → Contains straight.states state → walk_from setting rtype numbers state ≡ Some walk → So walk

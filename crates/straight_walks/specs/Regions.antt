@@ -50,7 +50,7 @@ pub record IsPassedMore (config : Config) (deps : Deps) (origin : Labels) (one :
   pub passes : (query : Labels) → IsNearestOrigin config origin query
       → Passes config deps query one.server.now before.queue.items (unanswered before.fails) after.queue.items (unanswered after.fails)
 
--- the state is put at the end of those whose servers answer
+-- the state is put at the end of those whose servers answer, or redirect the query
 pub record IsAnsweringMore (one : Queued) (before after : RegionSearch) : Type 0 where
   pub queue : after.queue.items ≡ before.queue.items
   pub passed : after.passed.items ≡ before.passed.items

@@ -6,7 +6,7 @@ use Rattle.dns_data.specs.RrType.{type_eq}
 use Rattle.dns_data.specs.declared.rr_type.RrType.{RrType}
 use Rattle.dns_data.specs.declared.rr_type.RrType.TheVariants as types
 use Rattle.net_model.specs.declared.deps.Deps.{Deps}
-use Rattle.net_model.specs.Lookup.{ByCut, ByRecords, deciding, first_name}
+use Rattle.net_model.specs.Lookup.{ByCut, ByRecords, ByRedirection, deciding, first_name}
 use Rattle.net_model.specs.Nearest.{held_zone, nearest_of}
 use Rattle.net_model.specs.Shown.{is_authoritative}
 use Rattle.net_model.specs.Step.{Setting, Branch, Go, End, next, referred, start}
@@ -156,6 +156,8 @@ IsReply config query server (reply.Alias tree owner target) =
     × (nearest_of config server query ≡ Some tree.now.zone)
     × (deciding tree.now.zone query ≡ ByRecords (name_of tree.now owner))
     × (first_name (targets_at tree.now.zone (name_of tree.now owner) types.Cname) ≡ Some target.now)
+IsReply config query server (reply.Redirects owner target) =
+    (zone : Zone) × (nearest_of config server query ≡ Some zone) × (deciding zone query ≡ ByRedirection owner.now (Some target.now))
 IsReply config query server (reply.Nothing tree) = AnswersAt config query server (zone_owner tree.now None)
 IsReply config query server (reply.Refers tree cut) =
     IsNode tree.now cut
@@ -165,14 +167,15 @@ IsReply config query server (reply.Refers tree cut) =
     × (deciding tree.now.zone query ≡ ByCut (name_of tree.now cut))
 IsReply config query server reply.Unclear = Unit {0}
 
--- ---- aliases
+-- ---- rewrites
 
--- walks from the state go on by aliases alone, through these states, and end in the answer; a name to which an alias
+-- walks from the state go on by rewrites alone, through these states, and end in the answer; a name to which a rewrite
 -- led exists
 abbrev pub AnswersAlong : Setting → RrType → Leaf → State → List State → Type 0
 AnswersAlong setting rtype leaf state [] = (next setting rtype state ≡ End None leaf ∷ []) × (leaf ≡ NxDomain → state.last ≡ None)
 AnswersAlong setting rtype leaf state (to ∷ behind) =
-    (place : Place) × (target : Labels) × (next setting rtype state ≡ Go (Rewrite place false target) to ∷ []) × AnswersAlong setting rtype leaf to behind
+    (place : Place) × (by_dname : Bool) × (target : Labels) × (next setting rtype state ≡ Go (Rewrite place by_dname target) to ∷ [])
+    × AnswersAlong setting rtype leaf to behind
 
 -- with each type but CNAME walks from a state with the name, to which so many rewrites led, go by aliases alone to what
 -- the end's owner has, by no more rewrites in all than the end's
@@ -185,15 +188,39 @@ pub record IsAliasEnd (config : Config) (server name : Labels) (rewrites : ℕ) 
       → (behind : List State) × (length behind + rewrites ≤ end.rewrites)
       × AnswersAlong setting rtype (owner_leaf (zone_owner end.tree.now (Some end.owner)) rtype) state behind
 
--- with each type walks from the query's state at the server end in the answer, behind no more aliases than these
+-- with each type walks from a state with the name, to which so many rewrites led, go by rewrites alone to the answer,
+-- by no more rewrites in all than these
+abbrev pub AnswersBehind : Config → Labels → Labels → ℕ → Answering → ℕ → Type 0
+AnswersBehind config server name rewrites answering most =
+    (setting : Setting) (rtype : RrType) (state : State) → setting.config ≡ config → most ≤ setting.rewrites
+    → state.server ≡ server → state.name ≡ name → state.used ≡ rewrites
+    → (behind : List State) × (length behind + rewrites ≤ most) × AnswersAlong setting rtype (leaf_of answering rtype) state behind
+
+-- what the server answers to the name, to which so many rewrites led, is put to the ends
+pub record IsAnsweredBehind (config : Config) (server name : Labels) (rewrites : ℕ) (before after : StraightEnds) : Type 0 where
+  pub held : is_some (nearest_of config server name) ≡ true
+  pub answering : Answering
+  pub most : ℕ
+  pub no_fewer : rewrites ≤ most
+  pub answers : AnswersBehind config server name rewrites answering most
+  pub put : IsPut before answering most after
+
+-- with each type walks from the query's state at the server end in the answer, behind no more rewrites than these
 abbrev pub AnswersSo : Config → Labels → Labels → Answering → ℕ → Type 0
 AnswersSo config query server answering rewrites =
     (setting : Setting) (rtype : RrType) (above : ℕ) → setting.config ≡ config → rewrites ≤ setting.rewrites
     → (behind : List State) × (length behind ≤ rewrites) × AnswersAlong setting rtype (leaf_of answering rtype) (state_at config query server above) behind
 
+-- what the server answers to the query is put to the ends
+pub record IsAnswered (config : Config) (query server : Labels) (before after : StraightEnds) : Type 0 where
+  pub answering : Answering
+  pub rewrites : ℕ
+  pub answers : AnswersSo config query server answering rewrites
+  pub put : IsPut before answering rewrites after
+
 -- ---- states that are passed
 
--- walks with the type from the state end in an answer of the ends, behind no more aliases than the ends tell
+-- walks with the type from the state end in an answer of the ends, behind no more rewrites than the ends tell
 abbrev pub EndsAnswered : Setting → StraightEnds → RrType → State → Type 0
 EndsAnswered setting ends rtype state =
     (behind : List State) × (leaf : Leaf) × (length behind ≤ ends.rewrites) × (is_authoritative leaf ≡ true) × IsOutcomeOf ends rtype (Some leaf)
@@ -263,4 +290,5 @@ IsNextReferral config query queue before ends_before ends (referring.Refers pass
     × (passed < length queue)
     × IfSome (slice_get queue passed) (λ one. IsReply config query one.server.now (reply.Refers tree cut))
     × ((deps : Deps) → HasPassed config deps query queue before ends_before → HasPassed config deps query queue passed ends)
+IsNextReferral config query queue before ends_before ends referring.NoMemory = Unit {0}
 IsNextReferral config query queue before ends_before ends referring.Unclear = Unit {0}

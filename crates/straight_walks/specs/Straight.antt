@@ -1,6 +1,6 @@
--- Queries whose walks go straight: by delegations and by aliases in one server, to ends that show no fault, where all
+-- Queries whose walks go straight: by delegations and by rewrites in one server, to ends that show no fault, where all
 -- servers answer alike.
-use Rattle.std.specs.Prelude.{◌≡◌, ◌≤◌, ℕ, Bool, true, false, List, ◌⊎◌, length, Option, Some, None, Contains}
+use Rattle.std.specs.Prelude.{◌≡◌, ◌≤◌, ℕ, Bool, true, List, ◌⊎◌, length, Option, Some, None, Contains}
 use Rattle.std.specs.List.{AllByRecursion, list_any}
 use Rattle.dns_data.specs.Name.{Labels, name_eq}
 use Rattle.dns_data.specs.declared.rr_type.RrType.{RrType}
@@ -34,9 +34,10 @@ EndsInAnswer ends rtype state branch =
 abbrev pub GoesTo : Config → Deps → List State → Branch → Type 0
 GoesTo config deps states branch = (cut : Cut) × (to : State) × IsSound config deps cut × (branch ≡ Go (Refer cut) to) × Contains states to
 
--- the branch goes on by an alias to one of these states
-abbrev pub GoesByAlias : List State → Branch → Type 0
-GoesByAlias states branch = (place : Place) × (target : Labels) × (to : State) × (branch ≡ Go (Rewrite place false target) to) × Contains states to
+-- the branch goes on by a rewrite to one of these states
+abbrev pub GoesByRewrite : List State → Branch → Type 0
+GoesByRewrite states branch =
+    (place : Place) × (by_dname : Bool) × (target : Labels) × (to : State) × (branch ≡ Go (Rewrite place by_dname target) to) × Contains states to
 
 -- the branch ends where no zone answers, and walks fail; or it goes on by a referral to one of the states
 abbrev pub FailsOrGoes : Config → Deps → Bool → List State → Branch → Type 0
@@ -44,10 +45,10 @@ FailsOrGoes config deps fails states branch = ((fails ≡ true) × EndsUnanswere
 
 module _ (setting : Setting) (deps : Deps) (ends : StraightEnds) (rtype : RrType) (states : List State) where
   -- a branch of the state fails as the ends do or goes on by a referral to one of the states; or it ends with the type
-  -- in the answer of the ends, or goes on by an alias to one of the states
+  -- in the answer of the ends, or goes on by a rewrite to one of the states
   abbrev pub BranchStraight : State → Branch → Type 0
   BranchStraight state branch =
-      FailsOrGoes setting.config deps ends.fails states branch ⊎ (EndsInAnswer ends rtype state branch ⊎ GoesByAlias states branch)
+      FailsOrGoes setting.config deps ends.fails states branch ⊎ (EndsInAnswer ends rtype state branch ⊎ GoesByRewrite states branch)
 
   -- each branch of the state does so
   abbrev pub StepsStraight : State → Type 0

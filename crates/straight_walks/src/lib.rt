@@ -1,4 +1,4 @@
-//! Queries whose walks go straight: by delegations, and by aliases in one server, to ends that show no fault, where all
+//! Queries whose walks go straight: by delegations, and by rewrites in one server, to ends that show no fault, where all
 //! servers answer alike.
 //!
 //! The layer above may rest on this: where `straight_ends` gives what the walks of a query end in, the query shows no
@@ -12,9 +12,10 @@
 //! origins. At each server that answers for the query's nearest origin there is a search among the server's zones for
 //! the nearest zone, of three, one of them for the server, where no origin of the server's stands between the query and
 //! its nearest origin, and what decides at the query is looked for. Where that is an alias the same is done for its
-//! target, at the same server, and for no more than four aliases one behind the other. Where several servers answer the
-//! query, their data are compared, type by type; nothing is looked for again, and so where ends are compared. All this
-//! takes no memory. Only where one of these servers refers the query its nearest origin's states are copied, once, and
+//! target, at the same server, and for no more than four aliases one behind the other. Where a DNAME record redirects
+//! the query, the name that it makes is made once, and the same is done for it and its aliases. Where several servers
+//! answer the query, their data are compared, type by type; nothing is looked for again, and so where ends are compared.
+//! All this takes no memory, but for a name that a DNAME record makes. Only where one of these servers refers the query its nearest origin's states are copied, once, and
 //! each name server of the zone cut is looked into, as for an origin. The search goes on from there, over the states
 //! queued after that one and those at the servers to which it refers the query, and looks at no state twice. Where no
 //! origin is at or above the query, a queue is made of the states at the top servers. No graph is made.
@@ -26,6 +27,7 @@ mod ends;
 mod name_server;
 mod origins;
 mod queue;
+mod redirections;
 mod referrals;
 mod referring;
 mod region;

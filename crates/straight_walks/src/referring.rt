@@ -6,14 +6,17 @@ use crate::aliases::alias_end;
 use crate::answers::ZoneAnswer;
 use crate::ends::StraightEnds;
 use crate::queue::Queued;
+use crate::redirections::put_redirected;
 use crate::server::{Reply, reply_of};
-use dns_data::Name;
+use dns_data::{Name, NoMemory};
+use std::alloc::Global;
 use zone_lookup::Hosts;
 use zone_tree::{NodeId, Tree};
 
 /// The next referral of a search over the queued states that it hasn't passed yet: there is none, walks end at all of
 /// them, and all servers that answer answer alike; or they do so up to the state of this place, whose server refers the
-/// query by this zone cut. Of other searches nothing is said.
+/// query by this zone cut; or memory was wanting, which is no `Err`, since no call that gives a `Result` of nodes is proved.
+/// Of other searches nothing is said.
 #[derive(Clone, Copy)]
 pub(crate) enum NextReferral<'h, 'a> {
     Ends,
@@ -22,12 +25,14 @@ pub(crate) enum NextReferral<'h, 'a> {
         tree: &'h Tree<'a>,
         cut: NodeId,
     },
+    NoMemory,
     Unclear,
 }
 
 /// The next referral of the search that has passed this many of the queued states. What walks end in at the states on the
-/// way is put to what they ended in before. It takes no memory.
+/// way is put to what they ended in before. It takes memory for names alone that DNAME records make.
 pub(crate) fn next_referral<'h, 'a>(
+    alloc: Global,
     hosts: &'h Hosts<'a>,
     query: &Name,
     queue: &[Queued<'a>],
@@ -52,6 +57,12 @@ pub(crate) fn next_referral<'h, 'a>(
                         end.rewrites,
                     ),
                     None => false,
+                }
+            }
+            Reply::Redirects(owner, target) => {
+                match put_redirected(alloc, hosts, one, query, owner, target, ends) {
+                    Ok(answered) => answered,
+                    Err(NoMemory) => return NextReferral::NoMemory,
                 }
             }
             Reply::Nothing(tree) => ends.put(ZoneAnswer::of_nothing(tree), 0),

@@ -69,7 +69,8 @@ fn search_of_origin<'a>(
 }
 
 /// A search over the states to which walks for an origin come: the queue of them; those that are passed, and those
-/// whose servers answer, of the ones that were looked at; and whether some walk ends where no zone answers.
+/// whose servers answer or redirect the query, of the ones that were looked at; and whether some walk ends where no zone
+/// answers.
 #[derive(Drop)]
 struct RegionSearch<'a> {
     queue: Vec<Queued<'a>>,
@@ -93,8 +94,8 @@ impl<'a> RegionSearch<'a> {
     }
 
     /// Whether walks for the origin go straight from the state. It is put at the end of those that are passed, and the
-    /// states to which its server refers the query are queued; or, where its server answers, at the end of those whose
-    /// servers do.
+    /// states to which its server refers the query are queued; or, where its server answers or redirects the query, at
+    /// the end of those whose servers do.
     fn look_at(
         &mut self,
         alloc: Global,
@@ -111,7 +112,7 @@ impl<'a> RegionSearch<'a> {
                 self.passed.push(one)?;
                 Ok(true)
             }
-            Reply::Records(..) | Reply::Alias(..) | Reply::Nothing(..) => {
+            Reply::Records(..) | Reply::Alias(..) | Reply::Redirects(..) | Reply::Nothing(..) => {
                 self.answering.push(one)?;
                 Ok(true)
             }

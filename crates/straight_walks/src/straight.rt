@@ -29,7 +29,7 @@ use zone_tree::{NodeId, Tree};
 /// No more states than these are looked at.
 pub(crate) const MOST: u32 = 32;
 
-/// How many rewrites each walk may use, and how many states may be looked at, with those behind aliases.
+/// How many rewrites each walk may use, and how many states may be looked at, with those behind rewrites.
 #[derive(Clone, Copy)]
 struct Limits {
     rewrites: u32,
@@ -114,8 +114,9 @@ fn ends_from<'h, 'a>(
         fails: searched.fails,
         rewrites: 0,
     };
-    match next_referral(hosts, query, queue, searched.passed, &mut ends) {
+    match next_referral(alloc, hosts, query, queue, searched.passed, &mut ends) {
         NextReferral::Ends => Ok(ends_within(ends, queue.len(), limits)),
+        NextReferral::NoMemory => Err(NoMemory),
         NextReferral::Unclear => Ok(None),
         NextReferral::Refers { passed, tree, cut } => {
             let mut queue = Vec::from_slice(alloc, queue)?;
@@ -148,8 +149,9 @@ fn all_ends<'h, 'a>(
     let mut passed = passed;
     let mut ends = ends;
     while queue.len() <= limits.states {
-        match next_referral(hosts, query, queue.as_slice(), passed, &mut ends) {
+        match next_referral(alloc, hosts, query, queue.as_slice(), passed, &mut ends) {
             NextReferral::Ends => return Ok(ends_within(ends, queue.len(), limits)),
+            NextReferral::NoMemory => return Err(NoMemory),
             NextReferral::Unclear => return Ok(None),
             NextReferral::Refers {
                 passed: place,

@@ -9,7 +9,7 @@ use Rattle.straight_walks.specs.declared.server.Reply.TheVariants as reply
 use Rattle.straight_walks.proofs.AliasEnds.{alias_answers_so, answers_by}
 use Rattle.straight_walks.proofs.StraightSearch.{all_passed, answer_passes, one_passed, outside_passes}
 use Rattle.straight_walks.proofs.referring.next_referral.Goals as goal
-use Rattle.straight_walks.proofs.referring.next_referral.Goals.{in-Outside, in-Records, in-Alias+in-Some, in-Alias+in-None, in-Nothing, in-Unclear}
+use Rattle.straight_walks.proofs.referring.next_referral.Goals.{in-Outside, in-Records, in-Alias+in-Some, in-Alias+in-None, in-Redirects+in-Ok, in-Nothing, in-Unclear}
 
 pub returns-in-Refers : goal.returns-in-Refers
 returns-in-Refers c =
@@ -48,6 +48,10 @@ loop-passed-preserved c =
           (subst (λ (answering : Answering). IsPut ends answering w.in-Some.end.rewrites w.put.new.self) w.of_alias.ensures
           (w.put.ensures (sym w.answered-is ∙ c.if-not-answered.false))))
       | in-Alias+in-None w ↦ absurd (true≢false (sym c.if-not-answered.false ∙ w.answered-is))
+      | in-Redirects+in-Ok w ↦
+          let it = w.in-Ok.ensures (sym w.answered-is ∙ c.if-not-answered.false) in
+          subst (Passes config deps query server queue ends queue) (sym w.ends-is)
+          (answer_passes config deps query server queue ends it.answering it.rewrites w.put_redirected.new.ends it.answers it.put)
       | in-Nothing w ↦
           subst (Passes config deps query server queue ends queue) (sym w.ends-is)
           (answer_passes config deps query server queue ends (answering_by w.in-Nothing.tree.now None) 0 w.put-answered-in-Nothing.new.self

@@ -1,0 +1,11 @@
+use Rattle.std.proofs.Common.{◌<◌, subst}
+use Rattle.dns_data.specs.Name.{Labels, wire_octets}
+use Rattle.dns_data.specs.declared.fault.JoinFault.TheVariants as JoinFault
+use Rattle.straight_walks.proofs.RedirectedAnswers.{is_within, no_fault, redirection_answers}
+use Rattle.straight_walks.proofs.redirections.put_redirected.Goals as goal
+
+pub returns-in-Ok : goal.returns-in-Ok
+returns-in-Ok c = λ yes.
+    redirection_answers c.args.hosts.now c.args.query.now c.args.one.server.now c.args.owner c.args.target c.requires c.in-Ok.to c.in-Ok.ensures.ok
+    (is_within 255 (wire_octets c.in-Ok.to)
+    (λ more. no_fault c.in-Ok.to JoinFault.TooLong (c.in-Ok.ensures.too_long.1 (subst (λ (name : Labels). 255 < wire_octets name) c.in-Ok.ensures.ok more)))) c.args.ends.now c.put_behind.new.ends (c.put_behind.ensures yes)

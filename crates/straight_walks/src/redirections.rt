@@ -1,0 +1,62 @@
+//! What servers answer to queries that DNAME records redirect.
+
+ghost use Rattle.std.specs.Prelude.{◌≡◌, true, IfOk};
+ghost use Rattle.straight_walks.specs.Searching.{IsAnswered, IsAnsweredBehind, IsReply};
+ghost use Rattle.straight_walks.specs.declared.server.Reply.TheVariants as reply_as;
+
+use crate::aliases::alias_end;
+use crate::answers::ZoneAnswer;
+use crate::ends::StraightEnds;
+use crate::queue::Queued;
+use crate::server::{Reply, reply_of};
+use dns_data::{JoinFault, Name, NoMemory};
+use name_rules::substitute;
+use std::alloc::Global;
+use zone_lookup::Hosts;
+
+/// Whether the state's server, at which a DNAME record of this owner with this target redirects the query, is seen to
+/// answer as each one before. What it answers to the name that the record makes is put to the others (RFC 6672 section
+/// 2.2).
+pub(crate) fn put_redirected<'h, 'a>(
+    alloc: Global,
+    hosts: &'h Hosts<'a>,
+    one: Queued<'a>,
+    query: &Name,
+    owner: &Name,
+    target: &Name,
+    ends: &mut StraightEnds<'h, 'a>,
+) -> Result<bool, NoMemory>
+    requires { IsReply hosts.now query.now one.server.now (reply_as.Redirects owner target) }
+    ensures { IfOk result (λ answered. answered ≡ true → IsAnswered hosts.now query.now one.entry.server.now ends.old ends.new) }
+{
+    match substitute(alloc, query, owner, target) {
+        Ok(to) => Ok(put_behind(hosts, one, &to, ends)),
+        Err(JoinFault::TooLong) => Ok(false),
+        Err(JoinFault::NoMemory) => Err(NoMemory),
+    }
+}
+
+/// Whether the state's server is seen to answer to a name, to which one rewrite led there, as each one before answers
+/// the query. It is where the server has data for the name, or for that to which its aliases lead.
+fn put_behind<'h, 'a>(
+    hosts: &'h Hosts<'a>,
+    one: Queued<'a>,
+    name: &Name,
+    ends: &mut StraightEnds<'h, 'a>,
+) -> bool
+    ensures { result ≡ true → IsAnsweredBehind hosts.now one.entry.server.now name.now 1 ends.old ends.new }
+{
+    match reply_of(hosts, one.near, name, one.server) {
+        Reply::Records(tree, owner) => ends.put(ZoneAnswer::of_owner(tree, owner), 1),
+        Reply::Alias(tree, owner, target) => {
+            match alias_end(hosts, one.near, one.server, target, 2) {
+                Some(end) => ends.put(
+                    ZoneAnswer::of_alias(tree, owner, end.tree, end.owner),
+                    end.rewrites,
+                ),
+                None => false,
+            }
+        }
+        _ => false,
+    }
+}
