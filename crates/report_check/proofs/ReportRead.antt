@@ -3,6 +3,7 @@ use Rattle.std.proofs.Common.{◌≡◌, ◌∙◌, ℕ, ◌≤◌, ◌<◌, ◌
 use Rattle.std.specs.Prelude.{option_and_then}
 use Rattle.std.specs.List.{AllByRecursion}
 use Rattle.std.specs.Option.{option_map}
+use Rattle.std.specs.Str.{IsUtf8}
 use Rattle.std.proofs.lemmas.Bool.Decides.{nat_tests}
 use Rattle.dns_data.specs.Name.{Labels, IsName}
 use Rattle.dns_data.specs.declared.rr_type.RrType.{RrType}
@@ -17,6 +18,7 @@ use Rattle.graph_form.specs.declared.report.Report.{Report}
 use Rattle.graph_form.specs.declared.report.ReportEntry.{ReportEntry}
 use Rattle.meta_read.proofs.Values.{value_of-read}
 use Rattle.serde_json.specs.Data.{Data}
+use Rattle.serde_json.specs.Read.{read}
 use Rattle.report_json.specs.Report.{entry_value, report_value, report_text}
 use Rattle.report_json.proofs.TextsRead.{report_reads_back}
 use Rattle.report_check.specs.Checked.{IsChecked}
@@ -90,20 +92,21 @@ value_stated report writable =
     ∙ ap (option_map (λ (entries : List Data). record { rewrites = report.rewrites; entries = entries })) (entries_of report)
 
 -- the text of a report that may be written is read as its limit of rewrites and the values of its entries
-pub report_is_read : (report : Report) → IsWritable report
-    → report_in (report_text report) ≡ Some (record { rewrites = report.rewrites; entries = map entry_value report.entries })
-report_is_read report writable =
+pub report_is_read : (report : Report) → IsWritable report → (octets : List ℕ) → octets ≡ report_text report → IsUtf8 octets
+    → report_in octets ≡ Some (record { rewrites = report.rewrites; entries = map entry_value report.entries })
+report_is_read report writable octets is text =
     let small : report.rewrites < 2 ^ 64 = omega (arith, writable.few) in
     ap (option_and_then report_of)
-    (value_of-read (report_text report) (report_value report) writable.text (report_reads_back report writable.classes writable.names small))
+    (value_of-read octets (report_value report) text (ap read is ∙ report_reads_back report writable.classes writable.names small))
     ∙ value_stated report writable
 
 -- ---- so it is answered
 
-module _ (subject : Subject) (report : Report) (is : IsReport subject report) (writable : IsWritable report) where
-  read_so : (found : StatedReport) → report_in (report_text report) ≡ Some found → AllByRecursion (IsRight subject.config found.rewrites) found.entries
+module _ (subject : Subject) (report : Report) (is : IsReport subject report) (writable : IsWritable report)
+    (octets : List ℕ) (same_text : octets ≡ report_text report) (text : IsUtf8 octets) where
+  read_so : (found : StatedReport) → report_in octets ≡ Some found → AllByRecursion (IsRight subject.config found.rewrites) found.entries
   read_so found e =
-      let same : stated report ≡ found = by (sym (report_is_read report writable) ∙ e) in
+      let same : stated report ≡ found = by (sym (report_is_read report writable octets same_text text) ∙ e) in
       subst (λ (r : StatedReport). AllByRecursion (IsRight subject.config r.rewrites) r.entries) same
       (subst (λ (k : ℕ). AllByRecursion (IsRight subject.config k) (map entry_value report.entries)) (sym is.limit) (report_right subject report is))
     where
@@ -111,7 +114,7 @@ module _ (subject : Subject) (report : Report) (is : IsReport subject report) (w
       by e = cc
 
   -- the text of a report is answered by right entries, or for too many walks or `NoMemory`
-  pub unrefused : (answer : Result Checked CheckFault) → IsChecked subject.config (report_text report) answer → IsUnrefused answer
+  pub unrefused : (answer : Result Checked CheckFault) → IsChecked subject.config octets answer → IsUnrefused answer
   unrefused (Ok (Right entries)) checked = tt
   unrefused (Ok (Wrong entry)) (found, e, (few, first)) =
       first.is_so.0 (among first.before first.entry first.after (subst (AllByRecursion (IsRight subject.config found.rewrites)) first.splits (read_so found e)))
@@ -119,7 +122,7 @@ module _ (subject : Subject) (report : Report) (is : IsReport subject report) (w
       among : (before : List Data) (one : Data) (after : List Data) → AllByRecursion (IsRight subject.config found.rewrites) (before ++ one ∷ after) → IsRight subject.config found.rewrites one
       among [] one after each = each.0
       among (other ∷ before) one after each = among before one after each.1
-  unrefused (Err NotReport) checked = by (sym (report_is_read report writable) ∙ checked) where
+  unrefused (Err NotReport) checked = by (sym (report_is_read report writable octets same_text text) ∙ checked) where
     by : Some (stated report) ≡ None → ⊥
     by e = cc
   unrefused (Err (Walks zero)) checked = tt

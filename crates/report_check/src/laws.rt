@@ -2,6 +2,7 @@
 
 ghost use Rattle.std.specs.Prelude.{◌≡◌, ◌≢◌, ◌≤◌, ◌<◌, ◌^◌, ℕ, List, map, Some, Result, Err};
 ghost use Rattle.std.specs.List.{AllByRecursion};
+ghost use Rattle.std.specs.Str.{IsUtf8};
 ghost use Rattle.graph_form.specs.Report.{Subject, IsReport};
 ghost use Rattle.graph_form.specs.declared.report.Report.{Report};
 ghost use Rattle.net_model.specs.declared.config.Config.{Config};
@@ -20,13 +21,15 @@ pub fn one_answer()
         → one ≢ Err NoMemory → other ≢ Err NoMemory → one ≡ other }
 {}
 
-/// Each entry of a report is right, whatever it is read in; its text is read as the report of these entries; so the
-/// answer to it is neither that an entry is wrong nor that it is no report.
+/// Each entry of a report is right, whatever it is read in. The octets that `report_text` gives of it, its text in UTF-8,
+/// are read as the report of these entries; so the answer to them is neither that an entry is wrong nor that they are no
+/// report.
 pub fn a_report_checks()
     ensures right { (subject : Subject) (report : Report) → IsReport subject report
         → AllByRecursion (IsRight subject.config subject.rewrites) (map entry_value report.entries) }
-    ensures read { (report : Report) → IsWritable report
-        → report_in (report_text report) ≡ Some (record { rewrites = report.rewrites; entries = map entry_value report.entries }) }
+    ensures read { (report : Report) → IsWritable report → (octets : List ℕ) → octets ≡ report_text report → IsUtf8 octets
+        → report_in octets ≡ Some (record { rewrites = report.rewrites; entries = map entry_value report.entries }) }
     ensures answer { (subject : Subject) (report : Report) → IsReport subject report → IsWritable report
-        → (answer : Result Checked CheckFault) → IsChecked subject.config (report_text report) answer → IsUnrefused answer }
+        → (octets : List ℕ) → octets ≡ report_text report → IsUtf8 octets
+        → (answer : Result Checked CheckFault) → IsChecked subject.config octets answer → IsUnrefused answer }
 {}

@@ -4,8 +4,8 @@
 //! The layer above may rest on this: `check_report` answers what `IsChecked` says of the configuration and the octets.
 //! A yes means that the walks of each entry are walks of its query, and show its fault; that no fault is missing it
 //! doesn't say. To each configuration and octets there is one answer beside `NoMemory` (`laws::one_answer`). Each
-//! entry of a report that `check` makes is right (`laws::a_report_checks`), so that the answer to its text is yes, or
-//! too many walks, or `NoMemory`; the law takes it that the text is UTF-8.
+//! entry of a report that `check` makes is right (`laws::a_report_checks`), so that the answer to its text, which
+//! `report_text` gives in UTF-8, is yes, or too many walks, or `NoMemory`.
 //!
 //! Nothing in an entry is taken apart but its query and its type. The walks of these are followed, the faults that a
 //! walk shows are found, and the entry that would be right is written and compared with the one in hand.

@@ -27,6 +27,7 @@ pub(crate) fn text_of(alloc: Global, value: &Value) -> Result<Vec<u8>, NoMemory>
 pub(crate) fn is_walk_text(alloc: Global, walk: &Walk, text: &[u8]) -> Result<bool, NoMemory>
     ensures { IfOk result (λ same. (value : Data) → IsWritten value text.now → (same ≡ true) ↔ (value ≡ walk_value walk.now)) }
 {
+    // By this law the text tells the value.
     laws::texts_tell_values();
     let own = walk_text(alloc, walk)?;
     Ok(text == own.items())
@@ -40,6 +41,7 @@ pub(crate) fn is_entry_text(
 ) -> Result<bool, NoMemory>
     ensures { IfOk result (λ same. (value : Data) → IsWritten value text.now → (same ≡ true) ↔ (value ≡ entry_value entry.now)) }
 {
+    // By this law the text tells the value.
     laws::texts_tell_values();
     let own = entry_text(alloc, entry)?;
     Ok(text == own.items())

@@ -5,7 +5,7 @@ ghost use Rattle.serde_json.specs.Events.{SendsValue};
 ghost use Rattle.report_json.specs.Ask.{ask_value, ask_text};
 
 use crate::object::send_name;
-use crate::written::{Written, compact_text, send_list};
+use crate::written::{Written, line_of, send_list};
 use dns_data::{Name, NoMemory, Octets, RrType};
 use net_model::Walk;
 use serde::Serializer;
@@ -43,7 +43,5 @@ pub fn ask_text(alloc: Global, name: &Name, t: RrType, walks: &[Walk]) -> Result
         rtype: t,
         walks,
     };
-    let mut text = compact_text(alloc, &ask)?;
-    text.push(b'\n')?;
-    Ok(Octets::from_vec(text))
+    line_of(alloc, &ask)
 }

@@ -1,12 +1,13 @@
 //! The texts of JSON that go to out (RFC 8259).
 //!
 //! The layers above may rest on these: `report_text`, `entry_text`, `walk_text`, `ask_text`, `sites_text` and
-//! `scope_text` give the octets that the definitions of the same names say; the texts are read as the values that they
-//! are of (`laws::texts_read_back`); and two texts of entries, or of walks, are equal exactly where the values are
-//! (`laws::texts_tell_values`).
+//! `scope_text` give the octets that the definitions of the same names say, and those of a report are UTF-8; the texts
+//! are read as the values that they are of (`laws::texts_read_back`); and two texts of entries, or of walks, are equal
+//! exactly where the values are (`laws::texts_tell_values`).
 //!
 //! Costs: a text is written into one buffer as its values are gone through, once, and no tree of values is made. The
-//! text of a name or of data takes memory of its own while it is copied.
+//! text of a name or of data takes memory of its own while it is copied. A line is gone through once more by serde_json,
+//! which gives no text that isn't UTF-8.
 #![tactic(auto)]
 
 mod ask;

@@ -1,6 +1,7 @@
 //! Reports and their entries.
 
 ghost use Rattle.std.specs.Prelude.{◌≡◌, IfOk, OnOk};
+ghost use Rattle.std.specs.Str.{IsUtf8};
 ghost use Rattle.serde_json.specs.Events.{SendsValue, SendsMembers};
 ghost use Rattle.report_json.specs.Json.{json_members};
 ghost use Rattle.report_json.specs.Members.{SendsMore};
@@ -8,7 +9,7 @@ ghost use Rattle.report_json.specs.Report.{showing_members, entry_value, entry_t
 
 use crate::fault::{kind_word, send_fault};
 use crate::object::send_name;
-use crate::written::{Written, compact_text, send_list};
+use crate::written::{Written, compact_text, line_of, send_list};
 use dns_data::{NoMemory, Octets};
 use graph_form::{Report, ReportEntry};
 use serde::Serializer;
@@ -21,13 +22,12 @@ pub fn entry_text(alloc: Global, entry: &ReportEntry) -> Result<Octets, NoMemory
     Ok(Octets::from_vec(compact_text(alloc, entry)?))
 }
 
-/// The text of a report, its entries in the order in which they stand: a line of JSON.
+/// The text of a report, its entries in the order in which they stand: a line of JSON, in UTF-8.
 pub fn report_text(alloc: Global, report: &Report) -> Result<Octets, NoMemory>
-    ensures { IfOk result (λ text. text ≡ report_text report.now) }
+    ensures text { IfOk result (λ text. text ≡ report_text report.now) }
+    ensures utf8 { IfOk result (λ text. IsUtf8 text) }
 {
-    let mut text = compact_text(alloc, report)?;
-    text.push(b'\n')?;
-    Ok(Octets::from_vec(text))
+    line_of(alloc, report)
 }
 
 impl Written for Report {

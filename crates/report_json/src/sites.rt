@@ -8,7 +8,7 @@ ghost use Rattle.report_json.specs.Sites.{site_value, sites_members, sites_value
 
 use crate::object::send_name;
 use crate::report::send_report_members;
-use crate::written::{Written, compact_text, send_list};
+use crate::written::{Written, line_of, send_list};
 use dns_data::{Name, NoMemory, Octets};
 use graph_form::Report;
 use serde::Serializer;
@@ -33,9 +33,7 @@ struct Scope<'a> {
 pub fn sites_text(alloc: Global, told: &[Told]) -> Result<Octets, NoMemory>
     ensures { IfOk result (λ text. text ≡ sites_text told.now) }
 {
-    let mut text = compact_text(alloc, &Sites { told })?;
-    text.push(b'\n')?;
-    Ok(Octets::from_vec(text))
+    line_of(alloc, &Sites { told })
 }
 
 /// The text of a report on the queries at or below a name, and of what checks tell of their classes, in the order in which
@@ -48,10 +46,7 @@ pub fn scope_text(
 ) -> Result<Octets, NoMemory>
     ensures { IfOk result (λ text. text ≡ scope_text report.now name.now told.now) }
 {
-    let scope = Scope { report, name, told };
-    let mut text = compact_text(alloc, &scope)?;
-    text.push(b'\n')?;
-    Ok(Octets::from_vec(text))
+    line_of(alloc, &Scope { report, name, told })
 }
 
 impl Written for Sites<'_> {

@@ -1,12 +1,13 @@
 //! What is written as JSON (RFC 8259): lists of it, and its text.
 
-ghost use Rattle.std.specs.Prelude.{◌≡◌, false, map, IfOk, OnOk};
+ghost use Rattle.std.specs.Prelude.{◌≡◌, ◌++◌, codes, false, map, IfOk, OnOk};
+ghost use Rattle.std.specs.Str.{IsUtf8};
 ghost use Rattle.serde_json.specs.Data.{Data};
 ghost use Rattle.serde_json.specs.Events.{SendsValue};
 ghost use Rattle.serde_json.specs.Written.{compact_text, has_float};
 ghost use Rattle.report_json.specs.Json.{array_of};
 
-use dns_data::NoMemory;
+use dns_data::{NoMemory, Octets};
 use serde::{Described, Serialize, Serializer};
 use std::alloc::Global;
 
@@ -47,6 +48,20 @@ pub(crate) fn compact_text<T: Written>(alloc: Global, written: &T) -> Result<Vec
         return Err(NoMemory);
     };
     Ok(text)
+}
+
+/// The text of a value without a float, with no white space in it, and a line feed behind it.
+pub(crate) fn line_of<T: Written>(alloc: Global, written: &T) -> Result<Octets, NoMemory>
+    requires { has_float (T.value written.now) ≡ false }
+    ensures text { IfOk result (λ text. text ≡ compact_text (T.value written.now) ++ codes "\n") }
+    ensures utf8 { IfOk result (λ text. IsUtf8 text) }
+{
+    let both = WithMemory { alloc, written };
+    let Ok(mut text) = serde_json::to_string(alloc, &both) else {
+        return Err(NoMemory);
+    };
+    text.push('\n')?;
+    Ok(Octets::from_vec(text.into_bytes()))
 }
 
 /// Writes a list.

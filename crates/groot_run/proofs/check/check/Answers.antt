@@ -10,7 +10,7 @@ pub returns-in-Ok : goal.returns-in-Ok
 returns-in-Ok g c =
     let (few, none_passes, is_report) = c.in-Ok.ensures in
     let text = report_text c.in-Ok.report in
-    elim (c.written.ensures text c.report_text.ensures) [
+    elim (c.written.ensures text c.report_text.ensures.text) [
       | inl is ↦ inl (inr (
         few,
         inr (none_passes, record { report = c.in-Ok.report; is_report = is_report; as_text = is ∙ ap (λ (status : Status). with_output status text) c.status_of.ensures }),

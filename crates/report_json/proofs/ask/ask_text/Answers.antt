@@ -1,5 +1,5 @@
 use Rattle.report_json.proofs.PlainValues.{ask_no_float}
 use Rattle.report_json.proofs.ask.ask_text.Goals as goal
 
-pub compact_text-requires : goal.compact_text-requires
-compact_text-requires c = ask_no_float c.args.name.now c.args.t c.args.walks.now
+pub line_of-requires : goal.line_of-requires
+line_of-requires c = ask_no_float c.args.name.now c.args.t c.args.walks.now
