@@ -8,9 +8,9 @@ use Rattle.verdict_book.specs.Items.{ParentsApart}
 use Rattle.query_verdicts.specs.Carried.{whole}
 use Rattle.query_verdicts.specs.Subjects.{IsCovering}
 use Rattle.query_verdicts.specs.Values.{AreValues}
+use Rattle.query_verdicts.specs.declared.verdict.ClassVerdict.{ClassVerdict}
 use Rattle.query_verdicts.specs.declared.verdict.NameVerdict.{NameVerdict}
 use Rattle.query_verdicts.proofs.CoveringGrounds.{root_in_tree}
-use Rattle.query_verdicts.proofs.NameVerdicts as verdicts
 use Rattle.query_verdicts.proofs.TreeValues as trees
 
 -- the names of the class tree one label below a name
@@ -18,8 +18,8 @@ abbrev pub children_of : Config → Labels → List Labels
 children_of config = trees.names_below (whole config 0) (own_covers config)
 
 -- the verdict of a name
-abbrev pub verdict_of : Config → ℕ → ℕ → Labels → NameVerdict
-verdict_of config rewrites states = verdicts.verdict_of (whole config rewrites) (own_covers config) states
+abbrev pub verdict_of : Config → ℕ → ℕ → Labels → NameVerdict ClassVerdict
+verdict_of config rewrites states = trees.verdict_of (whole config rewrites) (own_covers config) states
 
 -- they are the values of the configuration
 pub values : (config : Config) (rewrites states : ℕ) → AreValues (whole config rewrites) states (children_of config) (verdict_of config rewrites states)

@@ -3,6 +3,7 @@
 ghost use Rattle.std.specs.Prelude.{◌↔◌, ◌++◌, ℕ, List, []};
 ghost use Rattle.query_verdicts.specs.Carried.{whole, SomeClassShows};
 ghost use Rattle.query_verdicts.specs.Values.{AreValues};
+ghost use Rattle.query_verdicts.specs.declared.verdict.ClassVerdict.{ClassVerdict};
 ghost use Rattle.query_verdicts.specs.declared.verdict.NameVerdict.{NameVerdict};
 ghost use Rattle.dns_data.specs.Name.{Labels, IsName};
 ghost use Rattle.graph_form.specs.Report.{IsShown};
@@ -28,7 +29,7 @@ pub fn classes_are_told()
 
 /// Each name of a class tree has children and a verdict.
 pub fn values_exist()
-    ensures { (config : Config) (rewrites states : ℕ) → (children_of : Labels → List Labels) × (verdict_of : Labels → NameVerdict)
+    ensures { (config : Config) (rewrites states : ℕ) → (children_of : Labels → List Labels) × (verdict_of : Labels → NameVerdict ClassVerdict)
         × AreValues (whole config rewrites) states children_of verdict_of }
 {}
 

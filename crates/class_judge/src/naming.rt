@@ -1,6 +1,7 @@
 //! The names under which judges go.
 
 ghost use Rattle.std.specs.Prelude.{ℕ, [], List as Items, None};
+ghost use Rattle.query_verdicts.specs.declared.verdict.ClassVerdict.{ClassVerdict};
 ghost use Rattle.query_verdicts.specs.declared.verdict.ClassVerdict.TheVariants.{Faults};
 ghost use Rattle.query_verdicts.specs.declared.verdict.NameVerdict.{NameVerdict};
 ghost use Rattle.query_verdicts.specs.Carried.{whole};
@@ -25,7 +26,7 @@ pub trait Naming {
 
     ghost children_of: { Labels → Items Labels };
 
-    ghost verdict_of: { Labels → NameVerdict };
+    ghost verdict_of: { Labels → NameVerdict ClassVerdict };
 
     ghost apart: { ParentsApart [] children_of };
 }

@@ -8,8 +8,8 @@ use Rattle.walk_laws.proofs.JoinedGround.{given_named, joined_covers}
 use Rattle.verdict_book.specs.Items.{ParentsApart}
 use Rattle.query_verdicts.specs.Subjects.{IsCovering}
 use Rattle.query_verdicts.specs.Values.{AreValues}
+use Rattle.query_verdicts.specs.declared.verdict.ClassVerdict.{ClassVerdict}
 use Rattle.query_verdicts.specs.declared.verdict.NameVerdict.{NameVerdict}
-use Rattle.query_verdicts.proofs.NameVerdicts as verdicts
 use Rattle.query_verdicts.proofs.TreeValues as trees
 use Rattle.job_scope.specs.Scoped.{scoped, widened}
 
@@ -27,8 +27,8 @@ abbrev pub children_of : Config → Labels → Labels → List Labels
 children_of config name = trees.names_below (scoped config 0 name) (scope_covers config name)
 
 -- the verdict of a name
-abbrev pub verdict_of : Config → ℕ → ℕ → Labels → Labels → NameVerdict
-verdict_of config rewrites states name = verdicts.verdict_of (scoped config rewrites name) (scope_covers config name) states
+abbrev pub verdict_of : Config → ℕ → ℕ → Labels → Labels → NameVerdict ClassVerdict
+verdict_of config rewrites states name = trees.verdict_of (scoped config rewrites name) (scope_covers config name) states
 
 -- they are the values of the scope
 pub values : (config : Config) (rewrites states : ℕ) (name : Labels)

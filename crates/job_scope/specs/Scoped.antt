@@ -7,6 +7,7 @@ use Rattle.net_model.specs.declared.config.Config.{Config}
 use Rattle.net_model.specs.Reading.{Ground, joined_ground}
 use Rattle.query_verdicts.specs.Queries.{LimitedQueries, limited_to}
 use Rattle.query_verdicts.specs.Values.{AreValues}
+use Rattle.query_verdicts.specs.declared.verdict.ClassVerdict.{ClassVerdict}
 use Rattle.query_verdicts.specs.declared.verdict.NameVerdict.{NameVerdict}
 
 -- the configuration's own ground, with all prefixes of a name added to its base names
@@ -23,7 +24,7 @@ scoped config rewrites name = at_or_below config rewrites (widened config name) 
 
 -- a judge of these queries judges the scope of a name of at most 255 octets: they are the configuration's within the
 -- limits, and the values are those of the scope
-pub record JudgesScope (queries : LimitedQueries) (config : Config) (rewrites states : ℕ) (name : Labels) (children_of : Labels → List Labels) (verdict_of : Labels → NameVerdict) : Type 0 where
+pub record JudgesScope (queries : LimitedQueries) (config : Config) (rewrites states : ℕ) (name : Labels) (children_of : Labels → List Labels) (verdict_of : Labels → NameVerdict ClassVerdict) : Type 0 where
   pub queries_are : queries ≡ limited_to config rewrites states
   pub is_name : IsName name
   pub values : AreValues (scoped config rewrites name) states children_of verdict_of

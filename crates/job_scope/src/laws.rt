@@ -6,6 +6,7 @@ ghost use Rattle.job_scope.specs.Scoped.{scoped, widened};
 ghost use Rattle.query_verdicts.specs.Carried.{SomeClassShows};
 ghost use Rattle.query_verdicts.specs.Passed.{IsRefusedFor, NonePasses};
 ghost use Rattle.query_verdicts.specs.Values.{AreValues};
+ghost use Rattle.query_verdicts.specs.declared.verdict.ClassVerdict.{ClassVerdict};
 ghost use Rattle.query_verdicts.specs.declared.verdict.NameVerdict.{NameVerdict};
 ghost use Rattle.dns_data.specs.Name.{Labels, IsName};
 ghost use Rattle.graph_form.specs.Report.{IsShown};
@@ -32,7 +33,7 @@ pub fn one_refusal()
 
 /// Each name of a scope has children and a verdict.
 pub fn values_exist()
-    ensures { (config : Config) (rewrites states : ℕ) (name : Labels) → (children_of : Labels → List Labels) × (verdict_of : Labels → NameVerdict)
+    ensures { (config : Config) (rewrites states : ℕ) (name : Labels) → (children_of : Labels → List Labels) × (verdict_of : Labels → NameVerdict ClassVerdict)
         × AreValues (scoped config rewrites name) states children_of verdict_of }
 {}
 

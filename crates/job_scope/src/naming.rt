@@ -2,6 +2,7 @@
 
 ghost use Rattle.std.specs.Prelude.{ℕ, [], List as Items, None};
 ghost use Rattle.job_scope.specs.Scoped.{scoped};
+ghost use Rattle.query_verdicts.specs.declared.verdict.ClassVerdict.{ClassVerdict};
 ghost use Rattle.query_verdicts.specs.declared.verdict.ClassVerdict.TheVariants.{Faults};
 ghost use Rattle.query_verdicts.specs.declared.verdict.NameVerdict.{NameVerdict};
 ghost use Rattle.dns_data.specs.Name.{Labels};
@@ -27,7 +28,7 @@ pub trait ScopeNaming {
 
     ghost children_of: { Labels → Items Labels };
 
-    ghost verdict_of: { Labels → NameVerdict };
+    ghost verdict_of: { Labels → NameVerdict ClassVerdict };
 
     ghost apart: { ParentsApart scope children_of };
 }

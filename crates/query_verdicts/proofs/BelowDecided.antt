@@ -1,6 +1,6 @@
 -- Whether the class below a name has a representative is decided: some label is free, and the name with the first free one
 -- isn't too long.
-use Rattle.std.proofs.Common.{◌≡◌, ℕ, ◌<◌, ◌≤◌, List, [], ◌∷◌, ◌++◌, Contains, Option, Some, None, refl, ap, ◌∙◌, inl, inr, arith}
+use Rattle.std.proofs.Common.{◌≡◌, ℕ, ◌<◌, ◌≤◌, List, [], ◌∷◌, ◌++◌, Contains, refl, ap, ◌∙◌, inl, inr, arith}
 use Rattle.std.proofs.lemmas.Bool.{cases_lt}
 use Rattle.dns_data.specs.Label.{IsLabel}
 use Rattle.dns_data.specs.Name.{Labels, IsName, wire_octets}
@@ -8,19 +8,13 @@ use Rattle.dns_data.proofs.Names.{is_label, is_label_tells, is_label_told, name_
 use Rattle.dns_data.proofs.OrderedLists.{neither_before}
 use Rattle.label_graph.specs.LiveSet.{IsClosed, IsLiveSet}
 use Rattle.net_model.specs.declared.class.Class.TheVariants.{Below}
-use Rattle.graph_form.specs.Report.{Subject}
 use Rattle.net_model.specs.Class.{trial_cmp, IsFirstUnnamed, IsRepresentative, StandsBelow}
-use Rattle.net_model.specs.Reading.{Ground, IsNamed, ground_of}
+use Rattle.net_model.specs.Reading.{Ground, IsNamed}
 use Rattle.net_model.proofs.FirstLabel.{words, label_among}
 use Rattle.net_model.proofs.TrialOrder.{exact_trials, trials_total}
-use Rattle.query_classes.specs.Members.{IsInOneClass}
 use Rattle.query_classes.proofs.FirstFree.{first_free}
 use Rattle.query_classes.proofs.Partition.{named_or_not}
-use Rattle.query_verdicts.specs.Verdict.{IsBelowVerdict, IsNameVerdict}
-use Rattle.query_verdicts.specs.declared.verdict.ClassVerdict.{ClassVerdict}
-use Rattle.query_verdicts.specs.declared.verdict.NameVerdict.{NameVerdict}
 use Rattle.query_classes.proofs.Decided.{Decided, by_test, both, not_so, any_of}
-use Rattle.query_verdicts.proofs.VerdictsExist.{class_verdict_exists}
 
 module _ (ground : Ground) (closed : IsClosed ground) (live : (name : Labels) → (places : List ℕ) × IsLiveSet ground name places) (above : Labels) where
   -- the label is free below the name
@@ -40,7 +34,8 @@ module _ (ground : Ground) (closed : IsClosed ground) (live : (name : Labels) �
       neither_before trial_cmp trials_total exact_trials a b
       (λ before. one.unnamed (other.first a one.is_label before)) (λ before. other.unnamed (one.first b other.is_label before))
 
-  below_decided : IsName above → Decided ((query : Labels) × IsRepresentative ground (Below above) query)
+  -- whether the class below a name has a representative is decided
+  pub below_decided : IsName above → Decided ((query : Labels) × IsRepresentative ground (Below above) query)
   below_decided is = by free_decided where
     too_long : (first : List ℕ) → IsFirstUnnamed ground above first → 255 < wire_octets (above ++ first ∷ [])
         → (query : Labels) → StandsBelow ground above query → ⊥
@@ -70,21 +65,3 @@ module _ (ground : Ground) (closed : IsClosed ground) (live : (name : Labels) �
         inr (λ (query, stands). none (stands.label, label_among 63 stands.label stands.first.is_label stands.first.is_label.short, (stands.first.is_label, stands.first.unnamed)))
     by (inl (label, has, (is_label, unnamed))) =
         let (first, is_first) = first_free ground closed above (live above).0 (live above).1 label is_label unnamed in by_octets first is_first
-
--- so each name has a verdict
-module _ (subject : Subject) (states : ℕ) (closed : IsClosed subject.ground)
-    (live : (name : Labels) → (places : List ℕ) × IsLiveSet subject.ground name places)
-    (classes : (query : Labels) → IsName query → IsInOneClass (ground_of subject.config) query) where
-  below_exists : (name : Labels) → IsName name → (below : Option ClassVerdict) × IsBelowVerdict subject states name below
-  below_exists name is = by (below_decided subject.ground closed live name is) where
-    by : Decided ((query : Labels) × IsRepresentative subject.ground (Below name) query) → (below : Option ClassVerdict) × IsBelowVerdict subject states name below
-    by (inr none) = (None, λ query stands. none (query, stands))
-    by (inl (query, stands)) =
-        let (verdict, right) = class_verdict_exists subject.config subject.rewrites states query (classes query stands.is_name) in (Some verdict, (query, stands, right))
-
-  -- each name has a verdict
-  pub name_verdict_exists : (name : Labels) → IsName name → (verdict : NameVerdict) × IsNameVerdict subject states name verdict
-  name_verdict_exists name is =
-      let (exact, right) = class_verdict_exists subject.config subject.rewrites states name (classes name is) in
-      let (below, also) = below_exists name is in
-      (record { exact = exact; below = below }, record { exact = right; below = also })

@@ -14,7 +14,7 @@ none_below name None nothing = refl
 none_below name (Some class) nothing = ap (found_in (Below name)) nothing
 
 -- where a verdict tells nothing of a name, no fault is found at the name
-pub none_found : (name : Labels) (verdict : NameVerdict) → TellsNothing verdict → found_at name verdict ≡ []
+pub none_found : (name : Labels) (verdict : NameVerdict ClassVerdict) → TellsNothing verdict → found_at name verdict ≡ []
 none_found name verdict nothing =
     ap (λ class. found_in (Exact name) class ++ found_below name verdict.below) nothing.exact
     ∙ none_below name verdict.below nothing.below

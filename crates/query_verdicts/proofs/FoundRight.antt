@@ -19,17 +19,18 @@ use Rattle.net_model.specs.Step.{following}
 use Rattle.net_model.proofs.TrialOrder.{one_representative}
 use Rattle.query_verdicts.specs.Entries.{IsRightFound}
 use Rattle.query_verdicts.specs.Passed.{NonePasses}
-use Rattle.query_verdicts.specs.Rows.{AreRows, Row, found_at, found_below, found_in, found_of}
+use Rattle.query_verdicts.specs.Rows.{AreRows, found_at, found_below, found_in, found_of}
+use Rattle.query_verdicts.specs.TreeVerdicts.{TreeRow}
 use Rattle.query_verdicts.specs.Verdict.{PassesStates, AreFaultsOf, IsClassVerdict, IsBelowVerdict, IsNameVerdict}
 use Rattle.query_verdicts.specs.declared.report.ClassFault.{ClassFault}
 use Rattle.query_verdicts.specs.declared.verdict.ClassVerdict.{ClassVerdict}
 use Rattle.query_verdicts.specs.declared.verdict.ClassVerdict.TheVariants.{Faults, StatesPassed}
 use Rattle.query_verdicts.proofs.FirstWalksShow.{shows_with}
 
-module _ {W : Type 0} (subject : Subject) (states : ℕ) (rows : List (Row W)) (are : AreRows subject states rows)
+module _ {W : Type 0} (subject : Subject) (states : ℕ) (rows : List (TreeRow W ClassVerdict)) (are : AreRows subject states rows)
     (none : NonePasses subject states) (followed : List Labels) (in_force : IsInForce subject.config subject.rewrites followed) where
   -- the faults of the classes of a row
-  abbrev told_at : Row W → List ClassFault
+  abbrev told_at : TreeRow W ClassVerdict → List ClassFault
   told_at row = found_at row.item row.verdict
 
   abbrev found : Class → Seen → ClassFault
@@ -68,26 +69,26 @@ module _ {W : Type 0} (subject : Subject) (states : ℕ) (rows : List (Row W)) (
             shown all.first_type seen among rtype (shows_in query rtype seen.fault shows);
       })
 
-  verdict_at : (row : Row W) → Contains rows row → IsNameVerdict subject states row.item row.verdict
-  verdict_at row has = All-contains (λ (r : Row W). IsNameVerdict subject states r.item r.verdict) rows row are.verdicts has
+  verdict_at : (row : TreeRow W ClassVerdict) → Contains rows row → IsNameVerdict subject states row.item row.verdict
+  verdict_at row has = All-contains (λ (r : TreeRow W ClassVerdict). IsNameVerdict subject states r.item r.verdict) rows row are.verdicts has
 
-  exact_class : (row : Row W) → Contains rows row → IsClass subject (Exact row.item)
+  exact_class : (row : TreeRow W ClassVerdict) → Contains rows row → IsClass subject (Exact row.item)
   exact_class row has =
-      (are.tree.all row.item).0 (map_has (λ (r : Row W). r.item) rows row has)
+      (are.tree.all row.item).0 (map_has (λ (r : TreeRow W ClassVerdict). r.item) rows row has)
 
-  below_class : (row : Row W) → Contains rows row → IsClass subject (Below row.item)
+  below_class : (row : TreeRow W ClassVerdict) → Contains rows row → IsClass subject (Below row.item)
   below_class row has =
-      (are.tree.all row.item).0 (map_has (λ (r : Row W). r.item) rows row has)
+      (are.tree.all row.item).0 (map_has (λ (r : TreeRow W ClassVerdict). r.item) rows row has)
 
   -- each fault that is found in the rows of a subject's tree is one that its class's representative shows
   pub found_is_right : (one : ClassFault) → Contains (found_of rows) one → IsRightFound subject one
   found_is_right one has = by (from_flat_map told_at rows one has) where
-    of_below : (row : Row W) → Contains rows row → (below : Option ClassVerdict) → IsBelowVerdict subject states row.item below
+    of_below : (row : TreeRow W ClassVerdict) → Contains rows row → (below : Option ClassVerdict) → IsBelowVerdict subject states row.item below
         → Contains (found_below row.item below) one → IsRightFound subject one
     of_below row among None none inside = absurd (none_in_nil one inside)
     of_below row among (Some verdict) (query, represents, is) inside = right_in (Below row.item) query verdict (below_class row among) represents is one inside
 
-    by : (row : Row W) × Contains rows row × Contains (told_at row) one → IsRightFound subject one
+    by : (row : TreeRow W ClassVerdict) × Contains rows row × Contains (told_at row) one → IsRightFound subject one
     by (row, among, inside) =
         let right : IsNameVerdict subject states row.item row.verdict = verdict_at row among in
         elim (Contains-append_cases (found_in (Exact row.item) row.verdict.exact) (found_below row.item row.verdict.below) one inside) [
@@ -109,14 +110,14 @@ module _ {W : Type 0} (subject : Subject) (states : ℕ) (rows : List (Row W)) (
       let (seen, among, same) = from_map (λ (s : Seen). s.fault) shown fault (all.all_shown fault rtype refl (shows_in query rtype fault shows)) in
       (found class seen, map_has (found class) shown seen among, (same, refl))
 
-  in_rows : (row : Row W) → Contains rows row → (one : ClassFault) → Contains (told_at row) one → Contains (found_of rows) one
+  in_rows : (row : TreeRow W ClassVerdict) → Contains rows row → (one : ClassFault) → Contains (told_at row) one → Contains (found_of rows) one
   in_rows row has one inside = flat_map_has told_at rows row one has inside
 
   -- each fault that the representative of a class shows is found in the rows, with this class
   pub shown_is_found : (class : Class) (query : Labels) (rtype : RrType) (fault : Fault)
       → ClassShows subject class query rtype fault → IsIn class fault
   shown_is_found (Exact name) query rtype fault shows =
-      let (row, has, same) = from_map (λ (r : Row W). r.item) rows name ((are.tree.all name).1 shows.is_class) in
+      let (row, has, same) = from_map (λ (r : TreeRow W ClassVerdict). r.item) rows name ((are.tree.all name).1 shows.is_class) in
       let right : IsNameVerdict subject states row.item row.verdict = verdict_at row has in
       let query_is : query ≡ row.item = shows.represents ∙ sym same in
       let few : PassesStates subject.config subject.rewrites states row.item → ⊥ =
@@ -126,14 +127,14 @@ module _ {W : Type 0} (subject : Subject) (states : ℕ) (rows : List (Row W)) (
       (subst (λ (n : Labels). ShowsIn subject.config subject.rewrites n rtype fault) query_is shows.shows) in
       (one, in_rows row has one (Contains-append_left (found_in (Exact row.item) row.verdict.exact) (found_below row.item row.verdict.below) one inside), (fault_is, class_is ∙ ap Exact same))
   shown_is_found (Below name) query rtype fault shows =
-      let (row, has, same) = from_map (λ (r : Row W). r.item) rows name ((are.tree.all name).1 shows.is_class) in
+      let (row, has, same) = from_map (λ (r : TreeRow W ClassVerdict). r.item) rows name ((are.tree.all name).1 shows.is_class) in
       let right : IsNameVerdict subject states row.item row.verdict = verdict_at row has in
       let represents : IsRepresentative subject.ground (Below row.item) query =
       subst (λ (n : Labels). IsRepresentative subject.ground (Below n) query) (sym same) shows.represents in
       by row has same represents row.verdict.below right.below
       (λ one inside. in_rows row has one (Contains-append_right (found_in (Exact row.item) row.verdict.exact) (found_below row.item row.verdict.below) one inside))
     where
-      by : (row : Row W) → Contains rows row → row.item ≡ name → IsRepresentative subject.ground (Below row.item) query
+      by : (row : TreeRow W ClassVerdict) → Contains rows row → row.item ≡ name → IsRepresentative subject.ground (Below row.item) query
           → (below : Option ClassVerdict) → IsBelowVerdict subject states row.item below
           → ((one : ClassFault) → Contains (found_below row.item below) one → Contains (found_of rows) one) → IsIn (Below name) fault
       by row has same represents None empty within = absurd (empty query represents)

@@ -20,8 +20,9 @@ pub mod OwnClasses
 pub mod PassingNames
 pub mod ReportEntry
 pub mod ReportPassed
-pub mod ReportSize
 pub mod Rising
+pub mod RowSearch
+pub mod RowSizes
 pub mod ServersTold
 pub mod ShowsDecided
 pub mod StraightVerdicts

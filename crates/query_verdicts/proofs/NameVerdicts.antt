@@ -1,59 +1,62 @@
--- The verdict of each name of a class tree, as a value of the subject: it is the only one.
-use Rattle.std.proofs.Common.{◌≡◌, ◌∙◌, ℕ, Bool, true, false, [], Option, Some, None, refl, sym, ap, subst, true≢false}
+-- The verdict of each name of a class tree, as a value: there is one, and it is the only one.
+use Rattle.std.proofs.Common.{◌≡◌, ◌∙◌, Bool, true, false, Option, Some, None, inl, inr, refl, sym, ap, subst, true≢false}
 use Rattle.dns_data.specs.Name.{Labels, IsName}
 use Rattle.dns_data.proofs.Names.{is_name, is_name_tells, is_name_told}
 use Rattle.net_model.specs.declared.class.Class.TheVariants.{Below}
+use Rattle.net_model.specs.Class.{IsRepresentative}
+use Rattle.net_model.specs.Reading.{Ground}
 use Rattle.net_model.proofs.TrialOrder.{one_representative}
-use Rattle.graph_form.specs.Report.{Subject}
-use Rattle.net_model.specs.Reading.{Covers}
-use Rattle.label_graph.specs.LiveSet.{IsClosed}
-use Rattle.query_classes.proofs.LiveSetsExist.{live_set_of}
-use Rattle.query_verdicts.proofs.CoveringGrounds.{in_own_class, is_closed}
-use Rattle.query_verdicts.specs.Verdict.{IsClassVerdict, IsBelowVerdict, IsNameVerdict}
-use Rattle.query_verdicts.specs.declared.verdict.ClassVerdict.{ClassVerdict}
-use Rattle.query_verdicts.specs.declared.verdict.ClassVerdict.TheVariants.{Faults}
+use Rattle.query_classes.proofs.Decided.{Decided}
+use Rattle.query_verdicts.specs.TreeVerdicts.{IsVerdictAt, IsVerdictBelow}
 use Rattle.query_verdicts.specs.declared.verdict.NameVerdict.{NameVerdict}
-use Rattle.query_verdicts.proofs.BelowDecided.{name_verdict_exists}
-use Rattle.query_verdicts.proofs.OneVerdict.{one_verdict}
 
-module _ (subject : Subject) (covers : Covers subject.ground subject.config) (states : ℕ) where
-  exists : (name : Labels) → IsName name → (verdict : NameVerdict) × IsNameVerdict subject states name verdict
+-- ---- each name has a verdict, where something is told of each name, and it is decided whether a class has a representative
+
+module _ {C : Type 0} (ground : Ground) (IsTold : Labels → C → Type 0) (nothing : C) (told_exists : (query : Labels) → IsName query → (told : C) × IsTold query told)
+    (decided : (above : Labels) → IsName above → Decided ((query : Labels) × IsRepresentative ground (Below above) query)) where
+  below_exists : (above : Labels) → IsName above → (below : Option C) × IsVerdictBelow ground IsTold above below
+  below_exists above is = by (decided above is) where
+    by : Decided ((query : Labels) × IsRepresentative ground (Below above) query) → (below : Option C) × IsVerdictBelow ground IsTold above below
+    by (inr none) = (None, λ query stands. none (query, stands))
+    by (inl (query, stands)) = let (told, right) = told_exists query stands.is_name in (Some told, (query, stands, right))
+
+  exists : (name : Labels) → IsName name → (verdict : NameVerdict C) × IsVerdictAt ground IsTold name verdict
   exists name is =
-      let closed : IsClosed subject.ground = is_closed subject.config subject.ground covers in
-      name_verdict_exists subject states closed (live_set_of subject.ground closed) (in_own_class subject.config) name is
+      let (exact, right) = told_exists name is in
+      let (below, also) = below_exists name is in
+      (record { exact = exact; below = below }, record { exact = right; below = also })
 
-  by_test : (name : Labels) (test : Bool) → is_name name ≡ test → NameVerdict
+  by_test : (name : Labels) (test : Bool) → is_name name ≡ test → NameVerdict C
   by_test name true e = (exists name (is_name_tells name e)).0
-  by_test name false e = record { exact = Faults []; below = None }
+  by_test name false e = record { exact = nothing; below = None }
 
-  -- the verdict of a name; what isn't a name shows nothing
-  pub verdict_of : Labels → NameVerdict
+  -- the verdict of a name; of what isn't a name nothing is told
+  pub verdict_of : Labels → NameVerdict C
   verdict_of name = by_test name (is_name name) refl
 
-  tested : (name : Labels) (test : Bool) (e : is_name name ≡ test) → IsName name → IsNameVerdict subject states name (by_test name test e)
+  tested : (name : Labels) (test : Bool) (e : is_name name ≡ test) → IsName name → IsVerdictAt ground IsTold name (by_test name test e)
   unfolding by_test
   tested name true e is = (exists name (is_name_tells name e)).1
   tested name false e is = let told : is_name name ≡ true = is_name_told name is in absurd (true≢false (sym told ∙ e))
 
   -- the verdict that is computed for a name is the name's verdict
-  pub verdict_is : (name : Labels) → IsName name → IsNameVerdict subject states name (verdict_of name)
+  pub verdict_is : (name : Labels) → IsName name → IsVerdictAt ground IsTold name (verdict_of name)
   unfolding verdict_of
   verdict_is name is = tested name (is_name name) refl is
 
--- ---- a name has one verdict
+-- ---- a name has one verdict, where one thing is told of each
 
-module _ (subject : Subject) (states : ℕ) where
-  one_below : (name : Labels) (a b : Option ClassVerdict) → IsBelowVerdict subject states name a → IsBelowVerdict subject states name b → a ≡ b
-  one_below name None None one other = refl
-  one_below name None (Some verdict) none (query, represents, is) = absurd (none query represents)
-  one_below name (Some verdict) None (query, represents, is) none = absurd (none query represents)
-  one_below name (Some a) (Some b) (query, represents, is) (also, stands, other) =
-      let same : also ≡ query = one_representative subject.ground (Below name) also query stands represents in
-      ap (λ (v : ClassVerdict). Some v)
-      (one_verdict subject.config subject.rewrites states query a b is (subst (λ (n : Labels). IsClassVerdict subject.config subject.rewrites states n b) same other))
+module _ {C : Type 0} (ground : Ground) (IsTold : Labels → C → Type 0) (one_told : (query : Labels) (a b : C) → IsTold query a → IsTold query b → a ≡ b) where
+  one_below : (above : Labels) (a b : Option C) → IsVerdictBelow ground IsTold above a → IsVerdictBelow ground IsTold above b → a ≡ b
+  one_below above None None one other = refl
+  one_below above None (Some told) none (query, represents, is) = absurd (none query represents)
+  one_below above (Some told) None (query, represents, is) none = absurd (none query represents)
+  one_below above (Some a) (Some b) (query, represents, is) (also, stands, other) =
+      let same : also ≡ query = one_representative ground (Below above) also query stands represents in
+      ap (λ (told : C). Some told) (one_told query a b is (subst (λ (name : Labels). IsTold name b) same other))
 
   -- a name has one verdict
-  pub one_name_verdict : (name : Labels) (a b : NameVerdict) → IsNameVerdict subject states name a → IsNameVerdict subject states name b → a ≡ b
+  pub one_name_verdict : (name : Labels) (a b : NameVerdict C) → IsVerdictAt ground IsTold name a → IsVerdictAt ground IsTold name b → a ≡ b
   one_name_verdict name a b one other =
-      ap (λ (v : ClassVerdict). record a { exact = v }) (one_verdict subject.config subject.rewrites states name a.exact b.exact one.exact other.exact)
-      ∙ ap (λ (v : Option ClassVerdict). record b { below = v }) (one_below name a.below b.below one.below other.below)
+      ap (λ (told : C). record a { exact = told }) (one_told name a.exact b.exact one.exact other.exact)
+      ∙ ap (λ (below : Option C). record b { below = below }) (one_below name a.below b.below one.below other.below)

@@ -1,51 +1,24 @@
 -- The first class whose representative reaches more pairs of state and type than are looked at, from the rows of the tree.
-use Rattle.std.proofs.Common.{◌≡◌, ◌≢◌, ◌∙◌, ℕ, ◌<◌, ◌≤◌, true, false, List, [], length, get_or, Option, Some, None, refl, sym, ap, subst, inl, inr, arith, true≢false}
-use Rattle.std.specs.Ordering.{ordering_then}
-use Rattle.std.specs.declared.cmp.Ordering.{Ordering}
-use Rattle.std.specs.declared.cmp.Ordering.TheVariants.{Less, Equal, Greater}
+use Rattle.std.proofs.Common.{◌≡◌, ◌≢◌, ◌∙◌, ℕ, ◌<◌, true, false, List, length, get_or, Option, Some, None, refl, sym, subst, true≢false}
+use Rattle.std.specs.declared.cmp.Ordering.TheVariants.{Less}
 use Rattle.std.specs.Option.{option_map_or}
-use Rattle.std.proofs.lemmas.Bool.{cases_lt}
-use Rattle.std.proofs.lemmas.List.{get_or_default}
-use Rattle.std.proofs.lemmas.Cmp.{tied_itself}
 use Rattle.dns_data.specs.Name.{Labels, name_cmp}
-use Rattle.dns_data.proofs.Membership.{from_map}
 use Rattle.dns_data.proofs.NameOrder.{names_total}
 use Rattle.dns_data.proofs.OrderedLists.{never_before_itself}
 use Rattle.net_model.specs.declared.class.Class.{Class}
 use Rattle.net_model.specs.declared.class.Class.TheVariants.{Exact, Below}
 use Rattle.net_model.specs.Class.{class_cmp, class_name, IsRepresentative}
-use Rattle.net_model.proofs.FaultOrder.{classes_total}
 use Rattle.net_model.proofs.TrialOrder.{one_representative}
-use Rattle.graph_form.specs.Report.{Subject}
+use Rattle.graph_form.specs.Report.{Subject, IsClass}
 use Rattle.net_model.specs.Tree.{IsInPart}
-use Rattle.query_classes.proofs.ClassLists.{by_names}
 use Rattle.query_verdicts.specs.Subjects.{RepresentsBelow}
 use Rattle.query_verdicts.specs.Passed.{ClassPasses, SomeClassPasses, IsFirstPassed}
-use Rattle.query_verdicts.specs.Rows.{AreRows, Row, IsFirstPassedAt, IsPassedAt, NonePassesAt, passes}
+use Rattle.query_verdicts.specs.Rows.{AreRows, IsFirstPassedAt, IsPassedAt, NonePassesAt, passes}
+use Rattle.query_verdicts.specs.TreeVerdicts.{TreeRow}
 use Rattle.query_verdicts.specs.Verdict.{IsBelowVerdict, IsClassVerdict, PassesStates}
 use Rattle.query_verdicts.specs.declared.verdict.ClassVerdict.{ClassVerdict}
 use Rattle.query_verdicts.specs.declared.verdict.ClassVerdict.TheVariants.{Faults, StatesPassed}
-
--- a class whose name stands behind that of another isn't before it
-pub behind_not_before : (other class : Class) → name_cmp (class_name class) (class_name other) ≡ Less → class_cmp other class ≢ Less
-behind_not_before other class rising less =
-    never_before_itself class_cmp classes_total class (classes_total.trans class other class (by_names class other rising) less)
-
--- of the classes of a name that of the name alone is the first
-pub exact_first : (name : Labels) (other : Class) → class_name other ≡ name → class_cmp other (Exact name) ≢ Less
-exact_first name (Exact alone) of_name less = never_before_itself name_cmp names_total name (subst (λ (n : Labels). name_cmp n name ≡ Less) of_name less)
-exact_first name (Below above) of_name less =
-    let tie : name_cmp above name ≡ Equal = ap (λ (n : Labels). name_cmp n name) of_name ∙ tied_itself names_total name in
-    never (name_cmp above name) tie less
-  where
-    never : (o : Ordering) → o ≡ Equal → ordering_then o Greater ≢ Less
-    never Less e less = cc
-    never Equal e less = cc
-    never Greater e less = cc
-
--- numbers of which neither is less than the other are one
-neither_less : (k i : ℕ) → i ≤ k → k ≤ i → k ≡ i
-neither_less k i not_before not_behind = omega arith
+use Rattle.query_verdicts.proofs.RowSearch.{exact_first, first_in_rows, none_in_rows}
 
 module _ (subject : Subject) (states : ℕ) where
   -- a verdict tells whether the representative passes
@@ -129,39 +102,21 @@ module _ (subject : Subject) (states : ℕ) where
 
   -- ---- the classes of all names
 
-  module _ {W : Type 0} (rows : List (Row W)) (are : AreRows subject states rows) where
-    row_at : (class : Class) (query : Labels) → ClassPasses subject states class query
-        → (k : ℕ) × (k < length rows) × ((d : Row W) → (get_or rows k d).item ≡ class_name class)
-    row_at class query it =
-        let (row, (k, within, is), same) =
-        from_map (λ (r : Row W). r.item) rows (class_name class) ((are.tree.all (class_name class)).1 it.is_class) in
-        (k, within, λ d. ap (λ (r : Row W). r.item) (get_or_default rows k d row within ∙ is) ∙ same)
+  module _ {W : Type 0} (rows : List (TreeRow W ClassVerdict)) (are : AreRows subject states rows) where
+    is_of_tree : (class : Class) (query : Labels) → ClassPasses subject states class query → IsClass subject class
+    is_of_tree class query it = it.is_class
 
     -- where none of any name passes, none does
-    pub none_of_rows : ((k : ℕ) (d : Row W) → k < length rows → NonePassesAt subject states (get_or rows k d).item) → SomeClassPasses subject states → ⊥
-    none_of_rows none (class, query, it) =
-        let (k, within, is) = row_at class query it in
-        let d : Row W = get_or rows k (record { item = []; verdict = record { exact = StatesPassed; below = None } }) in
-        none k d within class query (sym (is d)) it
+    pub none_of_rows : ((k : ℕ) (d : TreeRow W ClassVerdict) → k < length rows → NonePassesAt subject states (get_or rows k d).item) → SomeClassPasses subject states → ⊥
+    none_of_rows none (class, query, it) = none_in_rows rows are (ClassPasses subject states) is_of_tree none class query it
 
     -- the first of the first name is the first
-    pub first_of_rows : (i : ℕ) (e : Row W) → i < length rows → ((k : ℕ) (d : Row W) → k < i → NonePassesAt subject states (get_or rows k d).item)
+    pub first_of_rows : (i : ℕ) (e : TreeRow W ClassVerdict) → i < length rows
+        → ((k : ℕ) (d : TreeRow W ClassVerdict) → k < i → NonePassesAt subject states (get_or rows k d).item)
         → (query : Labels) → IsFirstPassedAt subject states (get_or rows i e).item query → IsFirstPassed subject states query
     first_of_rows i e inside none query found =
-        record { class = found.class; passes = found.passes; first = first }
-      where
-        first : (other : Class) (name : Labels) → ClassPasses subject states other name → class_cmp other found.class ≢ Less
-        first other name it less =
-            let (k, within, is) = row_at other name it in
-            elim (cases_lt k i) [
-              | inl before ↦ none k e before other name (sym (is e)) it
-              | inr not_before ↦ elim (cases_lt i k) [
-                | inl behind ↦ (
-                    let rising : name_cmp (get_or rows i e).item (class_name other) ≡ Less =
-                    subst (λ (n : Labels). name_cmp (get_or rows i e).item n ≡ Less) (is e) (are.ordered i k e behind within) in
-                    behind_not_before other found.class (subst (λ (n : Labels). name_cmp n (class_name other) ≡ Less) (sym found.of_name) rising) less)
-                | inr not_behind ↦ (
-                    let same : k ≡ i = neither_less k i not_before not_behind in
-                    found.first other name (sym (is e) ∙ ap (λ (n : ℕ). (get_or rows n e).item) same) it less)
-              ]
-            ]
+        record {
+          class = found.class;
+          passes = found.passes;
+          first = first_in_rows rows are (ClassPasses subject states) is_of_tree i e inside none found.class found.of_name found.first;
+        }

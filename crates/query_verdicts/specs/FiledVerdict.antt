@@ -3,20 +3,21 @@ use Rattle.std.specs.Prelude.{◌≡◌, [], Some, None, IfSome}
 use Rattle.query_verdicts.specs.declared.verdict.FiledVerdict.TheInside.{Inside}
 use Rattle.query_verdicts.specs.declared.verdict.Told.{Told}
 use Rattle.query_verdicts.specs.declared.verdict.Told.TheVariants.{Nothing, NothingAlone, Whole}
+use Rattle.query_verdicts.specs.declared.verdict.ClassVerdict.{ClassVerdict}
 use Rattle.query_verdicts.specs.declared.verdict.ClassVerdict.TheVariants.{Faults}
 use Rattle.query_verdicts.specs.declared.verdict.NameVerdict.{NameVerdict}
 
 -- the verdict with what is told written out
-abbrev pub verdict_told : Told → NameVerdict
+abbrev pub verdict_told : Told → NameVerdict ClassVerdict
 verdict_told Nothing = record { exact = Faults []; below = Some (Faults []) }
 verdict_told NothingAlone = record { exact = Faults []; below = None }
 verdict_told (Whole verdict) = verdict.value
 
 -- the verdict of a name, as contracts see what is filed for it
-abbrev pub verdict_filed : Inside → NameVerdict
+abbrev pub verdict_filed : Inside → NameVerdict ClassVerdict
 verdict_filed filed = verdict_told filed.told
 
 -- no class of the name shows a fault, and none reaches too many pairs
-pub record TellsNothing (verdict : NameVerdict) : Type 0 where
+pub record TellsNothing (verdict : NameVerdict ClassVerdict) : Type 0 where
   pub exact : verdict.exact ≡ Faults []
   pub below : IfSome verdict.below (λ class. class ≡ Faults [])

@@ -11,5 +11,6 @@ pub mod Passed
 pub mod Queries
 pub mod Rows
 pub mod Subjects
+pub mod TreeVerdicts
 pub mod Values
 pub mod Verdict

@@ -1,51 +1,27 @@
 -- The names of a subject's class tree with their verdicts, and what is found in them: for the contracts of the calls on a
 -- judge of names.
-use Rattle.std.specs.Prelude.{◌≡◌, ◌≢◌, ℕ, Bool, true, false, List, [], ◌++◌, map, length, All, AllPairs, Option, Some, None, is_some, MatchOption}
-use Rattle.std.specs.List.{filter, flat_map}
+use Rattle.std.specs.Prelude.{◌≡◌, ◌≢◌, ℕ, Bool, true, false, List, [], ◌++◌, map, Option, Some, None, MatchOption}
+use Rattle.std.specs.List.{flat_map}
 use Rattle.std.specs.declared.cmp.Ordering.{Ordering}
 use Rattle.std.specs.declared.cmp.Ordering.TheVariants.{Less}
 use Rattle.query_verdicts.specs.Passed.{ClassPasses}
-use Rattle.query_verdicts.specs.Verdict.{IsNameVerdict}
+use Rattle.query_verdicts.specs.TreeVerdicts.{AreTreeRows, TreeRow}
+use Rattle.query_verdicts.specs.Verdict.{IsClassVerdict}
 use Rattle.query_verdicts.specs.declared.report.ClassFault.{ClassFault}
 use Rattle.query_verdicts.specs.declared.verdict.ClassVerdict.{ClassVerdict}
 use Rattle.query_verdicts.specs.declared.verdict.ClassVerdict.TheVariants.{Faults, StatesPassed}
 use Rattle.query_verdicts.specs.declared.verdict.NameVerdict.{NameVerdict}
-use Rattle.dns_data.specs.Name.{Labels, name_cmp}
+use Rattle.dns_data.specs.Name.{Labels}
 use Rattle.graph_form.specs.Report.{Subject}
 use Rattle.graph_form.specs.declared.report.Seen.{Seen}
 use Rattle.net_model.specs.declared.class.Class.{Class}
 use Rattle.net_model.specs.declared.class.Class.TheVariants.{Exact, Below}
 use Rattle.net_model.specs.declared.fault.Fault.{Fault}
 use Rattle.net_model.specs.Class.{class_cmp, class_name}
-use Rattle.net_model.specs.Tree.{IsTreePart}
-use Rattle.verdict_book.specs.declared.filed.Filed.{Filed}
 
--- a name with its verdict, as work of the kind W files it
-abbrev pub Row : Type 0 → Type 0
-Row W = Filed W Labels NameVerdict
-
-module _ {W : Type 0} where
-  -- the names of rows
-  abbrev pub row_names : List (Row W) → List Labels
-  row_names rows = map (λ row. row.item) rows
-
-  -- each name stands before the later ones
-  abbrev pub AreInTreeOrder : List (Row W) → Type 0
-  AreInTreeOrder rows = AllPairs (λ a b. name_cmp a.item b.item ≡ Less) rows
-
-  -- the rows are the names of the subject's class tree in order, each with its verdict
-  pub record AreRows (subject : Subject) (states : ℕ) (rows : List (Row W)) : Type 0 where
-    pub ordered : AreInTreeOrder rows
-    pub tree : IsTreePart subject.ground subject.below (row_names rows)
-    pub verdicts : All (λ row. IsNameVerdict subject states row.item row.verdict) rows
-
-  -- the class below the name isn't empty
-  abbrev pub has_below : Row W → Bool
-  has_below row = is_some row.verdict.below
-
-  -- how many classes the rows have that aren't empty
-  abbrev pub below_count : List (Row W) → ℕ
-  below_count rows = length (filter has_below rows)
+-- the rows are the names of the subject's class tree in order, each with its verdict
+abbrev pub AreRows : {W : Type 0} → Subject → ℕ → List (TreeRow W ClassVerdict) → Type 0
+AreRows subject states rows = AreTreeRows subject.ground subject.below (IsClassVerdict subject.config subject.rewrites states) rows
 
 -- the representative of the class reaches more pairs of state and type than are looked at
 abbrev pub passes : ClassVerdict → Bool
@@ -84,11 +60,11 @@ found_below name None = []
 found_below name (Some verdict) = found_in (Below name) verdict
 
 -- the faults of the classes of a name
-abbrev pub found_at : Labels → NameVerdict → List ClassFault
+abbrev pub found_at : Labels → NameVerdict ClassVerdict → List ClassFault
 found_at name verdict = found_in (Exact name) verdict.exact ++ found_below name verdict.below
 
 -- the faults of all classes of the rows
-abbrev pub found_of : {W : Type 0} → List (Row W) → List ClassFault
+abbrev pub found_of : {W : Type 0} → List (TreeRow W ClassVerdict) → List ClassFault
 found_of rows = flat_map (λ row. found_at row.item row.verdict) rows
 
 -- the fault that a class shows

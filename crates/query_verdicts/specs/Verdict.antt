@@ -1,15 +1,14 @@
 -- The verdict of a class and of a name of a class tree.
-use Rattle.std.specs.Prelude.{◌≡◌, ℕ, true, List, [], Contains, Option, Some, None}
+use Rattle.std.specs.Prelude.{◌≡◌, ℕ, true, List, [], Contains, Option}
 use Rattle.dns_data.specs.Name.{Labels}
 use Rattle.query_verdicts.specs.declared.verdict.ClassVerdict.{ClassVerdict}
 use Rattle.query_verdicts.specs.declared.verdict.ClassVerdict.TheVariants.{Faults, StatesPassed}
 use Rattle.query_verdicts.specs.declared.verdict.NameVerdict.{NameVerdict}
+use Rattle.query_verdicts.specs.TreeVerdicts.{IsVerdictAt, IsVerdictBelow}
 use Rattle.graph_form.specs.Report.{Subject}
 use Rattle.graph_form.specs.Verdict.{AreShownOf}
 use Rattle.graph_form.specs.declared.report.Seen.{Seen}
-use Rattle.net_model.specs.declared.class.Class.TheVariants.{Below}
 use Rattle.net_model.specs.declared.config.Config.{Config}
-use Rattle.net_model.specs.Class.{IsRepresentative}
 use Rattle.net_model.specs.Learnt.{IsInForce}
 use Rattle.net_model.specs.Nearest.{server_names}
 use Rattle.net_model.specs.Shown.{with_sets}
@@ -40,11 +39,8 @@ IsClassVerdict config rewrites states query StatesPassed = PassesStates config r
 
 -- the verdict of the class below a name of the subject's class tree, if it has a representative
 abbrev pub IsBelowVerdict : Subject → ℕ → Labels → Option ClassVerdict → Type 0
-IsBelowVerdict subject states above None = (query : Labels) → IsRepresentative subject.ground (Below above) query → ⊥
-IsBelowVerdict subject states above (Some verdict) =
-    (query : Labels) × IsRepresentative subject.ground (Below above) query × IsClassVerdict subject.config subject.rewrites states query verdict
+IsBelowVerdict subject states above below = IsVerdictBelow subject.ground (IsClassVerdict subject.config subject.rewrites states) above below
 
 -- the verdict of a name of the subject's class tree
-pub record IsNameVerdict (subject : Subject) (states : ℕ) (name : Labels) (verdict : NameVerdict) : Type 0 where
-  pub exact : IsClassVerdict subject.config subject.rewrites states name verdict.exact
-  pub below : IsBelowVerdict subject states name verdict.below
+abbrev pub IsNameVerdict : Subject → ℕ → Labels → NameVerdict ClassVerdict → Type 0
+IsNameVerdict subject states name verdict = IsVerdictAt subject.ground (IsClassVerdict subject.config subject.rewrites states) name verdict

@@ -30,7 +30,7 @@ pub fn passing_names()
 /// Each name of a class tree has children and a verdict.
 pub fn values_exist()
     ensures { (subject : Subject) → Covers subject.ground subject.config → (states : ℕ)
-        → (children_of : Labels → List Labels) × (verdict_of : Labels → NameVerdict) × AreValues subject states children_of verdict_of }
+        → (children_of : Labels → List Labels) × (verdict_of : Labels → NameVerdict ClassVerdict) × AreValues subject states children_of verdict_of }
 {}
 
 /// A class has one verdict.

@@ -105,7 +105,7 @@ impl<'a, S: OnSubject> NameJudge<'a, S> {
 
     /// The verdict of a name of the class tree: of the class of the name alone, and of the class below it. The region of
     /// the second query is searched from that of the first; `usize::MAX` means no hint.
-    fn judge_name(&self, name: &LiveName) -> Result<NameVerdict, NoMemory>
+    fn judge_name(&self, name: &LiveName) -> Result<NameVerdict<ClassVerdict>, NoMemory>
         requires live { IsLiveIn S.subject.ground name.now.name name.now.live }
         requires in_tree { IsInTree S.subject.ground name.now.name }
         ensures { IfOk result (IsNameVerdict S.subject S.states name.now.name) }

@@ -6,8 +6,9 @@ ghost use Rattle.std.specs.List.Sorted.{IsSortedBy};
 ghost use Rattle.std.proofs.lemmas.Cmp.{on_total};
 ghost use Rattle.query_verdicts.specs.Entries.{AreEntries, AreEntriesOf, IsEntryOf, IsRightFound, IsWalked, PutsEntry, entry_of_parts, is_before};
 ghost use Rattle.query_verdicts.specs.Passed.{NonePasses, IsReportFault};
-ghost use Rattle.query_verdicts.specs.Rows.{AreRows, below_count, class_rank, found_at, found_fault, found_in, found_of};
+ghost use Rattle.query_verdicts.specs.Rows.{AreRows, class_rank, found_at, found_fault, found_in, found_of};
 ghost use Rattle.query_verdicts.specs.Queries.{IsLeastGraph};
+ghost use Rattle.query_verdicts.specs.TreeVerdicts.{below_count};
 ghost use Rattle.query_verdicts.specs.Verdict.{PassesStates};
 ghost use Rattle.dns_data.specs.Name.{Labels};
 ghost use Rattle.graph_form.specs.Report.{IsClass, IsReport, repeats};
@@ -189,7 +190,7 @@ fn put_name(
 fn put_classes(
     alloc: Global,
     name: Name,
-    verdict: NameVerdict,
+    verdict: NameVerdict<ClassVerdict>,
     found: &mut List<ClassFault>,
 ) -> Result<(), NoMemory>
     ensures { OnOk result (found.new ≡ found.old ++ found_at name verdict) }

@@ -19,12 +19,12 @@ pub enum ClassVerdict {
     StatesPassed,
 }
 
-/// What is told of a name of the class tree: of the class of the name alone, and of the class below it, `None` where
-/// that is empty.
+/// What is told of a name of a class tree: of the class of the name alone, and of the class below it, `None` where that
+/// is empty.
 #[derive(Debug, Drop)]
-pub struct NameVerdict {
-    pub exact: ClassVerdict,
-    pub below: Option<ClassVerdict>,
+pub struct NameVerdict<C> {
+    pub exact: C,
+    pub below: Option<C>,
 }
 
 /// The verdict of a name of the class tree, as it is filed. Where it tells nothing, as nearly all do, it takes no
@@ -43,13 +43,14 @@ enum Told {
     /// Nothing, and the class below the name is empty.
     NothingAlone,
     /// What the verdict says.
-    Whole(Box<NameVerdict>),
+    Whole(Box<NameVerdict<ClassVerdict>>),
 }
 
 impl Model for FiledVerdict {
+    ghost use Rattle.query_verdicts.specs.declared.verdict.ClassVerdict.{ClassVerdict};
     ghost use Rattle.query_verdicts.specs.declared.verdict.NameVerdict.{NameVerdict};
 
-    ghost Value = { NameVerdict };
+    ghost Value = { NameVerdict ClassVerdict };
 
     ghost use Rattle.query_verdicts.specs.FiledVerdict.{verdict_filed};
 
@@ -58,7 +59,10 @@ impl Model for FiledVerdict {
 
 impl FiledVerdict {
     /// The verdict, to be filed.
-    pub(crate) fn of(alloc: Global, verdict: NameVerdict) -> Result<FiledVerdict, NoMemory>
+    pub(crate) fn of(
+        alloc: Global,
+        verdict: NameVerdict<ClassVerdict>,
+    ) -> Result<FiledVerdict, NoMemory>
         ensures { IfOk result (λ filed. filed ≡ verdict) }
     {
         match nothing_told(&verdict) {
@@ -70,7 +74,7 @@ impl FiledVerdict {
     }
 
     /// The verdict, or `None` where nothing is told.
-    pub(crate) fn into_told(self) -> Option<NameVerdict>
+    pub(crate) fn into_told(self) -> Option<NameVerdict<ClassVerdict>>
         ensures { MatchOption result (TellsNothing self) (λ verdict. verdict ≡ self) }
     {
         match self.told {
@@ -112,7 +116,7 @@ impl FiledVerdict {
 }
 
 /// What is told where that is nothing, or `None` where the verdict says more.
-fn nothing_told(verdict: &NameVerdict) -> Option<Told>
+fn nothing_told(verdict: &NameVerdict<ClassVerdict>) -> Option<Told>
     ensures { IfSome result (λ told. verdict_told told ≡ verdict.now) }
 {
     if !tells_nothing(&verdict.exact) {

@@ -1,24 +1,23 @@
 -- The first class of which something is told, from the rows of the joint class tree.
-use Rattle.std.proofs.Common.{◌≡◌, ◌≢◌, ◌∙◌, ℕ, ◌<◌, true, false, List, [], length, get_or, Option, Some, None, refl, sym, ap, subst, inl, inr, arith, true≢false}
+use Rattle.std.proofs.Common.{◌≡◌, ◌≢◌, ◌∙◌, ℕ, ◌<◌, true, false, List, [], length, get_or, Option, Some, None, refl, sym, ap, subst, true≢false}
 use Rattle.std.specs.declared.cmp.Ordering.TheVariants.{Less}
 use Rattle.std.specs.Option.{option_map_or}
-use Rattle.std.proofs.lemmas.Bool.{cases_lt}
-use Rattle.std.proofs.lemmas.List.{get_or_default}
 use Rattle.dns_data.specs.Name.{Labels, name_cmp}
 use Rattle.dns_data.specs.declared.rr_type.RrType.{RrType}
-use Rattle.dns_data.proofs.Membership.{from_map}
 use Rattle.dns_data.proofs.NameOrder.{names_total}
 use Rattle.dns_data.proofs.OrderedLists.{never_before_itself}
 use Rattle.net_model.specs.declared.class.Class.{Class}
 use Rattle.net_model.specs.declared.class.Class.TheVariants.{Exact, Below}
 use Rattle.net_model.specs.Class.{class_cmp, class_name, IsRepresentative}
+use Rattle.net_model.specs.Tree.{IsInPart}
 use Rattle.net_model.proofs.TrialOrder.{one_representative}
 use Rattle.query_classes.specs.Children.{IsInTree}
-use Rattle.query_verdicts.proofs.ReportPassed.{behind_not_before, exact_first}
+use Rattle.query_verdicts.specs.TreeVerdicts.{TreeRow}
+use Rattle.query_verdicts.proofs.RowSearch.{exact_first, first_in_rows, none_in_rows}
 use Rattle.same_answers.specs.Alike.{AnswersAlike, ClassesAlike}
 use Rattle.same_answers.specs.Compared.{Compared, joint}
 use Rattle.same_answers.specs.Passed.{IsFirstPassedInOne, SomeClassPassesInOne}
-use Rattle.same_answers.specs.Rows.{AreRows, ClassEnds, IsApartBy, IsFirstSought, IsFirstSoughtAt, IsFoundBelow, IsSoughtAt, NoneSought, NoneSoughtAt, Row, is_sought}
+use Rattle.same_answers.specs.Rows.{ArePairRows, ClassEnds, IsApartBy, IsFirstSought, IsFirstSoughtAt, IsFoundBelow, IsSoughtAt, NoneSought, NoneSoughtAt, is_sought}
 use Rattle.same_answers.specs.Sameness.{ClassIsApart, IsFirstDifference, IsSameness}
 use Rattle.same_answers.specs.Verdict.{IsBelowEnd, IsPairEnd, SomeServerPassesInOne}
 use Rattle.same_answers.specs.declared.sameness.Sameness.{Sameness}
@@ -110,43 +109,34 @@ module _ (two : Compared) (sought : Sought) where
 
   -- ---- the classes of all names
 
-  module _ {W : Type 0} (rows : List (Row W)) (are : AreRows two rows) where
-    row_at : (class : Class) (query : Labels) (end : PairEnd) → ClassEnds two class query end
-        → (k : ℕ) × (k < length rows) × ((d : Row W) → (get_or rows k d).item ≡ class_name class)
-    row_at class query end ends =
-        let (row, (k, within, is), same) =
-        from_map (λ (r : Row W). r.item) rows (class_name class)
-        ((are.tree.all (class_name class)).1 (record { named = ends.is_class.0; is_name = ends.is_class.1; within = refl })) in
-        (k, within, λ d. ap (λ (r : Row W). r.item) (get_or_default rows k d row within ∙ is) ∙ same)
+  module _ {W : Type 0} (rows : List (TreeRow W PairEnd)) (are : ArePairRows two rows) where
+    -- what is sought is told of the class
+    abbrev IsSought : Class → Found → Type 0
+    IsSought class found = ClassEnds two class found.query found.end × (is_sought sought found.end ≡ true)
+
+    is_of_tree : (class : Class) (found : Found) → IsSought class found → IsInPart (joint two) [] (class_name class)
+    is_of_tree class found (ends, holds) = record { named = ends.is_class.0; is_name = ends.is_class.1; within = refl }
 
     -- where it is told of no class of any name, it is told of none
-    pub none_of_rows : ((k : ℕ) (d : Row W) → k < length rows → NoneSoughtAt two sought (get_or rows k d).item) → NoneSought two sought
+    pub none_of_rows : ((k : ℕ) (d : TreeRow W PairEnd) → k < length rows → NoneSoughtAt two sought (get_or rows k d).item) → NoneSought two sought
     none_of_rows none class query end ends holds =
-        let (k, within, is) = row_at class query end ends in
-        let d : Row W = get_or rows k (record { item = []; verdict = record { exact = Equal; below = None } }) in
-        none k d within class query end (sym (is d)) ends holds
+        none_in_rows rows are IsSought is_of_tree (λ k d within other found of_name is. none k d within other found.query found.end of_name is.0 is.1)
+        class (record { query = query; end = end }) (ends, holds)
 
     -- and the first of the first name is the first
-    pub first_of_rows : (i : ℕ) (e : Row W) → i < length rows → ((k : ℕ) (d : Row W) → k < i → NoneSoughtAt two sought (get_or rows k d).item)
+    pub first_of_rows : (i : ℕ) (e : TreeRow W PairEnd) → i < length rows
+        → ((k : ℕ) (d : TreeRow W PairEnd) → k < i → NoneSoughtAt two sought (get_or rows k d).item)
         → (found : Found) → IsFirstSoughtAt two sought (get_or rows i e).item found → IsFirstSought two sought found
     first_of_rows i e inside none found is_found =
-        record { class = is_found.class; ends = is_found.ends; is = is_found.is; first = first }
-      where
-        first : (other : Class) (query : Labels) (end : PairEnd) → ClassEnds two other query end → is_sought sought end ≡ true → class_cmp other is_found.class ≢ Less
-        first other query end ends holds less =
-            let (k, within, is) = row_at other query end ends in
-            elim (cases_lt k i) [
-              | inl before ↦ none k e before other query end (sym (is e)) ends holds
-              | inr not_before ↦ elim (cases_lt i k) [
-                | inl behind ↦ (
-                    let rising : name_cmp (get_or rows i e).item (class_name other) ≡ Less =
-                    subst (λ (n : Labels). name_cmp (get_or rows i e).item n ≡ Less) (is e) (are.ordered i k e behind within) in
-                    behind_not_before other is_found.class (subst (λ (n : Labels). name_cmp n (class_name other) ≡ Less) (sym is_found.of_name) rising) less)
-                | inr not_behind ↦ (
-                    let same : k ≡ i = omega (arith, not_before, not_behind) in
-                    is_found.first other query end (sym (is e) ∙ ap (λ (n : ℕ). (get_or rows n e).item) same) ends holds less)
-              ]
-            ]
+        record {
+          class = is_found.class;
+          ends = is_found.ends;
+          is = is_found.is;
+          first = λ other query end ends holds.
+              first_in_rows rows are IsSought is_of_tree i e inside (λ k d before class found of_name is. none k d before class found.query found.end of_name is.0 is.1)
+              is_found.class is_found.of_name (λ class found of_name is. is_found.first class found.query found.end of_name is.0 is.1)
+              other (record { query = query; end = end }) (ends, holds);
+        }
 
 -- ---- what the search for classes tells
 

@@ -4,7 +4,6 @@ pub mod FoundNext
 pub mod GraphEnds
 pub mod OneSameness
 pub mod PairEnds
-pub mod PairRows
 pub mod PairValues
 pub mod Passing
 pub mod OutcomeSets

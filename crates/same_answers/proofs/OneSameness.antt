@@ -1,23 +1,21 @@
--- One thing is told of a class, of a name of the joint tree and of two configurations.
-use Rattle.std.proofs.Common.{◌≡◌, ◌∙◌, ℕ, [], Option, Some, None, refl, ap, subst, arith}
+-- One thing is told of a class of the joint tree and of two configurations.
+use Rattle.std.proofs.Common.{◌≡◌, ◌∙◌, ℕ, [], refl, ap, subst, arith}
 use Rattle.dns_data.specs.Name.{Labels}
 use Rattle.dns_data.specs.declared.rr_type.RrType.{RrType}
 use Rattle.dns_data.proofs.OrderedLists.{neither_before}
 use Rattle.graph_form.proofs.TreeSizes.{one_size}
 use Rattle.net_model.specs.declared.class.Class.{Class}
-use Rattle.net_model.specs.declared.class.Class.TheVariants.{Below}
 use Rattle.net_model.specs.Class.{class_cmp, IsRepresentative}
 use Rattle.net_model.proofs.FaultOrder.{classes_total, one_class, one_type}
 use Rattle.net_model.proofs.TrialOrder.{one_representative}
 use Rattle.same_answers.specs.Compared.{Compared, joint}
 use Rattle.same_answers.specs.Passed.{IsFirstPassedInOne}
 use Rattle.same_answers.specs.Sameness.{IsFirstDifference, IsSameness}
-use Rattle.same_answers.specs.Verdict.{IsBelowEnd, IsFirstApart, IsPairEnd, IsPairVerdict}
+use Rattle.same_answers.specs.Verdict.{IsFirstApart, IsPairEnd}
 use Rattle.same_answers.specs.declared.sameness.Sameness.{Sameness}
 use Rattle.same_answers.specs.declared.sameness.Sameness.TheVariants as told
 use Rattle.same_answers.specs.declared.verdict.PairEnd.{PairEnd}
 use Rattle.same_answers.specs.declared.verdict.PairEnd.TheVariants.{Equal, Apart, Unbounded, StatesPassed}
-use Rattle.same_answers.specs.declared.verdict.PairVerdict.{PairVerdict}
 
 -- ---- of a class
 
@@ -43,23 +41,6 @@ module _ (two : Compared) (query : Labels) where
   one_end Equal Unbounded one other = absurd (other.1 (one.1 other.0.learnt).0)
   one_end Equal (Apart rtype) one other = absurd (other.2.differ ((one.1 other.0.learnt).1 rtype))
   one_end Equal Equal one other = refl
-
--- ---- of a name of the tree
-
-module _ (two : Compared) where
-  one_below : (above : Labels) (a b : Option PairEnd) → IsBelowEnd two above a → IsBelowEnd two above b → a ≡ b
-  one_below above None None one other = refl
-  one_below above None (Some end) none (query, stands, is) = absurd (none query stands)
-  one_below above (Some end) None (query, stands, is) none = absurd (none query stands)
-  one_below above (Some a) (Some b) (query, stands, is) (also, represents, other) =
-      let same : also ≡ query = one_representative (joint two) (Below above) also query represents stands in
-      ap (λ (end : PairEnd). Some end) (one_end two query a b is (subst (λ (name : Labels). IsPairEnd two name b) same other))
-
-  -- a name has one verdict
-  pub one_verdict : (name : Labels) (a b : PairVerdict) → IsPairVerdict two name a → IsPairVerdict two name b → a ≡ b
-  one_verdict name a b one other =
-      ap (λ (end : PairEnd). record a { exact = end }) (one_end two name a.exact b.exact one.exact other.exact)
-      ∙ ap (λ (end : Option PairEnd). record b { below = end }) (one_below name a.below b.below one.below other.below)
 
 -- ---- of two configurations
 

@@ -1,17 +1,16 @@
 -- The names of the joint class tree with their verdicts, and what is looked for in them: for the contracts of inner calls
 -- alone.
-use Rattle.std.specs.Prelude.{◌≡◌, ◌≢◌, ℕ, Bool, true, false, List, [], map, length, All, AllPairs, Option, MatchOption, is_some}
-use Rattle.std.specs.List.{filter}
+use Rattle.std.specs.Prelude.{◌≡◌, ◌≢◌, Bool, true, false, List, [], Option, MatchOption}
 use Rattle.std.specs.declared.cmp.Ordering.TheVariants.{Less}
-use Rattle.dns_data.specs.Name.{Labels, name_cmp}
+use Rattle.dns_data.specs.Name.{Labels}
 use Rattle.dns_data.specs.declared.rr_type.RrType.{RrType}
 use Rattle.net_model.specs.declared.class.Class.{Class}
 use Rattle.net_model.specs.declared.class.Class.TheVariants.{Below}
 use Rattle.net_model.specs.Class.{class_cmp, class_name, IsRepresentative}
-use Rattle.net_model.specs.Tree.{IsTreePart}
 use Rattle.query_classes.specs.Children.{IsInTree}
+use Rattle.query_verdicts.specs.TreeVerdicts.{AreTreeRows, TreeRow}
 use Rattle.same_answers.specs.Compared.{Compared, joint}
-use Rattle.same_answers.specs.Verdict.{IsPairEnd, IsPairVerdict}
+use Rattle.same_answers.specs.Verdict.{IsPairEnd}
 use Rattle.same_answers.specs.declared.sameness.Sameness.{Sameness}
 use Rattle.same_answers.specs.declared.sameness.Sameness.TheVariants as told
 use Rattle.same_answers.specs.declared.search.Found.{Found}
@@ -19,31 +18,10 @@ use Rattle.same_answers.specs.declared.search.Sought.{Sought}
 use Rattle.same_answers.specs.declared.search.Sought.TheVariants as sought_as
 use Rattle.same_answers.specs.declared.verdict.PairEnd.{PairEnd}
 use Rattle.same_answers.specs.declared.verdict.PairEnd.TheVariants.{Apart, StatesPassed}
-use Rattle.same_answers.specs.declared.verdict.PairVerdict.{PairVerdict}
-use Rattle.verdict_book.specs.declared.filed.Filed.{Filed}
 
--- a name with its verdict, as work of the kind W files it
-abbrev pub Row : Type 0 → Type 0
-Row W = Filed W Labels PairVerdict
-
-module _ {W : Type 0} where
-  -- the names of rows
-  abbrev pub row_names : List (Row W) → List Labels
-  row_names rows = map (λ row. row.item) rows
-
-  -- the rows are the names of the joint class tree in order, each with its verdict
-  pub record AreRows (two : Compared) (rows : List (Row W)) : Type 0 where
-    pub ordered : AllPairs (λ a b. name_cmp a.item b.item ≡ Less) rows
-    pub tree : IsTreePart (joint two) [] (row_names rows)
-    pub verdicts : All (λ row. IsPairVerdict two row.item row.verdict) rows
-
-  -- the class below the name isn't empty
-  abbrev pub has_below : Row W → Bool
-  has_below row = is_some row.verdict.below
-
-  -- how many classes below the names aren't empty
-  abbrev pub below_count : List (Row W) → ℕ
-  below_count rows = length (filter has_below rows)
+-- the rows are the names of the joint class tree in order, each with its verdict
+abbrev pub ArePairRows : {W : Type 0} → Compared → List (TreeRow W PairEnd) → Type 0
+ArePairRows two rows = AreTreeRows (joint two) [] (IsPairEnd two) rows
 
 -- what is told of a class is what is sought
 abbrev pub is_sought : Sought → PairEnd → Bool

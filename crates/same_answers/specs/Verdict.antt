@@ -1,16 +1,15 @@
 -- The verdict of a class and of a name of the joint class tree.
-use Rattle.std.specs.Prelude.{◌≤◌, ◌⊎◌, Option, Some, None}
+use Rattle.std.specs.Prelude.{◌≤◌, ◌⊎◌, Option}
 use Rattle.dns_data.specs.Name.{Labels}
 use Rattle.dns_data.specs.RrType.{number_of}
 use Rattle.dns_data.specs.declared.rr_type.RrType.{RrType}
-use Rattle.net_model.specs.declared.class.Class.TheVariants.{Below}
-use Rattle.net_model.specs.Class.{IsRepresentative}
+use Rattle.query_verdicts.specs.TreeVerdicts.{IsVerdictAt, IsVerdictBelow}
 use Rattle.query_verdicts.specs.Verdict.{PassesStates, SomeServerPasses}
+use Rattle.query_verdicts.specs.declared.verdict.NameVerdict.{NameVerdict}
 use Rattle.same_answers.specs.Alike.{AnswersAlike, AreBounded}
 use Rattle.same_answers.specs.Compared.{Compared, joint}
 use Rattle.same_answers.specs.declared.verdict.PairEnd.{PairEnd}
 use Rattle.same_answers.specs.declared.verdict.PairEnd.TheVariants.{Equal, Apart, Unbounded, StatesPassed}
-use Rattle.same_answers.specs.declared.verdict.PairVerdict.{PairVerdict}
 
 -- the query reaches more pairs of state and type than are looked at, in one of the configurations
 abbrev pub PassesInOne : Compared → Labels → Type 0
@@ -43,10 +42,8 @@ IsPairEnd two query Equal =
 
 -- what is told of the class below a name of the joint class tree, if it has a representative
 abbrev pub IsBelowEnd : Compared → Labels → Option PairEnd → Type 0
-IsBelowEnd two above None = (query : Labels) → IsRepresentative (joint two) (Below above) query → ⊥
-IsBelowEnd two above (Some end) = (query : Labels) × IsRepresentative (joint two) (Below above) query × IsPairEnd two query end
+IsBelowEnd two above below = IsVerdictBelow (joint two) (IsPairEnd two) above below
 
 -- the verdict of a name of the joint class tree
-pub record IsPairVerdict (two : Compared) (name : Labels) (verdict : PairVerdict) : Type 0 where
-  pub exact : IsPairEnd two name verdict.exact
-  pub below : IsBelowEnd two name verdict.below
+abbrev pub IsPairVerdict : Compared → Labels → NameVerdict PairEnd → Type 0
+IsPairVerdict two name verdict = IsVerdictAt (joint two) (IsPairEnd two) name verdict

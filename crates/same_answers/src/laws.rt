@@ -5,13 +5,14 @@ ghost use Rattle.std.specs.Prelude.{◌≡◌, ◌↔◌, ℕ, List, []};
 ghost use Rattle.dns_data.specs.Name.{Labels};
 ghost use Rattle.net_model.specs.Tree.{HasMoreThan};
 ghost use Rattle.query_classes.specs.Children.{AreChildren, IsInTree};
+ghost use Rattle.query_verdicts.specs.declared.verdict.NameVerdict.{NameVerdict};
 ghost use Rattle.same_answers.specs.Alike.{AllAlike, ClassesAlike};
 ghost use Rattle.same_answers.specs.Compared.{Compared, joint};
 ghost use Rattle.same_answers.specs.Passed.{IsFirstPassedInOne};
 ghost use Rattle.same_answers.specs.Sameness.{IsSameness};
 ghost use Rattle.same_answers.specs.Values.{ArePairValues};
 ghost use Rattle.same_answers.specs.declared.sameness.Sameness.{Sameness};
-ghost use Rattle.same_answers.specs.declared.verdict.PairVerdict.{PairVerdict};
+ghost use Rattle.same_answers.specs.declared.verdict.PairEnd.{PairEnd};
 ghost use Rattle.verdict_book.specs.Items.{ReachesMore};
 
 /// Each query of at most 255 octets that both configurations bound has the same outcomes in both, with each type,
@@ -29,7 +30,7 @@ pub fn one_sameness()
 
 /// Each name of the joint class tree has children and a verdict.
 pub fn values_exist()
-    ensures { (two : Compared) → (children_of : Labels → List Labels) × (verdict_of : Labels → PairVerdict) × ArePairValues two children_of verdict_of }
+    ensures { (two : Compared) → (children_of : Labels → List Labels) × (verdict_of : Labels → NameVerdict PairEnd) × ArePairValues two children_of verdict_of }
 {}
 
 /// More items than the limit are reached from the root exactly where the joint class tree has more names.

@@ -27,4 +27,4 @@ mod verdict;
 pub use naming::{JointGround, PairNaming};
 pub use pairing::Pairing;
 pub use sameness::{SameFault, Sameness};
-pub use verdict::{PairEnd, PairVerdict};
+pub use verdict::PairEnd;

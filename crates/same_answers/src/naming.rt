@@ -3,9 +3,10 @@
 ghost use Rattle.std.specs.Prelude.{[], List as Items, None};
 ghost use Rattle.dns_data.specs.Name.{Labels};
 ghost use Rattle.dns_data.proofs.Membership.{none_in_nil};
+ghost use Rattle.query_verdicts.specs.declared.verdict.NameVerdict.{NameVerdict};
 ghost use Rattle.same_answers.specs.Compared.{Compared, joint};
+ghost use Rattle.same_answers.specs.declared.verdict.PairEnd.{PairEnd};
 ghost use Rattle.same_answers.specs.declared.verdict.PairEnd.TheVariants.{Equal};
-ghost use Rattle.same_answers.specs.declared.verdict.PairVerdict.{PairVerdict};
 ghost use Rattle.std.proofs.lemmas.Option.{slice_get_within, get_or_from_slice_get};
 ghost use Rattle.verdict_book.specs.Items.{ParentsApart};
 
@@ -20,7 +21,7 @@ pub trait PairNaming {
 
     ghost children_of: { Labels → Items Labels };
 
-    ghost verdict_of: { Labels → PairVerdict };
+    ghost verdict_of: { Labels → NameVerdict PairEnd };
 
     ghost apart: { ParentsApart [] children_of };
 }

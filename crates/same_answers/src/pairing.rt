@@ -15,12 +15,12 @@ ghost use Rattle.same_answers.specs.Passed.{SomeClassPassesInOne};
 use crate::looked::{looked_at, looked_end};
 use crate::naming::{JointGround, PairNaming};
 use crate::straight::straight_end;
-use crate::verdict::{PairEnd, PairVerdict};
+use crate::verdict::PairEnd;
 use dns_data::{List, Name, NoMemory};
 use label_graph::LabelGraph;
 use net_model::Config;
 use query_classes::{LiveName, TreeName};
-use query_verdicts::QueryGraphs;
+use query_verdicts::{NameVerdict, QueryGraphs};
 use std::alloc::Global;
 use std::marker::{Model, PhantomData};
 use verdict_book::{JudgeShare, Work};
@@ -49,7 +49,7 @@ impl<'a, N: PairNaming> Model for Pairing<'a, N> {
 impl<'a, N: PairNaming + Send> Work for Pairing<'a, N> {
     type Item = TreeName<JointGround<N>>;
 
-    type Verdict = PairVerdict;
+    type Verdict = NameVerdict<PairEnd>;
 
     ghost first_item = { [] };
 
@@ -72,7 +72,7 @@ impl<'a, N: PairNaming + Send> Work for Pairing<'a, N> {
         &self,
         item: &TreeName<JointGround<N>>,
         share: &mut JudgeShare,
-    ) -> Result<PairVerdict, NoMemory> {
+    ) -> Result<NameVerdict<PairEnd>, NoMemory> {
         // The graph is read, so that what the work is made of is known here.
         let _ = &self.names;
         share.raise();
@@ -123,7 +123,7 @@ impl<'a, N: PairNaming> Pairing<'a, N> {
 
     /// The verdict of a name of the class tree: of the class of the name alone, and of the class below it. The regions
     /// of the second query are searched from those of the first; `usize::MAX` means no hint.
-    fn judge_name(&self, name: &LiveName) -> Result<PairVerdict, NoMemory>
+    fn judge_name(&self, name: &LiveName) -> Result<NameVerdict<PairEnd>, NoMemory>
         requires live { IsLiveIn (joint N.compared) name.now.name name.now.live }
         requires in_tree { IsInTree (joint N.compared) name.now.name }
         ensures { IfOk result (IsPairVerdict N.compared name.now.name) }
@@ -132,7 +132,7 @@ impl<'a, N: PairNaming> Pairing<'a, N> {
             first: usize::MAX,
             second: usize::MAX,
         };
-        Ok(PairVerdict {
+        Ok(NameVerdict {
             exact: self.judge_class(&mut near, &name.name)?,
             below: self.judge_below(&mut near, name)?,
         })

@@ -2,8 +2,9 @@
 
 ghost use Rattle.std.specs.Prelude.{◌≡◌, ◌+◌, ◌≤◌, ◌<◌, ◌^◌, true, [], length, IfOk, IfErr, OnOk};
 ghost use Rattle.dns_data.specs.Name.{name_cmp};
+ghost use Rattle.query_verdicts.specs.TreeVerdicts.{below_count};
 ghost use Rattle.same_answers.specs.Passed.{SomeClassPassesInOne};
-ghost use Rattle.same_answers.specs.Rows.{AreRows, IsApartBy, below_count, is_sought};
+ghost use Rattle.same_answers.specs.Rows.{ArePairRows, IsApartBy, is_sought};
 ghost use Rattle.same_answers.specs.Sameness.{IsSameFault, IsSameness};
 ghost use Rattle.same_answers.specs.declared.sameness.Sameness.TheVariants.{Same};
 ghost use Rattle.verdict_book.specs.Lists.{IsWholeTree};
@@ -11,9 +12,10 @@ ghost use Rattle.verdict_book.specs.Lists.{IsWholeTree};
 use crate::naming::{JointGround, PairNaming};
 use crate::pairing::Pairing;
 use crate::search::{Found, Sought};
-use crate::verdict::{PairEnd, PairVerdict};
+use crate::verdict::PairEnd;
 use dns_data::{List, Name, NoMemory, RrType};
 use query_classes::TreeName;
+use query_verdicts::NameVerdict;
 use thiserror::Error;
 use verdict_book::{Filed, Work};
 
@@ -66,11 +68,11 @@ impl<'a, N: PairNaming + Send> Pairing<'a, N> {
     }
 
     /// What is told by the names of the tree with their verdicts.
-    fn told_of<W: Work<Item = TreeName<JointGround<N>>, Verdict = PairVerdict>>(
+    fn told_of<W: Work<Item = TreeName<JointGround<N>>, Verdict = NameVerdict<PairEnd>>>(
         &self,
         filed: List<Filed<W>>,
     ) -> Result<Sameness, SameFault>
-        requires rows { AreRows N.compared filed }
+        requires rows { ArePairRows N.compared filed }
         requires few { length filed < 2 ^ 31 }
         ensures sameness { IfOk result (IsSameness N.compared) }
         ensures none_passes { OnOk result (SomeClassPassesInOne N.compared → ⊥) }
@@ -80,11 +82,11 @@ impl<'a, N: PairNaming + Send> Pairing<'a, N> {
     }
 
     /// What is told by the rows of the tree.
-    fn told_by<W: Work<Item = TreeName<JointGround<N>>, Verdict = PairVerdict>>(
+    fn told_by<W: Work<Item = TreeName<JointGround<N>>, Verdict = NameVerdict<PairEnd>>>(
         &self,
         rows: &[Filed<W>],
     ) -> Result<Sameness, SameFault>
-        requires rows { AreRows N.compared rows.now }
+        requires rows { ArePairRows N.compared rows.now }
         requires few { length rows.now < 2 ^ 31 }
         ensures sameness { IfOk result (IsSameness N.compared) }
         ensures none_passes { OnOk result (SomeClassPassesInOne N.compared → ⊥) }
@@ -114,7 +116,7 @@ fn apart_by(found: Found) -> Sameness
 }
 
 /// The answer that nothing differs, with the number of the classes and of the names.
-fn counted<N: PairNaming, W: Work<Item = TreeName<JointGround<N>>, Verdict = PairVerdict>>(
+fn counted<N: PairNaming, W: Work<Item = TreeName<JointGround<N>>, Verdict = NameVerdict<PairEnd>>>(
     rows: &[Filed<W>],
 ) -> Sameness
     requires few { length rows.now < 2 ^ 31 }
@@ -129,9 +131,10 @@ fn counted<N: PairNaming, W: Work<Item = TreeName<JointGround<N>>, Verdict = Pai
 }
 
 /// How many of the classes below the names aren't empty.
-fn below_count<N: PairNaming, W: Work<Item = TreeName<JointGround<N>>, Verdict = PairVerdict>>(
-    rows: &[Filed<W>],
-) -> usize
+fn below_count<
+    N: PairNaming,
+    W: Work<Item = TreeName<JointGround<N>>, Verdict = NameVerdict<PairEnd>>,
+>(rows: &[Filed<W>]) -> usize
     ensures value { result ≡ below_count rows.now }
     ensures within { result ≤ length rows.now }
 {

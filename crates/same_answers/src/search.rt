@@ -5,14 +5,15 @@ ghost use Rattle.std.specs.Option.{option_map_or};
 ghost use Rattle.query_classes.specs.Children.{IsInTree};
 ghost use Rattle.query_classes.specs.TreeNames.{IsLiveIn};
 ghost use Rattle.same_answers.specs.Compared.{joint};
-ghost use Rattle.same_answers.specs.Rows.{AreRows, IsFirstSought, IsFoundBelow, IsSoughtAt, NoneSought, is_sought};
+ghost use Rattle.same_answers.specs.Rows.{ArePairRows, IsFirstSought, IsFoundBelow, IsSoughtAt, NoneSought, is_sought};
 ghost use Rattle.same_answers.specs.Verdict.{IsPairVerdict};
 
 use crate::naming::{JointGround, PairNaming};
 use crate::pairing::Pairing;
-use crate::verdict::{PairEnd, PairVerdict};
+use crate::verdict::PairEnd;
 use dns_data::{Name, NoMemory};
 use query_classes::{LiveName, TreeName};
+use query_verdicts::NameVerdict;
 use verdict_book::{Filed, Work};
 
 /// What is sought: a class whose representative reaches more pairs of state and type than are looked at, or one whose
@@ -32,16 +33,14 @@ pub(crate) struct Found {
 
 impl<'a, N: PairNaming> Pairing<'a, N> {
     /// The first class in class order of which it is told, or `None` where it is told of none.
-    pub(crate) fn first_sought<W: Work<Item = TreeName<JointGround<N>>, Verdict = PairVerdict>>(
-        &self,
-        filed: &[Filed<W>],
-        sought: Sought,
-    ) -> Result<Option<Found>, NoMemory>
-        requires { AreRows N.compared filed.now }
+    pub(crate) fn first_sought<
+        W: Work<Item = TreeName<JointGround<N>>, Verdict = NameVerdict<PairEnd>>,
+    >(&self, filed: &[Filed<W>], sought: Sought) -> Result<Option<Found>, NoMemory>
+        requires { ArePairRows N.compared filed.now }
         ensures { IfOk result (λ found. MatchOption found (NoneSought N.compared sought) (IsFirstSought N.compared sought)) }
     {
         for one in filed {
-            if let Some(found) = self.sought_at(one.item.live_name(), one.verdict, sought)? {
+            if let Some(found) = self.sought_at(one.item.live_name(), &one.verdict, sought)? {
                 return Ok(Some(found));
             }
         }
@@ -52,12 +51,12 @@ impl<'a, N: PairNaming> Pairing<'a, N> {
     fn sought_at(
         &self,
         name: &LiveName,
-        verdict: PairVerdict,
+        verdict: &NameVerdict<PairEnd>,
         sought: Sought,
     ) -> Result<Option<Found>, NoMemory>
         requires live { IsLiveIn (joint N.compared) name.now.name name.now.live }
         requires in_tree { IsInTree (joint N.compared) name.now.name }
-        requires verdict { IsPairVerdict N.compared name.now.name verdict }
+        requires verdict { IsPairVerdict N.compared name.now.name verdict.now }
         ensures { IfOk result (IsSoughtAt N.compared sought name.now.name) }
     {
         if is_sought(sought, verdict.exact) {

@@ -1,4 +1,4 @@
-//! What is told of a class and of a name of the joint class tree.
+//! What is told of a class of the joint class tree.
 
 use dns_data::RrType;
 
@@ -14,12 +14,4 @@ pub enum PairEnd {
     Unbounded,
     /// It reaches more pairs of state and type than are looked at, in one of them.
     StatesPassed,
-}
-
-/// What is told of a name of the class tree: of the class of the name alone, and of the class below it, `None` where
-/// that is empty.
-#[derive(Clone, Copy, Debug, PartialEq, Eq)]
-pub struct PairVerdict {
-    pub exact: PairEnd,
-    pub below: Option<PairEnd>,
 }

@@ -1,5 +1,4 @@
-use Rattle.query_verdicts.proofs.NameVerdicts.{verdict_of}
-use Rattle.query_verdicts.proofs.TreeValues.{names_below, values}
+use Rattle.query_verdicts.proofs.TreeValues.{names_below, values, verdict_of}
 use Rattle.query_verdicts.proofs.laws.values_exist.Goals as goal
 
 pub returns : goal.returns

@@ -1,6 +1,4 @@
-use Rattle.std.proofs.Common.{◌≡◌, ◌∙◌, ℕ, ◌<◌, get_or, length, inl, inr, sym, ap, subst, arith}
-use Rattle.std.proofs.lemmas.Bool.{cases_lt}
-use Rattle.std.proofs.lemmas.List.{get_or_default}
+use Rattle.std.proofs.Common.{◌∙◌, sym, ap, subst, arith}
 use Rattle.std.proofs.lemmas.List.Elements.{All-contains}
 use Rattle.dns_data.specs.Name.{Labels}
 use Rattle.dns_data.proofs.Membership.{map_has}
@@ -8,6 +6,7 @@ use Rattle.net_model.specs.Tree.{IsInPart}
 use Rattle.query_verdicts.specs.Rows.{IsFirstPassedAt, IsPassedAt, NonePassesAt}
 use Rattle.query_verdicts.specs.Verdict.{IsNameVerdict}
 use Rattle.query_verdicts.proofs.ReportPassed.{first_of_rows, none_of_rows}
+use Rattle.query_verdicts.proofs.RowSearch.{one_row_more}
 use Rattle.query_verdicts.proofs.passed.first_passed.Goals as goal
 
 pub passed_at-requires-clause-in_part : goal.passed_at-requires-clause-in_part
@@ -32,18 +31,11 @@ returns-in-Some g c =
     (subst (IsPassedAt g.S.OnSubject.subject g.S.OnSubject.states c.live_name.result.now.name) c.in-Some.is c.in_ok-query.ensures))
 
 pub loop-one-preserved : goal.loop-one-preserved
-loop-one-preserved g c = λ k d less.
-    let rows = c.args.filed.now in
-    let row = c.one-item.result in
-    elim (cases_lt k c.loop-one.one-index) [
-      | inl before ↦ c.loop-one.invariant k d before
-      | inr not_before ↦ (
-          let here : c.loop-one.one-index ≡ k = omega arith in
-          let within : k < length rows = omega arith in
-          let is : get_or rows k d ≡ row = get_or_default rows k d row within ∙ ap (λ (n : ℕ). get_or rows n row) (sym here) ∙ sym c.one-item.is in
-          subst (NonePassesAt g.S.OnSubject.subject g.S.OnSubject.states) (c.live_name.ensures.name ∙ ap (λ r. r.item) (sym is))
-          (subst (IsPassedAt g.S.OnSubject.subject g.S.OnSubject.states c.live_name.result.now.name) c.in_default.is c.in_ok-query.ensures))
-    ]
+loop-one-preserved g c =
+    one_row_more (NonePassesAt g.S.OnSubject.subject g.S.OnSubject.states) c.args.filed.now c.loop-one.one-index c.one-item.result c.loop-one-test.true (sym c.one-item.is)
+    (subst (NonePassesAt g.S.OnSubject.subject g.S.OnSubject.states) c.live_name.ensures.name
+    (subst (IsPassedAt g.S.OnSubject.subject g.S.OnSubject.states c.live_name.result.now.name) c.in_default.is c.in_ok-query.ensures))
+    c.loop-one.invariant
 
 pub returns : goal.returns
 returns g c =

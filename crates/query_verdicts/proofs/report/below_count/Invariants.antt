@@ -1,5 +1,5 @@
 use Rattle.std.proofs.Common.{◌≡◌, ◌≤◌, take}
-use Rattle.query_verdicts.specs.Rows.{below_count}
+use Rattle.query_verdicts.specs.TreeVerdicts.{below_count}
 use Rattle.query_verdicts.proofs.report.below_count.Given as goal
 
 -- those of the names so far

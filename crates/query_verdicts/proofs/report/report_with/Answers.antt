@@ -1,6 +1,6 @@
 use Rattle.std.proofs.Common.{◌+◌, ◌≤◌, length, subst, arith}
 use Rattle.graph_form.specs.Report.{IsTreeSize}
-use Rattle.query_verdicts.proofs.ReportSize.{size_of_rows}
+use Rattle.query_verdicts.proofs.RowSizes.{size_of_rows}
 use Rattle.query_verdicts.proofs.WholeReport.{is_report}
 use Rattle.query_verdicts.proofs.report.report_with.Goals as goal
 
@@ -18,5 +18,5 @@ pub returns : goal.returns
 returns g c =
     let filed = c.args.filed in
     let size : IsTreeSize g.S.OnSubject.subject.ground g.S.OnSubject.subject.below c.len-names.result (c.len-names.result + c.below_count-below.result) =
-    rw (c.len-names.ensures, c.below_count-below.ensures.value, c.items.ensures) (size_of_rows g.S.OnSubject.subject g.S.OnSubject.states filed c.requires.rows) in
+    rw (c.len-names.ensures, c.below_count-below.ensures.value, c.items.ensures) (size_of_rows filed c.requires.rows) in
     is_report g.S.OnSubject.subject c.rewrites.ensures.covering _ size c.rewrites.ensures.rewrites c.in_ok-entries.ensures

@@ -1,4 +1,5 @@
 use Rattle.std.proofs.lemmas.Result.{IfErr-weaker, on_ok_weaker}
+use Rattle.label_graph.proofs.BaseGround.{ground_closed}
 use Rattle.query_verdicts.specs.Carried.{whole}
 use Rattle.query_verdicts.specs.Passed.{IsReportFault}
 use Rattle.query_verdicts.proofs.FiledRows.{rows_of_whole}
@@ -10,7 +11,7 @@ use Rattle.class_judge.proofs.judge.Judge.report.Goals as goal
 pub report-requires-clause-rows : goal.report-requires-clause-rows
 report-requires-clause-rows g c =
     let N = g.N.Naming in
-    rows_of_whole (whole N.config N.rewrites) (is_covered N.config N.rewrites) N.states N.children_of N.verdict_of c.self.invariant c.args.filed c.requires.whole
+    rows_of_whole (ground_closed N.config) (is_covered N.config N.rewrites).in_tree c.self.invariant c.args.filed c.requires.whole
 
 pub returns-clause-none_passes : goal.returns-clause-none_passes
 returns-clause-none_passes g c = on_ok_weaker c.report.result (λ none. none.no_class) c.report.ensures.none_passes

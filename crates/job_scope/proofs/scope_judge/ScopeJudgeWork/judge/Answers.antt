@@ -2,6 +2,7 @@ use Rattle.std.proofs.Common.{◌≡◌}
 use Rattle.std.proofs.lemmas.Result.{IfOk-weaker}
 use Rattle.query_verdicts.specs.Verdict.{IsNameVerdict}
 use Rattle.query_verdicts.proofs.JudgedItems.{item_in_tree, verdict_picked}
+use Rattle.query_verdicts.proofs.OneVerdict.{one_verdict}
 use Rattle.job_scope.specs.Scoped.{scoped}
 use Rattle.job_scope.proofs.Scopes.{is_covered}
 use Rattle.job_scope.proofs.scope_judge.ScopeJudgeWork.judge.Goals as goal
@@ -9,14 +10,13 @@ use Rattle.job_scope.proofs.scope_judge.ScopeJudgeWork.judge.Goals as goal
 pub judge-requires : goal.judge-requires
 judge-requires g c =
     let N = g.N.ScopeNaming in
-    item_in_tree (scoped N.config N.rewrites N.scope) (is_covered N.config N.rewrites N.scope c.self.invariant.is_name) N.states N.children_of N.verdict_of
-    c.self.invariant.values c.args.item.now c.requires
+    item_in_tree c.self.invariant.values c.args.item.now N.scope (is_covered N.config N.rewrites N.scope c.self.invariant.is_name).in_tree c.requires
 
 pub returns-clause-verdict : goal.returns-clause-verdict
 returns-clause-verdict g c =
     let N = g.N.ScopeNaming in
     let item = c.args.item.now in
     IfOk-weaker c.judge.result (IsNameVerdict (scoped N.config N.rewrites N.scope) N.states item) (λ filed. filed ≡ N.verdict_of item)
-    (verdict_picked (scoped N.config N.rewrites N.scope) (is_covered N.config N.rewrites N.scope c.self.invariant.is_name) N.states N.children_of N.verdict_of
-    c.self.invariant.values item c.requires)
+    (verdict_picked c.self.invariant.values item (one_verdict N.config N.rewrites N.states)
+    (item_in_tree c.self.invariant.values item N.scope (is_covered N.config N.rewrites N.scope c.self.invariant.is_name).in_tree c.requires))
     c.judge.ensures

@@ -3,6 +3,7 @@ use Rattle.std.proofs.lemmas.Result.{IfOk-weaker}
 use Rattle.dns_data.specs.Name.{Labels}
 use Rattle.query_classes.specs.Children.{IsInTree}
 use Rattle.query_verdicts.specs.Verdict.{IsNameVerdict}
+use Rattle.query_verdicts.specs.declared.verdict.ClassVerdict.{ClassVerdict}
 use Rattle.query_verdicts.specs.declared.verdict.NameVerdict.{NameVerdict}
 use Rattle.query_verdicts.proofs.name_judge.NameJudge.judge.Goals as goal
 
@@ -19,5 +20,5 @@ returns g c =
     let item = c.args.item.now in
     let verdict = c.in_ok-verdict.verdict in
     IfOk-weaker c.of.result (λ filed. filed ≡ verdict) (IsNameVerdict subject states item)
-    (λ filed is. subst (λ (v : NameVerdict). IsNameVerdict subject states item v) (sym is)
+    (λ filed is. subst (λ (v : NameVerdict ClassVerdict). IsNameVerdict subject states item v) (sym is)
     (subst (λ (n : Labels). IsNameVerdict subject states n verdict) c.live_name.ensures.name c.in_ok-verdict.ensures)) c.of.ensures

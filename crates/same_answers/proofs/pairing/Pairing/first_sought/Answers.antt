@@ -1,10 +1,9 @@
-use Rattle.std.proofs.Common.{◌≡◌, ◌∙◌, ℕ, ◌<◌, get_or, length, inl, inr, sym, ap, subst, arith}
-use Rattle.std.proofs.lemmas.Bool.{cases_lt}
-use Rattle.std.proofs.lemmas.List.{get_or_default}
+use Rattle.std.proofs.Common.{◌∙◌, sym, ap, subst, arith}
 use Rattle.std.proofs.lemmas.List.Elements.{All-contains}
 use Rattle.dns_data.specs.Name.{Labels}
 use Rattle.dns_data.proofs.Membership.{map_has}
 use Rattle.query_classes.specs.Children.{IsInTree}
+use Rattle.query_verdicts.proofs.RowSearch.{one_row_more}
 use Rattle.same_answers.specs.Compared.{joint}
 use Rattle.same_answers.specs.Rows.{IsFirstSoughtAt, IsSoughtAt, NoneSoughtAt}
 use Rattle.same_answers.specs.Verdict.{IsPairVerdict}
@@ -37,19 +36,12 @@ returns-in-Some g c =
     (subst (IsSoughtAt two c.args.sought c.live_name.result.now.name) c.in-Some.is c.in_ok-found.ensures))
 
 pub loop-one-preserved : goal.loop-one-preserved
-loop-one-preserved g c = λ k d less.
+loop-one-preserved g c =
     let two = g.N.PairNaming.compared in
-    let rows = c.args.filed.now in
-    let row = c.one-item.result in
-    elim (cases_lt k c.loop-one.one-index) [
-      | inl before ↦ c.loop-one.invariant k d before
-      | inr not_before ↦ (
-          let here : c.loop-one.one-index ≡ k = omega arith in
-          let within : k < length rows = omega arith in
-          let is : get_or rows k d ≡ row = get_or_default rows k d row within ∙ ap (λ (n : ℕ). get_or rows n row) (sym here) ∙ sym c.one-item.is in
-          subst (NoneSoughtAt two c.args.sought) (c.live_name.ensures.name ∙ ap (λ r. r.item) (sym is))
-          (subst (IsSoughtAt two c.args.sought c.live_name.result.now.name) c.in_default.is c.in_ok-found.ensures))
-    ]
+    one_row_more (NoneSoughtAt two c.args.sought) c.args.filed.now c.loop-one.one-index c.one-item.result c.loop-one-test.true (sym c.one-item.is)
+    (subst (NoneSoughtAt two c.args.sought) c.live_name.ensures.name
+    (subst (IsSoughtAt two c.args.sought c.live_name.result.now.name) c.in_default.is c.in_ok-found.ensures))
+    c.loop-one.invariant
 
 pub returns : goal.returns
 returns g c =

@@ -1,12 +1,12 @@
 use Rattle.std.proofs.Common.{Option, sym, subst}
 use Rattle.std.specs.Prelude.{MatchOption}
+use Rattle.query_verdicts.proofs.RowSizes.{size_of_rows}
 use Rattle.same_answers.specs.Rows.{IsFirstSought, NoneSought}
 use Rattle.same_answers.specs.Sameness.{IsSameness}
 use Rattle.same_answers.specs.declared.search.Found.{Found}
 use Rattle.same_answers.specs.declared.search.Sought.TheVariants.{Passed, Apart}
 use Rattle.same_answers.proofs.Comparing.{alike_by_classes}
 use Rattle.same_answers.proofs.FirstSought.{all_same, none_passes, passed_first, told_apart}
-use Rattle.same_answers.proofs.PairRows.{size_of_rows}
 use Rattle.same_answers.proofs.pairing.Pairing.told_by.Goals as goal
 
 pub returns-in-Some-clause-fault : goal.returns-in-Some-clause-fault
@@ -44,7 +44,7 @@ returns-in-None-clause-sameness g c =
     none_passes two
     (subst (λ (found : Option Found). MatchOption found (NoneSought two Passed) (IsFirstSought two Passed)) c.in_default.is c.in_ok-query.ensures) in
     subst (IsSameness two) (sym c.counted.ensures) (
-      size_of_rows two c.args.rows.now c.requires.rows,
+      size_of_rows c.args.rows.now c.requires.rows,
       (alike_by_classes two).1 (all_same two few c.servers_are_learnt.ensures
           (subst (λ (found : Option Found). MatchOption found (NoneSought two Apart) (IsFirstSought two Apart)) c.in-None.is c.in_ok-found.ensures)),
     )

@@ -1,10 +1,12 @@
-use Rattle.std.proofs.Common.{◌≡◌, sym, subst}
+use Rattle.std.proofs.Common.{◌≡◌, [], sym, subst}
 use Rattle.std.proofs.lemmas.Result.{IfOk-weaker}
 use Rattle.dns_data.specs.Name.{Labels}
 use Rattle.query_classes.specs.Children.{IsInTree}
+use Rattle.query_verdicts.proofs.JudgedItems.{item_in_tree, verdict_picked}
 use Rattle.same_answers.specs.Compared.{joint}
 use Rattle.same_answers.specs.Verdict.{IsPairVerdict}
-use Rattle.same_answers.proofs.PairRows.{item_in_tree, verdict_picked}
+use Rattle.same_answers.proofs.Comparing.{is_covering}
+use Rattle.same_answers.proofs.OneSameness.{one_end}
 use Rattle.same_answers.proofs.pairing.PairingWork.judge.Goals as goal
 
 pub judge_name-requires-clause-live : goal.judge_name-requires-clause-live
@@ -14,12 +16,13 @@ pub judge_name-requires-clause-in_tree : goal.judge_name-requires-clause-in_tree
 judge_name-requires-clause-in_tree g c =
     let N = g.N.PairNaming in
     subst (IsInTree (joint N.compared)) (sym c.live_name.ensures.name)
-    (item_in_tree N.compared N.children_of N.verdict_of c.self.invariant.values c.args.item.now c.requires)
+    (item_in_tree c.self.invariant.values c.args.item.now [] (is_covering N.compared).in_tree c.requires)
 
 pub returns-clause-verdict : goal.returns-clause-verdict
 returns-clause-verdict g c =
     let N = g.N.PairNaming in
     let item = c.args.item.now in
     IfOk-weaker c.judge_name.result (IsPairVerdict N.compared c.live_name.result.now.name) (λ verdict. verdict ≡ N.verdict_of item)
-    (λ verdict is. verdict_picked N.compared N.children_of N.verdict_of c.self.invariant.values item c.requires verdict
+    (λ verdict is. verdict_picked c.self.invariant.values item (one_end N.compared)
+    (item_in_tree c.self.invariant.values item [] (is_covering N.compared).in_tree c.requires) verdict
     (subst (λ (name : Labels). IsPairVerdict N.compared name verdict) c.live_name.ensures.name is)) c.judge_name.ensures
