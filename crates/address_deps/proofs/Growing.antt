@@ -15,10 +15,10 @@ use Rattle.net_model.specs.declared.config.Server.{Server}
 use Rattle.net_model.specs.Learnt.{Learns, IsLeast, IsGreatest}
 use Rattle.net_model.specs.Nearest.{server_names}
 use Rattle.net_model.specs.Step.{following}
+use Rattle.net_model.proofs.Naming.{from_listed, is_listed}
 use Rattle.address_deps.specs.declared.told.AddressTold.{AddressTold}
 use Rattle.graph_form.proofs.Places.{place_of_item}
 use Rattle.address_deps.specs.Giving.{unset}
-use Rattle.zone_lookup.proofs.ZonesTell.{among_has, has_among}
 use Rattle.address_deps.specs.Told.{AreTold}
 use Rattle.address_deps.specs.Sets.{absent, present, AreServers, IsGrowing, NoneMoreLearnt, IsShrinking, AreLearnt, NoneMoreLearntAt, IsLearntAt}
 use Rattle.address_deps.proofs.Waking.{gone_fewer, gone_there, put_more, put_there}
@@ -97,7 +97,7 @@ module _ (config : Config) (told : List AddressTold) where
         record {
           servers = λ other h.
               elim (or_cases (name_eq name other) (is_among learnt other) (sym (put other) ∙ h)) [
-                | inl same ↦ has_among (server_names config) other (subst (Contains (server_names config)) ((name_eq_decides name other).0 same) among)
+                | inl same ↦ is_listed (server_names config) other (subst (Contains (server_names config)) ((name_eq_decides name other).0 same) among)
                 | inr old ↦ growing.servers other old
               ];
           below = λ rewrites are.
@@ -105,9 +105,9 @@ module _ (config : Config) (told : List AddressTold) where
                 suc before.0,
                 omega (arith, before.1, grown_less),
                 one_below config rewrites before.0 learnt more name before.2 among (learns rewrites are)
-                    (λ other has. elim (or_cases (name_eq name other) (is_among learnt other) (sym (put other) ∙ has_among more other has)) [
+                    (λ other has. elim (or_cases (name_eq name other) (is_among learnt other) (sym (put other) ∙ is_listed more other has)) [
                       | inl same ↦ inr ((name_eq_decides name other).0 same)
-                      | inr old ↦ inl (among_has learnt other old)
+                      | inr old ↦ inl (from_listed learnt other old)
                     ]),
               );
         }
@@ -118,8 +118,8 @@ module _ (config : Config) (told : List AddressTold) where
   least_told learnt growing closed rewrites are =
       let below = growing.below rewrites are in
       is_least config rewrites below.0 learnt (is_among learnt) (omega (arith, below.1)) below.2
-      (λ name among. (among_has learnt name, has_among learnt name))
-      (λ name among learns. among_has learnt name (closed rewrites are name among learns))
+      (λ name among. (from_listed learnt name, is_listed learnt name))
+      (λ name among learns. from_listed learnt name (closed rewrites are name among learns))
 
 -- ---- the search for the greatest set
 
@@ -133,7 +133,7 @@ module _ (config : Config) (told : List AddressTold) where
         above = λ rewrites are. (
           0,
           (let few = unset_at_most config.servers (λ (n : Labels). not (is_among known n)) in omega (arith, few)),
-          all_above config rewrites known (λ name among. among_has known name (all name among)),
+          all_above config rewrites known (λ name among. from_listed known name (all name among)),
         );
       }
 
@@ -161,13 +161,13 @@ module _ (config : Config) (told : List AddressTold) where
                 suc before.0,
                 omega (arith, before.1, shrunk_less),
                 one_above config rewrites before.0 known fewer name before.2 (fails rewrites are)
-                    (λ other has. by other (name_eq name other) refl (has_among known other has)),
+                    (λ other has. by other (name_eq name other) refl (is_listed known other has)),
               );
         }
       where
         by : (other : Labels) (b : Bool) → name_eq name other ≡ b → is_among known other ≡ true → Contains fewer other ⊎ (name ≡ other)
         by other true e has = inr ((name_eq_decides name other).0 e)
-        by other false e has = inl (among_has fewer other (taken other ∙ ap (λ (b : Bool). not b && is_among known other) e ∙ has))
+        by other false e has = inl (from_listed fewer other (taken other ∙ ap (λ (b : Bool). not b && is_among known other) e ∙ has))
 
   -- where each server that is left can be learnt, those that are left are the greatest set, in the order of the servers
   pub greatest_told : (known : List Labels) → IsShrinking config told known → AreLearnt config told known → (rewrites : ℕ) → AreTold config rewrites told
@@ -175,10 +175,10 @@ module _ (config : Config) (told : List AddressTold) where
   greatest_told known shrinking each rewrites are =
       let above = shrinking.above rewrites are in
       is_greatest config rewrites above.0 known (is_among known) (omega (arith, above.1)) above.2
-      (λ name among. (among_has known name, has_among known name))
+      (λ name among. (from_listed known name, is_listed known name))
       (λ name has.
-      let among = among_has (server_names config) name (shrinking.servers name (has_among known name has)) in
-      (among, each rewrites are name among (has_among known name has)))
+      let among = from_listed (server_names config) name (shrinking.servers name (is_listed known name has)) in
+      (among, each rewrites are name among (is_listed known name has)))
 
 -- ---- each server
 

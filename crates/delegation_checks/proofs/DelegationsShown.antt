@@ -38,6 +38,7 @@ use Rattle.net_model.specs.declared.walk.Hop.TheVariants.{Refer, Rewrite}
 use Rattle.net_model.specs.declared.walk.Leaf.{Leaf}
 use Rattle.net_model.specs.declared.walk.Leaf.TheVariants as leaves
 use Rattle.net_model.specs.declared.walk.Walk.{Walk}
+use Rattle.net_model.proofs.Naming.{from_listed, is_listed}
 use Rattle.delegation_checks.specs.Delegations.{IsGraphIn, is_of_delegations}
 use Rattle.delegation_checks.specs.Met.{AreOfReferrals}
 use Rattle.delegation_checks.specs.Referrals.{leaf_faults, typed_referrals}
@@ -45,7 +46,7 @@ use Rattle.delegation_checks.proofs.Candidates.{behind_faults, branch_faults, ca
 use Rattle.zone_lookup.specs.ReferralFaults.{hop_faults, referral_faults}
 use Rattle.zone_lookup.specs.Sides.{addresses_differ, zones_differ}
 use Rattle.zone_lookup.specs.Sound.{depends_on_itself, wants_glue}
-use Rattle.zone_lookup.proofs.ZonesTell.{among_has, cyclic_told, differ_told, glue_told, has_among, other_addresses, told_addresses, told_cyclic, told_differ, told_glue}
+use Rattle.zone_lookup.proofs.ZonesTell.{cyclic_told, differ_told, glue_told, other_addresses, told_addresses, told_cyclic, told_differ, told_glue}
 use Rattle.zone_lookup.proofs.InsideZones.{BranchInside, HopInside, next_inside}
 use Rattle.zone_lookup.proofs.ReferralParts.{each_part, from_cut, has_cyclic, has_differs, has_no_glue, has_other_glue, in_cut, one_shown, shown_one}
 
@@ -113,7 +114,7 @@ module _ (setting : Setting) (query : Labels) (deps : Deps) (graph : PlainGraph)
           show = record {
             behind = (by.hops_before, by.hops_are);
             ends = by.leaf_is ∙ ap (λ n. leaves.NoAddress n) (sym same);
-            not_at_most = λ among. true≢false (sym (has_among deps.greatest cut.ns among) ∙ not-true (is_among deps.greatest cut.ns) parts.1);
+            not_at_most = λ among. true≢false (sym (is_listed deps.greatest cut.ns among) ∙ not-true (is_among deps.greatest cut.ns) parts.1);
           };
         };
       })
@@ -252,7 +253,7 @@ module _ (setting : Setting) (query : Labels) (deps : Deps) (graph : PlainGraph)
       of_end rtype cut (leaves.NoAddress cut.ns) (faults.NoAddress cut) walk is_walk show.behind.0 show.behind.1 show.ends refl
       (one_shown (name_eq cut.ns cut.ns && not (is_among deps.greatest cut.ns)) (faults.NoAddress cut)
       (and_from (name_eq cut.ns cut.ns) (not (is_among deps.greatest cut.ns)) ((name_eq_decides cut.ns cut.ns).1 refl)
-      (not_from_false (is_among deps.greatest cut.ns) (false_from_ne_true (is_among deps.greatest cut.ns) (λ e. show.not_at_most (among_has deps.greatest cut.ns e))))))
+      (not_from_false (is_among deps.greatest cut.ns) (false_from_ne_true (is_among deps.greatest cut.ns) (λ e. show.not_at_most (from_listed deps.greatest cut.ns e))))))
   by_kind rtype (faults.Differs cut) walk kind is_walk show =
       of_referral rtype cut (faults.Differs cut) (hop_of_walk graph rtype setting query is exact walk (Refer cut) is_walk show.refers)
       (has_differs setting.config deps cut (told_differ setting.config cut show.zones))

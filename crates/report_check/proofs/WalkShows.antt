@@ -23,11 +23,12 @@ use Rattle.net_model.specs.declared.walk.Leaf.TheVariants as leaves
 use Rattle.net_model.specs.declared.walk.State.{State}
 use Rattle.net_model.specs.declared.walk.Walk.{Walk}
 use Rattle.net_model.proofs.LearntSets.{in_least, in_greatest}
+use Rattle.net_model.proofs.Naming.{from_listed, is_listed}
 use Rattle.zone_lookup.specs.ReferralFaults.{hop_faults, referral_faults}
 use Rattle.zone_lookup.specs.Sides.{addresses_differ, zones_differ}
 use Rattle.zone_lookup.specs.Sound.{depends_on_itself, wants_glue}
 use Rattle.zone_lookup.proofs.ReferralParts.{each_part, from_cut, has_cyclic, has_differs, has_no_glue, has_other_glue, in_cut, one_shown, shown_one}
-use Rattle.zone_lookup.proofs.ZonesTell.{among_has, cyclic_told, differ_told, glue_told, has_among, other_addresses, told_addresses, told_cyclic, told_differ, told_glue}
+use Rattle.zone_lookup.proofs.ZonesTell.{cyclic_told, differ_told, glue_told, other_addresses, told_addresses, told_cyclic, told_differ, told_glue}
 use Rattle.report_check.specs.Entries.{AreLearnt}
 use Rattle.query_classes.proofs.TreeWalk.{only}
 use Rattle.report_check.specs.WalkFaults.{blackhole_in, blackhole_of, end_faults, lame_behind, last_of, unlearnt_behind, walk_faults}
@@ -102,7 +103,7 @@ module _ (setting : Setting) (deps : Deps) (learnt : AreLearnt setting.config se
           behind = before_last walk.hops (Refer cut) last;
           ends = is ∙ ap (λ n. leaves.NoAddress n) (sym same);
           not_at_most = λ among.
-              true≢false (sym (has_among deps.greatest cut.ns ((in_greatest setting.config setting.rewrites deps.greatest learnt.greatest cut.ns).0 among))
+              true≢false (sym (is_listed deps.greatest cut.ns ((in_greatest setting.config setting.rewrites deps.greatest learnt.greatest cut.ns).0 among))
               ∙ not-true (is_among deps.greatest cut.ns) parts.1);
         })
     of_unlearnt ns (Some (Rewrite place by_dname to)) fault last is has = absurd (none_in_nil fault has)
@@ -189,7 +190,7 @@ module _ (setting : Setting) (deps : Deps) (learnt : AreLearnt setting.config se
           (one_shown (name_eq cut.ns cut.ns && not (is_among deps.greatest cut.ns)) (faults.NoAddress cut)
           (and_from (name_eq cut.ns cut.ns) (not (is_among deps.greatest cut.ns)) ((name_eq_decides cut.ns cut.ns).1 refl)
           (not_from_false (is_among deps.greatest cut.ns) (false_from_ne_true (is_among deps.greatest cut.ns)
-          (λ e. show.not_at_most ((in_greatest setting.config setting.rewrites deps.greatest learnt.greatest cut.ns).1 (among_has deps.greatest cut.ns e)))))))
+          (λ e. show.not_at_most ((in_greatest setting.config setting.rewrites deps.greatest learnt.greatest cut.ns).1 (from_listed deps.greatest cut.ns e)))))))
 
       -- so what is found is what is shown
       pub faults_told : (fault : Fault) → Contains (walk_faults setting.config deps walk) fault ↔ WalksShow (with_sets setting) (walk ∷ []) fault

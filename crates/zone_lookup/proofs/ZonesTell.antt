@@ -1,17 +1,17 @@
 -- The tests of a delegation tell what is asked of the zones.
-use Rattle.std.proofs.Common.{◌≡◌, ◌≢◌, Bool, true, false, ◌&&◌, not, ◌==◌, List, [], ◌∷◌, ◌++◌, length, map, refl, sym, ap, ◌∙◌, subst, Some, None, true≢false, arith}
-use Rattle.std.specs.Prelude.{Contains, Option}
+use Rattle.std.proofs.Common.{◌≡◌, ◌≢◌, Bool, true, false, ◌&&◌, not, ◌==◌, List, [], ◌∷◌, ◌++◌, length, map, refl, sym, ap, ◌∙◌, Some, None, true≢false, arith}
+use Rattle.std.specs.Prelude.{Option}
 use Rattle.std.specs.List.{filter, filter_map}
 use Rattle.std.specs.Cmp.Lexicographic.{pointwise_decides}
 use Rattle.std.proofs.lemmas.Bool.{and_from, and_parts, ne_eqb, not-true, not_from_false, false_from_ne_true}
 use lib.Pointwise.{pointwise}
-use Rattle.dns_data.specs.Name.{Labels, name_eq, name_cmp, is_prefix, is_among}
+use Rattle.dns_data.specs.Name.{Labels, name_cmp, is_prefix, is_among}
 use Rattle.dns_data.specs.Rdata.{data_eq}
 use Rattle.dns_data.specs.declared.rr_type.RrType.{RrType}
 use Rattle.dns_data.specs.declared.rr_type.RrType.TheVariants as types
 use Rattle.dns_data.proofs.EqualData.{equal_is_same}
 use Rattle.dns_data.proofs.Names.{name_eq_decides}
-use Rattle.dns_data.proofs.Searches.{any_has, filter_none, from_any}
+use Rattle.dns_data.proofs.Searches.{filter_none}
 use Rattle.net_model.specs.declared.deps.Deps.{Deps}
 use Rattle.net_model.specs.Nearest.{held_zone, is_configured, is_top}
 use Rattle.net_model.specs.Order.{in_order}
@@ -21,6 +21,7 @@ use Rattle.net_model.specs.Zone.{addresses, data_cmp, exists_in, is_of, ns_names
 use Rattle.net_model.specs.declared.config.Config.{Config}
 use Rattle.net_model.specs.declared.config.Zone.{Zone}
 use Rattle.net_model.specs.declared.place.Cut.{Cut}
+use Rattle.net_model.proofs.Naming.{from_listed, is_listed}
 use Rattle.dns_data.specs.declared.rdata.Rdata.{Rdata}
 use Rattle.dns_data.specs.declared.rdata.Rr.{Rr}
 use Rattle.zone_lookup.specs.Sides.{addresses_differ, both_differ, glue_of_sides, names_eq, sides_differ, zones_differ}
@@ -144,16 +145,6 @@ pub told_glue : (config : Config) (cut : Cut) → WantsGlue config cut → wants
 told_glue config cut wants =
     and_from (is_prefix cut.cut cut.ns) (not (has_glue config cut)) wants.inside (not_from_false (has_glue config cut) wants.no_glue)
 
--- a name is among others exactly where they have it
-pub among_has : (names : List Labels) (name : Labels) → is_among names name ≡ true → Contains names name
-among_has names name e =
-    let found = from_any (name_eq name) names e in
-    subst (Contains names) (sym ((name_eq_decides name found.0).0 found.2)) found.1
-
--- a name that others have is among them
-pub has_among : (names : List Labels) (name : Labels) → Contains names name → is_among names name ≡ true
-has_among names name has = any_has (name_eq name) names name has ((name_eq_decides name name).1 refl)
-
 module _ (setting : Setting) (deps : Deps) (cut : Cut) where
   -- where the test says that a delegation depends on itself, it does
   pub cyclic_told : depends_on_itself setting.config deps cut ≡ true → DependsOnItself (with_lists setting deps.least deps.greatest) cut
@@ -166,8 +157,8 @@ module _ (setting : Setting) (deps : Deps) (cut : Cut) where
         configured = one.0;
         no_top = not-true (is_top setting.config cut.ns) one.1;
         no_glue = not-true (has_glue setting.config cut) two.1;
-        learnt_at_most = among_has deps.greatest cut.ns three.1;
-        not_at_least = λ has. true≢false (sym (has_among deps.least cut.ns has) ∙ not-true (is_among deps.least cut.ns) four.1);
+        learnt_at_most = from_listed deps.greatest cut.ns three.1;
+        not_at_least = λ has. true≢false (sym (is_listed deps.least cut.ns has) ∙ not-true (is_among deps.least cut.ns) four.1);
       }
 
   -- where a delegation depends on itself, the test says so
@@ -177,5 +168,5 @@ module _ (setting : Setting) (deps : Deps) (cut : Cut) where
       (and_from (is_configured setting.config cut.ns && not (is_top setting.config cut.ns) && not (has_glue setting.config cut)) (is_among deps.greatest cut.ns)
       (and_from (is_configured setting.config cut.ns && not (is_top setting.config cut.ns)) (not (has_glue setting.config cut))
       (and_from (is_configured setting.config cut.ns) (not (is_top setting.config cut.ns)) depends.configured (not_from_false (is_top setting.config cut.ns) depends.no_top))
-      (not_from_false (has_glue setting.config cut) depends.no_glue)) (has_among deps.greatest cut.ns depends.learnt_at_most))
-      (not_from_false (is_among deps.least cut.ns) (false_from_ne_true (is_among deps.least cut.ns) (λ e. depends.not_at_least (among_has deps.least cut.ns e))))
+      (not_from_false (has_glue setting.config cut) depends.no_glue)) (is_listed deps.greatest cut.ns depends.learnt_at_most))
+      (not_from_false (is_among deps.least cut.ns) (false_from_ne_true (is_among deps.least cut.ns) (λ e. depends.not_at_least (from_listed deps.least cut.ns e))))

@@ -2,7 +2,7 @@ use Rattle.std.proofs.Common.{subst, sym, ◌∙◌, arith}
 use Rattle.std.proofs.lemmas.Result.{IfOk-weaker}
 use Rattle.net_model.specs.Learnt.{IsGreatest}
 use Rattle.net_model.specs.Nearest.{server_names}
-use Rattle.zone_lookup.proofs.ZonesTell.{has_among}
+use Rattle.net_model.proofs.Naming.{is_listed}
 use Rattle.address_deps.proofs.Growing.{all_learnt, greatest_told, shrinks_from_all}
 use Rattle.address_deps.proofs.sets.greatest.Goals as goal
 
@@ -12,7 +12,7 @@ settled-requires c = record {
   dependents = c.requires.dependents;
   fair = shrinks_from_all c.args.hosts.now c.args.told.now c.in_ok-all.all
       (λ name has. sym (c.in_ok-all.ensures name) ∙ has)
-      (λ name among. c.in_ok-all.ensures name ∙ has_among (server_names c.args.hosts.now) name among);
+      (λ name among. c.in_ok-all.ensures name ∙ is_listed (server_names c.args.hosts.now) name among);
 }
 
 pub returns : goal.returns
