@@ -14,7 +14,7 @@ MOST_WORDS = {
     "README.md": 1800,
     "docs/BELIEVE.md": 700,
     "docs/ARCHITECTURE.md": 2500,
-    "docs/PROMISES.md": 6700,
+    "docs/PROMISES.md": 5300,
     "CONTRIBUTING.md": 2000,
     "CHANGELOG.md": 600,
 }
