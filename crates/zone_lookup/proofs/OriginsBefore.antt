@@ -7,13 +7,13 @@ use Rattle.std.proofs.lemmas.Bool.{cases_lt}
 use Rattle.std.proofs.lemmas.List.{take-append-drop, take-take, take_all, length-take-le, get_or-map, get_or_default, length-map}
 use Rattle.std.proofs.lemmas.Cmp.{tied_itself}
 use Rattle.std.proofs.lemmas.List.Sorted.{searchable_from_sorted}
-use Rattle.zone_tree.proofs.LastUpTo.{not_itself}
 use Rattle.dns_data.specs.Label.{label_eq}
 use Rattle.dns_data.specs.Name.{Labels, name_eq, name_cmp}
 use Rattle.dns_data.proofs.CommonFronts.{common_front, shared_front}
 use Rattle.dns_data.proofs.NameOrder.{UpTo, Before, names_total, prefix_up_to, before_up_to, between, before_later}
 use Rattle.dns_data.proofs.Names.{name_eq_decides}
 use Rattle.dns_data.proofs.Searches.{find_none}
+use Rattle.dns_data.proofs.OrderedLists.{never_before_itself}
 use Rattle.zone_lookup.proofs.FirstsByName.{found_in_order, rises}
 
 module _ {X : Type 0} (key : X → Labels) (xs : List X) (sorted : IsStrictlySortedBy name_cmp (map key xs)) (name : Labels) (count : ℕ) (within : count ≤ length name) where
@@ -67,7 +67,7 @@ module _ {X : Type 0} (key : X → Labels) (xs : List X) (sorted : IsStrictlySor
             let whole : take count name ++ drop count (key last) ≡ key last =
             ap (λ (n : Labels). n ++ drop count (key last)) (sym (common_front count (key last) name higher)) ∙ take-append-drop count (key last) in
             let up : UpTo (take count name) (key last) = subst (UpTo (take count name)) whole (prefix_up_to (take count name) (drop count (key last))) in
-            absurd (not_itself (key last) (before_up_to (key last) (take count name) (key last) less up)))
+            absurd (never_before_itself name_cmp names_total (key last) (before_up_to (key last) (take count name) (key last) less up)))
       ]
 
       up_to_last : (i : ℕ) (x : X) → i < place → UpTo (key (get_or xs i x)) (key last)
