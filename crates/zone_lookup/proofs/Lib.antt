@@ -1,5 +1,5 @@
 pub mod CutsInside
-mod FirstsByName
+pub mod FirstsByName
 pub mod Glue
 pub mod InsideZones
 pub mod NearestZones
