@@ -1,6 +1,14 @@
 //! The program: the top call over the disk, the standard streams and the words of the command line.
 #![tactic(auto)]
 
+ghost use Rattle.std.specs.Prelude.{◌≡◌, ◌⊎◌, map};
+ghost use Rattle.std.specs.Io.KnownBytes.{Appends};
+ghost use Rattle.std.specs.String.{string_bytes};
+ghost use Rattle.io_edges.specs.Counts.{Rose};
+ghost use Rattle.groot_line.specs.Job.{job_of};
+ghost use Rattle.run_endings.specs.declared.ending.Ending.{Ending};
+ghost use Rattle.groot_run.specs.Outcome.{NoJobReadFailed, Outcome};
+
 use dns_data::NoMemory;
 use groot_run::{Status, groot_with_sites};
 use io_edges::{DiskFiles, Files, FreeGate, OutSink, Sink, borrowed_words, command_words};
@@ -48,7 +56,7 @@ fn no_memory() -> ExitCode {
     ExitCode::from(Status::NoMemory.number())
 }
 
-/// Runs the top call with these words and checks.
+/// Runs the top call with these words and checks: where nothing failed, the run is the outcome of the words' job.
 fn run<F: Files, O: Sink, E: Sink, R: Threads + Wait + Sync>(
     rt: &R,
     alloc: Global,
@@ -57,7 +65,14 @@ fn run<F: Files, O: Sink, E: Sink, R: Threads + Wait + Sync>(
     out: &mut O,
     err: &mut E,
     sites: Vec<Box<dyn SiteCheck>>,
-) -> Status {
+) -> Status
+    ensures { NoJobReadFailed (F.told files.new) (job_of (map string_bytes words.now)) (F.faults files.old) (F.faults files.new) →
+        (Rose (O.faults out.old) (O.faults out.new) → ⊥) →
+        ((ending : Ending)
+        × Outcome (F.told files.new) (job_of (map string_bytes words.now)) (map (λ b. record { name = name b; held = held b; step = step b }) sites.items) ending
+        × (result ≡ ending.status) × Appends (O.taken out.old) (O.taken out.new) ending.out)
+        ⊎ (result ≡ Status.NoMemory) }
+{
     match borrowed_words(alloc, words) {
         Ok(words) => {
             let words = words.as_slice();
