@@ -6,5 +6,6 @@ pub mod NearestZones
 mod OriginsBefore
 mod PlacesNear
 pub mod ReferralParts
+mod Rewriting
 pub mod SoundReferrals
 pub mod ZonesTell

@@ -18,11 +18,12 @@ use std::alloc::Global;
 pub fn starts(alloc: Global, hosts: &Hosts<'_>, query: &Name) -> Result<List<State>, NoMemory>
     ensures { IfOk result (λ states. states ≡ start hosts.now query.now) }
 {
-    let mut states = List::new(alloc);
-    for server in hosts.config().tops.items() {
+    let tops = hosts.config().tops.items();
+    let mut states = Vec::with_capacity(alloc, tops.len())?;
+    for server in tops {
         states.push(arrived(alloc, hosts, query, true, 0, server)?)?;
     }
-    Ok(states)
+    Ok(List::from_vec(states))
 }
 
 /// The steps of a rewrite while rewrites are left: at the same server if it has a zone for the new name, else at the top
@@ -31,23 +32,85 @@ pub(crate) fn rewrites(
     alloc: Global,
     walker: &Walker<'_, '_>,
     state: &State,
+    place: Place,
+    by_dname: bool,
+    to: Name,
+) -> Result<List<Step>, NoMemory>
+    requires { state.now.used + 1 < 2 ^ 32 }
+    ensures { IfOk result (λ steps. map branch_of steps ≡ rewritten walker.now.config state.now place by_dname to) }
+{
+    let hosts = walker.hosts();
+    match hosts.nearest_of(&state.server, &to) {
+        Some(tree) => {
+            let step = rewrite_here(alloc, state, place, by_dname, to, &tree.zone().origin)?;
+            one_step(alloc, step)
+        }
+        None => rewrites_at_tops(alloc, hosts, state, &place, by_dname, &to),
+    }
+}
+
+/// The steps of a rewrite, one at each top server.
+fn rewrites_at_tops(
+    alloc: Global,
+    hosts: &Hosts<'_>,
+    state: &State,
     place: &Place,
     by_dname: bool,
     to: &Name,
 ) -> Result<List<Step>, NoMemory>
     requires { state.now.used + 1 < 2 ^ 32 }
-    ensures { IfOk result (λ steps. map branch_of steps ≡ rewritten walker.now.config state.now place.now by_dname to.now) }
+    ensures { IfOk result (λ steps. map branch_of steps ≡ map (λ server. Go (hop_as.Rewrite place.now by_dname to.now) (arrived hosts.now to.now (state.now.carried && by_dname) (state.now.used + 1) (Some place.now) server)) hosts.now.tops) }
 {
-    let hosts = walker.hosts();
-    if hosts.nearest_of(&state.server, to).is_some() {
-        let step = rewrite(alloc, hosts, state, place, by_dname, to, &state.server)?;
-        return one_step(alloc, step);
-    }
-    let mut steps = List::new(alloc);
-    for server in hosts.config().tops.items() {
+    let tops = hosts.config().tops.items();
+    let mut steps = Vec::with_capacity(alloc, tops.len())?;
+    for server in tops {
         steps.push(rewrite(alloc, hosts, state, place, by_dname, to, server)?)?;
     }
-    Ok(steps)
+    Ok(List::from_vec(steps))
+}
+
+/// The step of a rewrite at the state's own server, whose nearest zone for the new name has this origin.
+fn rewrite_here(
+    alloc: Global,
+    state: &State,
+    place: Place,
+    by_dname: bool,
+    to: Name,
+    origin: &Name,
+) -> Result<Step, NoMemory>
+    requires { state.now.used + 1 < 2 ^ 32 }
+    ensures { IfOk result (λ step. branch_of step ≡ Go (hop_as.Rewrite place by_dname to) (record { server = state.now.server; name = to; carried = state.now.carried && by_dname; cut = 0; used = state.now.used + 1; last = Some place; zone = Some origin.now })) }
+{
+    let made = stayed(alloc, state, &place, by_dname, &to, origin)?;
+    let hop = Hop::Rewrite {
+        place,
+        by_dname,
+        to,
+    };
+    Ok(Step::Go(hop, made))
+}
+
+/// The state at the same server to which a rewrite leads, where its nearest zone for the new name has this origin.
+fn stayed(
+    alloc: Global,
+    state: &State,
+    place: &Place,
+    by_dname: bool,
+    to: &Name,
+    origin: &Name,
+) -> Result<State, NoMemory>
+    requires { state.now.used + 1 < 2 ^ 32 }
+    ensures { IfOk result (λ made. made ≡ record { server = state.now.server; name = to.now; carried = state.now.carried && by_dname; cut = 0; used = state.now.used + 1; last = Some place.now; zone = Some origin.now }) }
+{
+    Ok(State {
+        server: state.server.copy(alloc)?,
+        name: to.copy(alloc)?,
+        carried: state.carried && by_dname,
+        cut: 0,
+        used: state.used + 1,
+        last: Some(place.copy(alloc)?),
+        zone: Some(origin.copy(alloc)?),
+    })
 }
 
 /// The step of a rewrite at a server.

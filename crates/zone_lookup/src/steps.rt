@@ -48,7 +48,7 @@ pub fn after_lookup(
             by_dname,
             owner,
             to,
-        } => renamed(alloc, walker, state, origin, by_dname, owner, &to),
+        } => renamed(alloc, walker, state, origin, by_dname, owner, to),
         Found::TooLong { owner } => overlong(alloc, walker, state, origin, owner),
     }
 }
@@ -61,13 +61,13 @@ fn renamed(
     origin: &Name,
     by_dname: bool,
     owner: Name,
-    to: &Name,
+    to: Name,
 ) -> Result<List<Step>, NoMemory>
-    ensures { IfOk result (λ steps. map branch_of steps ≡ after_lookup walker.now state.now origin.now (found_as.Rewrite by_dname owner to.now)) }
+    ensures { IfOk result (λ steps. map branch_of steps ≡ after_lookup walker.now state.now origin.now (found_as.Rewrite by_dname owner to)) }
 {
     let place = place_at(alloc, state, origin, owner)?;
     if state.used < walker.rewrites() {
-        rewrites(alloc, walker, state, &place, by_dname, to)
+        rewrites(alloc, walker, state, place, by_dname, to)
     } else {
         one_step(alloc, Step::End(None, Leaf::Limit(place)))
     }
@@ -91,13 +91,13 @@ fn overlong(
     }
 }
 
-/// One step.
+/// One step. It takes the memory of one alone.
 pub(crate) fn one_step(alloc: Global, step: Step) -> Result<List<Step>, NoMemory>
     ensures { IfOk result (λ steps. steps ≡ step ∷ []) }
 {
-    let mut steps = List::new(alloc);
-    steps.push(step)?;
-    Ok(steps)
+    let mut steps = Vec::with_capacity(alloc, 1)?;
+    steps.push_reserved(step);
+    Ok(List::from_vec(steps))
 }
 
 /// The place of a rewrite.
@@ -122,12 +122,12 @@ fn referrals(
 ) -> Result<List<Step>, NoMemory>
     ensures { IfOk result (λ steps. map branch_of steps ≡ map (λ ns. referred walker.now state.now (record { server = state.now.server; zone = origin.now; cut = cut.now; ns = ns })) names.now) }
 {
-    let mut steps = List::new(alloc);
+    let mut steps = Vec::with_capacity(alloc, names.len())?;
     for ns in names {
         let cut = cut_at(alloc, state, origin, cut, ns)?;
         steps.push(referred(alloc, walker, state, cut)?)?;
     }
-    Ok(steps)
+    Ok(List::from_vec(steps))
 }
 
 /// One name server of the referral of a state's server.

@@ -4,4 +4,4 @@ use Rattle.zone_lookup.proofs.rewrites.starts.Given as goal
 
 -- the states at the top servers so far
 abbrev pub invariant-loop-server : goal.invariant-loop-server
-invariant-loop-server l = l.states ≡ map (arrived l.hosts l.query true 0 None) (take l.server-index l.server-items)
+invariant-loop-server l = l.states.items ≡ map (arrived l.hosts l.query true 0 None) (take l.server-index l.tops)

@@ -6,5 +6,5 @@ use Rattle.zone_lookup.proofs.steps.referrals.Given as goal
 -- the steps to the name servers so far
 abbrev pub invariant-loop-ns : goal.invariant-loop-ns
 invariant-loop-ns l =
-    map branch_of l.steps
+    map branch_of l.steps.items
     ≡ map (λ ns. referred l.walker l.state (record { server = l.state.server; zone = l.origin; cut = l.cut; ns = ns })) (take l.ns-index l.names)
