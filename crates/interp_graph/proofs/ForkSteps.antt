@@ -2,7 +2,7 @@
 use Rattle.std.proofs.Common.{◌≡◌, ℕ, ◌<◌, Bool, true, false, List, [], ◌∷◌, ◌++◌, map, length, refl, sym, ap, ◌∙◌, subst, inl, inr, true≢false, append_assoc}
 use Rattle.std.specs.Prelude.{◌⊎◌, Contains, AllPairs}
 use Rattle.std.specs.List.{AllZip}
-use Rattle.std.proofs.lemmas.List.{map-append}
+use Rattle.std.proofs.lemmas.List.{append-nil, map-append}
 use Rattle.std.proofs.lemmas.List.Elements.{Contains-append_right}
 use Rattle.std.proofs.lemmas.Option.{slice_get_within}
 use Rattle.dns_data.specs.TypeSet.{has_bit}
@@ -80,6 +80,12 @@ module _ (before now : GrowingGraph) (set_of : List Bool) (all left : List Step)
             (zip_grows (drafts_in now) (drafts_in after) advances.grows set_of branches (map branch_of so.done) so.told) tells);
         drafts = λ setting begin are come. drafts setting begin (so.drafts setting begin are come) (one_comes one so setting begin come);
       }
+
+  -- where no step is left, the branches tell all steps
+  pub branches_end : BranchesSoFar before now set_of all left branches → left ≡ [] → AllZip (TellsBranch (drafts_in now) set_of) branches (map branch_of all)
+  branches_end so none =
+      subst (λ (steps : List Step). AllZip (TellsBranch (drafts_in now) set_of) branches (map branch_of steps))
+      (sym (append-nil so.done) ∙ (ap (λ (steps : List Step). so.done ++ steps) (sym none) ∙ so.parts)) so.told
 
 -- ---- the forks of a state
 

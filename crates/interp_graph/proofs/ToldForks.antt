@@ -12,7 +12,7 @@ use Rattle.dns_data.proofs.Searches.{from_any, any_has}
 use Rattle.net_model.specs.Lookup.{found}
 use Rattle.net_model.specs.Nearest.{nearest_of}
 use Rattle.net_model.specs.Step as step
-use Rattle.net_model.specs.Step.{Setting, may_follow, delegated, referred, after_lookup, in_zone, next}
+use Rattle.net_model.specs.Step.{Setting, after_lookup, in_zone, next}
 use Rattle.net_model.specs.declared.config.Zone.{Zone}
 use Rattle.net_model.specs.declared.walk.Leaf.TheVariants.{Outside}
 use Rattle.net_model.specs.declared.walk.State.{State}

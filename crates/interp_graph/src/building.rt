@@ -152,7 +152,7 @@ fn nodes_of(
 ) -> Result<List<Node>, NoMemory>
     ensures { IfOk result (λ nodes. nodes ≡ map node_of (drafts_of states.keys types)) }
 {
-    let mut nodes = List::new(alloc);
+    let mut nodes = Vec::with_capacity(alloc, types.len())?;
     let mut left = types.into_iter();
     for key in states {
         match left.next() {
@@ -161,8 +161,8 @@ fn nodes_of(
                 arms: of_node.arms,
             })?,
             // This doesn't come: there are types beside each state.
-            None => return Ok(nodes),
+            None => return Ok(List::from_vec(nodes)),
         }
     }
-    Ok(nodes)
+    Ok(List::from_vec(nodes))
 }

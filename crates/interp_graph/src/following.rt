@@ -92,11 +92,11 @@ pub(crate) fn branches(
         → AreDrafts setting begin (drafts_in growing.old) → ComeOn setting begin types (map branch_of steps)
         → HasMoreComing setting begin growing.old.limit }
 {
-    let mut branches = List::new(alloc);
+    let mut branches = Vec::with_capacity(alloc, steps.len())?;
     for step in steps {
         branches.push(branch(alloc, growing, types, step)?)?;
     }
-    Ok(branches)
+    Ok(List::from_vec(branches))
 }
 
 /// The branch for some types by one step of a state.

@@ -37,10 +37,10 @@ pub(crate) fn forks(
 fn one_fork(alloc: Global, types: TypeSet) -> Result<List<Fork>, NoMemory>
     ensures { IfOk result (λ forks. map fork_of forks ≡ (types, End None Outside ∷ []) ∷ []) }
 {
-    let mut forks = List::new(alloc);
     let steps = outside(alloc)?;
-    forks.push(Fork { types, steps })?;
-    Ok(forks)
+    let mut forks = Vec::with_capacity(alloc, 1)?;
+    forks.push_reserved(Fork { types, steps });
+    Ok(List::from_vec(forks))
 }
 
 /// What a state leads to for the types of each answer from the zone with this origin.
@@ -53,12 +53,12 @@ fn all_forks(
 ) -> Result<List<Fork>, NoMemory>
     ensures { IfOk result (λ forks. map fork_of forks ≡ map (λ answer. (answer.types, after_lookup walker.now state.now origin.now answer.found)) answers) }
 {
-    let mut forks = List::new(alloc);
+    let mut forks = Vec::with_capacity(alloc, answers.len())?;
     for answer in answers {
         forks.push(Fork {
             types: answer.types,
             steps: after_lookup(alloc, walker, state, origin, answer.found)?,
         })?;
     }
-    Ok(forks)
+    Ok(List::from_vec(forks))
 }
