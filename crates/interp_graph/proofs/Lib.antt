@@ -9,6 +9,7 @@ pub mod ForkSteps
 pub mod NodePairs
 pub mod Beginning
 pub mod Turns
+pub mod KeysByNumber
 pub mod Numbering
 pub mod Paired
 pub mod Passing

@@ -1,29 +1,19 @@
--- How states are numbered by their keys, and what comes new to a draft.
-use Rattle.std.proofs.Common.{◌≡◌, ◌≢◌, ℕ, ◌+◌, ◌<◌, Bool, true, false, not, List, [], ◌∷◌, ◌++◌, map, length, get_or, Option, Some, None, refl, sym, ap, ◌∙◌, subst, inl, inr, true≢false, arith}
-use Rattle.std.specs.Prelude.{◌&&◌, ◌||◌, Contains, AllPairs, IfSome, slice_get, if◌then◌else◌}
-use Rattle.std.specs.List.{IsDistinct, list_any}
+-- What stands with a number, and what comes new to a draft.
+use Rattle.std.proofs.Common.{◌≡◌, ℕ, ◌+◌, ◌<◌, Bool, true, false, not, List, [], ◌∷◌, ◌++◌, map, length, get_or, Option, Some, None, refl, sym, ap, ◌∙◌, subst, inl, arith}
+use Rattle.std.specs.Prelude.{◌&&◌, ◌||◌, Contains, IfSome, slice_get}
 use Rattle.std.specs.Option.{option_to_list}
 use Rattle.std.proofs.lemmas.Bool.{and_parts, and_from, or_left, or_right, not-true}
-use Rattle.std.proofs.lemmas.List.{length-map}
-use Rattle.std.proofs.lemmas.List.Elements.{All-from_recursion, All-contains, Contains-append_right}
-use Rattle.std.proofs.lemmas.List.Kept.{AllPairs-cons}
-use Rattle.std.proofs.lemmas.Map.Keys.{IsDistinct-head, IsDistinct-tail}
+use Rattle.std.proofs.lemmas.List.Elements.{Contains-append_right}
 use Rattle.std.proofs.lemmas.Option.{slice_get-get_or}
 use Rattle.dns_data.specs.TypeSet.{has_bit}
 use Rattle.dns_data.specs.RrType.{types}
 use Rattle.dns_data.specs.declared.rr_type.RrType.{RrType}
 use Rattle.dns_data.specs.declared.rr_type.RrType.TheVariants as rr
-use Rattle.dns_data.proofs.Membership.{has_first, all_from_contains, filter_has}
-use Rattle.dns_data.proofs.Searches.{any_has}
-use Rattle.net_model.specs.declared.walk.State.{State}
+use Rattle.dns_data.proofs.Membership.{has_first, filter_has}
 use Rattle.graph_form.proofs.Reached.{every_type}
-use Rattle.indexmap.specs.IndexSet.{insert_key}
-use Rattle.graph_form.proofs.Places.{item_there}
-use Rattle.interp_graph.specs.Drafts.{states_of, size_of, Draft}
-use Rattle.interp_graph.specs.StateKey.{state_eq, state_decides}
+use Rattle.interp_graph.specs.Drafts.{size_of, Draft}
 use Rattle.interp_graph.specs.Growing.{TakesTypes, TookTypes, TooMany, drafts_in}
 use Rattle.interp_graph.specs.declared.growing.GrowingGraph.{GrowingGraph}
-use Rattle.interp_graph.proofs.ItemsByNumber.{from_pushed, from_mapped}
 
 -- an item below the length stands with its number
 pub item_is : {A : Type 0} (xs : List A) (i : ℕ) (x : A) → i < length xs → x ≡ get_or xs i x → slice_get xs i ≡ Some x
@@ -35,54 +25,6 @@ pub taken_below : (result : Option ℕ) (old new : List ℕ) (many : ℕ) → ol
 taken_below None old new many parts among = tt
 taken_below (Some at) old new many parts among =
     among at (subst (λ (ks : List ℕ). Contains ks at) (sym parts) (Contains-append_right new (at ∷ []) at (has_first at [])))
-
--- ---- keys
-
--- different keys are different states
-pub distinct_states : (keys : List State) → IsDistinct state_eq keys → AllPairs (λ a b. a ≢ b) keys
-distinct_states [] distinct = λ i j d before within. absurd (omega arith)
-distinct_states (key ∷ keys) distinct =
-    AllPairs-cons (λ (a b : State). a ≢ b) key keys
-    (all_from_contains (λ (other : State). key ≢ other) keys (λ other has same.
-    true≢false (sym ((state_decides key other).1 same)
-    ∙ All-contains (λ (y : State). state_eq key y ≡ false) keys other
-    (All-from_recursion (λ (y : State). state_eq key y ≡ false) keys (IsDistinct-head state_eq key keys distinct)) has)))
-    (distinct_states keys (IsDistinct-tail state_eq key keys distinct))
-
-module _ (keys after : List State) (drafts : List Draft) (value : State) (at : ℕ) (keyed : keys ≡ states_of drafts)
-    (made : after ≡ insert_key state_eq keys value) (stored : (k : State) × (slice_get after at ≡ Some k) × (state_eq value k ≡ true)) where
-  -- the key that is stored under the number is the state
-  pub stored_there : slice_get after at ≡ Some value
-  stored_there = stored.1 ∙ ap Some (sym ((state_decides value stored.0).0 stored.2))
-
-  -- a new key goes behind the others
-  module _ (none : list_any (state_eq value) keys ≡ false) where
-    -- a state that is no key yet is put behind the keys
-    pub key_behind : after ≡ keys ++ value ∷ []
-    key_behind = made ∙ ap (λ b. if b then keys else keys ++ value ∷ []) none
-
-    -- the number of a state that is no key yet is that of a new draft behind the others
-    pub number_behind : at ≡ length drafts
-    number_behind =
-        elim (from_pushed keys value value at (ap (λ (ks : List State). slice_get ks at) (sym key_behind) ∙ stored_there)) [
-          | inl there ↦ absurd (true≢false (sym (any_has (state_eq value) keys value (item_there keys at value there) ((state_decides value value).1 refl)) ∙ none))
-          | inr new ↦ new.0 ∙ (ap (λ (ks : List State). length ks) keyed ∙ length-map drafts state)
-        ]
-      where
-        state : Draft → State
-        state draft = draft.state
-
-  -- and one that is there stays
-  module _ (there : list_any (state_eq value) keys ≡ true) where
-    -- the keys stay where the state is one of them
-    pub keys_stay : after ≡ keys
-    keys_stay = made ∙ ap (λ b. if b then keys else keys ++ value ∷ []) there
-
-    -- the number of a state that is a key is that of a draft with the state
-    pub draft_there : (draft : Draft) × (slice_get drafts at ≡ Some draft) × (draft.state ≡ value)
-    draft_there =
-        from_mapped (λ (draft : Draft). draft.state) drafts at value
-        (ap (λ (ks : List State). slice_get ks at) (sym keyed) ∙ (ap (λ (ks : List State). slice_get ks at) (sym keys_stay) ∙ stored_there))
 
 -- ---- types that are new to a draft
 

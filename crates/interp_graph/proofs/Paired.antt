@@ -58,3 +58,10 @@ module _ where
   states_stand [] (t ∷ all) paired = absurd (omega (arith, paired))
   states_stand (s ∷ states) [] paired = absurd (omega (arith, paired))
   states_stand (s ∷ states) (t ∷ all) paired = ap (λ (ss : List State). s ∷ ss) (states_stand states all (omega (arith, paired)))
+
+  -- there are as many drafts as states
+  pub many_drafts : (states : List State) (all : List NodeTypes) → length states ≡ length all → length states ≡ length (drafts_of states all)
+  many_drafts [] [] paired = refl
+  many_drafts [] (t ∷ all) paired = absurd (omega (arith, paired))
+  many_drafts (s ∷ states) [] paired = absurd (omega (arith, paired))
+  many_drafts (s ∷ states) (t ∷ all) paired = ap suc (many_drafts states all (omega (arith, paired)))

@@ -16,11 +16,11 @@ use Rattle.interp_graph.specs.Steps.{IsFork, AreSplit}
 
 -- the drafts of a graph in the making
 abbrev pub drafts_in : GrowingGraph → List Draft
-drafts_in growing = drafts_of growing.states.keys growing.nodes.items
+drafts_in growing = drafts_of growing.states growing.nodes.items
 
 -- each node has a state and types
 abbrev pub IsPaired : GrowingGraph → Type 0
-IsPaired growing = length growing.states.keys ≡ length growing.nodes.items
+IsPaired growing = length growing.states ≡ length growing.nodes.items
 
 -- no type comes to the draft yet
 pub record HasNoType (draft : Draft) : Type 0 where

@@ -9,5 +9,6 @@ pub mod Asked
 pub mod Steps
 pub mod Drafts
 pub mod StateKey
+pub mod KeySet
 pub mod Growing
 pub mod Restricted

@@ -18,11 +18,10 @@ use crate::fault::GraphFault;
 use crate::following::put_forks;
 use crate::forks::forks;
 use crate::growing::GrowingGraph;
-use crate::key::Key;
+use crate::key_set::KeySet;
 use crate::node_types::NodeTypes;
 use dns_data::{JoinFault, List, Name, NoMemory, TypeSet};
 use graph_form::{Graph, Node};
-use indexmap::IndexSet;
 use name_rules::SymName;
 use net_model::State;
 use std::alloc::Global;
@@ -145,16 +144,13 @@ pub(crate) fn graph_of(
 }
 
 /// The nodes of states, each with the arms of its types.
-fn nodes_of(
-    alloc: Global,
-    states: IndexSet<Key>,
-    types: List<NodeTypes>,
-) -> Result<List<Node>, NoMemory>
-    ensures { IfOk result (λ nodes. nodes ≡ map node_of (drafts_of states.keys types)) }
+fn nodes_of(alloc: Global, states: KeySet, types: List<NodeTypes>) -> Result<List<Node>, NoMemory>
+    ensures { IfOk result (λ nodes. nodes ≡ map node_of (drafts_of states types)) }
 {
+    let keys = states.into_keys(alloc)?;
     let mut nodes = Vec::with_capacity(alloc, types.len())?;
     let mut left = types.into_iter();
-    for key in states {
+    for key in keys {
         match left.next() {
             Some(of_node) => nodes.push(Node {
                 state: key.into_state(),

@@ -10,10 +10,10 @@ ghost use Rattle.interp_graph.specs.Growing.{IsSoundSoFar, AreToFollow, Advances
 
 use crate::fault::GraphFault;
 use crate::key::Key;
+use crate::key_set::KeySet;
 use crate::node_types::NodeTypes;
 use dns_data::{List, NoMemory, TypeSet};
 use graph_form::{Arm, type_count};
-use indexmap::IndexSet;
 use net_model::State;
 use std::alloc::Global;
 
@@ -21,7 +21,7 @@ use std::alloc::Global;
 /// types came since they were followed, and how many pairs of state and type there are, of how many that are allowed.
 #[derive(Drop)]
 pub(crate) struct GrowingGraph {
-    pub states: IndexSet<Key>,
+    pub states: KeySet,
     pub nodes: Vec<NodeTypes>,
     pub stack: Vec<usize>,
     pub pairs: u32,
@@ -37,7 +37,7 @@ impl GrowingGraph {
         ensures limit { result.limit ≡ limit }
     {
         GrowingGraph {
-            states: IndexSet::new(alloc),
+            states: KeySet::new(alloc),
             nodes: Vec::new(alloc),
             stack: Vec::new(alloc),
             pairs: 0,
@@ -64,7 +64,7 @@ impl GrowingGraph {
         requires { at < length (drafts_in self.now) }
         ensures { (draft : Draft) → slice_get (drafts_in self.now) at ≡ Some draft → draft.state ≡ result.now }
     {
-        &self.states[at]
+        self.states.key(at)
     }
 
     /// The types that wait at a node.
@@ -133,16 +133,16 @@ impl GrowingGraph {
 /// The number of the node of a state. A new one gets the next number.
 fn number(
     alloc: Global,
-    states: &mut IndexSet<Key>,
+    states: &mut KeySet,
     nodes: &mut Vec<NodeTypes>,
     state: State,
 ) -> Result<usize, NoMemory>
-    requires paired { length states.old.keys ≡ length nodes.old.items }
-    ensures paired { OnOk result (length states.new.keys ≡ length nodes.new.items) }
-    ensures once { OnOk result (AllPairs (λ a b. a ≢ b) (states_of (drafts_of states.new.keys nodes.new.items))) }
-    ensures numbered { IfOk result (Numbered (drafts_of states.old.keys nodes.old.items) (drafts_of states.new.keys nodes.new.items) state) }
+    requires paired { length states.old ≡ length nodes.old.items }
+    ensures paired { OnOk result (length states.new ≡ length nodes.new.items) }
+    ensures once { OnOk result (AllPairs (λ a b. a ≢ b) (states_of (drafts_of states.new nodes.new.items))) }
+    ensures numbered { IfOk result (Numbered (drafts_of states.old nodes.old.items) (drafts_of states.new nodes.new.items) state) }
 {
-    let (at, is_new) = states.insert_full(Key::new(state))?;
+    let (at, is_new) = states.insert(alloc, Key::new(state))?;
     if is_new {
         nodes.push(no_types(alloc))?;
     }

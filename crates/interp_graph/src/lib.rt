@@ -6,9 +6,9 @@
 //! gives the graph of the walks that follow fewer servers. Where there are more pairs than are allowed, `build` says so.
 //!
 //! Costs: a state is looked up once for all types that come to it together; a state that is met again takes only the
-//! types that it hasn't had. States are numbered by their hashes. A state is made once, and goes from the key by which
-//! it is found into the graph; a lookup in a zone copies its name, and `restrict` copies the states of the graph that
-//! it is given. No zone is copied, and no list of walks is made.
+//! types that it hasn't had. A few states are looked through one by one, of more each is found by its hash. A state is
+//! made once, and goes from the key by which it is found into the graph; a lookup in a zone copies its name, and
+//! `restrict` copies the states of the graph that it is given. No zone is copied, and no list of walks is made.
 #![tactic(auto)]
 
 mod building;
@@ -17,6 +17,7 @@ mod following;
 mod forks;
 mod growing;
 mod key;
+mod key_set;
 mod limited;
 mod node_types;
 mod restriction;

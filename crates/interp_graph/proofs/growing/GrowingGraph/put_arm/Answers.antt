@@ -9,12 +9,12 @@ use Rattle.interp_graph.proofs.growing.GrowingGraph.put_arm.Goals as goal
 
 pub index_mut-node-requires : goal.index_mut-node-requires
 index_mut-node-requires c =
-    let below = both_below c.args.self.now.states.keys c.args.self.now.nodes.items c.args.at c.requires in
+    let below = both_below c.args.self.now.states c.args.self.now.nodes.items c.args.at c.requires in
     omega (arith, below.1, c.args.self.now.nodes.ok.0)
 
 pub returns : goal.returns
 returns c =
-    let states = c.args.self.now.states.keys in
+    let states = c.args.self.now.states in
     let all = c.args.self.now.nodes.items in
     let below = both_below states all c.args.at c.requires in
     let state = item_below states c.args.at below.0 in

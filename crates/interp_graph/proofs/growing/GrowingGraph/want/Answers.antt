@@ -13,17 +13,17 @@ use Rattle.interp_graph.proofs.growing.GrowingGraph.want.Goals as goal
 
 pub index-requires : goal.index-requires
 index-requires c =
-    let below = both_below c.args.self.now.states.keys c.args.self.now.nodes.items c.args.at c.requires.there in
+    let below = both_below c.args.self.now.states c.args.self.now.nodes.items c.args.at c.requires.there in
     omega (arith, below.1, c.args.self.now.nodes.ok.0)
 
 pub index_mut-node-requires : goal.index_mut-node-requires
 index_mut-node-requires c =
-    let below = both_below c.args.self.now.states.keys c.args.self.now.nodes.items c.args.at c.requires.there in
+    let below = both_below c.args.self.now.states c.args.self.now.nodes.items c.args.at c.requires.there in
     omega (arith, below.1, c.args.self.now.nodes.ok.0)
 
 pub returns-then-more-eq0-clause-took : goal.returns-then-more-eq0-clause-took
 returns-then-more-eq0-clause-took c =
-    let states = c.args.self.now.states.keys in
+    let states = c.args.self.now.states in
     let all = c.args.self.now.nodes.items in
     let below = both_below states all c.args.at c.requires.there in
     let state = item_below states c.args.at below.0 in
@@ -33,7 +33,7 @@ returns-then-more-eq0-clause-took c =
 
 pub returns-then-more-self-clause-passed : goal.returns-then-more-self-clause-passed
 returns-then-more-self-clause-passed c =
-    let states = c.args.self.now.states.keys in
+    let states = c.args.self.now.states in
     let all = c.args.self.now.nodes.items in
     let below = both_below states all c.args.at c.requires.there in
     let state = item_below states c.args.at below.0 in
@@ -43,7 +43,7 @@ returns-then-more-self-clause-passed c =
 
 pub returns-clause-took : goal.returns-clause-took
 returns-clause-took c =
-    let states = c.args.self.now.states.keys in
+    let states = c.args.self.now.states in
     let all = c.args.self.now.nodes.items in
     let below = both_below states all c.args.at c.requires.there in
     let state = item_below states c.args.at below.0 in
