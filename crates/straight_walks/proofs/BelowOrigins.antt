@@ -1,14 +1,14 @@
 -- A name is looked up as the longest origin of a zone at or above it is: each server's nearest zone is the same one,
 -- and a zone cut that decides at the origin decides at the name.
-use Rattle.std.proofs.Common.{◌≡◌, ◌<◌, ◌≤◌, Bool, false, cond, ◌&&◌, List, [], ◌∷◌, ◌++◌, map, length, Option, Some, None, find, sym, refl, ap, ◌∙◌, subst, inl, inr, arith, append_assoc, length-append, lt-ltb}
+use Rattle.std.proofs.Common.{◌≡◌, ◌<◌, ◌≤◌, Bool, true, false, cond, ◌&&◌, List, [], ◌∷◌, ◌++◌, map, length, Option, Some, None, find, sym, refl, ap, ◌∙◌, subst, inl, inr, arith, append-nil, append_assoc, length-append, lt-ltb}
 use Rattle.std.specs.Prelude.{◌⊎◌, Contains, is_some, nat_le, nat_lt, option_and_then}
 use Rattle.std.specs.Option.{option_or}
 use Rattle.std.proofs.lemmas.Bool.{le-ltb}
 use Rattle.std.proofs.lemmas.List.Folds.{find-append}
-use Rattle.dns_data.specs.Name.{Labels}
+use Rattle.dns_data.specs.Name.{Labels, is_prefix}
 use Rattle.dns_data.specs.declared.rr_type.RrType.TheVariants as types
 use Rattle.dns_data.proofs.Membership.{first_or_later, from_map, none_in_nil}
-use Rattle.dns_data.proofs.NameFronts.{Begins, is_prefix_tells, is_prefix_told}
+use Rattle.dns_data.proofs.NameFronts.{Begins, begins_itself, is_prefix_tells, is_prefix_told, two_fronts}
 use Rattle.dns_data.proofs.Searches.{find_same, found_there}
 use Rattle.net_model.specs.Lookup.{Deciding, ByCut, by_dname, decided, deciding, dname_owner, shorter_decides, zone_cut}
 use Rattle.net_model.specs.Nearest.{held_zone, nearest, nearest_of, server_named, zone_with_origin}
@@ -21,7 +21,39 @@ use Rattle.net_model.proofs.Descent.{shorter_passes}
 use Rattle.net_model.proofs.Prefixes.{from_prefixes, longer, longest_above, prefixes_below}
 use Rattle.net_model.proofs.StepBounds.{is_the_cut}
 use Rattle.zone_tree.proofs.Prefixes.{found_above, last_prefix}
-use Rattle.straight_walks.specs.Regions.{IsNearestOrigin}
+use Rattle.straight_walks.specs.Straight.{NoOriginBetween}
+
+-- no origin stands between a name and itself
+pub none_between_itself : (config : Config) (name : Labels) → NoOriginBetween config name name
+none_between_itself config name = record { above = begins_itself name; none_longer = none_longer } where
+  none_longer : (server longer : Labels) → is_prefix longer name ≡ true → length name < length longer → held_zone config server longer ≡ None
+  none_longer server longer inside more =
+      let begins = is_prefix_tells longer name inside in
+      absurd (omega (arith, more, ap (λ (n : Labels). length n) begins.1, length-append longer begins.0))
+
+-- nor between one and a name below another, where none does between any two of them
+pub none_between_further : (config : Config) (upper middle name : Labels) → NoOriginBetween config upper middle → NoOriginBetween config middle name
+    → NoOriginBetween config upper name
+none_between_further config upper middle name first second = record { above = above; none_longer = none_longer } where
+  above : is_prefix upper name ≡ true
+  above =
+      let one = is_prefix_tells upper middle first.above in
+      let other = is_prefix_tells middle name second.above in
+      is_prefix_told upper name (one.0 ++ other.0, sym (append_assoc upper one.0 other.0) ∙ ap (λ (n : Labels). n ++ other.0) one.1 ∙ other.1)
+
+  none_longer : (server longer : Labels) → is_prefix longer name ≡ true → length upper < length longer → held_zone config server longer ≡ None
+  none_longer server longer inside more =
+      let begins = is_prefix_tells longer name inside in
+      let other = is_prefix_tells middle name second.above in
+      by (two_fronts longer begins.0 middle other.0 (begins.1 ∙ sym other.1))
+    where
+      by : Begins longer middle ⊎ Begins middle longer → held_zone config server longer ≡ None
+      by (inl shorter) = first.none_longer server longer (is_prefix_told longer middle shorter) more
+      by (inr (rest, is)) = further rest is where
+        further : (rest : Labels) → middle ++ rest ≡ longer → held_zone config server longer ≡ None
+        further [] same = first.none_longer server longer (ap (λ (n : Labels). is_prefix n middle) (sym same ∙ append-nil middle) ∙ begins_itself middle) more
+        further (label ∷ rest) same =
+            second.none_longer server longer inside (omega (arith, ap (λ (n : Labels). length n) same, length-append middle (label ∷ rest)))
 
 -- a longer front has some labels, and begins the rest
 longer_begins : (tail below : Labels) → Contains (longer tail) below → (0 < length below) × Begins below tail
@@ -33,7 +65,7 @@ longer_begins (label ∷ rest) below has =
 
 -- ---- the nearest zone
 
-module _ (config : Config) (origin name : Labels) (is : IsNearestOrigin config origin name) where
+module _ (config : Config) (origin name : Labels) (is : NoOriginBetween config origin name) where
   begins : Begins origin name
   begins = is_prefix_tells origin name is.above
 

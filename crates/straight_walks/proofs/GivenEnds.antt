@@ -1,5 +1,5 @@
 -- What is told of the ends that a search gives, where it gives some.
-use Rattle.std.proofs.Common.{ℕ, ◌*◌, ◌/◌, ◌≤◌, Option, Some, None, Result, Ok, Err, refl, arith}
+use Rattle.std.proofs.Common.{◌≡◌, ℕ, ◌*◌, ◌/◌, ◌≤◌, true, Option, Some, None, Result, Ok, Err, refl, inl, inr, arith}
 use Rattle.std.specs.Prelude.{◌↔◌, IfOk, IfSome}
 use Rattle.std.proofs.Math.Nat.{div-mul-le_self}
 use Rattle.std.proofs.lemmas.Nat.{mul-le}
@@ -16,8 +16,8 @@ use Rattle.net_model.specs.declared.config.Config.{Config}
 use Rattle.net_model.specs.declared.walk.Leaf.{Leaf}
 use Rattle.walk_laws.specs.Outcome.{HasOutcome}
 use Rattle.straight_walks.specs.Ends.{IsOutcomeOf}
-use Rattle.straight_walks.specs.Searching.{GoesStraightIn}
-use Rattle.straight_walks.specs.Straight.{GoesStraight}
+use Rattle.straight_walks.specs.Searching.{GoStraightIn, GoesStraightIn}
+use Rattle.straight_walks.specs.Straight.{GoesStraight, NoOriginBetween}
 use Rattle.straight_walks.specs.declared.ends.StraightEnds.{StraightEnds}
 use Rattle.straight_walks.proofs.FewStates.{few_states}
 use Rattle.straight_walks.proofs.LeastFollowed.{all_followed, least_followed}
@@ -37,47 +37,66 @@ module _ (config : Config) (deps : Deps) (rewrites most : ℕ) (query : Labels) 
     in_all : Straight (following config rewrites (server_names config)) ends
     in_all = straight (following config rewrites (server_names config)) (record { config_is = refl; follows = all_followed config rewrites deps }) (omega arith)
 
-  -- where ends are given
-  module _ {E : Type 0} (given : Result (Option StraightEnds) E) where
-    -- what holds of the ends of straight walks holds of these
-    by_straight : (Q : StraightEnds → Type 0) → ((ends : StraightEnds) → GoesStraightIn config deps rewrites most query ends → Q ends)
-        → IfOk given (λ found. IfSome found (GoesStraightIn config deps rewrites most query)) → IfOk given (λ found. IfSome found Q)
-    by_straight Q so = by given where
-      by : (given : Result (Option StraightEnds) E) → IfOk given (λ found. IfSome found (GoesStraightIn config deps rewrites most query))
-          → IfOk given (λ found. IfSome found Q)
-      by (Ok None) straight = tt
-      by (Ok (Some ends)) straight = so ends straight
-      by (Err fault) straight = tt
+-- where ends are given
+module _ (config : Config) (deps : Deps) (rewrites most : ℕ) (query : Labels) {E : Type 0} (given : Result (Option StraightEnds) E) where
+  -- what holds of the ends of straight walks holds of these
+  by_straight : (Q : StraightEnds → Type 0) → ((ends : StraightEnds) → GoStraightIn config deps rewrites most query ends → Q ends)
+      → IfOk given (λ found. IfSome found (GoStraightIn config deps rewrites most query)) → IfOk given (λ found. IfSome found Q)
+  by_straight Q so = by given where
+    by : (given : Result (Option StraightEnds) E) → IfOk given (λ found. IfSome found (GoStraightIn config deps rewrites most query))
+        → IfOk given (λ found. IfSome found Q)
+    by (Ok None) straight = tt
+    by (Ok (Some ends)) straight = so ends straight
+    by (Err fault) straight = tt
 
-    -- few pairs of state and type are reached
-    pub few_given : (states : ℕ) → most * 12 ≤ states → IfOk given (λ found. IfSome found (GoesStraightIn config deps rewrites most query))
-        → IfOk given (λ found. IfSome found (λ ends. HasMoreThan (IsReached config rewrites query) states → ⊥))
-    few_given states fits =
-        by_straight (λ ends. HasMoreThan (IsReached config rewrites query) states → ⊥)
-        (λ ends straight. few_states config rewrites deps most query ends (in_all ends straight) states fits)
+  -- few pairs of state and type are reached
+  pub few_given : (states : ℕ) → most * 12 ≤ states → IfOk given (λ found. IfSome found (GoStraightIn config deps rewrites most query))
+      → IfOk given (λ found. IfSome found (λ ends. HasMoreThan (IsReached config rewrites query) states → ⊥))
+  few_given states fits =
+      by_straight (λ ends. HasMoreThan (IsReached config rewrites query) states → ⊥)
+      (λ ends straight. few_states config rewrites deps most query ends (in_all config deps rewrites most query ends (straight query (inl refl))) states fits)
 
-    -- no fault is shown
-    pub nothing_given : IfOk given (λ found. IfSome found (GoesStraightIn config deps rewrites most query))
-        → IfOk given (λ found. IfSome found (λ ends. (rtype : RrType) (fault : Fault)
-        → Shows (with_lists (following config rewrites deps.least) deps.least deps.greatest) query rtype fault → ⊥))
-    nothing_given =
-        by_straight (λ ends. (rtype : RrType) (fault : Fault) → Shows (with_lists (following config rewrites deps.least) deps.least deps.greatest) query rtype fault → ⊥)
-        (λ ends straight. shows_nothing (following config rewrites deps.least) deps most query ends (in_least ends straight))
+  -- and by the names of which they are the ends too
+  pub few_given_below : (states : ℕ) → most * 12 ≤ states → IfOk given (λ found. IfSome found (GoStraightIn config deps rewrites most query))
+      → IfOk given (λ found. IfSome found (λ ends. ends.below ≡ true → (name : Labels) → NoOriginBetween config query name
+      → HasMoreThan (IsReached config rewrites name) states → ⊥))
+  few_given_below states fits =
+      by_straight (λ ends. ends.below ≡ true → (name : Labels) → NoOriginBetween config query name → HasMoreThan (IsReached config rewrites name) states → ⊥)
+      (λ ends straight below name between.
+      few_states config rewrites deps most name ends (in_all config deps rewrites most name ends (straight name (inr (below, between)))) states fits)
 
-    -- the query is bounded
-    pub bounded_given : IfOk given (λ found. IfSome found (GoesStraightIn config deps rewrites most query))
-        → IfOk given (λ found. IfSome found (λ ends. (rtype : RrType) → IsBoundedWith (following config rewrites deps.least) query rtype))
-    bounded_given =
-        by_straight (λ ends. (rtype : RrType) → IsBoundedWith (following config rewrites deps.least) query rtype)
-        (λ ends straight. is_bounded (following config rewrites deps.least) deps most query ends (in_least ends straight))
+  -- no fault is shown
+  pub nothing_given : IfOk given (λ found. IfSome found (GoStraightIn config deps rewrites most query))
+      → IfOk given (λ found. IfSome found (λ ends. (rtype : RrType) (fault : Fault)
+      → Shows (with_lists (following config rewrites deps.least) deps.least deps.greatest) query rtype fault → ⊥))
+  nothing_given =
+      by_straight (λ ends. (rtype : RrType) (fault : Fault) → Shows (with_lists (following config rewrites deps.least) deps.least deps.greatest) query rtype fault → ⊥)
+      (λ ends straight. shows_nothing (following config rewrites deps.least) deps most query ends (in_least config deps rewrites most query ends (straight query (inl refl))))
 
-    -- and it has the outcomes of the ends
-    pub outcomes_given : IfOk given (λ found. IfSome found (GoesStraightIn config deps rewrites most query))
-        → IfOk given (λ found. IfSome found (λ ends. (rtype : RrType) (outcome : Option Leaf)
-        → HasOutcome (following config rewrites deps.least) query rtype outcome ↔ IsOutcomeOf ends rtype outcome))
-    outcomes_given =
-        by_straight (λ ends. (rtype : RrType) (outcome : Option Leaf) → HasOutcome (following config rewrites deps.least) query rtype outcome ↔ IsOutcomeOf ends rtype outcome)
-        (λ ends straight. outcomes_are (following config rewrites deps.least) deps most query ends (in_least ends straight))
+  -- nor by those names
+  pub nothing_given_below : IfOk given (λ found. IfSome found (GoStraightIn config deps rewrites most query))
+      → IfOk given (λ found. IfSome found (λ ends. ends.below ≡ true → (name : Labels) → NoOriginBetween config query name → (rtype : RrType) (fault : Fault)
+      → Shows (with_lists (following config rewrites deps.least) deps.least deps.greatest) name rtype fault → ⊥))
+  nothing_given_below =
+      by_straight (λ ends. ends.below ≡ true → (name : Labels) → NoOriginBetween config query name → (rtype : RrType) (fault : Fault)
+      → Shows (with_lists (following config rewrites deps.least) deps.least deps.greatest) name rtype fault → ⊥)
+      (λ ends straight below name between.
+      shows_nothing (following config rewrites deps.least) deps most name ends (in_least config deps rewrites most name ends (straight name (inr (below, between)))))
+
+  -- the query is bounded
+  pub bounded_given : IfOk given (λ found. IfSome found (GoStraightIn config deps rewrites most query))
+      → IfOk given (λ found. IfSome found (λ ends. (rtype : RrType) → IsBoundedWith (following config rewrites deps.least) query rtype))
+  bounded_given =
+      by_straight (λ ends. (rtype : RrType) → IsBoundedWith (following config rewrites deps.least) query rtype)
+      (λ ends straight. is_bounded (following config rewrites deps.least) deps most query ends (in_least config deps rewrites most query ends (straight query (inl refl))))
+
+  -- and it has the outcomes of the ends
+  pub outcomes_given : IfOk given (λ found. IfSome found (GoStraightIn config deps rewrites most query))
+      → IfOk given (λ found. IfSome found (λ ends. (rtype : RrType) (outcome : Option Leaf)
+      → HasOutcome (following config rewrites deps.least) query rtype outcome ↔ IsOutcomeOf ends rtype outcome))
+  outcomes_given =
+      by_straight (λ ends. (rtype : RrType) (outcome : Option Leaf) → HasOutcome (following config rewrites deps.least) query rtype outcome ↔ IsOutcomeOf ends rtype outcome)
+      (λ ends straight. outcomes_are (following config rewrites deps.least) deps most query ends (in_least config deps rewrites most query ends (straight query (inl refl))))
 
 -- so many times are within a number where so many are within its part
 pub times_fit : (states times most : ℕ) → states ≤ most / times → states * times ≤ most

@@ -1,5 +1,5 @@
 -- The branches of referrals.
-use Rattle.std.proofs.Common.{◌≡◌, ℕ, ◌+◌, ◌<◌, Bool, true, false, not, cond, List, [], ◌∷◌, ◌++◌, length, map, take, get_or, Option, Some, None, Bor, refl, sym, ap, ◌∙◌, subst, inl, inr}
+use Rattle.std.proofs.Common.{◌≡◌, ◌≢◌, ℕ, ◌+◌, ◌<◌, Bool, true, false, not, cond, List, [], ◌∷◌, ◌++◌, length, map, take, get_or, Option, Some, None, Bor, refl, sym, ap, ◌∙◌, subst, inl, inr, ◌==◌, true≢false}
 use Rattle.std.specs.Prelude.{◌⊎◌, ◌||◌, is_some, option_and_then, option_map, Contains}
 use Rattle.std.specs.List.{AllByRecursion, list_any}
 use Rattle.std.proofs.lemmas.List.{append-nil, append_assoc, map-append, take_more}
@@ -85,6 +85,13 @@ one_name_more items i item within is =
     ap (map (λ (ns : Bor Labels). ns.now)) (take_more items i item within ∙ (λ j. take i items ++ sym is j ∷ []))
     ∙ map-append (λ (ns : Bor Labels). ns.now) (take i items) (item ∷ [])
 
+-- where there are some, their names are some
+pub some_named : (items : List (Bor Labels)) (names : List Labels) → map (λ (ns : Bor Labels). ns.now) items ≡ names → not (length items == 0) ≡ true → names ≢ []
+some_named [] names is some none = true≢false (sym some)
+some_named (item ∷ items) names is some none = by (is ∙ none) where
+  by : item.now ∷ map (λ (ns : Bor Labels). ns.now) items ≡ [] → ⊥
+  by e = cc
+
 -- states that were queued still are
 pub extends_further : (first second third : List Queued) → Extends first second → Extends second third → Extends first third
 extends_further first second third one two =
@@ -132,6 +139,36 @@ module _ (config : Config) (deps : Deps) (query server : Labels) (zone : Zone) (
   last_among names ns setting above =
       subst (λ (all : List Branch). Contains all (branch_to ns setting above)) (sym (one_branch_more names ns setting above))
       (Contains-append_right (branches names setting above) (branch_to ns setting above ∷ []) (branch_to ns setting above) (has_first (branch_to ns setting above) []))
+
+  -- what a walk that ends so ends in
+  end_told : (setting : Setting) (branch : Branch) → EndsUnanswered setting.config deps branch → (hop : Option Hop) × (leaf : Leaf) × (branch ≡ End hop leaf) × (outcome_of leaf ≡ None)
+  end_told setting branch (inl outside) = (None, leaves.Outside, outside, refl)
+  end_told setting branch (inr (to, sound, unhosted)) = (Some (Refer to), leaves.Unhosted to.ns, unhosted, refl)
+
+  -- walks end at the name server, and the referral shows no fault
+  abbrev EndsAt : Labels → Type 0
+  EndsAt ns = IsReferral config deps query (cut_to server zone cut ns) referral.Ends
+
+  -- the branches to name servers at which walks end
+  each_ends : (queue : List Queued) (setting : Setting) (above : ℕ) → IsSettingOf config deps setting → (names : List Labels) → AllByRecursion EndsAt names
+      → AllByRecursion (FailsOrGoes setting.config deps true (map (queued_state config query) queue)) (branches names setting above)
+  each_ends queue setting above of [] each = tt
+  each_ends queue setting above of (ns ∷ rest) each = (inl (refl, each.0 setting (from above) of), each_ends queue setting above of rest each.1)
+
+  -- of name servers, some, at all of which walks end
+  pub all_that_end : (names : List Labels) → AllByRecursion EndsAt names → names ≢ [] → (queue : List Queued) (fails : Bool)
+      → AreReferrals config deps query server zone cut names queue fails queue true
+  all_that_end [] each some queue fails = absurd (some refl)
+  all_that_end (ns ∷ rest) each some queue fails =
+      record {
+        extends = ([], sym (append-nil queue));
+        still = λ is. refl;
+        each = λ setting above of. each_ends queue setting above of (ns ∷ rest) each;
+        leads = λ one has. inl has;
+        told = λ is. inr (λ setting above of.
+            let (hop, leaf, is_end, none) = end_told setting (branch_to ns setting above) (each.0 setting (from above) of) in
+            (hop, leaf, subst (Contains (branches (ns ∷ rest) setting above)) is_end (has_first (branch_to ns setting above) (branches rest setting above)), none));
+      }
 
   -- of no name servers
   pub no_referrals : (queue : List Queued) (fails : Bool) → AreReferrals config deps query server zone cut [] queue fails queue fails
@@ -184,10 +221,6 @@ module _ (config : Config) (deps : Deps) (query server : Labels) (zone : Zone) (
               let (hop, leaf, is_end, none) = end_told setting (branch_to ns setting above) (ends setting (from above) of) in
               (hop, leaf, subst (Contains (branches (names ++ ns ∷ []) setting above)) is_end (last_among names ns setting above), none));
         }
-      where
-        end_told : (setting : Setting) (branch : Branch) → EndsUnanswered setting.config deps branch → (hop : Option Hop) × (leaf : Leaf) × (branch ≡ End hop leaf) × (outcome_of leaf ≡ None)
-        end_told setting branch (inl outside) = (None, leaves.Outside, outside, refl)
-        end_told setting branch (inr (to, sound, unhosted)) = (Some (Refer to), leaves.Unhosted to.ns, unhosted, refl)
 
     -- and with one more to which walks go on
     pub one_to_go_to : (after : List Queued) → Extends before after → Contains (map (queued_state config query) after) (state_at config query ns (length cut))

@@ -18,4 +18,5 @@ pub mod OtherNames
 pub mod RedirectedAnswers
 pub mod RegionSearch
 pub mod NearestRegions
+pub mod NamesBelow
 pub mod OriginSets

@@ -13,9 +13,10 @@ use Rattle.net_model.specs.declared.config.Config.{Config}
 use Rattle.net_model.specs.declared.config.Server.{Server}
 use Rattle.net_model.specs.declared.config.Zone.{Zone}
 use Rattle.zone_lookup.specs.Named.{item_named, IsAtLongest}
-use Rattle.straight_walks.specs.Searching.{IsSearch}
-use Rattle.straight_walks.specs.Regions.{AreRegions, IsNearestOrigin, IsRegion, region_origins}
+use Rattle.straight_walks.specs.Regions.{AreRegions, IsRegion, IsSearchBelow, region_origins}
+use Rattle.straight_walks.specs.Straight.{NoOriginBetween}
 use Rattle.straight_walks.specs.declared.region.Region.{Region}
+use Rattle.straight_walks.proofs.BelowOrigins.{none_between_further}
 
 -- the origin of a region's zone
 abbrev pub origin_of : Region → Labels
@@ -57,7 +58,7 @@ module _ (config : Config) (deps : Deps) (regions : List Region) (are : AreRegio
         let other = found_there (λ (z : Zone). name_eq z.origin origin) holder.zones zone e in
         subst (Contains (region_origins regions)) ((name_eq_decides zone.origin origin).0 other.1) (are.all holder one.0 zone other.0)
 
-  is_nearest : IsNearestOrigin config (origin_of region) name
+  is_nearest : NoOriginBetween config (origin_of region) name
   is_nearest = record { above = above regions name region nearest; none_longer = λ server longer inside more. none server longer inside more (held_zone config server longer) refl } where
     none : (server longer : Labels) → is_prefix longer name ≡ true → length (origin_of region) < length longer → (held : Option Zone) → held_zone config server longer ≡ held
         → held ≡ None
@@ -67,6 +68,8 @@ module _ (config : Config) (deps : Deps) (regions : List Region) (are : AreRegio
         let inner : is_prefix (origin_of from.0) name ≡ true = ap (λ (n : Labels). is_prefix n name) from.2 ∙ inside in
         absurd (none_longer regions name region nearest from.0 from.1 inner (subst (λ (n : Labels). length (origin_of region) < length n) (sym from.2) more))
 
-  -- so the region's search is one for the name
-  pub search_for : IsSearch config deps name region.searched
-  search_for = each_along (IsRegion config deps) regions are.each region (found regions name region nearest).0 name is_nearest
+  -- so the region's search is one for the name, and for those below it with no origin between
+  pub search_for : IsSearchBelow config deps name region.searched
+  search_for query between =
+      each_along (IsRegion config deps) regions are.each region (found regions name region nearest).0 query
+      (none_between_further config (origin_of region) name query is_nearest between)

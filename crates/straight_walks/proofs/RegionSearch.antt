@@ -13,7 +13,8 @@ use Rattle.net_model.specs.declared.config.Config.{Config}
 use Rattle.net_model.specs.declared.walk.State.{State}
 use Rattle.zone_tree.specs.Tree.{ZoneTree, name_of}
 use Rattle.straight_walks.specs.Searching.{AreReferrals, Extends, HasWalked, IsReply, Passes, queued_state, unanswered}
-use Rattle.straight_walks.specs.Regions.{IsAnsweringMore, IsLookedAt, IsNearestOrigin, IsPassedMore, IsRegionStart, IsSearchBelow}
+use Rattle.straight_walks.specs.Regions.{IsAnsweringMore, IsLookedAt, IsPassedMore, IsRegionStart, IsSearchBelow}
+use Rattle.straight_walks.specs.Straight.{NoOriginBetween}
 use Rattle.straight_walks.specs.declared.queue.Queued.{Queued}
 use Rattle.straight_walks.specs.declared.region.RegionSearch.{RegionSearch}
 use Rattle.straight_walks.specs.declared.searching.Search.{Search}
@@ -26,30 +27,32 @@ module _ (config : Config) (deps : Deps) (origin : Labels) where
   -- ---- one server
 
   -- that has no zone for the origin: walks for each of the names pass it
-  pub outside_past : (server : Labels) (queue : List Queued) (fails : Bool) → IsReply config origin server reply.Outside → (query : Labels) → IsNearestOrigin config origin query
+  pub outside_past : (server : Labels) (queue : List Queued) (fails : Bool) → IsReply config origin server reply.Outside → (query : Labels) → NoOriginBetween config origin query
       → Passes config deps query server queue (unanswered fails) queue (unanswered true)
   outside_past server queue fails so query nearest =
       outside_passes config deps query server queue (unanswered fails) (same_nearest config origin query nearest server ∙ so)
 
-  -- whose zone refers it
+  -- whose zone refers it: by the same zone cut it refers each of the names
+  pub refers_below : (server : Labels) (tree : Bor ZoneTree) (cut : ℕ) → IsReply config origin server (reply.Refers tree cut)
+      → (query : Labels) → NoOriginBetween config origin query → IsReply config query server (reply.Refers tree cut)
+  refers_below server tree cut so query nearest =
+      let begins = is_prefix_tells origin query nearest.above in (
+        so.0,
+        so.1,
+        so.2,
+        same_nearest config origin query nearest server ∙ so.3,
+        ap (deciding tree.now.zone) (sym begins.1) ∙ cut_stays tree.now.zone origin begins.0 (name_of tree.now cut) so.4,
+      )
+
+  -- and walks pass it
   pub referral_past : (server : Labels) (queue : List Queued) (fails_before : Bool) (after : List Queued) (fails : Bool) (tree : Bor ZoneTree) (cut : ℕ)
       → IsReply config origin server (reply.Refers tree cut)
       → AreReferrals config deps origin server tree.now.zone (name_of tree.now cut) (ns_names tree.now.zone (name_of tree.now cut)) queue fails_before after fails
-      → (query : Labels) → IsNearestOrigin config origin query → Passes config deps query server queue (unanswered fails_before) after (unanswered fails)
+      → (query : Labels) → NoOriginBetween config origin query → Passes config deps query server queue (unanswered fails_before) after (unanswered fails)
   referral_past server queue fails_before after fails tree cut so on query nearest =
-      referral_passes config deps query server queue (unanswered fails_before) tree cut after fails below
+      referral_passes config deps query server queue (unanswered fails_before) tree cut after fails (refers_below server tree cut so query nearest)
       (refers_for config deps origin query (same_nearest config origin query nearest) server tree.now.zone (name_of tree.now cut) (ns_names tree.now.zone (name_of tree.now cut))
       queue fails_before after fails on)
-    where
-      below : IsReply config query server (reply.Refers tree cut)
-      below =
-          let begins = is_prefix_tells origin query nearest.above in (
-            so.0,
-            so.1,
-            so.2,
-            same_nearest config origin query nearest server ∙ so.3,
-            ap (deciding tree.now.zone) (sym begins.1) ∙ cut_stays tree.now.zone origin begins.0 (name_of tree.now cut) so.4,
-          )
 
   -- ---- those that are either out
 
@@ -57,7 +60,7 @@ module _ (config : Config) (deps : Deps) (origin : Labels) where
   -- which are all queued, and for each of the names the search has walked over those that are passed
   pub record AreLookedAt (at : ℕ) (search : RegionSearch) : Type 0 where
     pub within : at ≤ length search.queue.items
-    pub walked : (query : Labels) → IsNearestOrigin config origin query → HasWalked config deps query search.queue.items search.passed.items (unanswered search.fails)
+    pub walked : (query : Labels) → NoOriginBetween config origin query → HasWalked config deps query search.queue.items search.passed.items (unanswered search.fails)
     pub either : (one : Queued) → Contains (take at search.queue.items) one → Contains (search.passed.items ++ search.answering.items) one
     pub only : (one : Queued) → Contains (search.passed.items ++ search.answering.items) one → Contains search.queue.items one
 

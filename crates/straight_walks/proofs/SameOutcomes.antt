@@ -150,9 +150,9 @@ alike_decides one other rtype = (
 
 -- ---- what one more server answers
 
--- the ends with another number of rewrites
+-- the ends with another number of rewrites, of the query alone
 abbrev pub with_rewrites : StraightEnds → ℕ → StraightEnds
-with_rewrites ends rewrites = record ends { rewrites = rewrites }
+with_rewrites ends rewrites = record ends { rewrites = rewrites; below = false }
 
 module _ (ends : StraightEnds) (answering : Answering) (rewrites more : ℕ) (kept : ends.rewrites ≤ more) (reached : rewrites ≤ more) where
   -- it answers as those before
@@ -165,6 +165,7 @@ module _ (ends : StraightEnds) (answering : Answering) (rewrites more : ℕ) (ke
         there = λ rtype.
             ap (option_map (λ (one : Answering). leaf_of one rtype)) is ∙ ap (λ (leaf : Leaf). Some leaf) (same rtype);
         only = λ rtype outcome told. inl (back rtype outcome told);
+        alone = refl;
       }
     where
       still : (rtype : RrType) (outcome : Option Leaf) → IsOutcomeOf ends rtype outcome → IsOutcomeOf (with_rewrites ends more) rtype outcome
@@ -177,7 +178,7 @@ module _ (ends : StraightEnds) (answering : Answering) (rewrites more : ℕ) (ke
 
   -- or none answered before
   pub put_first : ends.answer ≡ None → IsPut ends answering rewrites (record (with_rewrites ends more) { answer = Some answering })
-  put_first none = record { still = record { rewrites = kept; outcomes = still }; behind = reached; there = λ rtype. refl; only = only } where
+  put_first none = record { still = record { rewrites = kept; outcomes = still }; behind = reached; there = λ rtype. refl; only = only; alone = refl } where
     still : (rtype : RrType) (outcome : Option Leaf) → IsOutcomeOf ends rtype outcome → IsOutcomeOf (record (with_rewrites ends more) { answer = Some answering }) rtype outcome
     still rtype None is = is
     still rtype (Some leaf) is =

@@ -21,7 +21,7 @@ use Rattle.walk_laws.specs.Outcome.{HasOutcome, outcome_of}
 use Rattle.zone_tree.specs.Tree.{ZoneTree, name_of}
 use Rattle.straight_walks.specs.Answers.{Answering, leaf_of}
 use Rattle.straight_walks.specs.Ends.{IsOutcomeOf}
-use Rattle.straight_walks.specs.Searching.{AnswersSo, AreReferrals, EndsWith, GoesStraightIn, HasPassed, HasWalked, IsComeTo, IsPut, IsReply, IsSettingFor, IsSettingOf, KeepsOutcomes, LeadsOn, Passes, PassesState, state_at, queued_state, to_servers, unanswered}
+use Rattle.straight_walks.specs.Searching.{AnswersSo, AreReferrals, EndsWith, GoStraightIn, GoesStraightIn, HasPassed, HasWalked, IsComeTo, IsPut, IsReply, IsSettingFor, IsSettingOf, KeepsOutcomes, LeadsOn, Passes, PassesState, state_at, queued_state, to_servers, unanswered}
 use Rattle.straight_walks.specs.Straight.{FailsOrGoes, StepsStraight}
 use Rattle.straight_walks.specs.declared.ends.StraightEnds.{StraightEnds}
 use Rattle.straight_walks.specs.declared.queue.Queued.{Queued}
@@ -296,8 +296,8 @@ module _ (config : Config) (deps : Deps) (query : Labels) where
   -- and where the ends are given if they are within these limits
   pub given_within : (rewrites most states : ℕ) (ends : StraightEnds) (given : Option StraightEnds) → IfSome given (λ found. found ≡ ends)
       → IfSome given (λ found. states * (ends.rewrites + 1) ≤ most) → IfSome given (λ found. ends.rewrites ≤ rewrites)
-      → (states * (ends.rewrites + 1) ≤ most → GoesStraightIn config deps ends.rewrites most query ends) → IfSome given (GoesStraightIn config deps rewrites most query)
+      → (states * (ends.rewrites + 1) ≤ most → GoStraightIn config deps ends.rewrites most query ends) → IfSome given (GoStraightIn config deps rewrites most query)
   given_within rewrites most states ends None same few fewer straight = tt
   given_within rewrites most states ends (Some found) same few fewer straight =
-      subst (GoesStraightIn config deps rewrites most query) (sym same)
-      (λ setting of enough rtype. straight few setting of (omega (arith, fewer, enough)) rtype)
+      subst (GoStraightIn config deps rewrites most query) (sym same)
+      (λ name told setting of enough rtype. straight few name told setting of (omega (arith, fewer, enough)) rtype)

@@ -1,26 +1,21 @@
 -- Names by the longest origin of a zone at or above them, for all of which walks are the same as long as no zone
 -- answers. A public clause cites AreRegionsFor alone.
-use Rattle.std.specs.Prelude.{◌≡◌, ◌<◌, true, false, List, [], ◌∷◌, ◌++◌, ◌⊎◌, map, length, None, Contains}
+use Rattle.std.specs.Prelude.{◌≡◌, ◌<◌, false, List, [], ◌∷◌, ◌++◌, ◌⊎◌, map, Contains}
 use Rattle.std.specs.List.{AllByRecursion}
 use Rattle.std.specs.List.Sorted.{IsStrictlySortedBy}
-use Rattle.dns_data.specs.Name.{Labels, is_prefix, name_cmp}
+use Rattle.dns_data.specs.Name.{Labels, name_cmp}
 use Rattle.net_model.specs.declared.deps.Deps.{Deps}
-use Rattle.net_model.specs.Nearest.{held_zone}
 use Rattle.net_model.specs.Step.{start}
 use Rattle.net_model.specs.declared.config.Config.{Config}
 use Rattle.net_model.specs.declared.config.Server.{Server}
 use Rattle.net_model.specs.declared.config.Zone.{Zone}
 use Rattle.straight_walks.specs.Searching.{Extends, IsSearch, Passes, queued_state, unanswered}
+use Rattle.straight_walks.specs.Straight.{NoOriginBetween}
 use Rattle.straight_walks.specs.declared.queue.Queued.{Queued}
 use Rattle.straight_walks.specs.declared.searching.Search.{Search}
 use Rattle.straight_walks.specs.declared.region.Region.{Region}
 use Rattle.straight_walks.specs.declared.region.RegionSearch.{RegionSearch}
 use Rattle.straight_walks.specs.declared.regions.Regions.{Regions}
-
--- the origin is at or above the name, and no server has a zone whose origin is and has more labels
-pub record IsNearestOrigin (config : Config) (origin name : Labels) : Type 0 where
-  pub above : is_prefix origin name ≡ true
-  pub none_longer : (server longer : Labels) → is_prefix longer name ≡ true → length origin < length longer → held_zone config server longer ≡ None
 
 -- each zone's origin is among the origins
 abbrev pub HasOrigins : List Zone → List Labels → Type 0
@@ -30,9 +25,9 @@ HasOrigins zones origins = (zone : Zone) → Contains zones zone → Contains or
 abbrev pub HasEachOrigin : Config → List Labels → Type 0
 HasEachOrigin config origins = (server : Server) → Contains config.servers server → HasOrigins server.zones origins
 
--- the search is one for each name whose nearest origin this is
+-- the search is one for the name and for each below it with no origin between
 abbrev pub IsSearchBelow : Config → Deps → Labels → Search → Type 0
-IsSearchBelow config deps origin searched = (query : Labels) → IsNearestOrigin config origin query → IsSearch config deps query searched
+IsSearchBelow config deps origin searched = (query : Labels) → NoOriginBetween config origin query → IsSearch config deps query searched
 
 -- the search begins at the top servers: there its states are, for each name, and no other
 pub record IsRegionStart (config : Config) (search : RegionSearch) : Type 0 where
@@ -41,13 +36,13 @@ pub record IsRegionStart (config : Config) (search : RegionSearch) : Type 0 wher
   pub answering : search.answering.items ≡ []
   pub fails : search.fails ≡ false
 
--- the state is put at the end of those that are passed: for each name whose nearest origin this is walks go straight
--- from it, and its server answers none of them
+-- the state is put at the end of those that are passed: for the origin and each name below it with no other between
+-- walks go straight from it, and its server answers none of them
 pub record IsPassedMore (config : Config) (deps : Deps) (origin : Labels) (one : Queued) (before after : RegionSearch) : Type 0 where
   pub extends : Extends before.queue.items after.queue.items
   pub passed : after.passed.items ≡ before.passed.items ++ one ∷ []
   pub answering : after.answering.items ≡ before.answering.items
-  pub passes : (query : Labels) → IsNearestOrigin config origin query
+  pub passes : (query : Labels) → NoOriginBetween config origin query
       → Passes config deps query one.server.now before.queue.items (unanswered before.fails) after.queue.items (unanswered after.fails)
 
 -- the state is put at the end of those whose servers answer, or redirect the query

@@ -1,5 +1,5 @@
 -- What servers reply, and searches over the states of walks: for the contracts of inner calls alone.
-use Rattle.std.specs.Prelude.{◌≡◌, ◌<◌, ◌≤◌, ◌+◌, ◌*◌, ℕ, Bool, true, false, List, [], ◌∷◌, ◌++◌, map, take, length, Contains, Option, Some, None, is_some, option_map, IfSome, ◌⊎◌}
+use Rattle.std.specs.Prelude.{◌≡◌, ◌≢◌, ◌<◌, ◌≤◌, ◌+◌, ◌*◌, ℕ, Bool, true, false, List, [], ◌∷◌, ◌++◌, map, take, length, Contains, Option, Some, None, is_some, option_map, IfSome, ◌⊎◌}
 use Rattle.std.specs.List.{AllByRecursion, slice_get}
 use Rattle.dns_data.specs.Name.{Labels, is_prefix}
 use Rattle.dns_data.specs.RrType.{type_eq}
@@ -11,7 +11,7 @@ use Rattle.net_model.specs.Nearest.{held_zone, nearest_of}
 use Rattle.net_model.specs.Shown.{is_authoritative}
 use Rattle.net_model.specs.Step.{Setting, Branch, Go, End, next, referred, start}
 use Rattle.net_model.specs.Walk.{IsWalk, walk_from}
-use Rattle.net_model.specs.Zone.{targets_at}
+use Rattle.net_model.specs.Zone.{ns_names, targets_at}
 use Rattle.net_model.specs.declared.config.Config.{Config}
 use Rattle.net_model.specs.declared.config.Zone.{Zone}
 use Rattle.net_model.specs.declared.place.Cut.{Cut}
@@ -23,11 +23,11 @@ use Rattle.net_model.specs.declared.walk.Leaf.TheVariants.{NxDomain}
 use Rattle.net_model.specs.declared.walk.State.{State}
 use Rattle.net_model.specs.declared.walk.Walk.{Walk}
 use Rattle.walk_laws.specs.Outcome.{HasOutcome, outcome_of}
-use Rattle.zone_tree.specs.Tree.{IsNode, name_of}
+use Rattle.zone_tree.specs.Tree.{ZoneTree, IsNode, name_of}
 use Rattle.zone_lookup.specs.Sound.{IsSound}
 use Rattle.straight_walks.specs.Answers.{Answering, ZoneOwner, leaf_of, owner_leaf, zone_owner}
 use Rattle.straight_walks.specs.Ends.{IsOutcomeOf}
-use Rattle.straight_walks.specs.Straight.{EndsUnanswered, FailsOrGoes, FollowsLeast, GoesStraight}
+use Rattle.straight_walks.specs.Straight.{EndsUnanswered, FailsOrGoes, FollowsLeast, GoesStraight, NoOriginBetween}
 use Rattle.straight_walks.specs.declared.aliases.AliasEnd.{AliasEnd}
 use Rattle.straight_walks.specs.declared.ends.StraightEnds.{StraightEnds}
 use Rattle.straight_walks.specs.declared.queue.Queued.{Queued}
@@ -84,23 +84,33 @@ IsComeTo setting query rtype state =
 
 -- ---- ends
 
--- no zone answers, no walk is rewritten, and walks fail or don't
+-- the ends are those of the name too: it is the query, or it is below it with no origin between, where the ends tell of
+-- such names
+abbrev pub AreEndsFor : Config → Labels → StraightEnds → Labels → Type 0
+AreEndsFor config query ends name = (name ≡ query) ⊎ ((ends.below ≡ true) × NoOriginBetween config query name)
+
+-- no zone answers the query nor a name below it, no walk is rewritten, and walks fail or don't
 abbrev pub unanswered : Bool → StraightEnds
-unanswered fails = record { answer = None; fails = fails; rewrites = 0 }
+unanswered fails = record { answer = None; fails = fails; rewrites = 0; below = true }
+
+-- the ends, and some walk ends where no zone answers
+abbrev pub failing : StraightEnds → StraightEnds
+failing ends = record ends { fails = true }
 
 -- each outcome of the first is one of the second, behind no fewer rewrites
 pub record KeepsOutcomes (before after : StraightEnds) : Type 0 where
   pub rewrites : before.rewrites ≤ after.rewrites
   pub outcomes : (rtype : RrType) (outcome : Option Leaf) → IsOutcomeOf before rtype outcome → IsOutcomeOf after rtype outcome
 
--- what a server answers behind so many rewrites is put to the ends: it is their answer then, and no other outcome comes
--- to those before
+-- what a server answers behind so many rewrites is put to the ends: it is their answer then, no other outcome comes to
+-- those before, and they tell of the query alone
 pub record IsPut (before : StraightEnds) (answering : Answering) (rewrites : ℕ) (after : StraightEnds) : Type 0 where
   pub still : KeepsOutcomes before after
   pub behind : rewrites ≤ after.rewrites
   pub there : (rtype : RrType) → IsOutcomeOf after rtype (Some (leaf_of answering rtype))
   pub only : (rtype : RrType) (outcome : Option Leaf) → IsOutcomeOf after rtype outcome
       → IsOutcomeOf before rtype outcome ⊎ (outcome ≡ Some (leaf_of answering rtype))
+  pub alone : after.below ≡ false
 
 -- ---- referrals
 
@@ -135,6 +145,18 @@ pub record AreReferrals (config : Config) (deps : Deps) (query server : Labels) 
   pub told : fails ≡ true → (fails_before ≡ true)
       ⊎ ((setting : Setting) (above : ℕ) → IsSettingOf config deps setting
       → (hop : Option Hop) × (leaf : Leaf) × Contains (to_servers zone cut names setting (state_at config query server above)) (End hop leaf) × (outcome_of leaf ≡ None))
+
+-- walks end at the name server of the zone cut of a tree, and the referral shows no fault, from any server that holds the
+-- zone and for any query
+abbrev pub EndsOutside : Config → ZoneTree → ℕ → Labels → Type 0
+EndsOutside config tree cut ns =
+    (deps : Deps) (query server : Labels) → held_zone config server tree.zone.origin ≡ Some tree.zone
+    → IsReferral config deps query (cut_to server tree.zone (name_of tree cut) ns) referral.Ends
+
+-- so they do at all its name servers, of which there are some
+abbrev pub AllEndOutside : Config → ZoneTree → ℕ → Type 0
+AllEndOutside config tree cut =
+    AllByRecursion (EndsOutside config tree cut) (ns_names tree.zone (name_of tree cut)) × (ns_names tree.zone (name_of tree cut) ≢ [])
 
 -- ---- servers
 
@@ -272,23 +294,31 @@ pub record HasPassed (config : Config) (deps : Deps) (query : Labels) (queue : L
 abbrev pub IsSearch : Config → Deps → Labels → Search → Type 0
 IsSearch config deps query searched = HasPassed config deps query searched.queue.items searched.passed (unanswered searched.fails)
 
+-- for each name of which they are the ends the first queued states, as many as said, are passed
+abbrev pub HavePassed : Config → Deps → Labels → List Queued → ℕ → StraightEnds → Type 0
+HavePassed config deps query queue passed ends = (name : Labels) → AreEndsFor config query ends name → HasPassed config deps name queue passed ends
+
 -- in each setting of the configuration in which walks may use so many rewrites those of the query go straight to the
 -- ends, with each type, over at most so many states
 abbrev pub GoesStraightIn : Config → Deps → ℕ → ℕ → Labels → StraightEnds → Type 0
 GoesStraightIn config deps rewrites most query ends =
     (setting : Setting) → IsSettingOf config deps setting → rewrites ≤ setting.rewrites → (rtype : RrType) → GoesStraight setting deps most query ends rtype
 
+-- so do those of each name of which they are the ends
+abbrev pub GoStraightIn : Config → Deps → ℕ → ℕ → Labels → StraightEnds → Type 0
+GoStraightIn config deps rewrites most query ends = (name : Labels) → AreEndsFor config query ends name → GoesStraightIn config deps rewrites most name ends
+
 -- the next referral of a search that has passed so many of the states, with what walks end in before and after: where
 -- walks end at all of them the query goes straight; where a server refers the query the search has passed all up to
 -- that state
 abbrev pub IsNextReferral : Config → Labels → List Queued → ℕ → StraightEnds → StraightEnds → NextReferral → Type 0
 IsNextReferral config query queue before ends_before ends referring.Ends =
-    (deps : Deps) → HasPassed config deps query queue before ends_before
-    → (most : ℕ) → length queue * (ends.rewrites + 1) ≤ most → GoesStraightIn config deps ends.rewrites most query ends
+    (deps : Deps) → HavePassed config deps query queue before ends_before
+    → (most : ℕ) → length queue * (ends.rewrites + 1) ≤ most → GoStraightIn config deps ends.rewrites most query ends
 IsNextReferral config query queue before ends_before ends (referring.Refers passed tree cut) =
     (before ≤ passed)
     × (passed < length queue)
     × IfSome (slice_get queue passed) (λ one. IsReply config query one.server.now (reply.Refers tree cut))
-    × ((deps : Deps) → HasPassed config deps query queue before ends_before → HasPassed config deps query queue passed ends)
+    × ((deps : Deps) → HavePassed config deps query queue before ends_before → HavePassed config deps query queue passed ends)
 IsNextReferral config query queue before ends_before ends referring.NoMemory = Unit {0}
 IsNextReferral config query queue before ends_before ends referring.Unclear = Unit {0}

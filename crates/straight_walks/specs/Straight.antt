@@ -1,11 +1,11 @@
 -- Queries whose walks go straight: by delegations and by rewrites in one server, to ends that show no fault, where all
 -- servers answer alike.
-use Rattle.std.specs.Prelude.{◌≡◌, ◌≤◌, ℕ, Bool, true, List, ◌⊎◌, length, Option, Some, None, Contains}
+use Rattle.std.specs.Prelude.{◌≡◌, ◌<◌, ◌≤◌, ℕ, Bool, true, List, ◌⊎◌, length, Option, Some, None, Contains}
 use Rattle.std.specs.List.{AllByRecursion, list_any}
-use Rattle.dns_data.specs.Name.{Labels, name_eq}
+use Rattle.dns_data.specs.Name.{Labels, is_prefix, name_eq}
 use Rattle.dns_data.specs.declared.rr_type.RrType.{RrType}
 use Rattle.net_model.specs.declared.deps.Deps.{Deps}
-use Rattle.net_model.specs.Nearest.{is_configured}
+use Rattle.net_model.specs.Nearest.{held_zone, is_configured}
 use Rattle.net_model.specs.Shown.{is_authoritative}
 use Rattle.net_model.specs.Step.{Setting, Branch, Go, End, next, start}
 use Rattle.net_model.specs.declared.config.Config.{Config}
@@ -19,6 +19,11 @@ use Rattle.walk_laws.specs.Outcome.{HasOutcome}
 use Rattle.zone_lookup.specs.Sound.{IsSound}
 use Rattle.straight_walks.specs.Ends.{IsOutcomeOf}
 use Rattle.straight_walks.specs.declared.ends.StraightEnds.{StraightEnds}
+
+-- the name is at or below the other, and no server has a zone with a longer origin at or above the name
+pub record NoOriginBetween (config : Config) (upper name : Labels) : Type 0 where
+  pub above : is_prefix upper name ≡ true
+  pub none_longer : (server longer : Labels) → is_prefix longer name ≡ true → length upper < length longer → held_zone config server longer ≡ None
 
 -- the branch ends where no zone answers: its server holds none for the name, or the name server isn't configured
 abbrev pub EndsUnanswered : Config → Deps → Branch → Type 0

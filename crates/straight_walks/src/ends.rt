@@ -2,18 +2,20 @@
 
 ghost use Rattle.std.specs.Prelude.{◌≡◌, true};
 ghost use Rattle.straight_walks.specs.Ends.{answers_alike, ends_alike};
-ghost use Rattle.straight_walks.specs.Searching.{IsPut};
+ghost use Rattle.straight_walks.specs.Searching.{IsPut, failing};
 
 use crate::answers::ZoneAnswer;
 use dns_data::RrType;
 
 /// What walks end in that go straight: each server that answers answers this, where some walk ends in an answer, and
-/// some walks may end where no server answers. No walk is rewritten more often than so.
+/// some walks may end where no server answers. No walk is rewritten more often than so. It is told whether they are known
+/// to be the ends of each name below the query too, with no origin of a zone between.
 #[derive(Drop)]
 pub struct StraightEnds<'h, 'a> {
     pub answer: Option<ZoneAnswer<'h, 'a>>,
     pub fails: bool,
     pub rewrites: u32,
+    pub below: bool,
 }
 
 impl<'h, 'a> StraightEnds<'h, 'a> {
@@ -26,16 +28,25 @@ impl<'h, 'a> StraightEnds<'h, 'a> {
     }
 
     /// Puts what one more server answers behind so many rewrites to the others: whether it answers as each one before.
-    /// Where none answered before, this is the answer from then on.
+    /// Where none answered before, this is the answer from then on. It is one to the query, and tells nothing of the names
+    /// below it.
     pub(crate) fn put(&mut self, answer: ZoneAnswer<'h, 'a>, rewrites: u32) -> bool
         ensures { result ≡ true → IsPut self.old answer.entry rewrites self.new }
     {
+        self.below = false;
         self.rewrites = self.rewrites.max(rewrites);
         if let Some(before) = &self.answer {
             return before.is_same(&answer);
         }
         self.answer = Some(answer);
         true
+    }
+
+    /// Puts that some walk ends where no server answers.
+    pub(crate) fn put_failing(&mut self)
+        ensures { self.new ≡ failing self.old }
+    {
+        self.fails = true;
     }
 }
 

@@ -6,7 +6,7 @@ ghost use Rattle.net_model.specs.declared.deps.Deps.{Deps};
 ghost use Rattle.net_model.specs.Nearest.{held_zone, server_named};
 ghost use Rattle.net_model.specs.declared.config.Config.{Config};
 ghost use Rattle.zone_tree.specs.Tree.{IsNode, name_of};
-ghost use Rattle.straight_walks.specs.Searching.{IsReferral};
+ghost use Rattle.straight_walks.specs.Searching.{EndsOutside, IsReferral};
 
 use dns_data::{Name, NoMemory};
 use net_model::Cut;
@@ -21,6 +21,22 @@ pub(crate) enum Referral {
     Ends,
     GoesOn,
     Unclear,
+}
+
+/// Whether the name server of a zone cut isn't configured, so that walks end there, and the referral to it is seen to show
+/// no fault.
+pub(crate) fn ends_outside(hosts: &Hosts<'_>, tree: &Tree<'_>, cut: NodeId, ns: &Name) -> bool
+    requires node { IsNode tree.now cut }
+    requires inside { is_prefix tree.now.zone.origin (name_of tree.now cut) ≡ true }
+    ensures { result ≡ true → EndsOutside hosts.now tree.now cut ns.now }
+{
+    match hosts.host(ns) {
+        Some(_) => false,
+        None => match referral_to_unhosted(tree, cut, ns) {
+            Referral::Ends => true,
+            Referral::GoesOn | Referral::Unclear => false,
+        },
+    }
 }
 
 /// The referral of the query to the cut's name server, which is this host.

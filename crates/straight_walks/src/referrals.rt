@@ -5,15 +5,31 @@ ghost use Rattle.dns_data.specs.Name.{is_prefix};
 ghost use Rattle.net_model.specs.Nearest.{held_zone};
 ghost use Rattle.net_model.specs.Zone.{ns_names};
 ghost use Rattle.zone_tree.specs.Tree.{IsNode, name_of};
-ghost use Rattle.straight_walks.specs.Searching.{AreReferrals, IsReferral};
+ghost use Rattle.straight_walks.specs.Searching.{AllEndOutside, AreReferrals, IsReferral};
 
-use crate::name_server::{Referral, referral_to_host, referral_to_unhosted};
+use crate::name_server::{Referral, ends_outside, referral_to_host, referral_to_unhosted};
 use crate::queue::{Queued, enqueue};
 use dns_data::{Name, NoMemory};
 use net_model::Cut;
 use std::alloc::Global;
 use zone_lookup::{Hosts, LearntSets};
 use zone_tree::{NodeId, Tree};
+
+/// Whether none of the name servers of a zone cut is configured, so that walks end at all of them, and the referrals are
+/// seen to show no fault. It takes no memory.
+pub(crate) fn all_end_outside(hosts: &Hosts<'_>, tree: &Tree<'_>, cut: NodeId) -> bool
+    requires node { IsNode tree.now cut }
+    requires inside { is_prefix tree.now.zone.origin (name_of tree.now cut) ≡ true }
+    ensures { result ≡ true → AllEndOutside hosts.now tree.now cut }
+{
+    let servers = tree.name_servers(cut);
+    for ns in servers {
+        if !ends_outside(hosts, tree, cut, ns) {
+            return false;
+        }
+    }
+    !servers.is_empty()
+}
 
 /// Whether the referrals of a zone cut are seen to show no fault. The states at its name servers that are configured
 /// are queued then; and walks fail that end at one that isn't.

@@ -7,6 +7,7 @@ use crate::answers::ZoneAnswer;
 use crate::ends::StraightEnds;
 use crate::queue::Queued;
 use crate::redirections::put_redirected;
+use crate::referrals::all_end_outside;
 use crate::server::{Reply, reply_of};
 use dns_data::{Name, NoMemory};
 use std::alloc::Global;
@@ -16,7 +17,7 @@ use zone_tree::{NodeId, Tree};
 /// The next referral of a search over the queued states that it hasn't passed yet: there is none, walks end at all of
 /// them, and all servers that answer answer alike; or they do so up to the state of this place, whose server refers the
 /// query by this zone cut; or memory was wanting, which is no `Err`, since no call that gives a `Result` of nodes is proved.
-/// Of other searches nothing is said.
+/// A zone cut at all of whose name servers walks end is no such referral. Of other searches nothing is said.
 #[derive(Clone, Copy)]
 pub(crate) enum NextReferral<'h, 'a> {
     Ends,
@@ -46,7 +47,7 @@ pub(crate) fn next_referral<'h, 'a>(
         let one = queue[passed];
         let answered = match reply_of(hosts, one.near, query, one.server) {
             Reply::Outside => {
-                ends.fails = true;
+                ends.put_failing();
                 true
             }
             Reply::Records(tree, owner) => ends.put(ZoneAnswer::of_owner(tree, owner), 0),
@@ -66,7 +67,13 @@ pub(crate) fn next_referral<'h, 'a>(
                 }
             }
             Reply::Nothing(tree) => ends.put(ZoneAnswer::of_nothing(tree), 0),
-            Reply::Refers(tree, cut) => return NextReferral::Refers { passed, tree, cut },
+            Reply::Refers(tree, cut) => {
+                if !all_end_outside(hosts, tree, cut) {
+                    return NextReferral::Refers { passed, tree, cut };
+                }
+                ends.put_failing();
+                true
+            }
             Reply::Unclear => false,
         };
         if !answered {

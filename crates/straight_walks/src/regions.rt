@@ -6,8 +6,7 @@ ghost use Rattle.std.specs.List.Sorted.{IsStrictlySortedBy};
 ghost use Rattle.dns_data.specs.Name.{name_cmp};
 ghost use Rattle.net_model.specs.declared.config.Config.{Config};
 ghost use Rattle.net_model.specs.declared.deps.Deps.{Deps};
-ghost use Rattle.straight_walks.specs.Searching.{IsSearch};
-ghost use Rattle.straight_walks.specs.Regions.{AreRegionsFor, IsRegion, region_origins};
+ghost use Rattle.straight_walks.specs.Regions.{AreRegionsFor, IsRegion, IsSearchBelow, region_origins};
 
 use crate::origins::origins_of;
 use crate::region::{Region, search_below};
@@ -38,11 +37,12 @@ impl<'a> Regions<'a> {
     }
 
     /// The search for a name, which has passed all states up to those whose servers answer for the nearest origin, or
-    /// `None` where no origin is at or above the name. The region is looked for near a place first, whatever that is,
-    /// and the place is left near which that of the next name may be looked for.
+    /// `None` where no origin is at or above the name. It is one for the names below too that have no origin between. The
+    /// region is looked for near a place first, whatever that is, and the place is left near which that of the next name
+    /// may be looked for.
     pub(crate) fn search_for(&self, near: &mut usize, query: &Name) -> Option<&Search<'a>>
         requires { IsStrictlySortedBy name_cmp (region_origins self.now.regions.items) }
-        ensures { IfSome result (λ searched. (config : Config) (deps : Deps) → AreRegionsFor config deps self.now → IsSearch config deps query.now searched.now) }
+        ensures { IfSome result (λ searched. (config : Config) (deps : Deps) → AreRegionsFor config deps self.now → IsSearchBelow config deps query.now searched.now) }
     {
         match nearest_item(self.regions.as_slice(), near, query) {
             Some(region) => Some(&region.searched),

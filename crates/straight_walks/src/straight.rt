@@ -2,6 +2,7 @@
 
 ghost use Rattle.std.specs.Prelude.{◌≡◌, ◌<◌, ◌≤◌, ◌+◌, ◌*◌, ◌↔◌, Option as Optional, IfOk, IfSome, length, true};
 ghost use Rattle.std.specs.List.{slice_get};
+ghost use Rattle.dns_data.specs.Name.{Labels};
 ghost use Rattle.dns_data.specs.declared.rr_type.RrType.{RrType as RrTypeValue};
 ghost use Rattle.net_model.specs.declared.fault.Fault.{Fault as FaultValue};
 ghost use Rattle.net_model.specs.declared.walk.Leaf.{Leaf as LeafValue};
@@ -10,9 +11,10 @@ ghost use Rattle.net_model.specs.Step.{following};
 ghost use Rattle.net_model.specs.Tree.{HasMoreThan, IsReached};
 ghost use Rattle.net_model.specs.Walk.{IsBoundedWith};
 ghost use Rattle.straight_walks.specs.Ends.{IsOutcomeOf};
-ghost use Rattle.straight_walks.specs.Searching.{GoesStraightIn, HasPassed, IsReply, IsSearch};
+ghost use Rattle.straight_walks.specs.Searching.{GoStraightIn, HavePassed, IsReply};
 ghost use Rattle.straight_walks.specs.declared.server.Reply.TheVariants as reply_as;
-ghost use Rattle.straight_walks.specs.Regions.{AreRegionsFor};
+ghost use Rattle.straight_walks.specs.Regions.{AreRegionsFor, IsSearchBelow};
+ghost use Rattle.straight_walks.specs.Straight.{NoOriginBetween};
 ghost use Rattle.walk_laws.specs.Outcome.{HasOutcome};
 
 use crate::ends::StraightEnds;
@@ -38,10 +40,11 @@ struct Limits {
 
 /// What the walks of a query end in, where they are seen to go straight over few enough pairs of state and type, or
 /// `None`. Each walk may use so many rewrites. Then the query shows no fault, with no type does a walk of it end in a
-/// name of more than 255 octets (RFC 6672 section 2.2), and it has the outcomes of these ends and no others. The sets
-/// are the least and the greatest set of learnt addresses; the servers of the least set are followed. The regions are
-/// those of the same servers and sets. The query's region is looked for near a place first, whatever that is, and the
-/// place is left near which that of the next query may be looked for.
+/// name of more than 255 octets (RFC 6672 section 2.2), and it has the outcomes of these ends and no others. Where they
+/// are known to be the ends of each name below the query with no origin of a zone between, such a name shows no fault
+/// either. The sets are the least and the greatest set of learnt addresses; the servers of the least set are followed.
+/// The regions are those of the same servers and sets. The query's region is looked for near a place first, whatever
+/// that is, and the place is left near which that of the next query may be looked for.
 pub fn straight_ends<'h, 'a>(
     alloc: Global,
     hosts: &'h Hosts<'a>,
@@ -60,6 +63,11 @@ pub fn straight_ends<'h, 'a>(
         → IsBoundedWith (following hosts.now rewrites sets.now.least) query.now rtype)) }
     ensures outcomes { IfOk result (λ found. IfSome found (λ ends. (rtype : RrTypeValue) (outcome : Optional LeafValue)
         → HasOutcome (following hosts.now rewrites sets.now.least) query.now rtype outcome ↔ IsOutcomeOf ends rtype outcome)) }
+    ensures few_below { IfOk result (λ found. IfSome found (λ ends. ends.below ≡ true → (name : Labels) → NoOriginBetween hosts.now query.now name
+        → HasMoreThan (IsReached hosts.now rewrites name) states → ⊥)) }
+    ensures nothing_below { IfOk result (λ found. IfSome found (λ ends. ends.below ≡ true → (name : Labels) → NoOriginBetween hosts.now query.now name
+        → (rtype : RrTypeValue) (fault : FaultValue)
+        → Shows (with_lists (following hosts.now rewrites sets.now.least) sets.now.least sets.now.greatest) name rtype fault → ⊥)) }
 {
     let most = (states / 12).min(MOST);
     let limits = Limits {
@@ -81,7 +89,7 @@ fn ends_by_region<'h, 'a>(
     limits: Limits,
 ) -> Result<Option<StraightEnds<'h, 'a>>, NoMemory>
     requires { AreRegionsFor hosts.now sets.now regions.now }
-    ensures { IfOk result (λ found. IfSome found (GoesStraightIn hosts.now sets.now limits.rewrites limits.states query.now)) }
+    ensures { IfOk result (λ found. IfSome found (GoStraightIn hosts.now sets.now limits.rewrites limits.states query.now)) }
 {
     match regions.search_for(near, query) {
         Some(searched) => ends_from(alloc, hosts, sets, query, searched, limits),
@@ -93,7 +101,7 @@ fn ends_by_region<'h, 'a>(
 }
 
 /// What walks end in that go straight within the limits from all states of a search that has begun. The states are
-/// copied where a server refers the query, and the search goes on from there.
+/// copied where a server refers the query to servers that are configured, and the search goes on from there.
 fn ends_from<'h, 'a>(
     alloc: Global,
     hosts: &'h Hosts<'a>,
@@ -102,8 +110,8 @@ fn ends_from<'h, 'a>(
     searched: &Search<'a>,
     limits: Limits,
 ) -> Result<Option<StraightEnds<'h, 'a>>, NoMemory>
-    requires { IsSearch hosts.now sets.now query.now searched.now }
-    ensures { IfOk result (λ found. IfSome found (GoesStraightIn hosts.now sets.now limits.rewrites limits.states query.now)) }
+    requires { IsSearchBelow hosts.now sets.now query.now searched.now }
+    ensures { IfOk result (λ found. IfSome found (GoStraightIn hosts.now sets.now limits.rewrites limits.states query.now)) }
 {
     let queue = searched.queue.as_slice();
     if queue.len() > limits.states {
@@ -113,6 +121,7 @@ fn ends_from<'h, 'a>(
         answer: None,
         fails: searched.fails,
         rewrites: 0,
+        below: true,
     };
     match next_referral(alloc, hosts, query, queue, searched.passed, &mut ends) {
         NextReferral::Ends => Ok(ends_within(ends, queue.len(), limits)),
@@ -142,8 +151,8 @@ fn all_ends<'h, 'a>(
     ends: StraightEnds<'h, 'a>,
     limits: Limits,
 ) -> Result<Option<StraightEnds<'h, 'a>>, NoMemory>
-    requires { HasPassed hosts.now sets.now query.now queue.items passed ends }
-    ensures { IfOk result (λ found. IfSome found (GoesStraightIn hosts.now sets.now limits.rewrites limits.states query.now)) }
+    requires { HavePassed hosts.now sets.now query.now queue.items passed ends }
+    ensures { IfOk result (λ found. IfSome found (GoStraightIn hosts.now sets.now limits.rewrites limits.states query.now)) }
 {
     let mut queue = queue;
     let mut passed = passed;
@@ -186,8 +195,8 @@ fn passes_referral<'h, 'a>(
 ) -> Result<bool, NoMemory>
     requires within { place < length queue.old.items }
     requires refers { IfSome (slice_get queue.old.items place) (λ one. IsReply hosts.now query.now one.server.now (reply_as.Refers tree cut)) }
-    requires passed { HasPassed hosts.now sets.now query.now queue.old.items place ends.old }
-    ensures { IfOk result (λ straight. straight ≡ true → HasPassed hosts.now sets.now query.now queue.new.items (place + 1) ends.new) }
+    requires passed { HavePassed hosts.now sets.now query.now queue.old.items place ends.old }
+    ensures { IfOk result (λ straight. straight ≡ true → HavePassed hosts.now sets.now query.now queue.new.items (place + 1) ends.new) }
 {
     let server = queue[place].server;
     queue_referrals(

@@ -1,8 +1,9 @@
 use Rattle.std.proofs.Common.{◌<◌, List, IfSome, length, sym, subst}
 use Rattle.std.specs.List.{slice_get}
-use Rattle.straight_walks.specs.Searching.{HasPassed, IsReply, unanswered}
+use Rattle.straight_walks.specs.Searching.{HavePassed, IsReply, unanswered}
 use Rattle.straight_walks.specs.declared.queue.Queued.{Queued}
 use Rattle.straight_walks.specs.declared.server.Reply.TheVariants as reply
+use Rattle.straight_walks.proofs.NamesBelow.{begun}
 use Rattle.straight_walks.proofs.StraightSearch.{given_within}
 use Rattle.straight_walks.proofs.straight.ends_from.Goals as goal
 
@@ -18,11 +19,11 @@ passes_referral-requires-clause-refers c =
 
 pub passes_referral-requires-clause-passed : goal.passes_referral-requires-clause-passed
 passes_referral-requires-clause-passed c =
-    subst (λ (all : List Queued). HasPassed c.args.hosts.now c.args.sets.now c.args.query.now all c.in-Refers.passed c.next_referral.new.ends)
+    subst (λ (all : List Queued). HavePassed c.args.hosts.now c.args.sets.now c.args.query.now all c.in-Refers.passed c.next_referral.new.ends)
     (sym c.in_ok-queue-in-Refers.ensures.items)
     (c.in-Refers.ensures.3 c.args.sets.now
-    (subst (λ (all : List Queued). HasPassed c.args.hosts.now c.args.sets.now c.args.query.now all c.args.searched.now.passed (unanswered c.args.searched.now.fails))
-    (sym c.as_slice-queue.ensures.value) c.requires))
+    (subst (λ (all : List Queued). HavePassed c.args.hosts.now c.args.sets.now c.args.query.now all c.args.searched.now.passed (unanswered c.args.searched.now.fails))
+    (sym c.as_slice-queue.ensures.value) (begun c.args.hosts.now c.args.sets.now c.args.query.now c.args.searched.now c.requires)))
 
 pub all_ends-requires : goal.all_ends-requires
 all_ends-requires c = c.in_ok-passes_referral-in-Refers.ensures c.if-not-branch.false
@@ -34,5 +35,6 @@ returns-in-Ends c =
     let query = c.args.query.now in
     given_within config deps query c.args.limits.rewrites c.args.limits.states (length c.as_slice-queue.result.now) c.next_referral.new.ends c.ends_within.result c.ends_within.ensures.same c.ends_within.ensures.few c.ends_within.ensures.rewrites
     (λ few. c.in-Ends.ensures deps
-    (subst (λ (all : List Queued). HasPassed config deps query all c.args.searched.now.passed (unanswered c.args.searched.now.fails)) (sym c.as_slice-queue.ensures.value) c.requires)
+    (subst (λ (all : List Queued). HavePassed config deps query all c.args.searched.now.passed (unanswered c.args.searched.now.fails)) (sym c.as_slice-queue.ensures.value)
+    (begun config deps query c.args.searched.now c.requires))
     c.args.limits.states few)

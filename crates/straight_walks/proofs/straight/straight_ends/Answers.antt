@@ -1,6 +1,6 @@
 use Rattle.std.proofs.Common.{arith}
 use Rattle.std.proofs.Math.Nat.{div-mul-le_self}
-use Rattle.straight_walks.proofs.GivenEnds.{bounded_given, few_given, nothing_given, outcomes_given}
+use Rattle.straight_walks.proofs.GivenEnds.{bounded_given, few_given, few_given_below, nothing_given, nothing_given_below, outcomes_given}
 use Rattle.straight_walks.proofs.straight.straight_ends.Goals as goal
 
 pub returns-clause-few : goal.returns-clause-few
@@ -19,3 +19,12 @@ returns-clause-bounded c =
 pub returns-clause-outcomes : goal.returns-clause-outcomes
 returns-clause-outcomes c =
     outcomes_given c.args.hosts.now c.args.sets.now c.args.rewrites c.min-most.result c.args.query.now c.ends_by_region.result c.ends_by_region.ensures
+
+pub returns-clause-few_below : goal.returns-clause-few_below
+returns-clause-few_below c =
+    few_given_below c.args.hosts.now c.args.sets.now c.args.rewrites c.min-most.result c.args.query.now c.ends_by_region.result c.args.states
+    (omega (arith, c.min-most.ensures, div-mul-le_self c.args.states 12)) c.ends_by_region.ensures
+
+pub returns-clause-nothing_below : goal.returns-clause-nothing_below
+returns-clause-nothing_below c =
+    nothing_given_below c.args.hosts.now c.args.sets.now c.args.rewrites c.min-most.result c.args.query.now c.ends_by_region.result c.ends_by_region.ensures
