@@ -1,8 +1,8 @@
 -- The partition of names into classes, and the names that stand for them.
-use Rattle.std.proofs.Common.{◌≡◌, ◌∙◌, ℕ, ◌<◌, ◌≤◌, List, [], ◌∷◌, ◌++◌, Option, Some, None, Result, Ok, Err, length, Contains, inl, inr, sym, refl, ap, subst, append_assoc, append-nil, arith}
+use Rattle.std.proofs.Common.{◌≡◌, ◌∙◌, ℕ, ◌<◌, ◌≤◌, nat_le, Bool, true, false, List, [], ◌∷◌, ◌++◌, Option, Some, None, Result, Ok, Err, length, Contains, inl, inr, sym, refl, ap, subst, append_assoc, append-nil, arith}
 use Rattle.std.specs.Prelude.{IfOk, IfSome, MatchOption}
 use Rattle.std.specs.List.{AllByRecursion}
-use Rattle.std.proofs.lemmas.Bool.{cases_lt}
+use Rattle.std.proofs.lemmas.Bool.{cases_lt, leb-false, leb-true}
 use Rattle.std.proofs.lemmas.List.{length-append}
 use Rattle.dns_data.specs.Label.{IsLabel}
 use Rattle.dns_data.specs.Name.{Labels, IsName, wire_octets}
@@ -16,7 +16,7 @@ use Rattle.net_model.proofs.FirstLabel.{label_of_name, shorter_first}
 use Rattle.label_graph.specs.LiveSet.{IsClosed, IsLiveSet, name_at}
 use Rattle.label_graph.proofs.LiveNames.{prefix_is_named}
 use Rattle.label_graph.proofs.TargetLinks.{place_among, among_place}
-use Rattle.query_classes.specs.Children.{IsBelow}
+use Rattle.query_classes.specs.Children.{HasBelow, IsBelow}
 use Rattle.query_classes.specs.Members.{IsEmptyClass, RepresentsClass}
 
 -- the labels above
@@ -109,6 +109,14 @@ module _ (ground : Ground) (closed : IsClosed ground) where
   below_made above label named first (Ok (Some name)) same is =
       let whole : IsName (above ++ label ∷ []) = subst IsName same is in
       subst (RepresentsClass ground (Below above)) (sym same) (stands_below above label named (labels_above above (label ∷ []) whole.labels) first whole.short)
+
+  -- whether it has few enough octets tells whether something stands for that class
+  pub below_told : (above : Labels) (label : List ℕ) → IsNamed ground above → AllByRecursion IsLabel above → IsFirstUnnamed ground above label
+      → (octets : ℕ) → octets ≡ wire_octets (above ++ label ∷ []) → HasBelow ground above (nat_le octets 255)
+  below_told above label named labels first octets is = by (nat_le octets 255) refl where
+    by : (fits : Bool) → nat_le octets 255 ≡ fits → HasBelow ground above fits
+    by true fits = (Some (above ++ label ∷ []), stands_below above label named labels first (omega (arith, is, leb-true octets 255 fits)), refl)
+    by false fits = (None, empty_long above label first (omega (arith, is, leb-false octets 255 fits)), refl)
 
   -- a named name stands for its own class
   pub stands_exact : (name : Labels) → IsNamed ground name → IsName name → RepresentsClass ground (Exact name) name

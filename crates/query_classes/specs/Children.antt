@@ -1,5 +1,5 @@
 -- The class tree, a level at a time.
-use Rattle.std.specs.Prelude.{◌≡◌, ◌↔◌, ℕ, List, [], ◌∷◌, ◌++◌, Contains, map, nat_le, Option, MatchOption}
+use Rattle.std.specs.Prelude.{◌≡◌, ◌↔◌, ℕ, Bool, List, [], ◌∷◌, ◌++◌, Contains, map, nat_le, Option, MatchOption, is_some}
 use Rattle.std.specs.List.{filter}
 use Rattle.dns_data.specs.Name.{Labels, IsName, wire_octets, AreInOrder}
 use Rattle.net_model.specs.declared.class.Class.TheVariants.{Below}
@@ -33,3 +33,7 @@ live_below above nexts = filter (λ one. nat_le (wire_octets one.name) 255) (map
 -- what stands for the class below the name: its representative, or nothing where the class is empty
 abbrev pub IsBelow : Ground → Labels → Option Labels → Type 0
 IsBelow ground name found = MatchOption found (IsEmptyClass ground (Below name)) (RepresentsClass ground (Below name))
+
+-- whether something stands for the class below the name
+abbrev pub HasBelow : Ground → Labels → Bool → Type 0
+HasBelow ground name some = (found : Option Labels) × IsBelow ground name found × (is_some found ≡ some)

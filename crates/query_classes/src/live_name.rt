@@ -4,7 +4,7 @@ ghost use Rattle.std.specs.Prelude.{◌≡◌, ◌↔◌, ◌≤◌, [], ◌∷�
 ghost use Rattle.dns_data.specs.Name.{IsName, wire_octets};
 ghost use Rattle.label_graph.specs.LiveSet.{IsLiveSet};
 ghost use Rattle.net_model.specs.Reading.{IsNamed};
-ghost use Rattle.query_classes.specs.Children.{AreChildren, IsBelow, live_below};
+ghost use Rattle.query_classes.specs.Children.{AreChildren, HasBelow, IsBelow, live_below};
 
 use crate::below::name_below;
 use crate::free::free_label;
@@ -64,6 +64,21 @@ impl LiveName {
         match free_label(alloc, graph, &self.live)? {
             Some(label) => name_below(alloc, &self.name, &label),
             None => Ok(None),
+        }
+    }
+
+    /// Whether the class below the name, which is a named one, has a representative. It isn't made.
+    pub fn has_below(&self, alloc: Global, graph: &LabelGraph) -> Result<bool, NoMemory>
+        requires live { IsLiveSet graph.now self.now.name self.now.live }
+        requires named { IsNamed graph.now self.now.name }
+        ensures { IfOk result (HasBelow graph.now self.now.name) }
+    {
+        laws::graph_is_closed(graph);
+        // The labels are read, so that it is known here that they are those of a name.
+        let _ = self.name.labels();
+        match free_label(alloc, graph, &self.live)? {
+            Some(label) => Ok(self.name.octets() + label.octets() <= 255),
+            None => Ok(false),
         }
     }
 
