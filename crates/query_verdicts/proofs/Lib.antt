@@ -18,6 +18,7 @@ pub mod OnePassed
 pub mod OneVerdict
 pub mod OwnClasses
 pub mod PassingNames
+pub mod QuietBelow
 pub mod ReportEntry
 pub mod ReportPassed
 pub mod Rising

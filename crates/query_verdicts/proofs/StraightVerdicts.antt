@@ -1,6 +1,6 @@
--- The verdict of a class whose representative's walks go straight: no faults. And what its walks end in.
+-- What the walks of a query end in that go straight, and its verdict: no faults.
 use Rattle.std.proofs.Common.{◌≡◌, ℕ, true, [], Option, Some, None, Result, Ok, Err, arith}
-use Rattle.std.specs.Prelude.{◌↔◌, is_some, IfOk, IfSome}
+use Rattle.std.specs.Prelude.{◌↔◌, IfOk, IfSome}
 use Rattle.dns_data.specs.Name.{Labels}
 use Rattle.dns_data.specs.declared.rr_type.RrType.{RrType}
 use Rattle.graph_form.specs.Verdict.{AreShownOf}
@@ -13,6 +13,7 @@ use Rattle.net_model.specs.Tree.{HasMoreThan, IsReached}
 use Rattle.net_model.specs.Walk.{IsBoundedWith}
 use Rattle.net_model.specs.declared.walk.Leaf.{Leaf}
 use Rattle.straight_walks.specs.Ends.{IsOutcomeOf}
+use Rattle.straight_walks.specs.Straight.{NoOriginBetween}
 use Rattle.straight_walks.specs.declared.ends.StraightEnds.{StraightEnds}
 use Rattle.walk_laws.specs.Outcome.{HasOutcome}
 use Rattle.walk_laws.proofs.GivenSets.{lists_show}
@@ -43,30 +44,27 @@ IsSilent config rewrites query deps =
     (rtype : RrType) (fault : Fault) → Shows (with_lists (following config rewrites deps.least) deps.least deps.greatest) query rtype fault → ⊥
 
 module _ (config : Config) (rewrites states : ℕ) (query : Labels) (deps : Deps) (sets : AreSets config rewrites states deps) where
-  -- so its class has no faults
-  straight_verdict : IsFew config rewrites states query → IsSilent config rewrites query deps → IsClassVerdict config rewrites states query (Faults [])
-  straight_verdict few silent = (
+  -- so the class of such a query has no faults
+  quiet : (name : Labels) → IsFew config rewrites states name → IsSilent config rewrites name deps → IsClassVerdict config rewrites states name (Faults [])
+  quiet name few silent = (
     few,
-    all_sought config rewrites states deps sets query []
-        (none_shown _ query
+    all_sought config rewrites states deps sets name []
+        (none_shown _ name
         (λ rtype fault shows. silent rtype fault
-        ((lists_show config rewrites deps.least deps.least deps.greatest sets.least sets.greatest query rtype fault).1 shows))),
+        ((lists_show config rewrites deps.least deps.least deps.greatest sets.least sets.greatest name rtype fault).1 shows))),
   )
 
-  -- where its walks are seen to go straight
-  pub straight_found : (found : Option StraightEnds) → IfSome found (λ ends. IsFew config rewrites states query) → IfSome found (λ ends. IsSilent config rewrites query deps)
-      → is_some found ≡ true → IsClassVerdict config rewrites states query (Faults [])
-  straight_found None few silent e = cc
-  straight_found (Some ends) few silent e = straight_verdict few silent
-
-  -- and those of a call that gives their ends are the query's
+  -- and what is told of the ends that a call gives holds of the query, and of the names of which they are the ends too
   pub straight_ends : {E : Type 0} (given : Result (Option StraightEnds) E) → IfOk given (λ found. IfSome found (λ ends. IsFew config rewrites states query))
+      → IfOk given (λ found. IfSome found (λ ends. IsSilent config rewrites query deps))
       → IfOk given (λ found. IfSome found (λ ends. (rtype : RrType) → IsBoundedWith (following config rewrites deps.least) query rtype))
       → IfOk given (λ found. IfSome found (λ ends. (rtype : RrType) (outcome : Option Leaf)
       → HasOutcome (following config rewrites deps.least) query rtype outcome ↔ IsOutcomeOf ends rtype outcome))
+      → IfOk given (λ found. IfSome found (λ ends. ends.below ≡ true → (name : Labels) → NoOriginBetween config query name → IsFew config rewrites states name))
+      → IfOk given (λ found. IfSome found (λ ends. ends.below ≡ true → (name : Labels) → NoOriginBetween config query name → IsSilent config rewrites name deps))
       → IfOk given (λ found. IfSome found (AreStraightEnds config rewrites states query))
-  straight_ends (Ok None) few bounded outcomes = tt
-  straight_ends (Ok (Some ends)) few bounded outcomes =
+  straight_ends (Ok None) few silent bounded outcomes few_below silent_below = tt
+  straight_ends (Ok (Some ends)) few silent bounded outcomes few_below silent_below =
       record {
         few = few;
         learnt = sets.none_passes;
@@ -74,5 +72,7 @@ module _ (config : Config) (rewrites states : ℕ) (query : Labels) (deps : Deps
         in_force = sets.least;
         bounded = bounded;
         outcomes = outcomes;
+        quiet = quiet query few silent;
+        quiet_below = λ below name between. quiet name (few_below below name between) (silent_below below name between);
       }
-  straight_ends (Err fault) few bounded outcomes = tt
+  straight_ends (Err fault) few silent bounded outcomes few_below silent_below = tt

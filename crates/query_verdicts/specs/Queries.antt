@@ -1,6 +1,6 @@
 -- The queries of a configuration within their limits, and what is known of the class of one: for the contracts of the calls
 -- on query graphs.
-use Rattle.std.specs.Prelude.{◌↔◌, ℕ, List, Option}
+use Rattle.std.specs.Prelude.{◌≡◌, ◌↔◌, ℕ, true, List, [], Option}
 use Rattle.dns_data.specs.Name.{Labels}
 use Rattle.dns_data.specs.declared.rr_type.RrType.{RrType}
 use Rattle.graph_form.specs.Graph.{PlainGraph}
@@ -17,11 +17,13 @@ use Rattle.net_model.specs.declared.deps.Deps.{Deps}
 use Rattle.net_model.specs.declared.walk.Leaf.{Leaf}
 use Rattle.query_classes.specs.TreeNames.{AreBaseNamesOf}
 use Rattle.straight_walks.specs.Ends.{IsOutcomeOf}
+use Rattle.straight_walks.specs.Straight.{NoOriginBetween}
 use Rattle.straight_walks.specs.declared.ends.StraightEnds.{StraightEnds}
 use Rattle.walk_laws.specs.Outcome.{HasOutcome}
-use Rattle.query_verdicts.specs.Verdict.{PassesStates, SomeServerPasses}
+use Rattle.query_verdicts.specs.Verdict.{IsClassVerdict, PassesStates, SomeServerPasses}
 use Rattle.query_verdicts.specs.declared.own_class.OwnClass.{OwnClass}
 use Rattle.query_verdicts.specs.declared.own_class.OwnClass.TheVariants.{Represents, Asked}
+use Rattle.query_verdicts.specs.declared.verdict.ClassVerdict.TheVariants.{Faults}
 
 -- the queries of a configuration: how many rewrites each may use, and how many pairs of state and type it may reach
 pub record LimitedQueries : Type 0 where
@@ -52,7 +54,8 @@ pub record IsLeastGraph (config : Config) (rewrites : ℕ) (query : Labels) (gra
 
 -- The walks of the query end so while the servers of the set in force are followed: it has these outcomes and no
 -- others, and no walk of it ends in a name of more than 255 octets (RFC 6672 section 2.2). Neither it nor the name of
--- some server reaches too many pairs of state and type.
+-- some server reaches too many pairs of state and type, and it shows no fault; nor does a name below it with no origin
+-- between, where they are its ends too.
 pub record AreStraightEnds (config : Config) (rewrites states : ℕ) (query : Labels) (ends : StraightEnds) : Type 0 where
   pub few : PassesStates config rewrites states query → ⊥
   pub learnt : SomeServerPasses config rewrites states → ⊥
@@ -60,6 +63,8 @@ pub record AreStraightEnds (config : Config) (rewrites states : ℕ) (query : La
   pub in_force : IsInForce config rewrites followed
   pub bounded : (rtype : RrType) → IsBoundedWith (following config rewrites followed) query rtype
   pub outcomes : (rtype : RrType) (outcome : Option Leaf) → HasOutcome (following config rewrites followed) query rtype outcome ↔ IsOutcomeOf ends rtype outcome
+  pub quiet : IsClassVerdict config rewrites states query (Faults [])
+  pub quiet_below : ends.below ≡ true → (name : Labels) → NoOriginBetween config query name → IsClassVerdict config rewrites states name (Faults [])
 
 -- the query is of the class under the ground, and its representative
 pub record StandsFor (ground : Ground) (class : Class) (query : Labels) : Type 0 where

@@ -92,8 +92,9 @@ impl<'a> QueryGraphs<'a> {
     }
 
     /// What the walks of a query end in while the servers of the least set of learnt addresses are followed, where they
-    /// are seen to go straight there without a graph, or `None`. The query's region is looked for near a place first,
-    /// whatever that is, and the place is left near which that of the next query may be looked for.
+    /// are seen to go straight there without a graph, or `None`. The query shows no fault then, nor does a name below it
+    /// with no origin of a zone between, where these are its ends too. The query's region is looked for near a place
+    /// first, whatever that is, and the place is left near which that of the next query may be looked for.
     pub fn straight_ends(
         &self,
         near: &mut usize,
@@ -116,20 +117,14 @@ impl<'a> QueryGraphs<'a> {
         }
     }
 
-    /// The verdict of a query: the faults that it shows, or that it reaches more pairs of state and type than are
-    /// looked at. Where the name of some server does, no fault is looked for. The query's region is looked for near a
-    /// place first, whatever that is, and the place is left near which that of the next query may be looked for.
-    pub fn verdict(
-        &self,
-        near: &mut usize,
-        own: &OwnClass<'_>,
-        query: &Name,
-    ) -> Result<ClassVerdict, NoMemory>
+    /// The verdict of a query, by a graph of its walks: the faults that it shows, or that it reaches more pairs of state
+    /// and type than are looked at. Where the name of some server does, no fault is looked for.
+    pub fn verdict(&self, own: &OwnClass<'_>, query: &Name) -> Result<ClassVerdict, NoMemory>
         requires { IsOwnClass self.now.config own.now query.now }
         ensures { IfOk result (IsClassVerdict self.now.config self.now.rewrites self.now.states query.now) }
     {
         match &self.learnt {
-            Ok(learnt) => verdict_with(&self.queries, learnt, near, own, query),
+            Ok(learnt) => verdict_with(&self.queries, learnt, own, query),
             Err(_) => verdict_alone(&self.queries, query),
         }
     }

@@ -1,12 +1,17 @@
 //! The judge of the names of a class tree.
 
-ghost use Rattle.std.specs.Prelude.{◌≡◌, IfOk, IsErrOf, MatchOption};
+ghost use Rattle.std.specs.Prelude.{◌≡◌, [], true, IfOk, IfSome, IsErrOf, MatchOption};
+ghost use Rattle.dns_data.specs.Name.{Labels};
+ghost use Rattle.net_model.specs.declared.class.Class.TheVariants.{Below};
 ghost use Rattle.query_verdicts.specs.Passed.{IsFirstServerPassed};
 ghost use Rattle.query_verdicts.specs.Queries.{IsLeastGraph, StandsFor};
 ghost use Rattle.query_verdicts.specs.Subjects.{AreOfSubject, IsCovering, RepresentsBelow};
 ghost use Rattle.query_verdicts.specs.Verdict.{IsBelowVerdict, IsClassVerdict, IsNameVerdict, PassesStates, SomeServerPasses};
+ghost use Rattle.query_verdicts.specs.declared.verdict.ClassVerdict.TheVariants.{Faults};
 ghost use Rattle.query_classes.specs.Children.{AreChildren, IsInTree};
+ghost use Rattle.query_classes.specs.Members.{RepresentsClass};
 ghost use Rattle.query_classes.specs.TreeNames.{AreBaseNamesOf, IsLiveIn};
+ghost use Rattle.straight_walks.specs.Straight.{NoOriginBetween};
 
 use crate::graphs::QueryGraphs;
 use crate::own_class::OwnClass;
@@ -104,18 +109,90 @@ impl<'a, S: OnSubject> NameJudge<'a, S> {
     }
 
     /// The verdict of a name of the class tree: of the class of the name alone, and of the class below it. The region of
-    /// the second query is searched from that of the first; `usize::MAX` means no hint.
+    /// the second query is searched from that of the first; `usize::MAX` means no hint. Where the names below show no
+    /// fault as the name doesn't, no second query is looked at.
     fn judge_name(&self, name: &LiveName) -> Result<NameVerdict<ClassVerdict>, NoMemory>
         requires live { IsLiveIn S.subject.ground name.now.name name.now.live }
         requires in_tree { IsInTree S.subject.ground name.now.name }
         ensures { IfOk result (IsNameVerdict S.subject S.states name.now.name) }
     {
-        let class = Class::Exact(name.name.copy(self.alloc)?);
         let mut near = usize::MAX;
+        match self.quiet(&mut near, &name.name)? {
+            Some(true) => self.quiet_name(name),
+            Some(false) => self.with_below(&mut near, name, self.no_fault()),
+            None => {
+                let exact = self.looked_alone(&name.name)?;
+                self.with_below(&mut near, name, exact)
+            }
+        }
+    }
+
+    /// Whether the walks of a query are seen to go straight, so that it shows no fault: `None` where they aren't, and else
+    /// whether no name below it shows one either, as long as no origin of a zone stands between.
+    fn quiet(&self, near: &mut usize, query: &Name) -> Result<Option<bool>, NoMemory>
+        ensures alone { IfOk result (λ found. IfSome found (λ below. IsClassVerdict S.subject.config S.subject.rewrites S.states query.now (Faults []))) }
+        ensures below { IfOk result (λ found. IfSome found (λ below. below ≡ true → (name : Labels) → NoOriginBetween S.subject.config query.now name
+            → IsClassVerdict S.subject.config S.subject.rewrites S.states name (Faults []))) }
+    {
+        match self.graphs.straight_ends(near, query)? {
+            Some(ends) => Ok(Some(ends.below)),
+            None => Ok(None),
+        }
+    }
+
+    /// The verdict of a class whose representative shows no fault.
+    fn no_fault(&self) -> ClassVerdict
+        ensures { result ≡ Faults [] }
+    {
+        ClassVerdict::Faults(List::new(self.alloc))
+    }
+
+    /// The verdict of a name of the class tree where neither it nor a name below it, with no origin between, shows a fault.
+    fn quiet_name(&self, name: &LiveName) -> Result<NameVerdict<ClassVerdict>, NoMemory>
+        requires live { IsLiveIn S.subject.ground name.now.name name.now.live }
+        requires in_tree { IsInTree S.subject.ground name.now.name }
+        requires alone { IsClassVerdict S.subject.config S.subject.rewrites S.states name.now.name (Faults []) }
+        requires below { (query : Labels) → NoOriginBetween S.subject.config name.now.name query
+            → IsClassVerdict S.subject.config S.subject.rewrites S.states query (Faults []) }
+        ensures { IfOk result (IsNameVerdict S.subject S.states name.now.name) }
+    {
+        let below = self.quiet_below(name)?;
         Ok(NameVerdict {
-            exact: self.judge_class(&mut near, &class, &name.name)?,
-            below: self.judge_below(&mut near, name)?,
+            exact: self.no_fault(),
+            below,
         })
+    }
+
+    /// The verdict of the class below a name of the class tree, or `None` where it is empty, where no name below it shows
+    /// a fault, with no origin between.
+    fn quiet_below(&self, above: &LiveName) -> Result<Option<ClassVerdict>, NoMemory>
+        requires live { IsLiveIn S.subject.ground above.now.name above.now.live }
+        requires in_tree { IsInTree S.subject.ground above.now.name }
+        requires below { (query : Labels) → NoOriginBetween S.subject.config above.now.name query
+            → IsClassVerdict S.subject.config S.subject.rewrites S.states query (Faults []) }
+        ensures { IfOk result (IsBelowVerdict S.subject S.states above.now.name) }
+    {
+        if above.has_below(self.alloc, &self.names)? {
+            Ok(Some(self.no_fault()))
+        } else {
+            Ok(None)
+        }
+    }
+
+    /// The verdict of a name of the class tree, of whose class alone it is this.
+    fn with_below(
+        &self,
+        near: &mut usize,
+        name: &LiveName,
+        exact: ClassVerdict,
+    ) -> Result<NameVerdict<ClassVerdict>, NoMemory>
+        requires live { IsLiveIn S.subject.ground name.now.name name.now.live }
+        requires in_tree { IsInTree S.subject.ground name.now.name }
+        requires exact { IsClassVerdict S.subject.config S.subject.rewrites S.states name.now.name exact }
+        ensures { IfOk result (IsNameVerdict S.subject S.states name.now.name) }
+    {
+        let below = self.judge_below(near, name)?;
+        Ok(NameVerdict { exact, below })
     }
 
     /// The verdict of the class below a name of the class tree, or `None` where it is empty.
@@ -130,28 +207,49 @@ impl<'a, S: OnSubject> NameJudge<'a, S> {
     {
         match self.below_live(above)? {
             Some(query) => {
-                let class = Class::Below(above.name.copy(self.alloc)?);
-                Ok(Some(self.judge_class(near, &class, &query)?))
+                let verdict = self.class_below(near, &above.name, &query)?;
+                Ok(Some(verdict))
             }
             None => Ok(None),
         }
     }
 
-    /// The verdict of the class that the query represents.
-    fn judge_class(
+    /// The verdict of the class below a name, which the query represents.
+    fn class_below(
         &self,
         near: &mut usize,
-        class: &Class,
+        above: &Name,
         query: &Name,
     ) -> Result<ClassVerdict, NoMemory>
+        requires { RepresentsClass S.subject.ground (Below above.now) query.now }
+        ensures { IfOk result (IsClassVerdict S.subject.config S.subject.rewrites S.states query.now) }
+    {
+        match self.quiet(near, query)? {
+            Some(_) => Ok(self.no_fault()),
+            None => {
+                let class = Class::Below(above.copy(self.alloc)?);
+                self.looked_class(&class, query)
+            }
+        }
+    }
+
+    /// The verdict of the class of a name of the class tree alone, by a graph of its walks.
+    fn looked_alone(&self, name: &Name) -> Result<ClassVerdict, NoMemory>
+        requires { IsInTree S.subject.ground name.now }
+        ensures { IfOk result (IsClassVerdict S.subject.config S.subject.rewrites S.states name.now) }
+    {
+        let class = Class::Exact(name.copy(self.alloc)?);
+        self.looked_class(&class, name)
+    }
+
+    /// The verdict of the class that the query represents, by a graph of the query's walks.
+    fn looked_class(&self, class: &Class, query: &Name) -> Result<ClassVerdict, NoMemory>
         requires { StandsFor S.subject.ground class.now query.now }
         ensures { IfOk result (IsClassVerdict S.subject.config S.subject.rewrites S.states query.now) }
     {
         match &self.own {
-            Some(names) => self.graphs.verdict(near, &OwnClass::Asked(names), query),
-            None => self
-                .graphs
-                .verdict(near, &OwnClass::Represents(class), query),
+            Some(names) => self.graphs.verdict(&OwnClass::Asked(names), query),
+            None => self.graphs.verdict(&OwnClass::Represents(class), query),
         }
     }
 

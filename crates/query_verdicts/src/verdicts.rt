@@ -1,10 +1,9 @@
 //! The verdict of a query: the graph of its walks, and the faults that these show.
 
-ghost use Rattle.std.specs.Prelude.{◌≡◌, ◌++◌, [], true, ℕ, IfOk};
+ghost use Rattle.std.specs.Prelude.{◌≡◌, ◌++◌, true, ℕ, IfOk};
 ghost use Rattle.query_verdicts.specs.Learnt.{IsRightLearnt};
 ghost use Rattle.query_verdicts.specs.Queries.{IsOwnClass};
 ghost use Rattle.query_verdicts.specs.Verdict.{AreFaultsOf, IsClassVerdict, SomeServerPasses};
-ghost use Rattle.query_verdicts.specs.declared.verdict.ClassVerdict.TheVariants.{Faults};
 ghost use Rattle.dns_data.specs.Name.{Labels};
 ghost use Rattle.graph_form.specs.GraphOf.{IsExactIn, IsGraphOf};
 ghost use Rattle.graph_form.specs.Verdict.{AreShownOf};
@@ -25,14 +24,12 @@ use interp_graph::{GraphFault, restrict};
 use net_model::Class;
 use query_classes::class_of;
 use rewrite_checks::rewrite_faults;
-use straight_walks::straight_ends;
 use zone_lookup::LearntSets;
 
-/// The verdict of a query, with what is learnt of its configuration.
+/// The verdict of a query by a graph of its walks, with what is learnt of its configuration.
 pub(crate) fn verdict_with(
     queries: &Queries<'_>,
     learnt: &Learnt<'_>,
-    near: &mut usize,
     own: &OwnClass<'_>,
     query: &Name,
 ) -> Result<ClassVerdict, NoMemory>
@@ -40,9 +37,6 @@ pub(crate) fn verdict_with(
     requires own { IsOwnClass queries.now.trees own.now query.now }
     ensures { IfOk result (IsClassVerdict queries.now.trees queries.now.rewrites queries.now.states query.now) }
 {
-    if shows_nothing(queries, learnt, near, query)? {
-        return Ok(ClassVerdict::Faults(List::new(queries.alloc)));
-    }
     match graph_of(queries, query) {
         Ok(graph) => {
             let shown = faults_of(queries, learnt, own, query, graph)?;
@@ -64,29 +58,6 @@ pub(crate) fn verdict_alone(queries: &Queries<'_>, query: &Name) -> Result<Class
         Err(GraphFault::StatesPassed) => Ok(ClassVerdict::StatesPassed),
         Err(GraphFault::NoMemory) => Err(NoMemory),
     }
-}
-
-/// Whether the query is seen to show no fault without a graph of its walks: they go straight.
-fn shows_nothing(
-    queries: &Queries<'_>,
-    learnt: &Learnt<'_>,
-    near: &mut usize,
-    query: &Name,
-) -> Result<bool, NoMemory>
-    requires { IsRightLearnt queries.now.trees queries.now.rewrites queries.now.states learnt.now }
-    ensures { IfOk result (λ nothing. nothing ≡ true → IsClassVerdict queries.now.trees queries.now.rewrites queries.now.states query.now (Faults [])) }
-{
-    let found = straight_ends(
-        queries.alloc,
-        &queries.trees,
-        &learnt.sets,
-        &learnt.regions,
-        near,
-        query,
-        queries.rewrites,
-        queries.states,
-    )?;
-    Ok(found.is_some())
 }
 
 /// The faults that a query shows, in fault order, each with its first type. The graph is that of its walks while every

@@ -16,6 +16,7 @@ pub returns-in-Ok : goal.returns-in-Ok
 returns-in-Ok c =
     let queries = c.self.inside.queries in
     let learnt = subst (λ (l : Result Learnt Labels). IsLearntOf queries.trees queries.rewrites queries.states l) c.in-Ok.is c.self.invariant in
+    let told = c.straight_ends.ensures in
     subst (λ (q : LimitedQueries). IfOk c.straight_ends.result (λ found. IfSome found (AreStraightEnds q.config q.rewrites q.states c.args.query.now))) c.self.view_is
     (straight_ends queries.trees queries.rewrites queries.states c.args.query.now c.in-Ok.learnt.sets learnt.sets c.straight_ends.result
-    c.straight_ends.ensures.few c.straight_ends.ensures.bounded c.straight_ends.ensures.outcomes)
+    told.few told.shows_nothing told.bounded told.outcomes told.few_below told.nothing_below)

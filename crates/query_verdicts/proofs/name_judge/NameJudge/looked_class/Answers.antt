@@ -5,7 +5,7 @@ use Rattle.net_model.specs.Reading.{Ground, ground_of}
 use Rattle.query_classes.specs.TreeNames.{AreBaseNamesOf}
 use Rattle.query_verdicts.specs.Queries.{LimitedQueries, StandsFor}
 use Rattle.query_verdicts.specs.Verdict.{IsClassVerdict}
-use Rattle.query_verdicts.proofs.name_judge.NameJudge.judge_class.Goals as goal
+use Rattle.query_verdicts.proofs.name_judge.NameJudge.looked_class.Goals as goal
 
 pub verdict-requires : goal.verdict-requires
 verdict-requires g c =
