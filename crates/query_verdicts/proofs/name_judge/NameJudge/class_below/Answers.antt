@@ -1,4 +1,4 @@
-use Rattle.std.proofs.Common.{[], sym, subst}
+use Rattle.std.proofs.Common.{sym, subst}
 use Rattle.dns_data.specs.Name.{Labels}
 use Rattle.net_model.specs.declared.class.Class.TheVariants.{Below}
 use Rattle.query_verdicts.specs.Queries.{StandsFor}
