@@ -14,7 +14,7 @@ use Rattle.net_model.specs.declared.class.Class.{Class}
 use Rattle.net_model.specs.Step.{Setting, following}
 use Rattle.query_classes.specs.ClassList.{ListedClass, class_below, classes_of_row, classes_of_rows}
 use Rattle.query_classes.specs.declared.tree.ClassRow.{ClassRow}
-use Rattle.query_verdicts.specs.Queries.{LimitedQueries, IsLeastGraph}
+use Rattle.query_verdicts.specs.Queries.{LimitedQueries, IsLeastGraph, Passes, ServerPasses}
 use Rattle.site_checks.specs.Ends.{AreEnds}
 use Rattle.site_checks.specs.Shown.{HasSeen}
 use Rattle.site_checks.specs.declared.views.View.{View}
@@ -22,7 +22,7 @@ use Rattle.site_checks.proofs.Seen.{nothing_seen, more_seen}
 use Rattle.run_endings.specs.declared.ending.Ending.{Ending}
 use Rattle.run_endings.specs.Endings.{no_memory}
 use Rattle.groot_run.specs.Outcome.{too_many_states}
-use Rattle.groot_run.specs.ShownClasses.{Passes, ServerPasses, NoListedPasses, exact_class, below_class, class_of, HasEnds, AreViewsOfClasses, AreShown, EndsAmongClasses}
+use Rattle.groot_run.specs.ShownClasses.{NoListedPasses, exact_class, below_class, class_of, HasEnds, AreViewsOfClasses, AreShown, EndsAmongClasses}
 
 -- ---- the classes of rows
 

@@ -18,7 +18,7 @@ use Rattle.walk_laws.proofs.JoinedGround.{own_covers}
 use Rattle.query_classes.specs.ClassList.{ListedClass, AreListed}
 use Rattle.query_verdicts.specs.Carried.{whole}
 use Rattle.query_verdicts.specs.Passed.{ClassPasses, SomeClassPasses, IsFirstPassed, IsFirstServerPassed}
-use Rattle.query_verdicts.specs.Queries.{LimitedQueries, limited_to, queries_of}
+use Rattle.query_verdicts.specs.Queries.{LimitedQueries, ServerPasses, limited_to, queries_of}
 use Rattle.query_verdicts.proofs.ClassesJudged.{some_name}
 use Rattle.query_verdicts.proofs.PassingNames.{class_passes}
 use Rattle.report_json.specs.Sites.{sites_text}
@@ -31,7 +31,7 @@ use Rattle.run_endings.specs.declared.ending.Ending.{Ending}
 use Rattle.run_endings.specs.declared.status.Status.TheVariants.{Clean}
 use Rattle.run_endings.specs.Endings.{with_output, no_memory}
 use Rattle.groot_run.specs.Outcome.{WithinStates, TellsFindings, most_states, site_rewrites}
-use Rattle.groot_run.specs.ShownClasses.{ServerPasses, NoListedPasses, class_of, AreViewsOfClasses, AreShown, IsFirstOf, EndsAmongClasses}
+use Rattle.groot_run.specs.ShownClasses.{NoListedPasses, class_of, AreViewsOfClasses, AreShown, IsFirstOf, EndsAmongClasses}
 
 module _ (subject : Subject) (states : ℕ) (classes : List ListedClass) (are : AreListed subject.ground subject.below classes) where
   -- ---- the views

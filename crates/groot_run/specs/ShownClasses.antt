@@ -6,8 +6,7 @@ use Rattle.net_model.specs.declared.class.Class.TheVariants.{Exact, Below}
 use Rattle.net_model.specs.Learnt.{IsInForce}
 use Rattle.net_model.specs.Step.{following}
 use Rattle.query_classes.specs.ClassList.{ListedClass}
-use Rattle.query_verdicts.specs.Queries.{LimitedQueries}
-use Rattle.query_verdicts.specs.Verdict.{PassesStates, SomeServerPasses}
+use Rattle.query_verdicts.specs.Queries.{LimitedQueries, Passes, ServerPasses}
 use Rattle.site_checks.specs.Ends.{AreEnds}
 use Rattle.site_checks.specs.Shown.{HasSeen}
 use Rattle.site_checks.specs.declared.views.View.{View}
@@ -15,15 +14,7 @@ use Rattle.run_endings.specs.declared.ending.Ending.{Ending}
 use Rattle.run_endings.specs.Endings.{no_memory}
 use Rattle.groot_run.specs.Outcome.{too_many_states}
 
--- the query reaches more pairs of state and type than it may
-abbrev pub Passes : LimitedQueries → Labels → Type 0
-Passes queries query = PassesStates queries.config queries.rewrites queries.states query
-
--- the name of some server does
-abbrev pub ServerPasses : LimitedQueries → Type 0
-ServerPasses queries = SomeServerPasses queries.config queries.rewrites queries.states
-
--- the representative of none of these classes does
+-- the representative of none of these classes reaches more pairs of state and type than it may
 abbrev pub NoListedPasses : LimitedQueries → List ListedClass → Type 0
 NoListedPasses queries classes = (listed : ListedClass) → Contains classes listed → Passes queries listed.representative → ⊥
 

@@ -39,6 +39,14 @@ limited_to config rewrites states = record { config = config; rewrites = rewrite
 abbrev pub queries_of : Subject → ℕ → LimitedQueries
 queries_of subject states = limited_to subject.config subject.rewrites states
 
+-- the query reaches more pairs of state and type than it may
+abbrev pub Passes : LimitedQueries → Labels → Type 0
+Passes queries query = PassesStates queries.config queries.rewrites queries.states query
+
+-- the name of some server does
+abbrev pub ServerPasses : LimitedQueries → Type 0
+ServerPasses queries = SomeServerPasses queries.config queries.rewrites queries.states
+
 -- the lists are the two sets of learnt addresses, and no server's name reaches too many pairs
 pub record AreSets (config : Config) (rewrites states : ℕ) (deps : Deps) : Type 0 where
   pub none_passes : SomeServerPasses config rewrites states → ⊥

@@ -1,7 +1,6 @@
 -- What is found of a query in one configuration: for the contracts of inner calls alone.
 use Rattle.dns_data.specs.Name.{Labels}
-use Rattle.query_verdicts.specs.Queries.{IsLeastGraph, LimitedQueries}
-use Rattle.query_verdicts.specs.Verdict.{PassesStates, SomeServerPasses}
+use Rattle.query_verdicts.specs.Queries.{IsLeastGraph, LimitedQueries, Passes, ServerPasses}
 use Rattle.same_answers.specs.Ends.{graphs_end}
 use Rattle.same_answers.specs.declared.looked.Looked.{Looked}
 use Rattle.same_answers.specs.declared.looked.Looked.TheVariants.{Passed, Unlearnt, Walks}
@@ -10,13 +9,10 @@ use Rattle.same_answers.specs.declared.verdict.PairEnd.TheVariants.{Equal, State
 
 -- what is found is that of the query in the configuration of these queries
 abbrev pub IsLooked : LimitedQueries → Labels → Looked → Type 0
-IsLooked queries query Passed = PassesStates queries.config queries.rewrites queries.states query
-IsLooked queries query Unlearnt =
-    (PassesStates queries.config queries.rewrites queries.states query → ⊥) × SomeServerPasses queries.config queries.rewrites queries.states
+IsLooked queries query Passed = Passes queries query
+IsLooked queries query Unlearnt = (Passes queries query → ⊥) × ServerPasses queries
 IsLooked queries query (Walks graph) =
-    (PassesStates queries.config queries.rewrites queries.states query → ⊥)
-    × (SomeServerPasses queries.config queries.rewrites queries.states → ⊥)
-    × IsLeastGraph queries.config queries.rewrites query graph
+    (Passes queries query → ⊥) × (ServerPasses queries → ⊥) × IsLeastGraph queries.config queries.rewrites query graph
 
 -- what is told by what is found in both configurations
 abbrev pub looked_end : Looked → Looked → PairEnd

@@ -4,8 +4,8 @@ ghost use Rattle.std.specs.Prelude.{◌≡◌, [], IfOk, IfSome};
 ghost use Rattle.query_classes.specs.Children.{IsInTree};
 ghost use Rattle.query_classes.specs.TreeNames.{IsLiveIn};
 ghost use Rattle.query_verdicts.specs.Passed.{SomeNamePasses};
+ghost use Rattle.query_verdicts.specs.Queries.{ServerPasses};
 ghost use Rattle.query_verdicts.specs.Subjects.{RepresentsBelow};
-ghost use Rattle.query_verdicts.specs.Verdict.{SomeServerPasses};
 ghost use Rattle.dns_data.proofs.Names.{same_names};
 ghost use Rattle.same_answers.specs.Compared.{joint};
 ghost use Rattle.same_answers.specs.Values.{ArePairValues};
@@ -236,8 +236,7 @@ struct PairNear {
 /// A server whose name reaches more pairs of state and type than are looked at has a name of at most 255 octets, as all
 /// that are configured.
 fn servers_have_names(graphs: &QueryGraphs<'_>)
-    ensures { SomeServerPasses graphs.now.config graphs.now.rewrites graphs.now.states
-        → SomeNamePasses graphs.now.config graphs.now.rewrites graphs.now.states }
+    ensures { ServerPasses graphs.now → SomeNamePasses graphs.now.config graphs.now.rewrites graphs.now.states }
 {
     // The sets are asked for, so that it is known here that a server that passes is a configured one.
     let _ = graphs.sets();

@@ -19,11 +19,11 @@ use Rattle.graph_form.specs.GraphOf.{IsGraphOf}
 use Rattle.net_model.specs.declared.class.Class.TheVariants.{Exact}
 use Rattle.net_model.specs.Step.{Setting, following}
 use Rattle.config_load.specs.declared.loaded.RowFiles.{RowFiles}
-use Rattle.query_verdicts.specs.Queries.{IsLeastGraph, LimitedQueries}
+use Rattle.query_verdicts.specs.Queries.{IsLeastGraph, LimitedQueries, Passes}
 use Rattle.run_endings.specs.declared.ending.Ending.{Ending}
 use Rattle.site_checks.specs.Ends.{AreEnds}
 use Rattle.site_checks.specs.declared.views.View.{View}
-use Rattle.zone_map.specs.Limits.{NoOriginPasses, Passes}
+use Rattle.zone_map.specs.Limits.{NoOriginPasses}
 use Rattle.zone_map.specs.ShownOrigins.{EndsAmongRows, EndsAt, HasSeenNew, HasSeenOrigin, HasSeenOrigins, IsViewOf, is_shown}
 
 -- what a list with one item more has

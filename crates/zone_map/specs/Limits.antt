@@ -4,8 +4,8 @@ use Rattle.dns_data.specs.Name.{Labels}
 use Rattle.net_model.specs.declared.config.Config.{Config}
 use Rattle.config_load.specs.declared.loaded.RowFiles.{RowFiles}
 use Rattle.query_verdicts.specs.Passed.{IsFirstServerPassed}
-use Rattle.query_verdicts.specs.Queries.{LimitedQueries, limited_to}
-use Rattle.query_verdicts.specs.Verdict.{PassesStates, SomeServerPasses}
+use Rattle.query_verdicts.specs.Queries.{LimitedQueries, Passes, limited_to}
+use Rattle.query_verdicts.specs.Verdict.{SomeServerPasses}
 use Rattle.run_endings.specs.Endings.{too_many_states}
 use Rattle.run_endings.specs.declared.ending.Ending.{Ending}
 use Rattle.zone_map.specs.Rewrites.{most_rewrites}
@@ -18,11 +18,7 @@ reached_states = 100000
 abbrev pub reached_queries : Config → LimitedQueries
 reached_queries config = limited_to config most_rewrites reached_states
 
--- the query reaches more pairs of state and type than it may
-abbrev pub Passes : LimitedQueries → Labels → Type 0
-Passes queries query = PassesStates queries.config queries.rewrites queries.states query
-
--- the origin of none of these rows does
+-- the origin of none of these rows reaches more pairs of state and type than it may
 abbrev pub NoOriginPasses : LimitedQueries → List RowFiles → Type 0
 NoOriginPasses queries rows = (row : RowFiles) → Contains rows row → Passes queries row.origin → ⊥
 

@@ -8,12 +8,12 @@ use Rattle.net_model.specs.declared.class.Class.TheVariants.{Exact}
 use Rattle.net_model.specs.Learnt.{IsInForce}
 use Rattle.net_model.specs.Step.{following}
 use Rattle.config_load.specs.declared.loaded.RowFiles.{RowFiles}
-use Rattle.query_verdicts.specs.Queries.{LimitedQueries}
+use Rattle.query_verdicts.specs.Queries.{LimitedQueries, Passes}
 use Rattle.run_endings.specs.Endings.{no_memory, too_many_states}
 use Rattle.run_endings.specs.declared.ending.Ending.{Ending}
 use Rattle.site_checks.specs.Ends.{AreEnds}
 use Rattle.site_checks.specs.declared.views.View.{View}
-use Rattle.zone_map.specs.Limits.{IsFirstOriginPassed, NoOriginPasses, Passes, reached_states}
+use Rattle.zone_map.specs.Limits.{IsFirstOriginPassed, NoOriginPasses, reached_states}
 
 -- the view is that of the name alone, with the ends of its walks by the set in force
 pub record IsViewOf (queries : LimitedQueries) (name : Labels) (view : View) : Type 0 where

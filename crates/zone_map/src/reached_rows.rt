@@ -4,7 +4,7 @@ ghost use Rattle.std.specs.Prelude.{◌≡◌, ◌⊎◌, ◌++◌, Bool, List, 
 ghost use Rattle.std.specs.List.{list_all};
 ghost use Rattle.config_load.specs.Faults.{name_numbered};
 ghost use Rattle.dns_data.specs.DataText.{separated};
-ghost use Rattle.query_verdicts.specs.Verdict.{SomeServerPasses};
+ghost use Rattle.query_verdicts.specs.Queries.{ServerPasses};
 ghost use Rattle.run_endings.specs.Endings.{no_memory, with_output};
 ghost use Rattle.zone_map.specs.Columns.{file_text, columns_line, tab};
 ghost use Rattle.zone_map.specs.Limits.{WithinLimits, WithinOrigins, reached_queries};
@@ -48,7 +48,7 @@ fn by_graphs(alloc: Global, graphs: &QueryGraphs<'_>, rows: &[RowFiles]) -> Endi
 /// The lines of rows, by a check of them that is shown the views of their origins.
 fn by_views(alloc: Global, graphs: &QueryGraphs<'_>, rows: &[RowFiles]) -> Ending
     requires limits { graphs.now ≡ reached_queries graphs.now.config }
-    requires clear { SomeServerPasses graphs.now.config graphs.now.rewrites graphs.now.states → ⊥ }
+    requires clear { ServerPasses graphs.now → ⊥ }
     ensures { WithinOrigins graphs.now rows.now (TellsRows graphs.now.config rows.now result) result ⊎ (result ≡ no_memory) }
 {
     let mut check = Reached::of_rows(alloc, rows);

@@ -2,7 +2,7 @@
 
 ghost use Rattle.std.specs.Prelude.{◌≡◌, ◌||◌, not, ℕ, List, IfErr, IfOk, OnOk};
 ghost use Rattle.dns_data.specs.Name.{Labels, name_eq};
-ghost use Rattle.query_verdicts.specs.Verdict.{SomeServerPasses};
+ghost use Rattle.query_verdicts.specs.Queries.{ServerPasses};
 ghost use Rattle.site_checks.specs.declared.views.View.{View as Seen};
 ghost use Rattle.zone_map.specs.ShownOrigins.{EndsAmongRows, EndsAt, HasSeenNew, HasSeenOrigin, HasSeenOrigins, is_shown};
 
@@ -25,7 +25,7 @@ pub(crate) fn show_origins<S: SiteCheck>(
     rows: &[RowFiles],
     check: &mut S,
 ) -> Result<(), Ending>
-    requires clear { SomeServerPasses graphs.now.config graphs.now.rewrites graphs.now.states → ⊥ }
+    requires clear { ServerPasses graphs.now → ⊥ }
     ensures step { (words : List (List ℕ)) (view : Seen) → S.step check.new words view ≡ S.step check.old words view }
     ensures ok { OnOk result (HasSeenOrigins (S.step check.old) graphs.now rows.now (S.held check.old) (S.held check.new)) }
     ensures err { IfErr result (EndsAmongRows graphs.now rows.now) }
@@ -45,7 +45,7 @@ fn show_new<S: SiteCheck>(
     origin: &Name,
     check: &mut S,
 ) -> Result<(), Ending>
-    requires clear { SomeServerPasses graphs.now.config graphs.now.rewrites graphs.now.states → ⊥ }
+    requires clear { ServerPasses graphs.now → ⊥ }
     ensures shown { OnOk result ((other : Labels) → is_shown shown.new other ≡ (is_shown shown.old other || name_eq other origin.now)) }
     ensures step { (words : List (List ℕ)) (view : Seen) → S.step check.new words view ≡ S.step check.old words view }
     ensures ok { OnOk result (HasSeenNew (S.step check.old) graphs.now (is_shown shown.old) origin.now (S.held check.old) (S.held check.new)) }
@@ -72,7 +72,7 @@ fn show_origin<S: SiteCheck>(
     origin: &Name,
     check: &mut S,
 ) -> Result<(), Ending>
-    requires clear { SomeServerPasses graphs.now.config graphs.now.rewrites graphs.now.states → ⊥ }
+    requires clear { ServerPasses graphs.now → ⊥ }
     ensures step { (words : List (List ℕ)) (view : Seen) → S.step check.new words view ≡ S.step check.old words view }
     ensures ok { OnOk result (HasSeenOrigin (S.step check.old) graphs.now origin.now (S.held check.old) (S.held check.new)) }
     ensures err { IfErr result (EndsAt graphs.now origin.now) }

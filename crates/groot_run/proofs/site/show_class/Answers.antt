@@ -2,8 +2,7 @@ use Rattle.std.proofs.Common.{Option, Result, Err, ap, subst}
 use Rattle.std.specs.Prelude.{MatchOption}
 use Rattle.graph_form.specs.Graph.{PlainGraph}
 use Rattle.interp_graph.specs.declared.fault.GraphFault.{GraphFault}
-use Rattle.query_verdicts.specs.Queries.{IsLeastGraph}
-use Rattle.groot_run.specs.ShownClasses.{ServerPasses}
+use Rattle.query_verdicts.specs.Queries.{IsLeastGraph, ServerPasses}
 use Rattle.groot_run.proofs.ShownClasses.{shown_one, ends_there}
 use Rattle.groot_run.proofs.site.show_class.Goals as goal
 

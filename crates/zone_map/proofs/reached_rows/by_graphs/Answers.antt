@@ -1,7 +1,6 @@
 use Rattle.std.proofs.Common.{inl, inr, subst}
 use Rattle.query_verdicts.specs.Passed.{IsFirstServerPassed}
-use Rattle.query_verdicts.specs.Queries.{LimitedQueries}
-use Rattle.query_verdicts.specs.Verdict.{SomeServerPasses}
+use Rattle.query_verdicts.specs.Queries.{LimitedQueries, ServerPasses}
 use Rattle.zone_map.specs.Limits.{WithinOrigins}
 use Rattle.zone_map.specs.Reached.{TellsRows}
 use Rattle.zone_map.proofs.reached_rows.by_graphs.Goals as goal
@@ -13,7 +12,7 @@ returns-in-Ok c =
     let ending = c.by_views.result in
     elim c.by_views.ensures [
       | inl ends ↦ inl (inr (
-        subst (λ (queries : LimitedQueries). SomeServerPasses queries.config queries.rewrites queries.states → ⊥) c.requires.limits c.in-Ok.ensures.sets.none_passes,
+        subst (λ (queries : LimitedQueries). ServerPasses queries → ⊥) c.requires.limits c.in-Ok.ensures.sets.none_passes,
         subst (λ (queries : LimitedQueries). WithinOrigins queries rows (TellsRows config rows ending) ending) c.requires.limits ends,
       ))
       | inr ran_out ↦ inr ran_out
