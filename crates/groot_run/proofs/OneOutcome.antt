@@ -16,8 +16,9 @@ use Rattle.config_load.specs.Reading.{Reading, Reads, Refuses, Misses, Unknown, 
 use Rattle.groot_line.specs.declared.fault.LineFault.{LineFault}
 use Rattle.groot_line.specs.declared.job.Job.{Job}
 use Rattle.groot_line.specs.declared.job.Job.TheVariants as jobs
+use Rattle.plain_resolver.specs.Passed.{most_walks_followed}
 use Rattle.run_endings.specs.declared.ending.Ending.{Ending}
-use Rattle.run_endings.specs.Endings.{OfReading, most_learning_walks, too_many_to_learn}
+use Rattle.run_endings.specs.Endings.{OfReading, too_many_to_learn}
 use Rattle.groot_run.specs.Outcome.{reported, listed, WithinNames, WithinStates, IsReported, most_states, too_many_states, Checks, IsClassList, ListsClasses, ask_rewrites, IsAnswerWith, Asks, walks_written, Outcome, Drills, IsDrilled, drilled, drill_names, drill_rewrites, answered_to, IsRechecked, Rechecks, TellsFindings, ShowsClasses, told_of_views, site_names, site_rewrites, Compares, ComparesWith, compared_of, told_same, IsScoped, Scopes, WithinScope, scope_of, scope_written}
 use Rattle.report_check.proofs.OneAnswer.{only_answer}
 use Rattle.same_answers.specs.Compared.{Compared}
@@ -119,11 +120,11 @@ one_answer config followed name rtype a b (inr p) (inr q) =
 
 one_asked : (name : Labels) (rtype : RrType) (config : Config) (a b : Ending) → Asks name rtype config a → Asks name rtype config b → a ≡ b
 one_asked name rtype config a b (inl (server, first, is)) (inl (other, also, was)) =
-    is ∙ ap too_many_to_learn (one_first config ask_rewrites most_learning_walks [] server other first also) ∙ sym was
+    is ∙ ap (too_many_to_learn most_walks_followed) (one_first config ask_rewrites most_walks_followed [] server other first also) ∙ sym was
 one_asked name rtype config a b (inl (server, first, is)) (inr q) =
-    absurd (none_is_first config ask_rewrites most_learning_walks [] (length config.servers) server first first.is_round q.few)
+    absurd (none_is_first config ask_rewrites most_walks_followed [] (length config.servers) server first first.is_round q.few)
 one_asked name rtype config a b (inr p) (inl (server, first, is)) =
-    absurd (none_is_first config ask_rewrites most_learning_walks [] (length config.servers) server first first.is_round p.few)
+    absurd (none_is_first config ask_rewrites most_walks_followed [] (length config.servers) server first first.is_round p.few)
 one_asked name rtype config a b (inr p) (inr q) =
     one_answer config q.followed name rtype a b
     (subst (λ (followed : List Labels). IsAnswerWith config followed name rtype a)

@@ -21,8 +21,8 @@ use Rattle.config_load.specs.Refusal.{fields_line}
 use Rattle.graph_form.specs.Report.{Subject, IsReport}
 use Rattle.graph_form.specs.declared.report.Report.{Report}
 use Rattle.graph_form.specs.declared.report.ReportEntry.{ReportEntry}
-use Rattle.plain_resolver.specs.Passed.{HasMoreWalks, NoneInRounds, IsFirstWithTooMany}
-use Rattle.report_check.specs.Checked.{IsChecked, most_walks as most_walks_checked}
+use Rattle.plain_resolver.specs.Passed.{HasMoreWalks, NoneInRounds, IsFirstWithTooMany, most_walks_followed}
+use Rattle.report_check.specs.Checked.{IsChecked}
 use Rattle.report_check.specs.declared.answer.Checked.{Checked}
 use Rattle.report_check.specs.declared.answer.Checked.TheVariants as checks
 use Rattle.report_check.specs.declared.answer.CheckFault.{CheckFault}
@@ -36,7 +36,7 @@ use Rattle.groot_line.specs.declared.job.Job.{Job}
 use Rattle.groot_line.specs.declared.job.Job.TheVariants as jobs
 use Rattle.run_endings.specs.declared.ending.Ending.{Ending}
 use Rattle.run_endings.specs.declared.status.Status.{Status}
-use Rattle.run_endings.specs.Endings.{OfReading, with_output, without_output, read_failed, no_memory, too_many_names, too_many_states as too_many_states_than, most_learning_walks, too_many_to_learn}
+use Rattle.run_endings.specs.Endings.{OfReading, with_output, without_output, read_failed, no_memory, too_many_names, too_many_states as too_many_states_than, too_many_to_learn}
 use Rattle.run_endings.specs.declared.status.Status.TheVariants.{Clean, Faults, Usage, Refused, Walks}
 use Rattle.job_scope.specs.Scoped.{scoped, widened}
 use Rattle.same_answers.specs.Compared.{Compared, joint}
@@ -162,13 +162,13 @@ IsAnswerWith config followed name rtype ending =
 pub record IsAnswerOf (config : Config) (name : Labels) (rtype : RrType) (ending : Ending) : Type 0 where
   pub followed : List Labels
   pub in_force : IsInForce config ask_rewrites followed
-  pub few : NoneInRounds config ask_rewrites most_learning_walks [] (length config.servers)
+  pub few : NoneInRounds config ask_rewrites most_walks_followed [] (length config.servers)
   pub answer : IsAnswerWith config followed name rtype ending
 
 -- what `ask` gives of a configuration: the answer of the query, unless a server's name has more walks than are followed
 abbrev pub Asks : Labels → RrType → Config → Ending → Type 0
 Asks name rtype config ending =
-    ((server : Labels) × IsFirstWithTooMany config ask_rewrites most_learning_walks [] server × (ending ≡ too_many_to_learn server))
+    ((server : Labels) × IsFirstWithTooMany config ask_rewrites most_walks_followed [] server × (ending ≡ too_many_to_learn most_walks_followed server))
     ⊎ IsAnswerOf config name rtype ending
 
 -- a drill with this report; a count of records ends at its last number
@@ -233,7 +233,7 @@ not_report file = without_output Refused (fields_line file (decimal 0) (codes "n
 -- the query of the entry with this number has more walks than are followed; with the number 0, a server's name has more
 abbrev pub too_many_to_check : ℕ → Ending
 too_many_to_check entry =
-    without_output Walks (codes "walks: more than " ++ (decimal most_walks_checked ++ (codes " for entry " ++ (decimal entry ++ codes "\n"))))
+    without_output Walks (codes "walks: more than " ++ (decimal most_walks_followed ++ (codes " for entry " ++ (decimal entry ++ codes "\n"))))
 
 -- how a run ends by what is answered to the report in this file
 abbrev pub answered_to : List ℕ → Result Checked CheckFault → Ending

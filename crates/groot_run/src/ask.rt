@@ -8,9 +8,9 @@ use crate::ending::too_many_walks;
 use dns_data::{List, Name, NoMemory, RrType};
 use groot_line::USUAL_REWRITES;
 use net_model::Config;
-use plain_resolver::{LearntFault, ResolveFault, learnt_at, resolve_at};
+use plain_resolver::{LearntFault, MOST_WALKS_FOLLOWED, ResolveFault, learnt_at, resolve_at};
 use report_json::ask_text;
-use run_endings::{Ending, MOST_LEARNING_WALKS, Status};
+use run_endings::{Ending, Status};
 use std::alloc::Global;
 use zone_lookup::Hosts;
 
@@ -33,9 +33,11 @@ fn ask_at(alloc: Global, hosts: &Hosts<'_>, name: &Name, rtype: RrType) -> Endin
     ensures { Asks name.now rtype hosts.now result ⊎ (result ≡ no_memory) }
 {
     let none = List::new(alloc);
-    match learnt_at(alloc, hosts, USUAL_REWRITES, &none, MOST_LEARNING_WALKS) {
+    match learnt_at(alloc, hosts, USUAL_REWRITES, &none, MOST_WALKS_FOLLOWED) {
         Ok(followed) => answer(alloc, hosts, followed.items(), name, rtype),
-        Err(LearntFault::WalksPassed(server)) => Ending::too_many_to_learn(alloc, &server),
+        Err(LearntFault::WalksPassed(server)) => {
+            Ending::too_many_to_learn(alloc, MOST_WALKS_FOLLOWED, &server)
+        }
         Err(LearntFault::NoMemory) => Ending::no_memory(),
     }
 }

@@ -9,7 +9,7 @@ use crate::judging::MOST_STATES;
 use dns_data::{Name, NoMemory};
 use groot_line::usage_line;
 use itoa::Buffer;
-use report_check::MOST_WALKS as MOST_WALKS_CHECKED;
+use plain_resolver::MOST_WALKS_FOLLOWED;
 use run_endings::{Ending, Line, Status, more_than, refusal_line};
 use std::alloc::Global;
 
@@ -44,7 +44,7 @@ pub(crate) fn not_report(alloc: Global, file: &str) -> Ending
 pub(crate) fn too_many_to_check(alloc: Global, entry: u64) -> Ending
     ensures { (result ≡ outcome.too_many_to_check entry) ⊎ (result ≡ no_memory) }
 {
-    match more_than_for_entry(alloc, b"walks: more than ", MOST_WALKS_CHECKED, entry) {
+    match more_than_for_entry(alloc, b"walks: more than ", MOST_WALKS_FOLLOWED, entry) {
         Ok(line) => Ending::without_output(Status::Walks, line),
         Err(NoMemory) => Ending::no_memory(),
     }

@@ -14,6 +14,11 @@ use Rattle.net_model.specs.Walk.{walk_along}
 abbrev pub HasMoreWalks : Setting → Labels → RrType → ℕ → Type 0
 HasMoreWalks setting query rtype most = HasMoreThan (λ numbers. IsSome (walk_along setting query rtype numbers)) most
 
+-- how many walks of one query are followed at most where no other limit is named: of a server's name with type A or with
+-- type AAAA, to learn its address, as of any query
+abbrev pub most_walks_followed : ℕ
+most_walks_followed = 10000
+
 -- a name has more walks of type A or of type AAAA than so many, while some servers are followed
 abbrev pub HasTooMany : Config → ℕ → ℕ → List Labels → Labels → Type 0
 HasTooMany config rewrites most followed name =

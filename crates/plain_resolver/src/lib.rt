@@ -17,5 +17,5 @@ mod visitor;
 mod walks;
 
 pub use fault::{LearntFault, ResolveFault};
-pub use rounds::{learnt, learnt_at};
+pub use rounds::{MOST_WALKS_FOLLOWED, learnt, learnt_at};
 pub use walks::{resolve, resolve_at};

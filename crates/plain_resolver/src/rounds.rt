@@ -17,6 +17,10 @@ use resting_names::{RestingNames, gives_address};
 use std::alloc::Global;
 use zone_lookup::Hosts;
 
+/// How many walks of one query are followed at most where no other limit is named: of a server's name with type A or
+/// with type AAAA, to learn its address, as of any query.
+pub const MOST_WALKS_FOLLOWED: u32 = 10_000;
+
 /// The names of the servers whose addresses are learnt after as many rounds as there are servers, begun with these. It
 /// is `WalksPassed` where for one of the sets from which a round starts some server's name has more than `most` walks of
 /// type A or of type AAAA, with the first such server of the first such set.

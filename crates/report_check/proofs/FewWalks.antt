@@ -6,10 +6,10 @@ use Rattle.dns_data.specs.Name.{Labels}
 use Rattle.dns_data.proofs.Membership.{has_first}
 use Rattle.net_model.specs.Nearest.{server_names}
 use Rattle.net_model.specs.declared.config.Config.{Config}
-use Rattle.plain_resolver.specs.Passed.{NoneInRounds}
-use Rattle.report_check.specs.Checked.{LearningPasses, RoundsPass, most_walks}
+use Rattle.plain_resolver.specs.Passed.{NoneInRounds, most_walks_followed}
+use Rattle.report_check.specs.Checked.{LearningPasses, RoundsPass}
 
-rounds_few : (config : Config) (rewrites : ℕ) (begin : List Labels) → NoneInRounds config rewrites most_walks begin (length config.servers)
+rounds_few : (config : Config) (rewrites : ℕ) (begin : List Labels) → NoneInRounds config rewrites most_walks_followed begin (length config.servers)
     → RoundsPass config rewrites begin → ⊥
 rounds_few config rewrites begin none (name, passes) =
     none passes.before passes.followed passes.is_round passes.after name
@@ -18,8 +18,8 @@ rounds_few config rewrites begin none (name, passes) =
     passes.first.has
 
 -- where in no round of either set a server's name has too many walks, none has while addresses are learnt
-pub learning_few : (config : Config) (rewrites : ℕ) → NoneInRounds config rewrites most_walks [] (length config.servers)
-    → NoneInRounds config rewrites most_walks (server_names config) (length config.servers) → LearningPasses config rewrites → ⊥
+pub learning_few : (config : Config) (rewrites : ℕ) → NoneInRounds config rewrites most_walks_followed [] (length config.servers)
+    → NoneInRounds config rewrites most_walks_followed (server_names config) (length config.servers) → LearningPasses config rewrites → ⊥
 learning_few config rewrites least greatest passes =
     elim passes [
       | inl one ↦ rounds_few config rewrites [] least one

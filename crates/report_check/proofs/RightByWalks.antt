@@ -13,8 +13,8 @@ use Rattle.net_model.specs.declared.walk.Walk.{Walk}
 use Rattle.net_model.proofs.InForce.{one_in_force}
 use Rattle.report_json.specs.Report.{entry_value}
 use Rattle.serde_json.specs.Data.{Data}
-use Rattle.plain_resolver.specs.Passed.{HasMoreWalks}
-use Rattle.report_check.specs.Checked.{PassesWalks, most_walks}
+use Rattle.plain_resolver.specs.Passed.{HasMoreWalks, most_walks_followed}
+use Rattle.report_check.specs.Checked.{PassesWalks}
 use Rattle.report_check.specs.Entries.{ByWalks, entry_with, first_repeats}
 use Rattle.report_check.specs.Right.{IsRight, NamesQuery}
 use Rattle.report_check.proofs.ListedWalks.{is_listed, listed_is}
@@ -84,18 +84,18 @@ module _ (setting : Setting) (in_force : IsInForce setting.config setting.rewrit
   -- ---- how many walks there are
 
   -- where the query that an entry names has too many walks, the entry passes the limit of walks
-  pub walks_pass : HasMoreWalks setting query rtype most_walks → PassesWalks setting.config setting.rewrites value
+  pub walks_pass : HasMoreWalks setting query rtype most_walks_followed → PassesWalks setting.config setting.rewrites value
   walks_pass more = record { query = query; rtype = rtype; names = names; followed = setting.followed; in_force = in_force; more = more }
 
   -- where the query that an entry names hasn't too many walks, the entry doesn't pass the limit of walks
-  pub walks_few : (HasMoreWalks setting query rtype most_walks → ⊥) → PassesWalks setting.config setting.rewrites value → ⊥
+  pub walks_few : (HasMoreWalks setting query rtype most_walks_followed → ⊥) → PassesWalks setting.config setting.rewrites value → ⊥
   walks_few few passes =
       let same = one_query value passes.query query passes.rtype rtype passes.names names in
       let set = one_in_force setting.config setting.rewrites passes.followed setting.followed passes.in_force in_force in
       few
-      (subst (λ (names : List Labels). HasMoreWalks (following setting.config setting.rewrites names) query rtype most_walks) set
-      (subst (λ (t : RrType). HasMoreWalks (following setting.config setting.rewrites passes.followed) query t most_walks) same.1
-      (subst (λ (q : Labels). HasMoreWalks (following setting.config setting.rewrites passes.followed) q passes.rtype most_walks) same.0 passes.more)))
+      (subst (λ (names : List Labels). HasMoreWalks (following setting.config setting.rewrites names) query rtype most_walks_followed) set
+      (subst (λ (t : RrType). HasMoreWalks (following setting.config setting.rewrites passes.followed) query t most_walks_followed) same.1
+      (subst (λ (q : Labels). HasMoreWalks (following setting.config setting.rewrites passes.followed) q passes.rtype most_walks_followed) same.0 passes.more)))
 
 -- an entry that names no query isn't right, and has no walks
 pub unnamed_wrong : (setting : Setting) (value : Data) → ((query : Labels) (rtype : RrType) → NamesQuery value query rtype → ⊥) → IsRight setting.config setting.rewrites value → ⊥

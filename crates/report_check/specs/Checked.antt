@@ -8,18 +8,13 @@ use Rattle.net_model.specs.declared.config.Config.{Config}
 use Rattle.net_model.specs.Learnt.{IsInForce}
 use Rattle.net_model.specs.Nearest.{server_names}
 use Rattle.net_model.specs.Step.{following}
-use Rattle.plain_resolver.specs.Passed.{HasMoreWalks, IsFirstWithTooMany}
+use Rattle.plain_resolver.specs.Passed.{HasMoreWalks, IsFirstWithTooMany, most_walks_followed}
 use Rattle.report_check.specs.ReportIn.{StatedReport, report_in}
 use Rattle.report_check.specs.Right.{IsRight, NamesQuery}
 use Rattle.report_check.specs.declared.answer.Checked.{Checked}
 use Rattle.report_check.specs.declared.answer.Checked.TheVariants.{Right, Wrong}
 use Rattle.report_check.specs.declared.answer.CheckFault.{CheckFault}
 use Rattle.report_check.specs.declared.answer.CheckFault.TheVariants.{NotReport, Walks, NoMemory}
-
--- how many walks of one query are followed at most, also of a server's name with type A or with type AAAA to learn its
--- address
-abbrev pub most_walks : ℕ
-most_walks = 10000
 
 -- ---- an entry
 
@@ -30,7 +25,7 @@ pub record PassesWalks (config : Config) (rewrites : ℕ) (value : Data) : Type 
   pub names : NamesQuery value query rtype
   pub followed : List Labels
   pub in_force : IsInForce config rewrites followed
-  pub more : HasMoreWalks (following config rewrites followed) query rtype most_walks
+  pub more : HasMoreWalks (following config rewrites followed) query rtype most_walks_followed
 
 -- the entry is right, and its query hasn't more walks
 abbrev pub IsConfirmed : Config → ℕ → Data → Type 0
@@ -54,7 +49,7 @@ pub record IsFirst (config : Config) (rewrites : ℕ) (so : Data → Type 0) (en
 
 -- some server's name has too many walks in one of the sets from which a round starts, begun with these
 abbrev pub RoundsPass : Config → ℕ → List Labels → Type 0
-RoundsPass config rewrites begin = (name : Labels) × IsFirstWithTooMany config rewrites most_walks begin name
+RoundsPass config rewrites begin = (name : Labels) × IsFirstWithTooMany config rewrites most_walks_followed begin name
 
 -- begun with no server, for the least set, or with all, for the greatest
 abbrev pub LearningPasses : Config → ℕ → Type 0

@@ -11,17 +11,15 @@ ghost use Rattle.net_model.specs.Step.{following};
 ghost use Rattle.net_model.specs.Walk.{AreWalks, IsWalk};
 ghost use Rattle.net_model.specs.declared.class.Class.{Class as ClassValue};
 ghost use Rattle.net_model.specs.declared.fault.Fault.{Fault as FaultValue};
-ghost use Rattle.plain_resolver.specs.Passed.{HasMoreWalks};
-ghost use Rattle.report_check.specs.Checked.{most_walks};
+ghost use Rattle.plain_resolver.specs.Passed.{HasMoreWalks, most_walks_followed};
 ghost use Rattle.report_check.specs.Entries.{AreLearnt};
 
 use crate::asked::Asked;
 use crate::classes::Classes;
 use crate::faults::faults_of_walk;
-use crate::learning::MOST_WALKS;
 use dns_data::{List, Name, NoMemory};
 use net_model::{Class, Fault, Walk};
-use plain_resolver::{ResolveFault, resolve_at};
+use plain_resolver::{MOST_WALKS_FOLLOWED, ResolveFault, resolve_at};
 use std::alloc::Global;
 use std::marker::Model;
 use zone_lookup::{Hosts, LearntSets};
@@ -65,8 +63,8 @@ impl<'h, 'a> Checker<'h, 'a> {
     /// All walks of a query with its type, in order. It is `WalksPassed` where there are more than 10,000.
     pub fn walks_of(&self, alloc: Global, asked: &Asked) -> Result<List<Walk>, ResolveFault>
         ensures walks { IfOk result (AreWalks self.now asked.now.query asked.now.rtype) }
-        ensures few { OnOk result (HasMoreWalks self.now asked.now.query asked.now.rtype most_walks → ⊥) }
-        ensures passed { IsErrOf result ResolveFault.WalksPassed → HasMoreWalks self.now asked.now.query asked.now.rtype most_walks }
+        ensures few { OnOk result (HasMoreWalks self.now asked.now.query asked.now.rtype most_walks_followed → ⊥) }
+        ensures passed { IsErrOf result ResolveFault.WalksPassed → HasMoreWalks self.now asked.now.query asked.now.rtype most_walks_followed }
         ensures in_force { IsInForce self.now.config self.now.rewrites self.now.followed }
     {
         resolve_at(
@@ -76,7 +74,7 @@ impl<'h, 'a> Checker<'h, 'a> {
             self.sets.deps().least.items(),
             &asked.query,
             asked.rtype,
-            MOST_WALKS,
+            MOST_WALKS_FOLLOWED,
         )
     }
 

@@ -8,12 +8,9 @@ ghost use Rattle.report_check.specs.Entries.{AreLearnt};
 
 use dns_data::{List, Name, NoMemory};
 use net_model::{Config, Deps};
-use plain_resolver::{LearntFault, learnt_at};
+use plain_resolver::{LearntFault, MOST_WALKS_FOLLOWED, learnt_at};
 use std::alloc::Global;
 use zone_lookup::{Hosts, LearntSets};
-
-/// How many walks of one query are followed at most.
-pub const MOST_WALKS: u32 = 10_000;
 
 /// The least and the greatest set of learnt addresses, each found by following walks. It is `WalksPassed` where the
 /// name of a server has more than 10,000 walks of type A or of type AAAA in a set from which a round starts; the least
@@ -27,9 +24,10 @@ pub(crate) fn learnt_sets(
     ensures few { OnOk result (LearningPasses hosts.now rewrites → ⊥) }
     ensures passed { (name : Labels) → IsErrOf result (LearntFault.WalksPassed name) → LearningPasses hosts.now rewrites }
 {
-    let least = learnt_at(alloc, hosts, rewrites, &List::new(alloc), MOST_WALKS)?;
+    let none = List::new(alloc);
+    let least = learnt_at(alloc, hosts, rewrites, &none, MOST_WALKS_FOLLOWED)?;
     let all = server_names(alloc, hosts.config())?;
-    let greatest = learnt_at(alloc, hosts, rewrites, &all, MOST_WALKS)?;
+    let greatest = learnt_at(alloc, hosts, rewrites, &all, MOST_WALKS_FOLLOWED)?;
     Ok(LearntSets::build(alloc, Deps { least, greatest })?)
 }
 

@@ -33,4 +33,3 @@ mod texts;
 
 pub use answer::{CheckFault, Checked};
 pub use check::check_report;
-pub use learning::MOST_WALKS;

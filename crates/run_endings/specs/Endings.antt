@@ -58,14 +58,10 @@ abbrev pub too_many_states : ℕ → Labels → Ending
 too_many_states limit query =
     without_output States (codes "states: more than " ++ (decimal limit ++ (codes " for " ++ (name_text query ++ codes "\n"))))
 
--- how many walks of a server's name, with type A or with type AAAA, are followed at most to learn its address
-abbrev pub most_learning_walks : ℕ
-most_learning_walks = 10000
-
--- the server's name has more walks than are followed to learn its address
-abbrev pub too_many_to_learn : Labels → Ending
-too_many_to_learn server =
-    without_output Walks (codes "walks: more than " ++ (decimal most_learning_walks ++ (codes " for " ++ (name_text server ++ codes "\n"))))
+-- the server's name has more walks than this limit, up to which they are followed to learn its address
+abbrev pub too_many_to_learn : ℕ → Labels → Ending
+too_many_to_learn limit server =
+    without_output Walks (codes "walks: more than " ++ (decimal limit ++ (codes " for " ++ (name_text server ++ codes "\n"))))
 
 -- What a command gives that reads the metadata file of this name and the files that it names, by what it gives of what was
 -- read. Where a file isn't held, or nothing is told of it, it gives nothing: such a run ends in a failed read.

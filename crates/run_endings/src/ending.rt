@@ -13,9 +13,6 @@ use dns_data::{Name, NoMemory, Octets, Text};
 use itoa::Buffer;
 use std::alloc::Global;
 
-/// How many walks of a server's name, with type A or with type AAAA, are followed at most to learn its address.
-pub const MOST_LEARNING_WALKS: u32 = 10_000;
-
 /// How a run ends: its status, the text for out, and the line for err.
 #[derive(Debug, Drop)]
 pub struct Ending {
@@ -95,11 +92,11 @@ impl Ending {
         }
     }
 
-    /// The server's name has more walks than are followed to learn its address.
-    pub fn too_many_to_learn(alloc: Global, server: &Name) -> Ending
-        ensures { (result ≡ endings.too_many_to_learn server.now) ⊎ (result ≡ endings.no_memory) }
+    /// The server's name has more walks than this limit, up to which they are followed to learn its address.
+    pub fn too_many_to_learn(alloc: Global, limit: u32, server: &Name) -> Ending
+        ensures { (result ≡ endings.too_many_to_learn limit server.now) ⊎ (result ≡ endings.no_memory) }
     {
-        match more_than_for(alloc, b"walks: more than ", MOST_LEARNING_WALKS, server) {
+        match more_than_for(alloc, b"walks: more than ", limit, server) {
             Ok(line) => Ending::without_output(Status::Walks, line),
             Err(NoMemory) => Ending::no_memory(),
         }

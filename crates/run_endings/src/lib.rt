@@ -9,7 +9,7 @@ mod line;
 mod output;
 mod status;
 
-pub use ending::{Ending, MOST_LEARNING_WALKS, more_than, refusal_line};
+pub use ending::{Ending, more_than, refusal_line};
 pub use line::Line;
 pub use output::{tell, write_all};
 pub use status::Status;

@@ -19,10 +19,10 @@ use Rattle.net_model.specs.declared.walk.Walk.{Walk}
 use Rattle.net_model.specs.Learnt.{IsInForce}
 use Rattle.net_model.specs.Step.{Setting, following}
 use Rattle.net_model.specs.Walk.{AreWalks}
-use Rattle.plain_resolver.specs.Passed.{HasMoreWalks, NoneInRounds, IsFirstWithTooMany}
+use Rattle.plain_resolver.specs.Passed.{HasMoreWalks, NoneInRounds, IsFirstWithTooMany, most_walks_followed}
 use Rattle.config_load.specs.declared.loaded.Loaded.{Loaded}
 use Rattle.config_load.specs.declared.loaded.RowFiles.{RowFiles}
-use Rattle.run_endings.specs.Endings.{most_learning_walks, too_many_to_learn, with_output}
+use Rattle.run_endings.specs.Endings.{too_many_to_learn, with_output}
 use Rattle.run_endings.specs.declared.ending.Ending.{Ending}
 use Rattle.run_endings.specs.declared.status.Status.{Status}
 use Rattle.run_endings.specs.declared.status.Status.TheVariants.{Clean, Faults}
@@ -132,7 +132,7 @@ targets_status (octet ∷ text) = Faults
 pub record TellsTargets (all : Loaded) (ending : Ending) : Type 0 where
   pub followed : List Labels
   pub in_force : IsInForce all.config most_rewrites followed
-  pub few : NoneInRounds all.config most_rewrites most_learning_walks [] (length all.config.servers)
+  pub few : NoneInRounds all.config most_rewrites most_walks_followed [] (length all.config.servers)
   pub ends : Labels → TargetEnds
   pub are : (name : Labels) → AreTargetEnds (following all.config most_rewrites followed) name (ends name)
   pub as_text : ending ≡ with_output (targets_status (targets_text ends all)) (targets_text ends all)
@@ -140,5 +140,5 @@ pub record TellsTargets (all : Loaded) (ending : Ending) : Type 0 where
 -- what `targets` gives of what was read, unless a server's name has more walks than are followed
 abbrev pub IsTargets : Loaded → Ending → Type 0
 IsTargets all ending =
-    ((server : Labels) × IsFirstWithTooMany all.config most_rewrites most_learning_walks [] server × (ending ≡ too_many_to_learn server))
+    ((server : Labels) × IsFirstWithTooMany all.config most_rewrites most_walks_followed [] server × (ending ≡ too_many_to_learn most_walks_followed server))
     ⊎ TellsTargets all ending

@@ -14,8 +14,8 @@ use crate::records::put_columns;
 use crate::target_ends::{DeadEnds, TargetEnds, Targeting};
 use config_load::{Loaded, RowFiles};
 use dns_data::{List, Name, NoMemory, Octets, Rr};
-use plain_resolver::{LearntFault, learnt_at};
-use run_endings::{Ending, MOST_LEARNING_WALKS, Status};
+use plain_resolver::{LearntFault, MOST_WALKS_FOLLOWED, learnt_at};
+use run_endings::{Ending, Status};
 use std::alloc::Global;
 use zone_lookup::Hosts;
 
@@ -35,9 +35,11 @@ fn targets_at(alloc: Global, hosts: &Hosts<'_>, rows: &[RowFiles]) -> Ending
     ensures { IsTargets (record { config = hosts.now; rows = rows.now }) result ⊎ (result ≡ no_memory) }
 {
     let none = List::new(alloc);
-    match learnt_at(alloc, hosts, REWRITES, &none, MOST_LEARNING_WALKS) {
+    match learnt_at(alloc, hosts, REWRITES, &none, MOST_WALKS_FOLLOWED) {
         Ok(followed) => targets_while(alloc, hosts, followed.items(), rows),
-        Err(LearntFault::WalksPassed(server)) => Ending::too_many_to_learn(alloc, &server),
+        Err(LearntFault::WalksPassed(server)) => {
+            Ending::too_many_to_learn(alloc, MOST_WALKS_FOLLOWED, &server)
+        }
         Err(LearntFault::NoMemory) => Ending::no_memory(),
     }
 }

@@ -3,9 +3,9 @@ use Rattle.std.proofs.Common.{◌≡◌, List, [], length, Result, Err, inl, inr
 use Rattle.dns_data.specs.Name.{Labels}
 use Rattle.net_model.specs.declared.config.Config.{Config}
 use Rattle.net_model.specs.Learnt.{AfterRounds, IsLeast}
-use Rattle.plain_resolver.specs.Passed.{NoneInRounds, IsFirstWithTooMany}
+use Rattle.plain_resolver.specs.Passed.{NoneInRounds, IsFirstWithTooMany, most_walks_followed}
 use Rattle.plain_resolver.specs.declared.fault.LearntFault.{LearntFault}
-use Rattle.run_endings.specs.Endings.{most_learning_walks, too_many_to_learn}
+use Rattle.run_endings.specs.Endings.{too_many_to_learn}
 use Rattle.groot_run.specs.Outcome.{ask_rewrites}
 use Rattle.groot_run.proofs.ask.ask_at.Goals as goal
 
@@ -16,14 +16,14 @@ learnt_from_none config begin followed viewed none same rounds =
     (subst (λ (names : List Labels). AfterRounds config ask_rewrites (length config.servers) names viewed) none rounds)
 
 few_from_none : (config : Config) (begin : List Labels) → begin ≡ []
-    → NoneInRounds config ask_rewrites most_learning_walks begin (length config.servers) → NoneInRounds config ask_rewrites most_learning_walks [] (length config.servers)
+    → NoneInRounds config ask_rewrites most_walks_followed begin (length config.servers) → NoneInRounds config ask_rewrites most_walks_followed [] (length config.servers)
 few_from_none config begin none few =
-    subst (λ (names : List Labels). NoneInRounds config ask_rewrites most_learning_walks names (length config.servers)) none few
+    subst (λ (names : List Labels). NoneInRounds config ask_rewrites most_walks_followed names (length config.servers)) none few
 
 first_from_none : (config : Config) (begin : List Labels) (server : Labels) → begin ≡ []
-    → IsFirstWithTooMany config ask_rewrites most_learning_walks begin server → IsFirstWithTooMany config ask_rewrites most_learning_walks [] server
+    → IsFirstWithTooMany config ask_rewrites most_walks_followed begin server → IsFirstWithTooMany config ask_rewrites most_walks_followed [] server
 first_from_none config begin server none first =
-    subst (λ (names : List Labels). IsFirstWithTooMany config ask_rewrites most_learning_walks names server) none first
+    subst (λ (names : List Labels). IsFirstWithTooMany config ask_rewrites most_walks_followed names server) none first
 
 pub returns-in-Ok : goal.returns-in-Ok
 returns-in-Ok c =
@@ -46,7 +46,7 @@ returns-in-Err-WalksPassed c =
         first_from_none c.args.hosts.now c.new-none.result c.in-Err-WalksPassed.server c.new-none.ensures
             (c.in-Err-WalksPassed.ensures.passed c.in-Err-WalksPassed.server
             (ap {B = Result (List Labels) LearntFault} (λ (fault : LearntFault). Err fault) c.in-Err-WalksPassed.field-0-is)),
-        let same : c.too_many_to_learn.result ≡ too_many_to_learn c.in-Err-WalksPassed.server = cc ends in same,
+        let same : c.too_many_to_learn.result ≡ too_many_to_learn most_walks_followed c.in-Err-WalksPassed.server = cc ends in same,
       ))
       | inr ran_out ↦ inr ran_out
     ]

@@ -2,8 +2,7 @@ use Rattle.std.proofs.Common.{List, length, inl, inr, ap, ◌∙◌, subst, rule
 use Rattle.dns_data.specs.Name.{Labels}
 use Rattle.net_model.specs.Nearest.{server_names}
 use Rattle.net_model.specs.declared.config.Config.{Config}
-use Rattle.plain_resolver.specs.Passed.{IsFirstWithTooMany, NoneInRounds}
-use Rattle.report_check.specs.Checked.{most_walks}
+use Rattle.plain_resolver.specs.Passed.{IsFirstWithTooMany, NoneInRounds, most_walks_followed}
 use Rattle.report_check.proofs.FewWalks.{learning_few}
 use Rattle.report_check.proofs.learning.learnt_sets.Goals as goal
 
@@ -11,7 +10,7 @@ pub returns-in_err-least-clause-passed : goal.returns-in_err-least-clause-passed
 returns-in_err-least-clause-passed c = λ name is.
     inl (
       name,
-      subst (λ (begin : List Labels). IsFirstWithTooMany c.args.hosts.now c.args.rewrites most_walks begin name) c.new.ensures
+      subst (λ (begin : List Labels). IsFirstWithTooMany c.args.hosts.now c.args.rewrites most_walks_followed begin name) c.new-none.ensures
           (c.in_err-least.ensures.passed name (search rules)),
     )
 
@@ -19,7 +18,7 @@ pub returns-in_err-greatest-clause-passed : goal.returns-in_err-greatest-clause-
 returns-in_err-greatest-clause-passed c = λ name is.
     inr (
       name,
-      subst (λ (begin : List Labels). IsFirstWithTooMany c.args.hosts.now c.args.rewrites most_walks begin name)
+      subst (λ (begin : List Labels). IsFirstWithTooMany c.args.hosts.now c.args.rewrites most_walks_followed begin name)
           (c.in_ok-all.ensures ∙ ap (λ (config : Config). server_names config) c.config.ensures)
           (c.in_err-greatest.ensures.passed name (search rules)),
     )
@@ -28,6 +27,6 @@ pub returns-clause-few : goal.returns-clause-few
 returns-clause-few c =
     let hosts = c.args.hosts.now in
     learning_few hosts c.args.rewrites
-    (subst (λ (begin : List Labels). NoneInRounds hosts c.args.rewrites most_walks begin (length hosts.servers)) c.new.ensures c.in_ok-least.ensures.few)
-    (subst (λ (begin : List Labels). NoneInRounds hosts c.args.rewrites most_walks begin (length hosts.servers))
+    (subst (λ (begin : List Labels). NoneInRounds hosts c.args.rewrites most_walks_followed begin (length hosts.servers)) c.new-none.ensures c.in_ok-least.ensures.few)
+    (subst (λ (begin : List Labels). NoneInRounds hosts c.args.rewrites most_walks_followed begin (length hosts.servers))
     (c.in_ok-all.ensures ∙ ap (λ (config : Config). server_names config) c.config.ensures) c.in_ok-greatest.ensures.few)

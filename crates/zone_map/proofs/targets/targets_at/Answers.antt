@@ -4,9 +4,8 @@ use Rattle.dns_data.specs.Name.{Labels}
 use Rattle.net_model.specs.declared.config.Config.{Config}
 use Rattle.net_model.specs.Learnt.{AfterRounds, IsLeast}
 use Rattle.net_model.specs.Step.{following}
-use Rattle.plain_resolver.specs.Passed.{NoneInRounds, IsFirstWithTooMany}
+use Rattle.plain_resolver.specs.Passed.{NoneInRounds, IsFirstWithTooMany, most_walks_followed}
 use Rattle.plain_resolver.specs.declared.fault.LearntFault.{LearntFault}
-use Rattle.run_endings.specs.Endings.{most_learning_walks}
 use Rattle.zone_map.specs.Rewrites.{most_rewrites}
 use Rattle.zone_map.specs.TargetsAsked.{ends_in}
 use Rattle.zone_map.proofs.TargetWalks.{ends_are}
@@ -19,14 +18,14 @@ learnt_from_none config begin followed viewed none same rounds =
     (subst (λ (names : List Labels). AfterRounds config most_rewrites (length config.servers) names viewed) none rounds)
 
 few_from_none : (config : Config) (begin : List Labels) → begin ≡ []
-    → NoneInRounds config most_rewrites most_learning_walks begin (length config.servers) → NoneInRounds config most_rewrites most_learning_walks [] (length config.servers)
+    → NoneInRounds config most_rewrites most_walks_followed begin (length config.servers) → NoneInRounds config most_rewrites most_walks_followed [] (length config.servers)
 few_from_none config begin none few =
-    subst (λ (names : List Labels). NoneInRounds config most_rewrites most_learning_walks names (length config.servers)) none few
+    subst (λ (names : List Labels). NoneInRounds config most_rewrites most_walks_followed names (length config.servers)) none few
 
 first_from_none : (config : Config) (begin : List Labels) (server : Labels) → begin ≡ []
-    → IsFirstWithTooMany config most_rewrites most_learning_walks begin server → IsFirstWithTooMany config most_rewrites most_learning_walks [] server
+    → IsFirstWithTooMany config most_rewrites most_walks_followed begin server → IsFirstWithTooMany config most_rewrites most_walks_followed [] server
 first_from_none config begin server none first =
-    subst (λ (names : List Labels). IsFirstWithTooMany config most_rewrites most_learning_walks names server) none first
+    subst (λ (names : List Labels). IsFirstWithTooMany config most_rewrites most_walks_followed names server) none first
 
 pub returns-in-Ok : goal.returns-in-Ok
 returns-in-Ok c =
