@@ -107,11 +107,11 @@ module _ (config : Config) (rewrites : ℕ) (few more : List Labels)
             → Narrowed config few
             (if not configured then End (Some (Refer cut)) (Unhosted cut.ns) else (if not more_follow then closed else delegated state cut zone))
             (if not configured then End (Some (Refer cut)) (Unhosted cut.ns) else (if not follow then closed else delegated state cut zone))
-        by false follow is more_follow stays zone = inl refl
+        by false follow is more_follow stays _ = inl refl
         by true true is true stays zone = delegated_same zone is
-        by true true is false stays zone = let no : false ≡ true = stays is in cc
+        by true true is false stays _ = let no : false ≡ true = stays is in cc
         by true false is true stays zone = delegated_closed zone is
-        by true false is false stays zone = inl refl
+        by true false is false stays _ = inl refl
 
   -- ---- all branches of a state
 

@@ -84,12 +84,12 @@ abbrev pub with_told : Report → Labels → List Told → Ending
 with_told report name told = with_output (status_of report.entries) (scope_text report name told)
 
 -- a text that is written with the report's status is that
-pub as_written : (report : Report) (name asked : Labels) (told : List Told) (status : Status) (ending : Ending) → status ≡ status_of report.entries → asked ≡ name
-    → (ending ≡ with_output status (scope_text report asked told)) ⊎ (ending ≡ no_memory) → (ending ≡ with_told report name told) ⊎ (ending ≡ no_memory)
-as_written report name asked told status ending status_is same (inl is) =
+pub as_written : (report : Report) (name asked : Labels) (told : List Told) (exit : Status) (ending : Ending) → exit ≡ status_of report.entries → asked ≡ name
+    → (ending ≡ with_output exit (scope_text report asked told)) ⊎ (ending ≡ no_memory) → (ending ≡ with_told report name told) ⊎ (ending ≡ no_memory)
+as_written report name asked told exit ending status_is same (inl is) =
     inl (is ∙ ap (λ (s : Status). with_output s (scope_text report asked told)) status_is
     ∙ ap (λ (n : Labels). with_output (status_of report.entries) (scope_text report n told)) same)
-as_written report name asked told status ending status_is same (inr ran_out) = inr ran_out
+as_written report name asked told exit ending status_is same (inr ran_out) = inr ran_out
 
 module _ (config : Config) (name : Labels) where
   -- an ending without a report is one of a scope, whatever it gives of a report

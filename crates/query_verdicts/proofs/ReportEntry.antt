@@ -1,5 +1,5 @@
 -- The entry of a fault with the walks of a class that shows it.
-use Rattle.std.proofs.Common.{◌≡◌, ◌∙◌, ℕ, ◌≤◌, List, [], ◌∷◌, ◌++◌, All, Contains, Some, sym, ap, refl, subst, append_assoc, append-nil}
+use Rattle.std.proofs.Common.{◌≡◌, ◌∙◌, ◌≤◌, List, [], ◌∷◌, ◌++◌, All, Contains, Some, sym, ap, refl, subst, append_assoc, append-nil}
 use Rattle.std.specs.Prelude.{slice_get, Bool}
 use Rattle.std.proofs.lemmas.List.Elements.{All-contains, Contains-append_right}
 use Rattle.dns_data.specs.Name.{Labels}

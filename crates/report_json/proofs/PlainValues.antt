@@ -12,7 +12,7 @@ use Rattle.net_model.specs.declared.walk.Leaf.TheVariants.{Answer, NoData, NxDom
 use Rattle.net_model.specs.declared.walk.State.{State}
 use Rattle.net_model.specs.declared.walk.Walk.{Walk}
 use Rattle.serde_json.specs.Data as values
-use Rattle.serde_json.specs.Data.{Data, Members, no_members, member, depth, items_depth, members_depth}
+use Rattle.serde_json.specs.Data.{Data, depth, items_depth, members_depth}
 use Rattle.serde_json.specs.Written.{has_float}
 use Rattle.report_json.specs.Ask.{ask_value}
 use Rattle.report_json.specs.Plain.{IsPlain, ArePlain, MembersPlain}

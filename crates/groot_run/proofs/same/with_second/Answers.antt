@@ -1,5 +1,4 @@
 use Rattle.std.proofs.Common.{refl}
-use Rattle.net_model.specs.declared.config.Config.{Config}
 use Rattle.groot_run.specs.Outcome.{Compares, compared_of}
 use Rattle.groot_run.proofs.Endings.{over_config, over_none}
 use Rattle.groot_run.proofs.same.with_second.Goals as goal
