@@ -17,8 +17,8 @@ use Rattle.graph_form.proofs.Paths.{same_item}
 use Rattle.address_deps.specs.Dependents.{AreAllPlaces, AreDependents, IsListedFor, places_of, told_awaits}
 
 -- the names to which references lead
-abbrev pub names_of : List (Bor Labels) → List Labels
-names_of names = map (λ (name : Bor Labels). name.now) names
+abbrev pub borrowed_names : List (Bor Labels) → List Labels
+borrowed_names names = map (λ (name : Bor Labels). name.now) names
 
 -- for each name, the places at which it is listed
 abbrev pub Places : Type 0

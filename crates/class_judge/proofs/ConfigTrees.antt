@@ -5,7 +5,7 @@ use Rattle.net_model.specs.declared.config.Config.{Config}
 use Rattle.net_model.specs.Reading.{ground_of}
 use Rattle.walk_laws.proofs.JoinedGround.{own_covers}
 use Rattle.verdict_book.specs.Items.{ParentsApart}
-use Rattle.query_verdicts.specs.Carried.{whole}
+use Rattle.query_verdicts.specs.Carried.{whole_config}
 use Rattle.query_verdicts.specs.Subjects.{IsCovering}
 use Rattle.query_verdicts.specs.Values.{AreValues}
 use Rattle.query_verdicts.specs.declared.verdict.ClassVerdict.{ClassVerdict}
@@ -15,20 +15,20 @@ use Rattle.query_verdicts.proofs.TreeValues as trees
 
 -- the names of the class tree one label below a name
 abbrev pub children_of : Config → Labels → List Labels
-children_of config = trees.names_below (whole config 0) (own_covers config)
+children_of config = trees.names_below (whole_config config 0) (own_covers config)
 
 -- the verdict of a name
 abbrev pub verdict_of : Config → ℕ → ℕ → Labels → NameVerdict ClassVerdict
-verdict_of config rewrites states = trees.verdict_of (whole config rewrites) (own_covers config) states
+verdict_of config rewrites states = trees.verdict_of (whole_config config rewrites) (own_covers config) states
 
 -- they are the values of the configuration
-pub values : (config : Config) (rewrites states : ℕ) → AreValues (whole config rewrites) states (children_of config) (verdict_of config rewrites states)
-values config rewrites states = trees.values (whole config rewrites) (own_covers config) states
+pub values : (config : Config) (rewrites states : ℕ) → AreValues (whole_config config rewrites) states (children_of config) (verdict_of config rewrites states)
+values config rewrites states = trees.values (whole_config config rewrites) (own_covers config) states
 
 -- no name is a child of two
 pub apart : (config : Config) → ParentsApart [] (children_of config)
-apart config = trees.apart (whole config 0) (own_covers config)
+apart config = trees.apart (whole_config config 0) (own_covers config)
 
 -- a whole configuration is covered by its own ground, whose tree has the root
-pub is_covered : (config : Config) (rewrites : ℕ) → IsCovering (whole config rewrites)
+pub is_covered : (config : Config) (rewrites : ℕ) → IsCovering (whole_config config rewrites)
 is_covered config rewrites = record { covers = own_covers config; in_tree = root_in_tree config (ground_of config) (own_covers config) }

@@ -7,7 +7,7 @@ ghost use Rattle.dns_data.specs.Name.{name_cmp};
 ghost use Rattle.graph_form.specs.Report.{IsReport};
 ghost use Rattle.label_graph.specs.Pairs.{AreSame};
 ghost use Rattle.net_model.specs.Reading.{ground_of};
-ghost use Rattle.query_verdicts.specs.Carried.{whole};
+ghost use Rattle.query_verdicts.specs.Carried.{whole_config};
 ghost use Rattle.query_verdicts.specs.Passed.{SomeClassPasses};
 ghost use Rattle.query_verdicts.specs.Values.{AreValues};
 ghost use Rattle.verdict_book.specs.Lists.{IsWholeTree};
@@ -31,14 +31,14 @@ pub struct Judge<'a, N: Naming> {
 
 impl<'a, N: Naming> Model for Judge<'a, N> {
     ghost use Rattle.net_model.specs.declared.config.Config.{Config};
-    ghost use Rattle.query_verdicts.specs.Carried.{whole};
+    ghost use Rattle.query_verdicts.specs.Carried.{whole_config};
     ghost use Rattle.query_verdicts.specs.Values.{AreValues};
 
     ghost Value = { Config };
 
     ghost view = { λ judge. judge.names.config };
 
-    ghost invariant = { λ judge. AreValues (whole N.config N.rewrites) N.states N.children_of N.verdict_of };
+    ghost invariant = { λ judge. AreValues (whole_config N.config N.rewrites) N.states N.children_of N.verdict_of };
 }
 
 impl<'a, N: Naming + Send> Work for Judge<'a, N> {
@@ -97,7 +97,7 @@ impl<'a, N: Naming> Judge<'a, N> {
         requires config { config.now ≡ N.config }
         requires rewrites { rewrites ≡ N.rewrites }
         requires states { states ≡ N.states }
-        requires values { AreValues (whole N.config N.rewrites) N.states N.children_of N.verdict_of }
+        requires values { AreValues (whole_config N.config N.rewrites) N.states N.children_of N.verdict_of }
         ensures config { IfOk result (λ judge. judge ≡ config.now) }
     {
         let graphs = QueryGraphs::prepare(alloc, config, rewrites, states)?;
@@ -121,8 +121,8 @@ impl<'a, N: Naming + Send> Judge<'a, N> {
     pub fn report(&self, filed: List<Filed<Judge<'a, N>>>) -> Result<Report, ReportFault>
         requires whole { IsWholeTree name_cmp [] N.children_of N.verdict_of filed }
         requires few { length filed < 2 ^ 31 }
-        ensures report { IfOk result (IsReport (whole N.config N.rewrites)) }
-        ensures none_passes { OnOk result (SomeClassPasses (whole N.config N.rewrites) N.states → ⊥) }
+        ensures report { IfOk result (IsReport (whole_config N.config N.rewrites)) }
+        ensures none_passes { OnOk result (SomeClassPasses (whole_config N.config N.rewrites) N.states → ⊥) }
         ensures fault { IfErr result (IsRefusalOf N.config N.rewrites N.states) }
     {
         self.names.report(filed)

@@ -1,7 +1,7 @@
 //! What the faults of representatives tell of all queries, and what the children and the verdicts of names are.
 
 ghost use Rattle.std.specs.Prelude.{◌↔◌, ◌++◌, ℕ, List, []};
-ghost use Rattle.query_verdicts.specs.Carried.{whole, SomeClassShows};
+ghost use Rattle.query_verdicts.specs.Carried.{SomeClassShows, whole_config};
 ghost use Rattle.query_verdicts.specs.Values.{AreValues};
 ghost use Rattle.query_verdicts.specs.declared.verdict.ClassVerdict.{ClassVerdict};
 ghost use Rattle.query_verdicts.specs.declared.verdict.NameVerdict.{NameVerdict};
@@ -17,7 +17,7 @@ ghost use Rattle.verdict_book.specs.Items.{ReachesMore};
 
 /// Some query shows a fault exactly where the representative of some class does.
 pub fn carrying()
-    ensures { (config : Config) (rewrites : ℕ) (fault : Fault) → IsShown (whole config rewrites) fault ↔ SomeClassShows (whole config rewrites) fault }
+    ensures { (config : Config) (rewrites : ℕ) (fault : Fault) → IsShown (whole_config config rewrites) fault ↔ SomeClassShows (whole_config config rewrites) fault }
 {}
 
 /// Each name is in one class of a configuration, for which a name of it stands that is no longer than any other; and of
@@ -30,7 +30,7 @@ pub fn classes_are_told()
 /// Each name of a class tree has children and a verdict.
 pub fn values_exist()
     ensures { (config : Config) (rewrites states : ℕ) → (children_of : Labels → List Labels) × (verdict_of : Labels → NameVerdict ClassVerdict)
-        × AreValues (whole config rewrites) states children_of verdict_of }
+        × AreValues (whole_config config rewrites) states children_of verdict_of }
 {}
 
 /// More items than the limit are reached from the root exactly where the class tree has more names.

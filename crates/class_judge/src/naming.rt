@@ -4,7 +4,7 @@ ghost use Rattle.std.specs.Prelude.{ℕ, [], List as Items, None};
 ghost use Rattle.query_verdicts.specs.declared.verdict.ClassVerdict.{ClassVerdict};
 ghost use Rattle.query_verdicts.specs.declared.verdict.ClassVerdict.TheVariants.{Faults};
 ghost use Rattle.query_verdicts.specs.declared.verdict.NameVerdict.{NameVerdict};
-ghost use Rattle.query_verdicts.specs.Carried.{whole};
+ghost use Rattle.query_verdicts.specs.Carried.{whole_config};
 ghost use Rattle.dns_data.specs.Name.{Labels};
 ghost use Rattle.dns_data.proofs.Membership.{none_in_nil};
 ghost use Rattle.net_model.specs.declared.config.Config.{Config};
@@ -57,7 +57,7 @@ pub struct OfConfig<N: Naming> {
 }
 
 impl<N: Naming> OnSubject for OfConfig<N> {
-    ghost subject = { whole N.config N.rewrites };
+    ghost subject = { whole_config N.config N.rewrites };
 
     ghost states = { N.states };
 }

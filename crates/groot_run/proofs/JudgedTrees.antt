@@ -3,7 +3,7 @@ use Rattle.std.proofs.Common.{◌≡◌, ℕ, ◌<◌, ◌≤◌, List, [], leng
 use Rattle.std.specs.Prelude.{◌⊎◌, ◌↔◌, ◌^◌}
 use Rattle.std.specs.declared.cmp.Ordering.{Ordering}
 use Rattle.std.proofs.lemmas.List.{length-map}
-use Rattle.query_verdicts.specs.Carried.{whole}
+use Rattle.query_verdicts.specs.Carried.{whole_config}
 use Rattle.query_verdicts.specs.Passed.{SomeClassPasses, IsFirstPassed}
 use Rattle.dns_data.specs.Name.{Labels}
 use Rattle.graph_form.specs.Report.{IsReport}
@@ -38,16 +38,16 @@ module _ (config : Config) (rewrites states limit : ℕ) (children_of : Labels �
   few_names few more = few ((tree limit).1 more)
 
   -- a judge whose report is refused
-  pub states_pass : (ending : Ending) (query : Labels) → (ReachesMore [] children_of limit → ⊥) → IsFirstPassed (whole config rewrites) states query
+  pub states_pass : (ending : Ending) (query : Labels) → (ReachesMore [] children_of limit → ⊥) → IsFirstPassed (whole_config config rewrites) states query
       → (ending ≡ too_many_states query) ⊎ (ending ≡ no_memory) → IsJudged limit rewrites config (Err ending)
   states_pass ending query few first (inl is) =
-      inl (inr (few_names few, inl (query, subst (λ (n : ℕ). IsFirstPassed (whole config rewrites) n query) (sym same) first, is)))
+      inl (inr (few_names few, inl (query, subst (λ (n : ℕ). IsFirstPassed (whole_config config rewrites) n query) (sym same) first, is)))
   states_pass ending query few first (inr ran_out) = inr ran_out
 
   -- one that gives it
-  pub is_told : (ReachesMore [] children_of limit → ⊥) → (SomeClassPasses (whole config rewrites) states → ⊥)
-      → (report : Report) → IsReport (whole config rewrites) report → IsJudged limit rewrites config (Ok report)
-  is_told few none report is = (few_names few, subst (λ (n : ℕ). SomeClassPasses (whole config rewrites) n → ⊥) (sym same) none, is)
+  pub is_told : (ReachesMore [] children_of limit → ⊥) → (SomeClassPasses (whole_config config rewrites) states → ⊥)
+      → (report : Report) → IsReport (whole_config config rewrites) report → IsJudged limit rewrites config (Ok report)
+  is_told few none report is = (few_names few, subst (λ (n : ℕ). SomeClassPasses (whole_config config rewrites) n → ⊥) (sym same) none, is)
 
 -- an ending without a report is one of a command, whatever it gives of a report
 pub without_report : (limit rewrites : ℕ) (config : Config) (P : Type 0) (ending : Ending) → IsJudged limit rewrites config (Err ending)

@@ -10,7 +10,7 @@ use Rattle.site_checks.specs.Views.{Site}
 use Rattle.site_checks.proofs.OneViews.{one_list_of_views}
 use Rattle.net_model.specs.Reading.{ground_of}
 use Rattle.net_model.specs.Step.{following}
-use Rattle.query_verdicts.specs.Carried.{whole}
+use Rattle.query_verdicts.specs.Carried.{whole_config}
 use Rattle.config_load.specs.Conf.{conf}
 use Rattle.config_load.specs.Reading.{Reading, Reads, Refuses, Misses, Unknown, file_octets}
 use Rattle.groot_line.specs.declared.fault.LineFault.{LineFault}
@@ -44,7 +44,7 @@ one_within config limit P Q a b same (inr p) (inr q) = same p.1 q.1
 one_within_states : (config : Config) (rewrites : ℕ) (P Q : Type 0) (a b : Ending) → (P → Q → a ≡ b)
     → WithinStates config rewrites P a → WithinStates config rewrites Q b → a ≡ b
 one_within_states config rewrites P Q a b same (inl (query, first, is)) (inl (other, also, was)) =
-    is ∙ ap too_many_states (one_passed (whole config rewrites) most_states query other first also) ∙ sym was
+    is ∙ ap too_many_states (one_passed (whole_config config rewrites) most_states query other first also) ∙ sym was
 one_within_states config rewrites P Q a b same (inl (query, first, is)) (inr q) = absurd (q.0 (first.class, query, first.passes))
 one_within_states config rewrites P Q a b same (inr p) (inl (other, also, was)) = absurd (p.0 (also.class, other, also.passes))
 one_within_states config rewrites P Q a b same (inr p) (inr q) = same p.1 q.1
@@ -53,19 +53,19 @@ one_check : (limit rewrites : ℕ) (config : Config) (a b : Ending) → Checks l
 one_check limit rewrites config a b =
     one_within config limit (WithinStates config rewrites (IsReported config rewrites a) a) (WithinStates config rewrites (IsReported config rewrites b) b) a b
     (one_within_states config rewrites (IsReported config rewrites a) (IsReported config rewrites b) a b
-    (λ p q. p.as_text ∙ ap reported (one_report (whole config rewrites) p.report q.report p.is_report q.is_report) ∙ sym q.as_text))
+    (λ p q. p.as_text ∙ ap reported (one_report (whole_config config rewrites) p.report q.report p.is_report q.is_report) ∙ sym q.as_text))
 
 one_drill : (zones : ℕ) (config : Config) (a b : Ending) → Drills zones config a → Drills zones config b → a ≡ b
 one_drill zones config a b =
     one_within config drill_names (WithinStates config drill_rewrites (IsDrilled zones config a) a) (WithinStates config drill_rewrites (IsDrilled zones config b) b) a b
     (one_within_states config drill_rewrites (IsDrilled zones config a) (IsDrilled zones config b) a b
-    (λ p q. p.as_line ∙ ap (drilled zones config) (one_report (whole config drill_rewrites) p.report q.report p.is_report q.is_report) ∙ sym q.as_line))
+    (λ p q. p.as_line ∙ ap (drilled zones config) (one_report (whole_config config drill_rewrites) p.report q.report p.is_report q.is_report) ∙ sym q.as_line))
 
 one_told : (sites : List Site) (config : Config) (a b : Ending) → ShowsClasses sites config a → ShowsClasses sites config b → a ≡ b
 one_told sites config a b =
     one_within config site_names (WithinStates config site_rewrites (TellsFindings config sites a) a) (WithinStates config site_rewrites (TellsFindings config sites b) b) a b
     (one_within_states config site_rewrites (TellsFindings config sites a) (TellsFindings config sites b) a b
-    (λ p q. p.as_text ∙ ap (told_of_views sites) (one_list_of_views (whole config site_rewrites) p.views q.views p.are_views q.are_views) ∙ sym q.as_text))
+    (λ p q. p.as_text ∙ ap (told_of_views sites) (one_list_of_views (whole_config config site_rewrites) p.views q.views p.are_views q.are_views) ∙ sym q.as_text))
 
 -- two configurations that are compared give one thing
 one_comparison : (two : Compared) (a b : Ending) → Compares two a → Compares two b → a ≡ b

@@ -16,7 +16,7 @@ use Rattle.net_model.specs.Reading.{ground_of}
 use Rattle.net_model.proofs.FaultOrder.{classes_total}
 use Rattle.walk_laws.proofs.JoinedGround.{own_covers}
 use Rattle.query_classes.specs.ClassList.{ListedClass, AreListed}
-use Rattle.query_verdicts.specs.Carried.{whole}
+use Rattle.query_verdicts.specs.Carried.{whole_config}
 use Rattle.query_verdicts.specs.Passed.{ClassPasses, SomeClassPasses, IsFirstPassed, IsFirstServerPassed}
 use Rattle.query_verdicts.specs.Queries.{LimitedQueries, ServerPasses, limited_to, queries_of}
 use Rattle.query_verdicts.proofs.ClassesJudged.{some_name}
@@ -111,7 +111,7 @@ module _ (subject : Subject) (states : ℕ) (classes : List ListedClass) (are : 
 module _ (queries : LimitedQueries) (same : queries ≡ limited_to queries.config site_rewrites most_states) (classes : List ListedClass)
     (are : AreListed (ground_of queries.config) [] classes) where
   abbrev subject : Subject
-  subject = whole queries.config site_rewrites
+  subject = whole_config queries.config site_rewrites
 
   -- queries that are the same within the limits of `site`
   limited : (P : LimitedQueries → Type 0) → P queries → P (limited_to queries.config site_rewrites most_states)

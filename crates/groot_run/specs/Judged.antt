@@ -4,7 +4,7 @@ use Rattle.graph_form.specs.Report.{IsReport}
 use Rattle.graph_form.specs.declared.report.Report.{Report}
 use Rattle.groot_line.specs.LineOption.{most_names}
 use Rattle.net_model.specs.declared.config.Config.{Config}
-use Rattle.query_verdicts.specs.Carried.{whole}
+use Rattle.query_verdicts.specs.Carried.{whole_config}
 use Rattle.query_verdicts.specs.Passed.{SomeClassPasses}
 use Rattle.run_endings.specs.declared.ending.Ending.{Ending}
 use Rattle.groot_run.specs.declared.judging.CheckLimits.{CheckLimits}
@@ -22,5 +22,5 @@ pub record AreLimits (limits : CheckLimits) : Type 0 where
 -- else a representative reaches too many pairs.
 abbrev pub IsJudged : ℕ → ℕ → Config → Result Report Ending → Type 0
 IsJudged limit rewrites config (Ok report) =
-    (HasMoreNames config limit → ⊥) × (SomeClassPasses (whole config rewrites) most_states → ⊥) × IsReport (whole config rewrites) report
+    (HasMoreNames config limit → ⊥) × (SomeClassPasses (whole_config config rewrites) most_states → ⊥) × IsReport (whole_config config rewrites) report
 IsJudged limit rewrites config (Err ending) = WithinNames config limit (WithinStates config rewrites ⊥ ending) ending ⊎ (ending ≡ no_memory)

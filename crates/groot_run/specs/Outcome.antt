@@ -12,7 +12,7 @@ use Rattle.net_model.specs.Learnt.{IsInForce}
 use Rattle.net_model.specs.Step.{following}
 use Rattle.net_model.specs.Walk.{AreWalks}
 use Rattle.net_model.specs.Reading.{ground_of}
-use Rattle.query_verdicts.specs.Carried.{whole}
+use Rattle.query_verdicts.specs.Carried.{whole_config}
 use Rattle.query_verdicts.specs.Passed.{SomeClassPasses, IsFirstPassed, IsRefusedFor, NonePasses}
 use Rattle.config_load.specs.Conf.{conf}
 use Rattle.config_load.specs.Load.{Comes, ReadingComesTo}
@@ -116,13 +116,13 @@ WithinNames config limit EndsSo ending =
 -- may, the run ends so. Of those that do the first in class order is named.
 abbrev pub WithinStates : Config → ℕ → Type 0 → Ending → Type 0
 WithinStates config rewrites EndsSo ending =
-    ((query : Labels) × IsFirstPassed (whole config rewrites) most_states query × (ending ≡ too_many_states query))
-    ⊎ ((SomeClassPasses (whole config rewrites) most_states → ⊥) × EndsSo)
+    ((query : Labels) × IsFirstPassed (whole_config config rewrites) most_states query × (ending ≡ too_many_states query))
+    ⊎ ((SomeClassPasses (whole_config config rewrites) most_states → ⊥) × EndsSo)
 
 -- the run ends with the report of the configuration
 pub record IsReported (config : Config) (rewrites : ℕ) (ending : Ending) : Type 0 where
   pub report : Report
-  pub is_report : IsReport (whole config rewrites) report
+  pub is_report : IsReport (whole_config config rewrites) report
   pub as_text : ending ≡ reported report
 
 -- what `check` gives of a configuration: its report, unless its class tree has too many names, or a representative reaches
@@ -187,7 +187,7 @@ drill_names = usual_names
 -- the run ends with the line of the configuration's report
 pub record IsDrilled (zones : ℕ) (config : Config) (ending : Ending) : Type 0 where
   pub report : Report
-  pub is_report : IsReport (whole config drill_rewrites) report
+  pub is_report : IsReport (whole_config config drill_rewrites) report
   pub as_line : ending ≡ drilled zones config report
 
 -- what `drill` gives of the configuration of its files: the line, unless the class tree has too many names, or a
@@ -207,7 +207,7 @@ site_rewrites = usual_rewrites
 -- the run ends with what the checks tell that were shown the views of all classes of the configuration
 pub record TellsFindings (config : Config) (sites : List Site) (ending : Ending) : Type 0 where
   pub views : List View
-  pub are_views : AreViews (whole config site_rewrites) views
+  pub are_views : AreViews (whole_config config site_rewrites) views
   pub as_text : ending ≡ told_of_views sites views
 
 -- what `site` gives of a configuration: what the checks tell, unless the class tree has too many names, or a representative

@@ -1,7 +1,7 @@
 //! The classes of a configuration judged, and their report.
 
 ghost use Rattle.std.specs.Prelude.{◌≡◌};
-ghost use Rattle.query_verdicts.specs.Carried.{whole};
+ghost use Rattle.query_verdicts.specs.Carried.{whole_config};
 ghost use Rattle.query_verdicts.specs.Values.{AreValues};
 ghost use Rattle.groot_run.specs.Judged.{AreLimits, IsJudged};
 ghost use Rattle.groot_run.specs.Outcome.{most_states};
@@ -57,7 +57,7 @@ fn judged<N: Naming + Send + Sync, G: Gate + Sync, R: Threads + Wait + Sync>(
 ) -> Result<Report, Ending>
     requires limits { AreLimits limits }
     requires name { (config.now ≡ N.config) × (limits.rewrites ≡ N.rewrites) × (most_states ≡ N.states) }
-    requires values { AreValues (whole N.config N.rewrites) N.states N.children_of N.verdict_of }
+    requires values { AreValues (whole_config N.config N.rewrites) N.states N.children_of N.verdict_of }
     ensures { IsJudged limits.classes N.rewrites N.config result }
 {
     match Judge::<N>::prepare(alloc, config, limits.rewrites, MOST_STATES) {
@@ -78,7 +78,7 @@ fn counted<N: Naming + Send + Sync, G: Gate + Sync, R: Threads + Wait + Sync>(
 ) -> Result<Report, Ending>
     requires limits { AreLimits limits }
     requires states { most_states ≡ N.states }
-    requires values { AreValues (whole N.config N.rewrites) N.states N.children_of N.verdict_of }
+    requires values { AreValues (whole_config N.config N.rewrites) N.states N.children_of N.verdict_of }
     ensures { IsJudged limits.classes N.rewrites N.config result }
 {
     match count_redirected(
@@ -102,7 +102,7 @@ fn told<N: Naming + Send + Sync, G: Gate + Sync, R: Threads + Wait + Sync>(
 ) -> Result<Report, Ending>
     requires limits { AreLimits limits }
     requires states { most_states ≡ N.states }
-    requires values { AreValues (whole N.config N.rewrites) N.states N.children_of N.verdict_of }
+    requires values { AreValues (whole_config N.config N.rewrites) N.states N.children_of N.verdict_of }
     ensures { IsJudged limits.classes N.rewrites N.config result }
 {
     laws::tree_is_reached();

@@ -13,7 +13,7 @@ use crate::visitor::AddressSeen;
 use crate::walks::visit_walks;
 use dns_data::{List, Name, NoMemory, RrType};
 use net_model::Config;
-use resting_names::{RestingNames, gives_address};
+use resting_names::{RestingNames, learns_at_tops};
 use std::alloc::Global;
 use zone_lookup::Hosts;
 
@@ -117,7 +117,7 @@ fn learns(
     ensures passed { (other : Labels) → IsErrOf result (LearntFault.WalksPassed other) → (name.now ≡ other) × HasTooMany hosts.now rewrites most followed.now name.now }
 {
     if rests_within(alloc, hosts, resting, name, most)? {
-        return Ok(gives_address(hosts, name));
+        return Ok(learns_at_tops(hosts, name));
     }
     learns_by_walks(alloc, hosts, rewrites, followed, name, most)
 }

@@ -13,8 +13,8 @@ abbrev pub at_all_names : (config : Config) (rewrites : ℕ) (ground : Ground) �
 at_all_names config rewrites ground = record { config = config; rewrites = rewrites; ground = ground; below = [] }
 
 -- a whole configuration: by its own ground
-abbrev pub whole : Config → ℕ → Subject
-whole config rewrites = at_all_names config rewrites (ground_of config)
+abbrev pub whole_config : Config → ℕ → Subject
+whole_config config rewrites = at_all_names config rewrites (ground_of config)
 
 -- the representative of some class shows the fault with some type
 abbrev pub SomeClassShows : Subject → Fault → Type 0

@@ -10,7 +10,7 @@ use crate::queries::{Queries, graph_of};
 use address_deps::AddressTold;
 use dns_data::{List, Name, NoMemory};
 use interp_graph::GraphFault;
-use resting_names::{RestingNames, gives_address};
+use resting_names::{RestingNames, learns_at_tops};
 
 /// What is told of each server's name, in their order, or the first name that reaches too many pairs of state and type.
 pub(crate) fn servers_told(
@@ -46,7 +46,7 @@ fn told_of(
     ensures passed { IsErrOf result GraphFault.StatesPassed → PassesStates queries.now.trees queries.now.rewrites queries.now.states name.now }
 {
     if rests_within(queries, resting, name)? {
-        return Ok(AddressTold::Known(gives_address(&queries.trees, name)));
+        return Ok(AddressTold::Known(learns_at_tops(&queries.trees, name)));
     }
     match graph_of(queries, name) {
         Ok(graph) => Ok(AddressTold::ByGraph(graph)),

@@ -12,7 +12,7 @@ use zone_lookup::Hosts;
 use zone_tree::{Decider, Tree, deciding};
 
 /// Whether an address of a name that rests can be learnt, whatever servers are followed. It takes no memory.
-pub fn gives_address(hosts: &Hosts<'_>, name: &Name) -> bool
+pub fn learns_at_tops(hosts: &Hosts<'_>, name: &Name) -> bool
     ensures { Rests hosts.now name.now → (rewrites : ℕ) (followed : List Labels) → (result ≡ true) ↔ Learns (following hosts.now rewrites followed) name.now }
 {
     some_gives(hosts, hosts.config().tops.items(), name)

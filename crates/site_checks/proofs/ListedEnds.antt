@@ -12,7 +12,7 @@ use Rattle.dns_data.specs.Name.{Labels, name_cmp, name_eq}
 use Rattle.dns_data.proofs.Names.{name_eq_decides}
 use Rattle.dns_data.proofs.Searches.{any_has, from_any, same_truth}
 use Rattle.graph_form.proofs.ShownKinds.{name_itself}
-use Rattle.site_checks.specs.EndPlaces.{AreListed, is_end_at, places_of}
+use Rattle.site_checks.specs.EndPlaces.{ListsPlaces, is_end_at, places_of}
 use Rattle.site_checks.specs.Ends.{end_eq}
 use Rattle.site_checks.specs.declared.views.TypedEnd.{TypedEnd}
 use Rattle.site_checks.proofs.EqualEnds.{end_decides}
@@ -23,7 +23,7 @@ Places = map.BTreeMap Labels (List ℕ)
 
 -- ---- ends that are looked for
 
-module _ (ends : List TypedEnd) (places : Places) (listed : AreListed places ends) (end : TypedEnd) where
+module _ (ends : List TypedEnd) (places : Places) (listed : ListsPlaces places ends) (end : TypedEnd) where
   there : (place : ℕ) (found : Option TypedEnd) → slice_get ends place ≡ found → option_map_or (end_eq end) found false ≡ true → list_any (end_eq end) ends ≡ true
   there place None e is = absurd (true≢false (sym is))
   there place (Some other) e is =
@@ -48,12 +48,12 @@ module _ (ends : List TypedEnd) (places : Places) (listed : AreListed places end
 -- ---- ends that are listed
 
 -- none has to be at first
-pub none_listed : (places : Places) → AreListed places []
+pub none_listed : (places : Places) → ListsPlaces places []
 none_listed places place end at = absurd cc
 
 -- what is listed besides changes nothing
-pub still_listed : (ends : List TypedEnd) (old new : Places) → AreListed old ends
-    → ((name : Labels) (other : ℕ) → Contains (places_of old name) other → Contains (places_of new name) other) → AreListed new ends
+pub still_listed : (ends : List TypedEnd) (old new : Places) → ListsPlaces old ends
+    → ((name : Labels) (other : ℕ) → Contains (places_of old name) other → Contains (places_of new name) other) → ListsPlaces new ends
 still_listed ends old new listed stays place end at = stays end.server place (listed place end at)
 
 at_push : (ends : List TypedEnd) (end other : TypedEnd) (place : ℕ) → slice_get (ends ++ end ∷ []) place ≡ Some other
@@ -68,7 +68,7 @@ at_push (first ∷ ends) end other (suc place) e =
     ]
 
 -- an end more, whose place is listed
-pub listed_more : (places : Places) (ends : List TypedEnd) (end : TypedEnd) → AreListed places ends → Contains (places_of places end.server) (length ends) → AreListed places (ends ++ end ∷ [])
+pub listed_more : (places : Places) (ends : List TypedEnd) (end : TypedEnd) → ListsPlaces places ends → Contains (places_of places end.server) (length ends) → ListsPlaces places (ends ++ end ∷ [])
 listed_more places ends end listed has place other at =
     elim (at_push ends end other place at) [
       | inl is ↦ listed place other is

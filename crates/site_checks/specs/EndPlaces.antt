@@ -15,5 +15,5 @@ abbrev pub places_of : map.BTreeMap Labels (List ℕ) → Labels → List ℕ
 places_of places server = unwrap_or (map.get name_cmp places server) []
 
 -- the place of each end is listed for its server
-abbrev pub AreListed : map.BTreeMap Labels (List ℕ) → List TypedEnd → Type 0
-AreListed places ends = (place : ℕ) (end : TypedEnd) → slice_get ends place ≡ Some end → Contains (places_of places end.server) place
+abbrev pub ListsPlaces : map.BTreeMap Labels (List ℕ) → List TypedEnd → Type 0
+ListsPlaces places ends = (place : ℕ) (end : TypedEnd) → slice_get ends place ≡ Some end → Contains (places_of places end.server) place

@@ -24,14 +24,14 @@ pub(crate) struct EndSet {
 
 impl Model for EndSet {
     ghost use Rattle.std.specs.Prelude.{List};
-    ghost use Rattle.site_checks.specs.EndPlaces.{AreListed};
+    ghost use Rattle.site_checks.specs.EndPlaces.{ListsPlaces};
     ghost use Rattle.site_checks.specs.declared.views.TypedEnd.{TypedEnd};
 
     ghost Value = { List TypedEnd };
 
     ghost view = { λ set. set.ends };
 
-    ghost invariant = { λ set. AreListed set.places set.ends };
+    ghost invariant = { λ set. ListsPlaces set.places set.ends };
 }
 
 impl EndSet {

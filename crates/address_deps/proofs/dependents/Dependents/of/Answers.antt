@@ -3,7 +3,7 @@ use Rattle.std.proofs.lemmas.Option.{slice_get-get_or}
 use Rattle.dns_data.specs.Name.{Labels}
 use Rattle.address_deps.specs.declared.told.AddressTold.{AddressTold}
 use Rattle.address_deps.specs.Dependents.{AreDependents, IsListedFor}
-use Rattle.address_deps.proofs.Listing.{more_dependents, names_of, no_dependents, none_in_empty}
+use Rattle.address_deps.proofs.Listing.{more_dependents, borrowed_names, no_dependents, none_in_empty}
 use Rattle.address_deps.proofs.dependents.Dependents.of.Goals as goal
 
 pub loop-place-init : goal.loop-place-init
@@ -18,7 +18,7 @@ loop-place-preserved c =
     more_dependents c.args.hosts.now c.args.told.now place one old new
     (slice_get-get_or c.args.told.now place one c.loop-place-test.true ∙ ap (λ (t : AddressTold). Some t) (sym c.index-told-place.is))
     c.loop-place.invariant
-    (subst (λ (xs : List Labels). IsListedFor place xs old new) (ap names_of c.as_slice.ensures.value ∙ c.in_ok-names.ensures) c.in_ok-put_all.ensures)
+    (subst (λ (xs : List Labels). IsListedFor place xs old new) (ap borrowed_names c.as_slice.ensures.value ∙ c.in_ok-names.ensures) c.in_ok-put_all.ensures)
 
 pub returns : goal.returns
 returns c =

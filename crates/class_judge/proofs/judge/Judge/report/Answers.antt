@@ -1,6 +1,6 @@
 use Rattle.std.proofs.lemmas.Result.{IfErr-weaker, on_ok_weaker}
 use Rattle.label_graph.proofs.BaseGround.{ground_closed}
-use Rattle.query_verdicts.specs.Carried.{whole}
+use Rattle.query_verdicts.specs.Carried.{whole_config}
 use Rattle.query_verdicts.specs.Passed.{IsReportFault}
 use Rattle.query_verdicts.proofs.FiledRows.{rows_of_whole}
 use Rattle.class_judge.specs.Refused.{IsRefusalOf}
@@ -19,5 +19,5 @@ returns-clause-none_passes g c = on_ok_weaker c.report.result (λ none. none.no_
 pub returns-clause-fault : goal.returns-clause-fault
 returns-clause-fault g c =
     let N = g.N.Naming in
-    IfErr-weaker c.report.result (IsReportFault (whole N.config N.rewrites) N.states) (IsRefusalOf N.config N.rewrites N.states)
+    IfErr-weaker c.report.result (IsReportFault (whole_config N.config N.rewrites) N.states) (IsRefusalOf N.config N.rewrites N.states)
     (refused N.config N.rewrites N.states) c.report.ensures.fault

@@ -4,7 +4,7 @@ use Rattle.dns_data.specs.Name.{Labels}
 use Rattle.net_model.specs.declared.config.Config.{Config}
 use Rattle.resting_names.specs.Resting.{gives_at}
 use Rattle.resting_names.proofs.Addresses.{given_learns, learnt_given}
-use Rattle.resting_names.proofs.address.gives_address.Goals as goal
+use Rattle.resting_names.proofs.address.learns_at_tops.Goals as goal
 
 pub returns : goal.returns
 returns c = λ rests rewrites followed.
