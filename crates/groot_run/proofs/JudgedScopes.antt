@@ -12,7 +12,7 @@ use Rattle.net_model.specs.Tree.{HasMoreThan, IsInPart}
 use Rattle.query_classes.specs.ClassList.{AreListed, classes_of_rows}
 use Rattle.query_classes.specs.declared.tree.ClassRow.{ClassRow}
 use Rattle.query_verdicts.specs.Passed.{IsRefusedFor, NonePasses}
-use Rattle.query_verdicts.specs.Queries.{LimitedQueries, limited_to, queries_of}
+use Rattle.query_verdicts.specs.Queries.{LimitedQueries, limited_to, most_states, queries_of}
 use Rattle.report_json.specs.Sites.{scope_text}
 use Rattle.site_checks.specs.Views.{Site}
 use Rattle.site_checks.specs.declared.shown.Told.{Told}
@@ -24,7 +24,7 @@ use Rattle.verdict_book.specs.declared.filed.Filed.{Filed}
 use Rattle.run_endings.specs.declared.ending.Ending.{Ending}
 use Rattle.run_endings.specs.declared.status.Status.{Status}
 use Rattle.run_endings.specs.Endings.{too_many_names, no_memory, with_output}
-use Rattle.groot_run.specs.Outcome.{HasMoreNamesBelow, IsScoped, Scopes, WithinScope, most_states, too_many_states, scope_names, scope_of, scope_rewrites, status_of}
+use Rattle.groot_run.specs.Outcome.{HasMoreNamesBelow, IsScoped, Scopes, WithinScope, too_many_states, scope_names, scope_of, scope_rewrites, status_of}
 use Rattle.groot_run.specs.ScopeJudged.{IsScopeJudged}
 use Rattle.groot_run.specs.ShownClasses.{AreShown, EndsAmongClasses}
 use Rattle.groot_run.proofs.Budgets.{no_longer}

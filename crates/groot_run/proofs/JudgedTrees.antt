@@ -5,6 +5,7 @@ use Rattle.std.specs.declared.cmp.Ordering.{Ordering}
 use Rattle.std.proofs.lemmas.List.{length-map}
 use Rattle.query_verdicts.specs.Carried.{whole_config}
 use Rattle.query_verdicts.specs.Passed.{SomeClassPasses, IsFirstPassed}
+use Rattle.query_verdicts.specs.Queries.{most_states}
 use Rattle.dns_data.specs.Name.{Labels}
 use Rattle.graph_form.specs.Report.{IsReport}
 use Rattle.graph_form.specs.declared.report.Report.{Report}
@@ -19,7 +20,7 @@ use Rattle.run_endings.specs.declared.ending.Ending.{Ending}
 use Rattle.groot_run.specs.declared.judging.CheckLimits.{CheckLimits}
 use Rattle.groot_run.specs.Judged.{AreLimits, IsJudged}
 use Rattle.run_endings.specs.Endings.{too_many_names, no_memory}
-use Rattle.groot_run.specs.Outcome.{HasMoreNames, WithinNames, WithinStates, most_states, too_many_states}
+use Rattle.groot_run.specs.Outcome.{HasMoreNames, WithinNames, WithinStates, too_many_states}
 use Rattle.groot_run.proofs.Budgets.{no_longer}
 
 -- how many names the class tree has, by the items of its judge

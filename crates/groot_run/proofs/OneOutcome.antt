@@ -19,7 +19,7 @@ use Rattle.groot_line.specs.declared.job.Job.TheVariants as jobs
 use Rattle.plain_resolver.specs.Passed.{most_walks_followed}
 use Rattle.run_endings.specs.declared.ending.Ending.{Ending}
 use Rattle.run_endings.specs.Endings.{OfReading, too_many_to_learn}
-use Rattle.groot_run.specs.Outcome.{reported, listed, WithinNames, WithinStates, IsReported, most_states, too_many_states, Checks, IsClassList, ListsClasses, ask_rewrites, IsAnswerWith, Asks, walks_written, Outcome, Drills, IsDrilled, drilled, drill_names, drill_rewrites, answered_to, IsRechecked, Rechecks, TellsFindings, ShowsClasses, told_of_views, site_names, site_rewrites, Compares, ComparesWith, compared_of, told_same, IsScoped, Scopes, WithinScope, scope_of, scope_written}
+use Rattle.groot_run.specs.Outcome.{reported, listed, WithinNames, WithinStates, IsReported, too_many_states, Checks, IsClassList, ListsClasses, ask_rewrites, IsAnswerWith, Asks, walks_written, Outcome, Drills, IsDrilled, drilled, drill_names, drill_rewrites, answered_to, IsRechecked, Rechecks, TellsFindings, ShowsClasses, told_of_views, site_names, site_rewrites, Compares, ComparesWith, compared_of, told_same, IsScoped, Scopes, WithinScope, scope_of, scope_written}
 use Rattle.report_check.proofs.OneAnswer.{only_answer}
 use Rattle.same_answers.specs.Compared.{Compared}
 use Rattle.same_answers.proofs.OneSameness.{one_sameness, one_passed as one_passed_in_one}
@@ -27,6 +27,7 @@ use Rattle.graph_form.specs.declared.report.Report.{Report}
 use Rattle.job_scope.proofs.OneRefusal.{one_refusal, none_refused}
 use Rattle.groot_run.proofs.OneReport.{one_report}
 use Rattle.query_verdicts.proofs.OnePassed.{one_passed}
+use Rattle.query_verdicts.specs.Queries.{most_states}
 use Rattle.groot_run.proofs.OneClassList.{one_class_list}
 use Rattle.net_model.proofs.WalkLists.{one_walks}
 use Rattle.groot_run.proofs.OneAnswer.{one_first, none_is_first}

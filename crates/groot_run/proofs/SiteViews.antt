@@ -18,7 +18,7 @@ use Rattle.walk_laws.proofs.JoinedGround.{own_covers}
 use Rattle.query_classes.specs.ClassList.{ListedClass, AreListed}
 use Rattle.query_verdicts.specs.Carried.{whole_config}
 use Rattle.query_verdicts.specs.Passed.{ClassPasses, SomeClassPasses, IsFirstPassed, IsFirstServerPassed}
-use Rattle.query_verdicts.specs.Queries.{LimitedQueries, ServerPasses, limited_to, queries_of}
+use Rattle.query_verdicts.specs.Queries.{LimitedQueries, ServerPasses, limited_to, most_states, queries_of}
 use Rattle.query_verdicts.proofs.ClassesJudged.{some_name}
 use Rattle.query_verdicts.proofs.PassingNames.{class_passes}
 use Rattle.report_json.specs.Sites.{sites_text}
@@ -30,7 +30,7 @@ use Rattle.site_checks.proofs.Seen.{told_after}
 use Rattle.run_endings.specs.declared.ending.Ending.{Ending}
 use Rattle.run_endings.specs.declared.status.Status.TheVariants.{Clean}
 use Rattle.run_endings.specs.Endings.{with_output, no_memory}
-use Rattle.groot_run.specs.Outcome.{WithinStates, TellsFindings, most_states, site_rewrites}
+use Rattle.groot_run.specs.Outcome.{WithinStates, TellsFindings, site_rewrites}
 use Rattle.groot_run.specs.ShownClasses.{NoListedPasses, class_of, AreViewsOfClasses, AreShown, IsFirstOf, EndsAmongClasses}
 
 module _ (subject : Subject) (states : ℕ) (classes : List ListedClass) (are : AreListed subject.ground subject.below classes) where

@@ -6,10 +6,11 @@ use Rattle.groot_line.specs.LineOption.{most_names}
 use Rattle.net_model.specs.declared.config.Config.{Config}
 use Rattle.query_verdicts.specs.Carried.{whole_config}
 use Rattle.query_verdicts.specs.Passed.{SomeClassPasses}
+use Rattle.query_verdicts.specs.Queries.{most_states}
 use Rattle.run_endings.specs.declared.ending.Ending.{Ending}
 use Rattle.groot_run.specs.declared.judging.CheckLimits.{CheckLimits}
 use Rattle.run_endings.specs.Endings.{no_memory}
-use Rattle.groot_run.specs.Outcome.{HasMoreNames, WithinNames, WithinStates, most_states}
+use Rattle.groot_run.specs.Outcome.{HasMoreNames, WithinNames, WithinStates}
 
 -- a check may be so large: it has a worker, the class tree may have a name, and a query may use a rewrite
 pub record AreLimits (limits : CheckLimits) : Type 0 where

@@ -15,6 +15,7 @@ pub use Rattle.net_model.specs.Walk
 pub use Rattle.graph_form.specs.Report
 pub use Rattle.query_verdicts.specs.Carried
 pub use Rattle.query_verdicts.specs.Passed
+pub use Rattle.query_verdicts.specs.Queries
 pub use Rattle.report_json.specs.Ask
 pub use Rattle.report_json.specs.Report as ReportText
 pub use Rattle.report_json.specs.Sites as SitesText

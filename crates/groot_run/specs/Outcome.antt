@@ -14,6 +14,7 @@ use Rattle.net_model.specs.Walk.{AreWalks}
 use Rattle.net_model.specs.Reading.{ground_of}
 use Rattle.query_verdicts.specs.Carried.{whole_config}
 use Rattle.query_verdicts.specs.Passed.{SomeClassPasses, IsFirstPassed, IsRefusedFor, NonePasses}
+use Rattle.query_verdicts.specs.Queries.{most_states}
 use Rattle.config_load.specs.Conf.{conf}
 use Rattle.config_load.specs.Load.{Comes, ReadingComesTo}
 use Rattle.config_load.specs.Reading.{both, file_octets}
@@ -64,10 +65,6 @@ status_of (entry ∷ entries) = Faults
 -- the words are no job
 abbrev pub usage : Ending
 usage = without_output Usage usage_line
-
--- how many pairs of state and type a query may reach
-abbrev pub most_states : ℕ
-most_states = 100000
 
 -- the ending if the query reaches more pairs of state and type than are looked at
 abbrev pub too_many_states : Labels → Ending

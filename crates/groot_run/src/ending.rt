@@ -5,11 +5,11 @@ ghost use Rattle.run_endings.specs.Endings.{no_memory};
 ghost use Rattle.groot_run.specs.Outcome as outcome;
 
 use crate::ask::MOST_WALKS;
-use crate::judging::MOST_STATES;
 use dns_data::{Name, NoMemory};
 use groot_line::usage_line;
 use itoa::Buffer;
 use plain_resolver::MOST_WALKS_FOLLOWED;
+use query_verdicts::MOST_STATES;
 use run_endings::{Ending, Line, Status, more_than, refusal_line};
 use std::alloc::Global;
 

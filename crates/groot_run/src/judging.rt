@@ -2,9 +2,9 @@
 
 ghost use Rattle.std.specs.Prelude.{◌≡◌};
 ghost use Rattle.query_verdicts.specs.Carried.{whole_config};
+ghost use Rattle.query_verdicts.specs.Queries.{most_states};
 ghost use Rattle.query_verdicts.specs.Values.{AreValues};
 ghost use Rattle.groot_run.specs.Judged.{AreLimits, IsJudged};
-ghost use Rattle.groot_run.specs.Outcome.{most_states};
 
 use crate::counted::{config_redirects, count_redirected};
 use crate::ending::too_many_states;
@@ -13,15 +13,13 @@ use dns_data::NoMemory;
 use graph_form::Report;
 use io_edges::Gate;
 use net_model::Config;
+use query_verdicts::MOST_STATES;
 use run_endings::Ending;
 use std::alloc::Global;
 use std::marker::Brand;
 use std::sync::Wait;
 use std::thread::Threads;
 use steal_pool::{PoolFault, run_tree};
-
-/// How many pairs of state and type a query may reach.
-pub(crate) const MOST_STATES: u32 = 100_000;
 
 /// How large a check may be: how many workers judge, how many names the class tree may have, and how many rewrites a query
 /// may use.

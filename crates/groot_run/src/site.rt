@@ -3,22 +3,21 @@
 ghost use Rattle.std.specs.Prelude.{◌≡◌, ◌⊎◌, ◌∷◌, [], map, IfOk, IfErr, OnOk};
 ghost use Rattle.net_model.specs.Reading.{ground_of};
 ghost use Rattle.query_classes.specs.ClassList.{AreListed, classes_of_row, classes_of_rows};
-ghost use Rattle.query_verdicts.specs.Queries.{limited_to};
+ghost use Rattle.query_verdicts.specs.Queries.{limited_to, most_states};
 ghost use Rattle.report_json.specs.Sites.{sites_text};
 ghost use Rattle.run_endings.specs.Endings.{no_memory};
-ghost use Rattle.groot_run.specs.Outcome.{TellsFindings, ShowsClasses, WithinStates, most_states, site_rewrites};
+ghost use Rattle.groot_run.specs.Outcome.{TellsFindings, ShowsClasses, WithinStates, site_rewrites};
 ghost use Rattle.groot_run.specs.ShownClasses.{AreShown, EndsAmongClasses, below_class, exact_class};
 
 use crate::classes::rows_within;
 use crate::ending::too_many_states;
-use crate::judging::MOST_STATES;
 use crate::shown::show;
 use dns_data::{Name, NoMemory, Octets};
 use groot_line::{USUAL_NAMES, USUAL_REWRITES};
 use interp_graph::GraphFault;
 use net_model::{Class, Config};
 use query_classes::ClassRow;
-use query_verdicts::QueryGraphs;
+use query_verdicts::{MOST_STATES, QueryGraphs};
 use report_json::sites_text;
 use run_endings::{Ending, Status};
 use site_checks::{SiteCheck, tell, view};

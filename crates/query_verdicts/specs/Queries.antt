@@ -25,6 +25,10 @@ use Rattle.query_verdicts.specs.declared.own_class.OwnClass.{OwnClass}
 use Rattle.query_verdicts.specs.declared.own_class.OwnClass.TheVariants.{Represents, Asked}
 use Rattle.query_verdicts.specs.declared.verdict.ClassVerdict.TheVariants.{Faults}
 
+-- how many pairs of state and type a query may reach where no other limit is named
+abbrev pub most_states : ℕ
+most_states = 100000
+
 -- the queries of a configuration: how many rewrites each may use, and how many pairs of state and type it may reach
 pub record LimitedQueries : Type 0 where
   pub config : Config

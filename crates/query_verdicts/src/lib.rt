@@ -41,6 +41,7 @@ mod verdicts;
 pub use graphs::QueryGraphs;
 pub use name_judge::NameJudge;
 pub use own_class::OwnClass;
+pub use queries::MOST_STATES;
 pub use report::ReportFault;
 pub use subject::{OnSubject, SubjectGround};
 pub use verdict::{ClassVerdict, FiledVerdict, NameVerdict};

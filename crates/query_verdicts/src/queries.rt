@@ -11,6 +11,9 @@ use name_rules::SymName;
 use std::alloc::Global;
 use zone_lookup::Hosts;
 
+/// How many pairs of state and type a query may reach where no other limit is named.
+pub const MOST_STATES: u32 = 100_000;
+
 /// A configuration's servers with the trees of their zones, how many rewrites a query may use, and how many pairs of
 /// state and type it may reach.
 #[derive(Drop)]

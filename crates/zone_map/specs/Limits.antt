@@ -1,22 +1,18 @@
--- The limit of `reached`: how many pairs of state and type a query may reach.
-use Rattle.std.specs.Prelude.{◌≡◌, ◌⊎◌, ℕ, List, ◌∷◌, ◌++◌, Contains}
+-- What `reached` gives where a query reaches more pairs of state and type than it may.
+use Rattle.std.specs.Prelude.{◌≡◌, ◌⊎◌, List, ◌∷◌, ◌++◌, Contains}
 use Rattle.dns_data.specs.Name.{Labels}
 use Rattle.net_model.specs.declared.config.Config.{Config}
 use Rattle.config_load.specs.declared.loaded.RowFiles.{RowFiles}
 use Rattle.query_verdicts.specs.Passed.{IsFirstServerPassed}
-use Rattle.query_verdicts.specs.Queries.{LimitedQueries, Passes, limited_to}
+use Rattle.query_verdicts.specs.Queries.{LimitedQueries, Passes, limited_to, most_states}
 use Rattle.query_verdicts.specs.Verdict.{SomeServerPasses}
 use Rattle.run_endings.specs.Endings.{too_many_states}
 use Rattle.run_endings.specs.declared.ending.Ending.{Ending}
 use Rattle.zone_map.specs.Rewrites.{most_rewrites}
 
--- how many pairs of state and type a query may reach
-abbrev pub reached_states : ℕ
-reached_states = 100000
-
 -- the queries of a configuration within these limits
 abbrev pub reached_queries : Config → LimitedQueries
-reached_queries config = limited_to config most_rewrites reached_states
+reached_queries config = limited_to config most_rewrites most_states
 
 -- the origin of none of these rows reaches more pairs of state and type than it may
 abbrev pub NoOriginPasses : LimitedQueries → List RowFiles → Type 0
@@ -36,11 +32,11 @@ pub record IsFirstOriginPassed (queries : LimitedQueries) (rows : List RowFiles)
 -- and else the first that does is told
 abbrev pub WithinOrigins : LimitedQueries → List RowFiles → Type 0 → Ending → Type 0
 WithinOrigins queries rows EndsSo ending =
-    ((origin : Labels) × IsFirstOriginPassed queries rows origin × (ending ≡ too_many_states reached_states origin))
+    ((origin : Labels) × IsFirstOriginPassed queries rows origin × (ending ≡ too_many_states most_states origin))
     ⊎ (NoOriginPasses queries rows × EndsSo)
 
 -- what `reached` gives: where the name of some server reaches too many pairs, the first that does is told
 abbrev pub WithinLimits : Config → List RowFiles → Type 0 → Ending → Type 0
 WithinLimits config rows EndsSo ending =
-    ((server : Labels) × IsFirstServerPassed config most_rewrites reached_states server × (ending ≡ too_many_states reached_states server))
-    ⊎ ((SomeServerPasses config most_rewrites reached_states → ⊥) × WithinOrigins (reached_queries config) rows EndsSo ending)
+    ((server : Labels) × IsFirstServerPassed config most_rewrites most_states server × (ending ≡ too_many_states most_states server))
+    ⊎ ((SomeServerPasses config most_rewrites most_states → ⊥) × WithinOrigins (reached_queries config) rows EndsSo ending)

@@ -8,12 +8,12 @@ use Rattle.net_model.specs.declared.class.Class.TheVariants.{Exact}
 use Rattle.net_model.specs.Learnt.{IsInForce}
 use Rattle.net_model.specs.Step.{following}
 use Rattle.config_load.specs.declared.loaded.RowFiles.{RowFiles}
-use Rattle.query_verdicts.specs.Queries.{LimitedQueries, Passes}
+use Rattle.query_verdicts.specs.Queries.{LimitedQueries, Passes, most_states}
 use Rattle.run_endings.specs.Endings.{no_memory, too_many_states}
 use Rattle.run_endings.specs.declared.ending.Ending.{Ending}
 use Rattle.site_checks.specs.Ends.{AreEnds}
 use Rattle.site_checks.specs.declared.views.View.{View}
-use Rattle.zone_map.specs.Limits.{IsFirstOriginPassed, NoOriginPasses, reached_states}
+use Rattle.zone_map.specs.Limits.{IsFirstOriginPassed, NoOriginPasses}
 
 -- the view is that of the name alone, with the ends of its walks by the set in force
 pub record IsViewOf (queries : LimitedQueries) (name : Labels) (view : View) : Type 0 where
@@ -52,9 +52,9 @@ pub record HasSeenOrigins (step : List (List ℕ) → View → List (List ℕ)) 
 
 -- a run ends at the origin: it passes, or memory ran out
 abbrev pub EndsAt : LimitedQueries → Labels → Ending → Type 0
-EndsAt queries origin ending = (Passes queries origin × (ending ≡ too_many_states reached_states origin)) ⊎ (ending ≡ no_memory)
+EndsAt queries origin ending = (Passes queries origin × (ending ≡ too_many_states most_states origin)) ⊎ (ending ≡ no_memory)
 
 -- a run ends among the rows: at the first whose origin passes, or because memory ran out
 abbrev pub EndsAmongRows : LimitedQueries → List RowFiles → Ending → Type 0
 EndsAmongRows queries rows ending =
-    ((origin : Labels) × IsFirstOriginPassed queries rows origin × (ending ≡ too_many_states reached_states origin)) ⊎ (ending ≡ no_memory)
+    ((origin : Labels) × IsFirstOriginPassed queries rows origin × (ending ≡ too_many_states most_states origin)) ⊎ (ending ≡ no_memory)

@@ -11,14 +11,14 @@ ghost use Rattle.zone_map.specs.Limits.{WithinLimits, WithinOrigins, reached_que
 ghost use Rattle.zone_map.specs.Reached.{TellsRows, reached_status, reached_text, reached_word, row_columns};
 
 use crate::columns::{put_file, put_name, put_number, put_tab};
-use crate::limits::{MOST_STATES, REWRITES};
+use crate::limits::REWRITES;
 use crate::reached::{Reached, reached_word};
 use crate::records::file_numbered;
 use crate::shown::show_origins;
 use config_load::RowFiles;
 use dns_data::{NoMemory, Octets, Text};
 use net_model::Config;
-use query_verdicts::QueryGraphs;
+use query_verdicts::{MOST_STATES, QueryGraphs};
 use run_endings::{Ending, Status};
 use site_checks::SiteCheck;
 use std::alloc::Global;

@@ -6,12 +6,11 @@ ghost use Rattle.query_verdicts.specs.Queries.{ServerPasses};
 ghost use Rattle.site_checks.specs.declared.views.View.{View as Seen};
 ghost use Rattle.zone_map.specs.ShownOrigins.{EndsAmongRows, EndsAt, HasSeenNew, HasSeenOrigin, HasSeenOrigins, is_shown};
 
-use crate::limits::MOST_STATES;
 use config_load::RowFiles;
 use dns_data::{Name, NoMemory};
 use interp_graph::GraphFault;
 use net_model::Class;
-use query_verdicts::QueryGraphs;
+use query_verdicts::{MOST_STATES, QueryGraphs};
 use run_endings::Ending;
 use site_checks::{SiteCheck, view};
 use std::alloc::Global;

@@ -1,5 +1,5 @@
 use Rattle.class_judge.proofs.ConfigTrees.{values}
-use Rattle.groot_run.specs.Outcome.{most_states}
+use Rattle.query_verdicts.specs.Queries.{most_states}
 use Rattle.groot_run.proofs.judging.report_of.Goals as goal
 
 pub judged-requires-clause-values : goal.judged-requires-clause-values

@@ -1,5 +1,5 @@
 use Rattle.class_judge.proofs.ConfigTrees.{apart, children_of, verdict_of}
-use Rattle.groot_run.specs.Outcome.{most_states}
+use Rattle.query_verdicts.specs.Queries.{most_states}
 use Rattle.groot_run.proofs.judging.report_of.Given as goal
 
 abbrev pub ghosts-judged : goal.ghosts-judged

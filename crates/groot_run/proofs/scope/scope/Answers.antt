@@ -1,5 +1,6 @@
 use Rattle.job_scope.proofs.Scopes.{values}
-use Rattle.groot_run.specs.Outcome.{most_states, scope_rewrites}
+use Rattle.query_verdicts.specs.Queries.{most_states}
+use Rattle.groot_run.specs.Outcome.{scope_rewrites}
 use Rattle.groot_run.proofs.scope.scope.Goals as goal
 
 pub judged-requires-clause-values : goal.judged-requires-clause-values

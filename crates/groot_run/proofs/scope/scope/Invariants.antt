@@ -1,5 +1,6 @@
 use Rattle.job_scope.proofs.Scopes.{apart, children_of, verdict_of}
-use Rattle.groot_run.specs.Outcome.{most_states, scope_rewrites}
+use Rattle.query_verdicts.specs.Queries.{most_states}
+use Rattle.groot_run.specs.Outcome.{scope_rewrites}
 use Rattle.groot_run.proofs.scope.scope.Given as goal
 
 abbrev pub ghosts-judged : goal.ghosts-judged
