@@ -6,9 +6,8 @@ ghost use Rattle.query_verdicts.specs.declared.verdict.ClassVerdict.TheVariants.
 ghost use Rattle.query_verdicts.specs.declared.verdict.NameVerdict.{NameVerdict};
 ghost use Rattle.query_verdicts.specs.Carried.{whole_config};
 ghost use Rattle.dns_data.specs.Name.{Labels};
-ghost use Rattle.dns_data.proofs.Membership.{none_in_nil};
 ghost use Rattle.net_model.specs.declared.config.Config.{Config};
-ghost use Rattle.std.proofs.lemmas.Option.{slice_get_within, get_or_from_slice_get};
+ghost use Rattle.query_verdicts.proofs.Childless.{childless_apart};
 ghost use Rattle.verdict_book.specs.Items.{ParentsApart};
 
 use query_verdicts::OnSubject;
@@ -42,12 +41,7 @@ impl Naming for Brand {
 
     ghost verdict_of = { λ name. record { exact = Faults []; below = None } };
 
-    ghost apart = { record {
-      one = λ parent other place place' item reached also at there.
-          absurd (none_in_nil item (place, slice_get_within [] place item at, get_or_from_slice_get [] place item item at));
-      none_of_first = λ parent place reached at.
-          none_in_nil [] (place, slice_get_within [] place [] at, get_or_from_slice_get [] place [] [] at);
-    } };
+    ghost apart = { childless_apart [] };
 }
 
 /// The configuration of a name, as a whole: the subject of a judge.

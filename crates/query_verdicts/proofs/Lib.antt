@@ -2,6 +2,7 @@ pub mod AllKinds
 pub mod BelowDecided
 pub mod Candidates
 pub mod Carrying
+pub mod Childless
 pub mod ClassesJudged
 pub mod CoveringGrounds
 pub mod Decided

@@ -2,12 +2,11 @@
 
 ghost use Rattle.std.specs.Prelude.{[], List as Items, None};
 ghost use Rattle.dns_data.specs.Name.{Labels};
-ghost use Rattle.dns_data.proofs.Membership.{none_in_nil};
 ghost use Rattle.query_verdicts.specs.declared.verdict.NameVerdict.{NameVerdict};
 ghost use Rattle.same_answers.specs.Compared.{Compared, joint};
 ghost use Rattle.same_answers.specs.declared.verdict.PairEnd.{PairEnd};
 ghost use Rattle.same_answers.specs.declared.verdict.PairEnd.TheVariants.{Equal};
-ghost use Rattle.std.proofs.lemmas.Option.{slice_get_within, get_or_from_slice_get};
+ghost use Rattle.query_verdicts.proofs.Childless.{childless_apart};
 ghost use Rattle.verdict_book.specs.Items.{ParentsApart};
 
 use query_classes::OnGround;
@@ -33,12 +32,7 @@ impl PairNaming for Brand {
 
     ghost verdict_of = { λ name. record { exact = Equal; below = None } };
 
-    ghost apart = { record {
-      one = λ parent other place place' item reached also at there.
-          absurd (none_in_nil item (place, slice_get_within [] place item at, get_or_from_slice_get [] place item item at));
-      none_of_first = λ parent place reached at.
-          none_in_nil [] (place, slice_get_within [] place [] at, get_or_from_slice_get [] place [] [] at);
-    } };
+    ghost apart = { childless_apart [] };
 }
 
 /// The joint ground of the two configurations of a name, on which the names of their class tree stand.
