@@ -1,3 +1,4 @@
+pub mod FromNone
 mod Learning
 pub mod Resolved
 mod ShownWalks

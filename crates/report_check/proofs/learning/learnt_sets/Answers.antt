@@ -3,6 +3,7 @@ use Rattle.dns_data.specs.Name.{Labels}
 use Rattle.net_model.specs.Nearest.{server_names}
 use Rattle.net_model.specs.declared.config.Config.{Config}
 use Rattle.plain_resolver.specs.Passed.{IsFirstWithTooMany, NoneInRounds, most_walks_followed}
+use Rattle.plain_resolver.proofs.FromNone.{few_from_none, first_from_none}
 use Rattle.report_check.proofs.FewWalks.{learning_few}
 use Rattle.report_check.proofs.learning.learnt_sets.Goals as goal
 
@@ -10,7 +11,7 @@ pub returns-in_err-least-clause-passed : goal.returns-in_err-least-clause-passed
 returns-in_err-least-clause-passed c = λ name is.
     inl (
       name,
-      subst (λ (begin : List Labels). IsFirstWithTooMany c.args.hosts.now c.args.rewrites most_walks_followed begin name) c.new-none.ensures
+      first_from_none c.args.hosts.now c.args.rewrites c.new-none.result c.new-none.ensures most_walks_followed name
           (c.in_err-least.ensures.passed name (search rules)),
     )
 
@@ -27,6 +28,6 @@ pub returns-clause-few : goal.returns-clause-few
 returns-clause-few c =
     let hosts = c.args.hosts.now in
     learning_few hosts c.args.rewrites
-    (subst (λ (begin : List Labels). NoneInRounds hosts c.args.rewrites most_walks_followed begin (length hosts.servers)) c.new-none.ensures c.in_ok-least.ensures.few)
+    (few_from_none hosts c.args.rewrites c.new-none.result c.new-none.ensures most_walks_followed c.in_ok-least.ensures.few)
     (subst (λ (begin : List Labels). NoneInRounds hosts c.args.rewrites most_walks_followed begin (length hosts.servers))
     (c.in_ok-all.ensures ∙ ap (λ (config : Config). server_names config) c.config.ensures) c.in_ok-greatest.ensures.few)
