@@ -105,7 +105,7 @@ def try_them(names):
     number = sum(len(list((MUTANTS / name).glob("*.edit"))) for name in names)
     minutes = (time.monotonic() - began) / 60
     print(f"mutants: {number} of {len(names)} crates, {refused} refused in this run, {minutes:.0f} minutes")
-    return 1 if status else 0
+    return 1 if status or refused < number else 0
 
 
 def main(words):
