@@ -2,6 +2,7 @@
 //! and `NoMemory` in the plain values of every crate above.
 #![tactic(auto)]
 
+mod boxed;
 mod common;
 mod fault;
 mod label;
@@ -23,6 +24,7 @@ mod to_text;
 mod type_set;
 mod words;
 
+pub use boxed::Boxed;
 pub use common::{octets_order, same_octets};
 pub use fault::{JoinFault, NameFault};
 pub use label::Label;

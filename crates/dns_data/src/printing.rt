@@ -28,7 +28,7 @@ pub fn rdata_text(alloc: Global, rdata: &Rdata) -> Result<String, NoMemory>
         Rdata::Cname(target) => target.to_text(alloc),
         Rdata::Soa { .. } => soa_text(alloc, rdata),
         Rdata::Ptr(target) => target.to_text(alloc),
-        Rdata::Hinfo { cpu, os } => hinfo_text(alloc, cpu, os),
+        Rdata::Hinfo { cpu, os } => hinfo_text(alloc, cpu.get(), os.get()),
         Rdata::Mx {
             preference,
             exchange,
@@ -42,7 +42,7 @@ pub fn rdata_text(alloc: Global, rdata: &Rdata) -> Result<String, NoMemory>
             target,
         } => { srv_text(alloc, *priority, *weight, *port, target) }
         Rdata::Dname(target) => target.to_text(alloc),
-        Rdata::Caa { flags, tag, value } => caa_text(alloc, *flags, tag, value),
+        Rdata::Caa { flags, tag, value } => caa_text(alloc, *flags, tag.get(), value.get()),
         Rdata::Other { .. } => unreachable!(),
     }
 }
@@ -72,8 +72,8 @@ fn soa_text(alloc: Global, rdata: &Rdata) -> Result<String, NoMemory>
     else {
         unreachable!()
     };
-    let mut text = mname.to_text(alloc)?;
-    push_name(alloc, &mut text, rname)?;
+    let mut text = mname.get().to_text(alloc)?;
+    push_name(alloc, &mut text, rname.get())?;
     push_number(&mut text, *serial)?;
     push_number(&mut text, *refresh)?;
     push_number(&mut text, *retry)?;

@@ -3,6 +3,7 @@
 ghost use Rattle.std.specs.Prelude.{◌≡◌, Some, IfOk};
 ghost use Rattle.dns_data.specs.Rdata.{type_of_data};
 
+use crate::boxed::Boxed;
 use crate::list::List;
 use crate::memory::NoMemory;
 use crate::name::Name;
@@ -11,7 +12,8 @@ use crate::rr_type::RrType;
 use std::alloc::Global;
 
 /// A record's data. The names of the fields are those of the RFCs. Data are equal where their types are one and each
-/// field is. Their order, in which the types come first, is one for searches alone.
+/// field is. Their order, in which the types come first, is one for searches alone. The fields of rare types stand in
+/// memory of their own, so that data take 40 octets beside that of long names and texts.
 #[derive(Debug, PartialEq, Eq, PartialOrd, Ord, Drop)]
 pub enum Rdata {
     /// An IPv4 address (RFC 1035 section 3.4.1).
@@ -22,8 +24,8 @@ pub enum Rdata {
     Cname(Name),
     /// The start of a zone of authority (RFC 1035 section 3.3.13). Times are in seconds.
     Soa {
-        mname: Name,
-        rname: Name,
+        mname: Boxed<Name>,
+        rname: Boxed<Name>,
         serial: u32,
         refresh: u32,
         retry: u32,
@@ -34,8 +36,8 @@ pub enum Rdata {
     Ptr(Name),
     /// A host's processor and operating system (RFC 1035 section 3.3.2).
     Hinfo {
-        cpu: Octets,
-        os: Octets,
+        cpu: Boxed<Octets>,
+        os: Boxed<Octets>,
     },
     /// A mail exchange (RFC 1035 section 3.3.9).
     Mx {
@@ -58,12 +60,12 @@ pub enum Rdata {
     /// Which authorities may issue certificates (RFC 8659 section 4.1).
     Caa {
         flags: u8,
-        tag: Octets,
-        value: Octets,
+        tag: Boxed<Octets>,
+        value: Boxed<Octets>,
     },
     /// Data of any other type, under its word, as their tokens were written.
     Other {
-        word: Octets,
+        word: Boxed<Octets>,
         tokens: List<Octets>,
     },
 }

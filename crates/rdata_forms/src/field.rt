@@ -10,7 +10,7 @@ ghost use Rattle.rdata_forms.specs.Forms.{name_in};
 use crate::fault::RdataFault;
 use crate::texts::{read_string, read_tag};
 use crate::times::read_ttl;
-use dns_data::{Name, NameFault, Octets, read_number};
+use dns_data::{Boxed, Name, NameFault, Octets, read_number};
 use master_lex::Token;
 use std::alloc::Global;
 
@@ -40,6 +40,14 @@ pub fn name_field(alloc: Global, token: &Token, origin: &Name) -> Result<Name, R
     }
 }
 
+/// A name under an origin in memory of its own, or why the token is none.
+pub fn boxed_name(alloc: Global, token: &Token, origin: &Name) -> Result<Boxed<Name>, RdataFault>
+    ensures { AnswersOr RdataFault.NoMemory result (name_in origin.now token.now.raw) }
+{
+    let name = name_field(alloc, token, origin)?;
+    Ok(Boxed::new(alloc, name)?)
+}
+
 /// A string of at most this many octets, or `TextTooLong`.
 pub fn string_field(alloc: Global, token: &Token, most: usize) -> Result<Octets, RdataFault>
     ensures { AnswersOr RdataFault.NoMemory result (string_of most token.now.raw) }
@@ -47,9 +55,22 @@ pub fn string_field(alloc: Global, token: &Token, most: usize) -> Result<Octets,
     read_string(alloc, token.raw.items(), most)
 }
 
-/// A tag, folded, or why the token is none.
-pub fn tag_field(alloc: Global, token: &Token) -> Result<Octets, RdataFault>
+/// A string of at most this many octets in memory of its own, or `TextTooLong`.
+pub fn boxed_string(
+    alloc: Global,
+    token: &Token,
+    most: usize,
+) -> Result<Boxed<Octets>, RdataFault>
+    ensures { AnswersOr RdataFault.NoMemory result (string_of most token.now.raw) }
+{
+    let string = string_field(alloc, token, most)?;
+    Ok(Boxed::new(alloc, string)?)
+}
+
+/// A tag, folded, in memory of its own, or why the token is none.
+pub fn boxed_tag(alloc: Global, token: &Token) -> Result<Boxed<Octets>, RdataFault>
     ensures { AnswersOr RdataFault.NoMemory result (tag_of token.now.raw) }
 {
-    read_tag(alloc, token.raw.items())
+    let tag = read_tag(alloc, token.raw.items())?;
+    Ok(Boxed::new(alloc, tag)?)
 }

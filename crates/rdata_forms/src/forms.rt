@@ -5,7 +5,7 @@ ghost use Rattle.dns_data.specs.Answers.{AnswersOr};
 ghost use Rattle.rdata_forms.specs.Forms.{written, one_name, a_of, aaaa_of, ns_of, cname_of, ptr_of, dname_of, soa_of, hinfo_of, mx_of, txt_of, strings_of, srv_of, caa_of};
 
 use crate::fault::RdataFault;
-use crate::field::{name_field, number_field, string_field, tag_field, time_field};
+use crate::field::{boxed_name, boxed_string, boxed_tag, name_field, number_field, string_field, time_field};
 use crate::ipv4::read_ipv4;
 use crate::ipv6::read_ipv6;
 use dns_data::{List, Name, Octets, Rdata};
@@ -84,8 +84,8 @@ pub fn read_soa(alloc: Global, tokens: &[Token], origin: &Name) -> Result<Rdata,
         return Err(RdataFault::FieldCount);
     };
     Ok(Rdata::Soa {
-        mname: name_field(alloc, mname, origin)?,
-        rname: name_field(alloc, rname, origin)?,
+        mname: boxed_name(alloc, mname, origin)?,
+        rname: boxed_name(alloc, rname, origin)?,
         serial: number_field(serial, u32::MAX)?,
         refresh: time_field(refresh)?,
         retry: time_field(retry)?,
@@ -102,8 +102,8 @@ pub fn read_hinfo(alloc: Global, tokens: &[Token]) -> Result<Rdata, RdataFault>
         return Err(RdataFault::FieldCount);
     };
     Ok(Rdata::Hinfo {
-        cpu: string_field(alloc, cpu, 255)?,
-        os: string_field(alloc, os, 255)?,
+        cpu: boxed_string(alloc, cpu, 255)?,
+        os: boxed_string(alloc, os, 255)?,
     })
 }
 
@@ -165,7 +165,7 @@ pub fn read_caa(alloc: Global, tokens: &[Token]) -> Result<Rdata, RdataFault>
     };
     Ok(Rdata::Caa {
         flags: number_field(flags, 255)? as u8,
-        tag: tag_field(alloc, tag)?,
-        value: string_field(alloc, value, 1024)?,
+        tag: boxed_tag(alloc, tag)?,
+        value: boxed_string(alloc, value, 1024)?,
     })
 }

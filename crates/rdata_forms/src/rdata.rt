@@ -7,7 +7,7 @@ ghost use Rattle.rdata_forms.specs.Forms.{rdata_of, other_of, fields_of, written
 use crate::fault::RdataFault;
 use crate::forms;
 use crate::generic::{is_generic, is_generic_form};
-use dns_data::{List, Name, NameFault, Octets, Rdata, RrType};
+use dns_data::{Boxed, List, Name, NameFault, Octets, Rdata, RrType};
 use master_lex::Token;
 use std::alloc::Global;
 
@@ -66,7 +66,7 @@ pub fn read_other(alloc: Global, word: &[u8], tokens: &[Token]) -> Result<Rdata,
     if is_generic(tokens) && !is_generic_form(tokens) {
         return Err(RdataFault::BadHex);
     }
-    let word = Octets::from_octets(alloc, word)?;
+    let word = Boxed::new(alloc, Octets::from_octets(alloc, word)?)?;
     let tokens = copies(alloc, tokens)?;
     Ok(Rdata::Other { word, tokens })
 }

@@ -120,7 +120,7 @@ fn put_other_word(alloc: Global, text: &mut Octets, rdata: &Rdata) -> Result<(),
     ensures { OnOk result (text.new ≡ text.old ++ other_word rdata.now) }
 {
     match rdata {
-        Rdata::Other { word, .. } => put_written(alloc, text, word.items()),
+        Rdata::Other { word, .. } => put_written(alloc, text, word.get().items()),
         _ => Ok(()),
     }
 }
