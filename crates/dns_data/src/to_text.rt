@@ -1,6 +1,6 @@
 //! The texts of names.
 
-ghost use Rattle.std.specs.Prelude.{◌≡◌, ◌++◌, ◌<◌, ℕ, List, reverse, true, Ok, IfOk, OnOk};
+ghost use Rattle.std.specs.Prelude.{◌≡◌, ◌++◌, ◌<◌, ◌&&◌, ℕ, List, reverse, nat_le, true, Ok, IfOk, IfSome, IsTrue, OnOk};
 ghost use Rattle.std.specs.List.{flat_map};
 ghost use Rattle.std.specs.String.{string_bytes};
 ghost use Rattle.dns_data.specs.Octet.{decimal_escape, escaped_as};
@@ -10,6 +10,7 @@ use crate::labels::Labels;
 use crate::memory::NoMemory;
 use crate::name::Name;
 use std::alloc::Global;
+use std::str;
 
 impl Name {
     /// The name as text, which reads back as the name under any origin (RFC 1035 section 5.1).
@@ -17,15 +18,17 @@ impl Name {
         ensures text { IfOk result (λ text. string_bytes text ≡ name_text self.now) }
         ensures reads_back { IfOk result (λ text. (origin : List (List ℕ)) → name_of_text (string_bytes text) origin ≡ Ok self.now) }
     {
-        text_of(alloc, &self.labels())
+        // A label's text mostly has as many octets as the label, and a dot in the place of its length.
+        let room = self.encoding().len() + 1;
+        text_of(alloc, room, &self.labels())
     }
 }
 
-/// The text of the name with these labels.
-fn text_of(alloc: Global, labels: &Labels<'_>) -> Result<String, NoMemory>
+/// The text of the name with these labels, in a string that has room for so many octets.
+fn text_of(alloc: Global, room: usize, labels: &Labels<'_>) -> Result<String, NoMemory>
     ensures { IfOk result (λ text. string_bytes text ≡ name_text labels.now) }
 {
-    let mut text = String::new(alloc);
+    let mut text = String::with_capacity(alloc, room)?;
     if labels.is_empty() {
         text.push('.')?;
     }
@@ -49,10 +52,43 @@ fn push_labels(text: &mut String, labels: &Labels<'_>) -> Result<(), NoMemory>
 fn push_label(text: &mut String, label: &[u8]) -> Result<(), NoMemory>
     ensures { OnOk result (string_bytes text.new ≡ string_bytes text.old ++ label_text label.now) }
 {
+    match plain_text(label) {
+        Some(plain) => text.push_str(plain)?,
+        None => push_octets(text, label)?,
+    }
+    text.push('.')?;
+    Ok(())
+}
+
+/// The label's text where each of its octets stands for itself, as letters, digits and hyphens do.
+fn plain_text(label: &[u8]) -> Option<&str>
+    ensures { IfSome result (λ text. text.now ≡ flat_map octet_text label.now) }
+{
+    if !stand_for_themselves(label) {
+        return None;
+    }
+    str::from_utf8(label).ok()
+}
+
+/// Whether each octet of a label stands for itself in a text.
+fn stand_for_themselves(label: &[u8]) -> bool
+    ensures { IsTrue result → flat_map octet_text label.now ≡ label.now }
+{
+    for octet in label {
+        if is_special(*octet) || !may_stand(*octet) {
+            return false;
+        }
+    }
+    true
+}
+
+/// Puts the texts of a label's octets at the end.
+fn push_octets(text: &mut String, label: &[u8]) -> Result<(), NoMemory>
+    ensures { OnOk result (string_bytes text.new ≡ string_bytes text.old ++ flat_map octet_text label.now) }
+{
     for octet in label {
         push_label_octet(text, *octet)?;
     }
-    text.push('.')?;
     Ok(())
 }
 
@@ -60,7 +96,15 @@ fn push_label(text: &mut String, label: &[u8]) -> Result<(), NoMemory>
 fn push_label_octet(text: &mut String, octet: u8) -> Result<(), NoMemory>
     ensures { OnOk result (string_bytes text.new ≡ string_bytes text.old ++ octet_text octet) }
 {
-    push_octet(text, octet, is_special(octet), (33..=126).contains(&octet))
+    push_octet(text, octet, is_special(octet), may_stand(octet))
+}
+
+/// Whether the octet may stand in a name's text, perhaps behind a backslash.
+fn may_stand(octet: u8) -> bool
+    ensures stands { result ≡ (nat_le 33 octet && nat_le octet 126) }
+    ensures ascii { result ≡ true → octet < 128 }
+{
+    (33..=126).contains(&octet)
 }
 
 /// Whether the octet stands behind a backslash in a name's text.

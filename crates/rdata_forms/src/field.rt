@@ -56,11 +56,7 @@ pub fn string_field(alloc: Global, token: &Token, most: usize) -> Result<Octets,
 }
 
 /// A string of at most this many octets in memory of its own, or `TextTooLong`.
-pub fn boxed_string(
-    alloc: Global,
-    token: &Token,
-    most: usize,
-) -> Result<Boxed<Octets>, RdataFault>
+pub fn boxed_string(alloc: Global, token: &Token, most: usize) -> Result<Boxed<Octets>, RdataFault>
     ensures { AnswersOr RdataFault.NoMemory result (string_of most token.now.raw) }
 {
     let string = string_field(alloc, token, most)?;

@@ -5,7 +5,9 @@ ghost use Rattle.dns_data.specs.Answers.{AnswersOr};
 ghost use Rattle.rdata_forms.specs.Forms.{written, one_name, a_of, aaaa_of, ns_of, cname_of, ptr_of, dname_of, soa_of, hinfo_of, mx_of, txt_of, strings_of, srv_of, caa_of};
 
 use crate::fault::RdataFault;
-use crate::field::{boxed_name, boxed_string, boxed_tag, name_field, number_field, string_field, time_field};
+use crate::field::{
+    boxed_name, boxed_string, boxed_tag, name_field, number_field, string_field, time_field,
+};
 use crate::ipv4::read_ipv4;
 use crate::ipv6::read_ipv6;
 use dns_data::{List, Name, Octets, Rdata};

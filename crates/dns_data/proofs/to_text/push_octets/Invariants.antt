@@ -2,7 +2,7 @@ use Rattle.std.proofs.Common.{◌≡◌, ◌++◌, take}
 use Rattle.std.specs.List.{flat_map}
 use Rattle.std.specs.String.{string_bytes}
 use Rattle.dns_data.specs.Spelling.{octet_text}
-use Rattle.dns_data.proofs.to_text.push_label.Given as goal
+use Rattle.dns_data.proofs.to_text.push_octets.Given as goal
 
 abbrev pub invariant-loop-octet : goal.invariant-loop-octet
 invariant-loop-octet l =
