@@ -4,17 +4,24 @@ use Rattle.std.proofs.Common.{◌≡◌, ℕ, ◌+◌, ◌-◌, ◌<◌, ◌≤�
 use Rattle.std.specs.List.{common_prefix_len}
 use Rattle.std.specs.List.Sorted.{IsStrictlySortedBy, IsPartitionPoint, IsBinarySearchResult}
 use Rattle.std.proofs.lemmas.Bool.{cases_lt}
-use Rattle.std.proofs.lemmas.List.{take-append-drop, take-take, take_all, length-take-le, get_or-map, get_or_default, length-map}
+use Rattle.std.proofs.lemmas.List.{append-nil, take-append-drop, take-take, take_all, length-take-le, get_or-map, get_or_default, length-map}
 use Rattle.std.proofs.lemmas.Cmp.{tied_itself}
+use Rattle.std.proofs.lemmas.List.Sums.{common_prefix_len-le}
 use Rattle.std.proofs.lemmas.List.Sorted.{searchable_from_sorted}
 use Rattle.dns_data.specs.Label.{label_eq}
-use Rattle.dns_data.specs.Name.{Labels, name_eq, name_cmp}
-use Rattle.dns_data.proofs.CommonFronts.{common_front, shared_front}
+use Rattle.dns_data.specs.Name.{Labels, is_prefix, name_eq, name_cmp}
+use Rattle.dns_data.proofs.CommonFronts.{both_begin, common_front, shared_front}
+use Rattle.dns_data.proofs.NameFronts.{is_prefix_tells}
 use Rattle.dns_data.proofs.NameOrder.{UpTo, Before, names_total, prefix_up_to, before_up_to, between, before_later}
 use Rattle.dns_data.proofs.Names.{name_eq_decides}
 use Rattle.dns_data.proofs.Searches.{find_none}
 use Rattle.dns_data.proofs.OrderedLists.{never_before_itself}
 use Rattle.zone_lookup.proofs.FirstsByName.{found_in_order, rises}
+
+-- a name that begins another has all its labels in common with it
+pub all_common : (above name : Labels) → is_prefix above name ≡ true → common_prefix_len label_eq above name ≡ length above
+all_common above name begins =
+    omega (arith, both_begin above above name ([], append-nil above) (is_prefix_tells above name begins), (common_prefix_len-le label_eq above name).0)
 
 module _ {X : Type 0} (key : X → Labels) (xs : List X) (sorted : IsStrictlySortedBy name_cmp (map key xs)) (name : Labels) (count : ℕ) (within : count ≤ length name) where
   abbrev found : Labels → Option X

@@ -57,7 +57,7 @@ pub fn nearest_item<'i, T: Named>(items: &'i [T], near: &mut usize, name: &Name)
     ensures none { IfNone result (NoneFrom (item_named T.name_of items.now) name.now (length name.now) 0) }
 {
     let count = name.len() as usize;
-    let place = place_near(items, *near, &name.front(count));
+    let place = place_near(items, *near, &name.labels());
     *near = not_behind(place);
     match nearest_or_fewer(items, name, count, place) {
         Ok(item) => Some(item),
@@ -126,13 +126,13 @@ fn nearest_before<'i, T: Named>(
         return Err(0);
     }
     let item = &items[before - 1];
-    let labels = item.its_name().labels();
-    let common = labels.common_len(&name.labels());
-    if common == labels.len() {
-        Ok(item)
-    } else {
-        Err(common as usize + 1)
+    let own = item.its_name();
+    if own.is_prefix_of(name) {
+        return Ok(item);
     }
+    let labels = own.labels();
+    let common = labels.common_len(&name.labels());
+    Err(common as usize + 1)
 }
 
 /// The place of the last item that isn't behind a name, where the name's place is this; 0 where there is none.
