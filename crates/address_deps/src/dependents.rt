@@ -150,7 +150,7 @@ fn put_awaited<'g>(
     ensures { OnOk result (map (λ name. name.now) names.new.items ≡ map (λ name. name.now) names.old.items ++ branch_awaits hosts.now branch.now) }
 {
     match branch {
-        Branch::Go { hop, .. } => put_hop(hosts, hop, names),
+        Branch::Go { hop, .. } => put_hop(hosts, hop.get(), names),
         Branch::End { .. } => Ok(()),
     }
 }

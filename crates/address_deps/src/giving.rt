@@ -148,8 +148,8 @@ fn branch_gives(hosts: &Hosts<'_>, followed: &ServerSet, marks: &[bool], branch:
     ensures { result ≡ branch_gives hosts.now followed.now marks.now branch.now }
 {
     match branch {
-        Branch::Go { hop, to } => may_take(hosts, followed, hop) && is_marked(marks, *to),
-        Branch::End { leaf, .. } => gives_address(leaf),
+        Branch::Go { hop, to } => may_take(hosts, followed, hop.get()) && is_marked(marks, *to),
+        Branch::End { leaf, .. } => gives_address(leaf.get()),
     }
 }
 

@@ -38,9 +38,9 @@ fn put_referral<'g>(one: &TypedBranch<'g>, met: &mut Vec<Met<'g>>) -> Result<(),
     ensures { OnOk result (map is_met met.new.items ≡ map is_met met.old.items ++ typed_referrals (plain_branch one.now)) }
 {
     match one.branch {
-        Branch::Go { hop, .. } => put_hop(hop, None, one.rtype, met),
+        Branch::Go { hop, .. } => put_hop(hop.get(), None, one.rtype, met),
         Branch::End { hop, leaf } => match hop {
-            Some(hop) => put_hop(hop, Some(leaf), one.rtype, met),
+            Some(hop) => put_hop(hop.get(), Some(leaf.get()), one.rtype, met),
             None => Ok(()),
         },
     }

@@ -34,21 +34,17 @@ fn put_node<'g>(node: &'g Node, all: &mut Vec<TypedBranch<'g>>) -> Result<(), No
     ensures { OnOk result (map plain_branch all.new.items ≡ map plain_branch all.old.items ++ node_branches node.now) }
 {
     for arm in node.arms.items() {
-        put_arm(&node.state, arm, all)?;
+        put_arm(node, arm, all)?;
     }
     Ok(())
 }
 
-/// Puts the branches of an arm behind the others, if it has a type.
-fn put_arm<'g>(
-    state: &'g State,
-    arm: &'g Arm,
-    all: &mut Vec<TypedBranch<'g>>,
-) -> Result<(), NoMemory>
-    ensures { OnOk result (map plain_branch all.new.items ≡ map plain_branch all.old.items ++ arm_branches state.now arm.now) }
+/// Puts the branches of an arm of a node behind the others, if it has a type.
+fn put_arm<'g>(node: &'g Node, arm: &'g Arm, all: &mut Vec<TypedBranch<'g>>) -> Result<(), NoMemory>
+    ensures { OnOk result (map plain_branch all.new.items ≡ map plain_branch all.old.items ++ arm_branches node.now.state arm.now) }
 {
     match arm.types.first() {
-        Some(rtype) => put_branches(state, rtype, arm.branches.items(), all),
+        Some(rtype) => put_branches(node.state.get(), rtype, arm.branches.items(), all),
         None => Ok(()),
     }
 }

@@ -18,10 +18,10 @@ ghost use Rattle.graph_form.specs.FirstPath.{
 ghost use Rattle.graph_form.specs.GraphOf.{IsGraphOf};
 
 use crate::graph::Graph;
-use crate::node::Branch;
+use crate::node::{Branch, Node};
 use crate::shows::branch_shows;
 use dns_data::{NoMemory, RrType};
-use net_model::{Fault, State, Walk};
+use net_model::{Fault, Walk};
 use std::alloc::Global;
 
 /// A node on the path of a search, whether a branch before it shows the fault, and the number of its branch that is
@@ -129,7 +129,7 @@ fn next_branch(
     let branches = node.branches(rtype);
     for number in turn.number..branches.len() {
         let branch = &branches[number];
-        let taken = is_taken(fault, walks, turn.taken, &node.state, branch);
+        let taken = is_taken(fault, walks, turn.taken, node, branch);
         if is_to_follow(met, taken, branch) {
             return Some(Onward {
                 number,
@@ -141,11 +141,11 @@ fn next_branch(
     None
 }
 
-/// Whether the branch or one before it shows the fault.
-fn is_taken(fault: &Fault, walks: &[Walk], taken: bool, state: &State, branch: &Branch) -> bool
-    ensures { result ≡ (taken || branch_shows fault.now walks.now state.now branch.now) }
+/// Whether the branch of the node or one before it shows the fault.
+fn is_taken(fault: &Fault, walks: &[Walk], taken: bool, node: &Node, branch: &Branch) -> bool
+    ensures { result ≡ (taken || branch_shows fault.now walks.now node.now.state branch.now) }
 {
-    taken || branch_shows(fault, walks, state, branch)
+    taken || branch_shows(fault, walks, node.state.get(), branch)
 }
 
 /// Whether the branch ends a path that shows the fault or goes to a node that wasn't met.

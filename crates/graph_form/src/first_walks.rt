@@ -13,7 +13,7 @@ use crate::first_path::first_path;
 use crate::graph::Graph;
 use crate::node::{Branch, Node};
 use crate::report::Seen;
-use dns_data::{List, NoMemory, RrType};
+use dns_data::{Boxed, List, NoMemory, RrType};
 use net_model::{Fault, Hop, Walk};
 use std::alloc::Global;
 
@@ -88,10 +88,10 @@ fn walk_from(
         let Some((node, branch)) = branch_at(graph, rtype, at, *number) else {
             return Ok(None);
         };
-        states.push(node.state.copy(alloc)?)?;
+        states.push(node.state.get().copy(alloc)?)?;
         match branch {
             Branch::Go { hop, to } => {
-                hops.push(hop.copy(alloc)?)?;
+                hops.push(hop.get().copy(alloc)?)?;
                 at = *to;
             }
             Branch::End { hop, leaf } => {
@@ -99,7 +99,7 @@ fn walk_from(
                     return Ok(None);
                 }
                 let hops = with_last(alloc, hops, hop)?;
-                let leaf = leaf.copy(alloc)?;
+                let leaf = leaf.get().copy(alloc)?;
                 return Ok(Some(Walk { states, hops, leaf }));
             }
         }
@@ -117,11 +117,15 @@ fn branch_at(graph: &Graph, rtype: RrType, at: u32, number: usize) -> Option<(&N
 }
 
 /// The hops, and then the one with which a walk ends, if there is one.
-fn with_last(alloc: Global, mut hops: List<Hop>, last: &Option<Hop>) -> Result<List<Hop>, NoMemory>
+fn with_last(
+    alloc: Global,
+    mut hops: List<Hop>,
+    last: &Option<Boxed<Hop>>,
+) -> Result<List<Hop>, NoMemory>
     ensures { IfOk result (λ all. all ≡ hops ++ option_to_list last.now) }
 {
     if let Some(hop) = last {
-        hops.push(hop.copy(alloc)?)?;
+        hops.push(hop.get().copy(alloc)?)?;
     }
     Ok(hops)
 }

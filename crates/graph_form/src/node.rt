@@ -5,13 +5,14 @@ ghost use Rattle.std.specs.Option.{option_copied};
 ghost use Rattle.graph_form.specs.FirstPath.{node_behind};
 ghost use Rattle.graph_form.specs.Graph.{arm_of, branches_of};
 
-use dns_data::{List, RrType, TypeSet};
+use dns_data::{Boxed, List, RrType, TypeSet};
 use net_model::{Hop, Leaf, State};
 
-/// A state, and its branches for each type that comes to it.
+/// A state, and its branches for each type that comes to it. The state, as what a branch tells, stands in memory of its
+/// own, so that nodes and branches take a few octets wherever they are moved.
 #[derive(Debug, Drop)]
 pub struct Node {
-    pub state: State,
+    pub state: Boxed<State>,
     pub arms: List<Arm>,
 }
 
@@ -25,8 +26,14 @@ pub struct Arm {
 /// What a state leads to: the node of a next state, or an end. A referral and a rewrite are told as a hop.
 #[derive(Debug, Drop)]
 pub enum Branch {
-    Go { hop: Hop, to: u32 },
-    End { hop: Option<Hop>, leaf: Leaf },
+    Go {
+        hop: Boxed<Hop>,
+        to: u32,
+    },
+    End {
+        hop: Option<Boxed<Hop>>,
+        leaf: Boxed<Leaf>,
+    },
 }
 
 impl Node {

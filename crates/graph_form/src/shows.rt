@@ -18,6 +18,7 @@ ghost use Rattle.graph_form.specs.FirstPath.{
 };
 
 use crate::node::Branch;
+use dns_data::Boxed;
 use net_model::{Cut, Fault, Hop, Leaf, Place, State, Walk};
 
 /// Whether the branch of the state shows the fault: an end in which a walk shows it, or a referral by which a walk shows
@@ -26,8 +27,8 @@ pub(crate) fn branch_shows(fault: &Fault, walks: &[Walk], state: &State, branch:
     ensures { result ≡ branch_shows fault.now walks.now state.now branch.now }
 {
     match branch {
-        Branch::Go { hop, .. } => hop_shows(fault, hop),
-        Branch::End { hop, leaf } => end_shows(fault, walks, &state.last, hop, leaf),
+        Branch::Go { hop, .. } => hop_shows(fault, hop.get()),
+        Branch::End { hop, leaf } => end_shows(fault, walks, &state.last, hop, leaf.get()),
     }
 }
 
@@ -47,7 +48,7 @@ fn end_shows(
     fault: &Fault,
     walks: &[Walk],
     last: &Option<Place>,
-    hop: &Option<Hop>,
+    hop: &Option<Boxed<Hop>>,
     leaf: &Leaf,
 ) -> bool
     ensures { result ≡ end_shows fault.now walks.now last.now hop.now leaf.now }
@@ -114,11 +115,11 @@ pub fn is_same_answer(a: &Leaf, b: &Leaf) -> bool
 }
 
 /// Whether an end with this hop is behind the referral to the name server.
-fn is_behind(cut: &Cut, hop: &Option<Hop>) -> bool
+fn is_behind(cut: &Cut, hop: &Option<Boxed<Hop>>) -> bool
     ensures { result ≡ is_behind cut.now hop.now }
 {
     match hop {
-        Some(hop) => is_referral(cut, hop),
+        Some(hop) => is_referral(cut, hop.get()),
         None => false,
     }
 }

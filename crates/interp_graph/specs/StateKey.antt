@@ -22,7 +22,7 @@ maybe_eq eq a b = false
 -- two states are one
 abbrev pub state_eq : State → State → Bool
 state_eq a b =
-    name_eq a.name b.name && (name_eq a.server b.server && (beq a.carried b.carried && ((a.cut == b.cut) && ((a.used == b.used)
+    (a.used == b.used) && ((a.cut == b.cut) && (name_eq a.name b.name && (name_eq a.server b.server && (beq a.carried b.carried
     && (maybe_eq place_eq a.last b.last && maybe_eq name_eq a.zone b.zone)))))
 
 -- ---- which decides
@@ -37,46 +37,46 @@ maybe_decides eq decides (Some a) (Some b) =
 maybe_decides eq decides None (Some b) = ((λ e. absurd (true≢false (sym e))), (λ e. cc))
 maybe_decides eq decides (Some a) None = ((λ e. absurd (true≢false (sym e))), (λ e. cc))
 
--- what is left to compare of two states behind their first five fields; and below it behind four, three, two and one
+-- what is left to compare of two states behind their first five tests; and below it behind four, three, two and one
 abbrev rest5 : State → State → Bool
 rest5 a b = maybe_eq place_eq a.last b.last && maybe_eq name_eq a.zone b.zone
 
 abbrev rest4 : State → State → Bool
-rest4 a b = (a.used == b.used) && rest5 a b
+rest4 a b = beq a.carried b.carried && rest5 a b
 
 abbrev rest3 : State → State → Bool
-rest3 a b = (a.cut == b.cut) && rest4 a b
+rest3 a b = name_eq a.server b.server && rest4 a b
 
 abbrev rest2 : State → State → Bool
-rest2 a b = beq a.carried b.carried && rest3 a b
+rest2 a b = name_eq a.name b.name && rest3 a b
 
 abbrev rest1 : State → State → Bool
-rest1 a b = name_eq a.server b.server && rest2 a b
+rest1 a b = (a.cut == b.cut) && rest2 a b
 
 -- two states are equal by the test exactly where they are one
 pub state_decides : (a b : State) → Decides (state_eq a b) (a ≡ b)
 state_decides a b = (
-  λ e. let one = and_parts (name_eq a.name b.name) (rest1 a b) e in
-      let two = and_parts (name_eq a.server b.server) (rest2 a b) one.1 in
-      let three = and_parts (beq a.carried b.carried) (rest3 a b) two.1 in
-      let four = and_parts (a.cut == b.cut) (rest4 a b) three.1 in
-      let five = and_parts (a.used == b.used) (rest5 a b) four.1 in
+  λ e. let one = and_parts (a.used == b.used) (rest1 a b) e in
+      let two = and_parts (a.cut == b.cut) (rest2 a b) one.1 in
+      let three = and_parts (name_eq a.name b.name) (rest3 a b) two.1 in
+      let four = and_parts (name_eq a.server b.server) (rest4 a b) three.1 in
+      let five = and_parts (beq a.carried b.carried) (rest5 a b) four.1 in
       let six = and_parts (maybe_eq place_eq a.last b.last) (maybe_eq name_eq a.zone b.zone) five.1 in
-      same ((name_eq_decides a.name b.name).0 one.0) ((name_eq_decides a.server b.server).0 two.0)
-      ((booleans_Decides a.carried b.carried).0 three.0) ((unsigned_Decides a.cut b.cut).0 four.0) ((unsigned_Decides a.used b.used).0 five.0)
+      same ((unsigned_Decides a.used b.used).0 one.0) ((unsigned_Decides a.cut b.cut).0 two.0)
+      ((name_eq_decides a.name b.name).0 three.0) ((name_eq_decides a.server b.server).0 four.0) ((booleans_Decides a.carried b.carried).0 five.0)
       ((maybe_decides place_eq place_decides a.last b.last).0 six.0) ((maybe_decides name_eq name_eq_decides a.zone b.zone).0 six.1),
   λ e. subst (λ (c : State). state_eq a c ≡ true) e
-      (and_from (name_eq a.name a.name) (rest1 a a) ((name_eq_decides a.name a.name).1 refl)
-      (and_from (name_eq a.server a.server) (rest2 a a) ((name_eq_decides a.server a.server).1 refl)
-      (and_from (beq a.carried a.carried) (rest3 a a) ((booleans_Decides a.carried a.carried).1 refl)
-      (and_from (a.cut == a.cut) (rest4 a a) ((unsigned_Decides a.cut a.cut).1 refl)
-      (and_from (a.used == a.used) (rest5 a a) ((unsigned_Decides a.used a.used).1 refl)
+      (and_from (a.used == a.used) (rest1 a a) ((unsigned_Decides a.used a.used).1 refl)
+      (and_from (a.cut == a.cut) (rest2 a a) ((unsigned_Decides a.cut a.cut).1 refl)
+      (and_from (name_eq a.name a.name) (rest3 a a) ((name_eq_decides a.name a.name).1 refl)
+      (and_from (name_eq a.server a.server) (rest4 a a) ((name_eq_decides a.server a.server).1 refl)
+      (and_from (beq a.carried a.carried) (rest5 a a) ((booleans_Decides a.carried a.carried).1 refl)
       (and_from (maybe_eq place_eq a.last a.last) (maybe_eq name_eq a.zone a.zone)
       ((maybe_decides place_eq place_decides a.last a.last).1 refl) ((maybe_decides name_eq name_eq_decides a.zone a.zone).1 refl))))))),
 )
   where
-    same : a.name ≡ b.name → a.server ≡ b.server → a.carried ≡ b.carried → a.cut ≡ b.cut → a.used ≡ b.used → a.last ≡ b.last → a.zone ≡ b.zone → a ≡ b
-    same n s c k u l z = λ i. record { server = s i; name = n i; carried = c i; cut = k i; used = u i; last = l i; zone = z i }
+    same : a.used ≡ b.used → a.cut ≡ b.cut → a.name ≡ b.name → a.server ≡ b.server → a.carried ≡ b.carried → a.last ≡ b.last → a.zone ≡ b.zone → a ≡ b
+    same u k n s c l z = λ i. record { server = s i; name = n i; carried = c i; cut = k i; used = u i; last = l i; zone = z i }
 
 -- the test of two states is an equivalence
 pub state_equivalence : IsEquivalence state_eq

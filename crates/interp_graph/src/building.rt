@@ -20,7 +20,7 @@ use crate::forks::forks;
 use crate::growing::GrowingGraph;
 use crate::key_set::KeySet;
 use crate::node_types::NodeTypes;
-use dns_data::{JoinFault, List, Name, NoMemory, TypeSet};
+use dns_data::{Boxed, JoinFault, List, Name, NoMemory, TypeSet};
 use graph_form::{Graph, Node};
 use name_rules::SymName;
 use net_model::State;
@@ -54,7 +54,11 @@ pub fn build(
 }
 
 /// The states in which the walks of the known name with its tail begin.
-fn first_states(alloc: Global, hosts: &Hosts<'_>, name: &SymName) -> Result<List<State>, NoMemory>
+fn first_states(
+    alloc: Global,
+    hosts: &Hosts<'_>,
+    name: &SymName,
+) -> Result<List<Boxed<State>>, NoMemory>
     requires { IfSome name.now.tail (λ label. wire_octets (name.now.known ++ label ∷ []) ≤ 255) }
     ensures { IfOk result (λ states. states ≡ start hosts.now (whole name.now)) }
 {
@@ -82,7 +86,7 @@ fn whole_name(alloc: Global, name: &SymName) -> Result<Name, NoMemory>
 pub(crate) fn begin(
     alloc: Global,
     growing: &mut GrowingGraph,
-    states: List<State>,
+    states: List<Boxed<State>>,
 ) -> Result<List<u32>, GraphFault>
     requires { IsSoundSoFar growing.old }
     ensures sound { OnOk result (IsSoundSoFar growing.new) }

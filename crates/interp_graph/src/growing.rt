@@ -12,7 +12,7 @@ use crate::fault::GraphFault;
 use crate::key::Key;
 use crate::key_set::KeySet;
 use crate::node_types::NodeTypes;
-use dns_data::{List, NoMemory, TypeSet};
+use dns_data::{Boxed, List, NoMemory, TypeSet};
 use graph_form::{Arm, type_count};
 use net_model::State;
 use std::alloc::Global;
@@ -77,7 +77,12 @@ impl GrowingGraph {
 
     /// The number of the node of a state to which types come. They wait there, but for those that came before. It is
     /// `StatesPassed` where there are more pairs then than are allowed.
-    pub fn reach(&mut self, alloc: Global, state: State, types: TypeSet) -> Result<u32, GraphFault>
+    pub fn reach(
+        &mut self,
+        alloc: Global,
+        state: Boxed<State>,
+        types: TypeSet,
+    ) -> Result<u32, GraphFault>
         requires sound { IsSoundSoFar self.old }
         requires some { (rtype : RrType) × (has_bit types rtype ≡ true) }
         ensures sound { OnOk result (IsSoundSoFar self.new) }
@@ -135,7 +140,7 @@ fn number(
     alloc: Global,
     states: &mut KeySet,
     nodes: &mut Vec<NodeTypes>,
-    state: State,
+    state: Boxed<State>,
 ) -> Result<usize, NoMemory>
     requires paired { length states.old ≡ length nodes.old.items }
     ensures paired { OnOk result (length states.new ≡ length nodes.new.items) }

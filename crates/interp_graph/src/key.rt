@@ -5,7 +5,7 @@ ghost use Rattle.graph_form.specs.FirstPath.{place_eq};
 ghost use Rattle.interp_graph.specs.StateKey.{state_eq, maybe_eq};
 ghost use Rattle.dns_data.specs.Name.{name_eq};
 
-use dns_data::Name;
+use dns_data::{Boxed, Name};
 use net_model::{Place, State};
 use std::hash::{Hash, Hasher};
 use std::marker::Model;
@@ -13,7 +13,7 @@ use std::marker::Model;
 /// A state by which its node is found.
 #[derive(Debug, Drop)]
 pub(crate) struct Key {
-    state: State,
+    state: Boxed<State>,
 }
 
 impl Model for Key {
@@ -28,7 +28,7 @@ impl Model for Key {
 
 impl Key {
     /// The key of a state.
-    pub fn new(state: State) -> Key
+    pub fn new(state: Boxed<State>) -> Key
         ensures { result ≡ state }
     {
         Key { state }
@@ -38,11 +38,11 @@ impl Key {
     pub fn state(&self) -> &State
         ensures { result.now ≡ self.now }
     {
-        &self.state
+        self.state.get()
     }
 
     /// The state, by value.
-    pub fn into_state(self) -> State
+    pub fn into_state(self) -> Boxed<State>
         ensures { result ≡ self }
     {
         self.state
@@ -58,7 +58,7 @@ impl PartialEq for Key {
     ghost laws = { partial_equiv_from_equiv state_equivalence };
 
     fn eq(&self, other: &Key) -> bool {
-        same_states(&self.state, &other.state)
+        same_states(self.state(), other.state())
     }
 }
 
@@ -78,9 +78,10 @@ impl Hash for Key {
     ghost respects_eq = { equal_writes };
 
     fn hash<H: Hasher>(&self, state: &mut H) {
-        write_labels(&self.state.server, state);
-        write_labels(&self.state.name, state);
-        state.write_u32(self.state.used);
+        let own = self.state();
+        write_labels(&own.server, state);
+        write_labels(&own.name, state);
+        state.write_u32(own.used);
     }
 }
 
@@ -94,15 +95,15 @@ fn write_labels<H: Hasher>(name: &Name, state: &mut H)
     }
 }
 
-/// Whether two states are one.
+/// Whether two states are one. The numbers are compared first: mostly one tells that they aren't.
 fn same_states(a: &State, b: &State) -> bool
     ensures { result ≡ state_eq a.now b.now }
 {
-    a.name == b.name
+    a.used == b.used
+        && a.cut == b.cut
+        && a.name == b.name
         && a.server == b.server
         && a.carried == b.carried
-        && a.cut == b.cut
-        && a.used == b.used
         && same_last(&a.last, &b.last)
         && same_origins(&a.zone, &b.zone)
 }

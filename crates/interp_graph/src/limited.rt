@@ -18,7 +18,7 @@ ghost use Rattle.interp_graph.specs.declared.step.Fork.{Fork};
 
 use crate::key::Key;
 use crate::step::Fork;
-use dns_data::{List, Name, NoMemory, TypeSet};
+use dns_data::{Boxed, List, Name, NoMemory, TypeSet};
 use graph_form::{Arm, Branch, Graph, Node};
 use indexmap::IndexSet;
 use net_model::{Cut, Hop, Leaf, State};
@@ -109,30 +109,30 @@ impl<'g, 'a> Limited<'g, 'a> {
                 hop: Some(hop),
                 leaf,
             } => self.ended(alloc, hop, leaf),
-            Branch::End { hop: None, leaf } => Ok(Step::End(None, leaf.copy(alloc)?)),
+            Branch::End { hop: None, leaf } => Ok(Step::End(None, copied_leaf(alloc, leaf)?)),
         }
     }
 
     /// The step that ends at a name server.
-    fn ended(&self, alloc: Global, hop: &Hop, leaf: &Leaf) -> Result<Step, NoMemory>
+    fn ended(&self, alloc: Global, hop: &Boxed<Hop>, leaf: &Boxed<Leaf>) -> Result<Step, NoMemory>
         ensures { IfOk result (λ step. branch_of step ≡ restricted self.now.hosts.now self.now.followed.now (End (Some hop.now) leaf.now)) }
     {
-        if let Leaf::Lame(_) = leaf {
+        if let Leaf::Lame(_) = leaf.get() {
             if let Some(cut) = self.unknown(hop) {
                 return no_address(alloc, cut);
             }
         }
-        let hop = hop.copy(alloc)?;
-        let leaf = leaf.copy(alloc)?;
+        let hop = copied_hop(alloc, hop)?;
+        let leaf = copied_leaf(alloc, leaf)?;
         Ok(Step::End(Some(hop), leaf))
     }
 
     /// The name server of a referral, where it may not be followed.
-    fn unknown<'h>(&self, hop: &'h Hop) -> Option<&'h Cut>
+    fn unknown<'h>(&self, hop: &'h Boxed<Hop>) -> Option<&'h Cut>
         ensures some { IfSome result (λ cut. (hop.now ≡ hop_as.Refer cut.now) × (may_follow self.now.hosts.now cut.now self.now.followed.now ≡ false)) }
         ensures none { IfNone result ((cut : Cut) → hop.now ≡ hop_as.Refer cut → may_follow self.now.hosts.now cut self.now.followed.now ≡ true) }
     {
-        match hop {
+        match hop.get() {
             Hop::Refer(cut) => {
                 if self.hosts.may_follow(cut, self.followed) {
                     None
@@ -149,18 +149,39 @@ impl<'g, 'a> Limited<'g, 'a> {
 fn no_address(alloc: Global, cut: &Cut) -> Result<Step, NoMemory>
     ensures { IfOk result (λ step. branch_of step ≡ End (Some (hop_as.Refer cut.now)) (leaf_as.NoAddress cut.now.ns)) }
 {
-    let ns = cut.ns.copy(alloc)?;
-    let cut = cut.copy(alloc)?;
-    Ok(Step::End(Some(Hop::Refer(cut)), Leaf::NoAddress(ns)))
+    let leaf = Boxed::new(alloc, Leaf::NoAddress(cut.ns.copy(alloc)?))?;
+    let hop = Boxed::new(alloc, Hop::Refer(cut.copy(alloc)?))?;
+    Ok(Step::End(Some(hop), leaf))
 }
 
 /// The step to a state.
-fn gone(alloc: Global, hop: &Hop, to: &State) -> Result<Step, NoMemory>
+fn gone(alloc: Global, hop: &Boxed<Hop>, to: &Boxed<State>) -> Result<Step, NoMemory>
     ensures { IfOk result (λ step. branch_of step ≡ Go hop.now to.now) }
 {
-    let hop = hop.copy(alloc)?;
-    let to = to.copy(alloc)?;
+    let hop = copied_hop(alloc, hop)?;
+    let to = copied_state(alloc, to)?;
     Ok(Step::Go(hop, to))
+}
+
+/// An equal hop.
+fn copied_hop(alloc: Global, hop: &Boxed<Hop>) -> Result<Boxed<Hop>, NoMemory>
+    ensures { IfOk result (λ copy. copy ≡ hop.now) }
+{
+    Boxed::new(alloc, hop.get().copy(alloc)?)
+}
+
+/// An equal end.
+fn copied_leaf(alloc: Global, leaf: &Boxed<Leaf>) -> Result<Boxed<Leaf>, NoMemory>
+    ensures { IfOk result (λ copy. copy ≡ leaf.now) }
+{
+    Boxed::new(alloc, leaf.get().copy(alloc)?)
+}
+
+/// An equal state.
+fn copied_state(alloc: Global, state: &Boxed<State>) -> Result<Boxed<State>, NoMemory>
+    ensures { IfOk result (λ copy. copy ≡ state.now) }
+{
+    Boxed::new(alloc, state.get().copy(alloc)?)
 }
 
 /// The numbers of a graph's nodes by their states, no two of which are equal.
@@ -170,20 +191,20 @@ pub(crate) fn numbers_of(alloc: Global, graph: &Graph) -> Result<IndexSet<Key>, 
 {
     let mut numbers = IndexSet::new(alloc);
     for at in 0..graph.nodes() {
-        let key = Key::new(graph.node(at).state.copy(alloc)?);
+        let key = Key::new(copied_state(alloc, &graph.node(at).state)?);
         numbers.insert(key)?;
     }
     Ok(numbers)
 }
 
 /// The states in which the walks of a graph begin, in order.
-pub(crate) fn starts_of(alloc: Global, graph: &Graph) -> Result<List<State>, NoMemory>
+pub(crate) fn starts_of(alloc: Global, graph: &Graph) -> Result<List<Boxed<State>>, NoMemory>
     requires { (states : List State) × AllZip (HasState graph.now) graph.now.starts states }
     ensures { IfOk result (λ states. AllZip (HasState graph.now) graph.now.starts states) }
 {
     let mut states = List::new(alloc);
     for at in graph.starts() {
-        states.push(graph.node(*at).state.copy(alloc)?)?;
+        states.push(copied_state(alloc, &graph.node(*at).state)?)?;
     }
     Ok(states)
 }

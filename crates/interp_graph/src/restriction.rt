@@ -16,7 +16,7 @@ use crate::fault::GraphFault;
 use crate::following::put_forks;
 use crate::growing::GrowingGraph;
 use crate::limited::{Limited, numbers_of, starts_of};
-use dns_data::{List, Name, NoMemory};
+use dns_data::{Boxed, List, Name, NoMemory};
 use graph_form::Graph;
 use net_model::State;
 use std::alloc::Global;
@@ -68,7 +68,7 @@ fn follow_all(
     alloc: Global,
     limited: &Limited<'_, '_>,
     growing: &mut GrowingGraph,
-    states: List<State>,
+    states: List<Boxed<State>>,
 ) -> Result<List<u32>, GraphFault>
     requires sound { IsSoundSoFar growing.old }
     requires none { (drafts_in growing.old) ≡ [] }

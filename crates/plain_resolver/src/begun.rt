@@ -4,16 +4,16 @@ ghost use Rattle.std.specs.Prelude.{◌≡◌, ◌++◌, ◌∷◌, [], IfOk, On
 ghost use Rattle.std.specs.Option.{option_to_list};
 ghost use Rattle.plain_resolver.specs.Begun.{ended};
 
-use dns_data::{List, NoMemory};
-use net_model::{Hop, Leaf, State, Walk, copied_hops, copied_states};
+use dns_data::{Boxed, List, NoMemory};
+use net_model::{Hop, Leaf, State, Walk};
 use std::alloc::Global;
 use std::marker::Model;
 
 /// A begun walk: its states and hops so far.
 #[derive(Debug, Drop)]
 pub(crate) struct BegunWalk {
-    states: Vec<State>,
-    hops: Vec<Hop>,
+    states: Vec<Boxed<State>>,
+    hops: Vec<Boxed<Hop>>,
 }
 
 impl Model for BegunWalk {
@@ -36,7 +36,7 @@ impl BegunWalk {
     }
 
     /// Puts a state at the end.
-    pub fn enter(&mut self, state: State) -> Result<(), NoMemory>
+    pub fn enter(&mut self, state: Boxed<State>) -> Result<(), NoMemory>
         ensures { OnOk result (self.new ≡ record { states = self.old.states ++ state ∷ []; hops = self.old.hops }) }
     {
         self.states.push(state)?;
@@ -51,7 +51,7 @@ impl BegunWalk {
     }
 
     /// Puts a hop at the end.
-    pub fn go(&mut self, hop: Hop) -> Result<(), NoMemory>
+    pub fn go(&mut self, hop: Boxed<Hop>) -> Result<(), NoMemory>
         ensures { OnOk result (self.new ≡ record { states = self.old.states; hops = self.old.hops ++ hop ∷ [] }) }
     {
         self.hops.push(hop)?;
@@ -66,20 +66,30 @@ impl BegunWalk {
     }
 
     /// The walk with this end.
-    pub fn ended(&self, alloc: Global, hop: Option<Hop>, leaf: Leaf) -> Result<Walk, NoMemory>
+    pub fn ended(
+        &self,
+        alloc: Global,
+        hop: Option<Boxed<Hop>>,
+        leaf: Boxed<Leaf>,
+    ) -> Result<Walk, NoMemory>
         ensures { IfOk result (λ walk. walk ≡ ended self.now hop leaf) }
     {
         let mut walk = Walk {
             states: List::new(alloc),
             hops: List::new(alloc),
-            leaf,
+            leaf: leaf.get().copy(alloc)?,
         };
         self.put_way(alloc, hop, &mut walk)?;
         Ok(walk)
     }
 
     /// Puts copies of the states and hops into a walk, and the hop to its end.
-    fn put_way(&self, alloc: Global, last: Option<Hop>, walk: &mut Walk) -> Result<(), NoMemory>
+    fn put_way(
+        &self,
+        alloc: Global,
+        last: Option<Boxed<Hop>>,
+        walk: &mut Walk,
+    ) -> Result<(), NoMemory>
         ensures { OnOk result (walk.new ≡ ended self.now last walk.old.leaf) }
     {
         walk.hops = hops_to_end(alloc, self.hops.as_slice(), last)?;
@@ -88,16 +98,42 @@ impl BegunWalk {
     }
 }
 
-/// Copies of hops, and the hop to the walk's end.
-fn hops_to_end(alloc: Global, hops: &[Hop], last: Option<Hop>) -> Result<List<Hop>, NoMemory>
+/// Copies of hops, and of the hop to the walk's end.
+fn hops_to_end(
+    alloc: Global,
+    hops: &[Boxed<Hop>],
+    last: Option<Boxed<Hop>>,
+) -> Result<List<Hop>, NoMemory>
     ensures { IfOk result (λ all. all ≡ hops.now ++ option_to_list last) }
 {
     let mut all = copied_hops(alloc, hops)?;
     match last {
         Some(hop) => {
-            all.push(hop)?;
+            all.push(hop.get().copy(alloc)?)?;
             Ok(all)
         }
         None => Ok(all),
     }
+}
+
+/// Copies of hops.
+fn copied_hops(alloc: Global, hops: &[Boxed<Hop>]) -> Result<List<Hop>, NoMemory>
+    ensures { IfOk result (λ copies. copies ≡ hops.now) }
+{
+    let mut copies = List::new(alloc);
+    for hop in hops {
+        copies.push(hop.get().copy(alloc)?)?;
+    }
+    Ok(copies)
+}
+
+/// Copies of states.
+fn copied_states(alloc: Global, states: &[Boxed<State>]) -> Result<List<State>, NoMemory>
+    ensures { IfOk result (λ copies. copies ≡ states.now) }
+{
+    let mut copies = List::new(alloc);
+    for state in states {
+        copies.push(state.get().copy(alloc)?)?;
+    }
+    Ok(copies)
 }

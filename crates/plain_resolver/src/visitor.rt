@@ -6,7 +6,7 @@ ghost use Rattle.net_model.specs.declared.walk.Walk.{Walk};
 ghost use Rattle.plain_resolver.specs.Begun.{ended};
 
 use crate::begun::BegunWalk;
-use dns_data::{List, NoMemory};
+use dns_data::{Boxed, List, NoMemory};
 use net_model::{Hop, Leaf, Walk};
 use std::alloc::Global;
 use std::marker::Model;
@@ -22,8 +22,8 @@ pub(crate) trait WalkVisitor {
         &mut self,
         alloc: Global,
         begun: &BegunWalk,
-        hop: Option<Hop>,
-        leaf: Leaf,
+        hop: Option<Boxed<Hop>>,
+        leaf: Boxed<Leaf>,
     ) -> Result<(), NoMemory>
         ensures { OnOk result (self.new ≡ after self.old (ended begun.now hop leaf)) };
 }
@@ -36,8 +36,8 @@ impl WalkVisitor for List<Walk> {
         &mut self,
         alloc: Global,
         begun: &BegunWalk,
-        hop: Option<Hop>,
-        leaf: Leaf,
+        hop: Option<Boxed<Hop>>,
+        leaf: Boxed<Leaf>,
     ) -> Result<(), NoMemory> {
         self.push(begun.ended(alloc, hop, leaf)?)
     }
@@ -80,10 +80,10 @@ impl WalkVisitor for AddressSeen {
         &mut self,
         _alloc: Global,
         _begun: &BegunWalk,
-        _hop: Option<Hop>,
-        leaf: Leaf,
+        _hop: Option<Boxed<Hop>>,
+        leaf: Boxed<Leaf>,
     ) -> Result<(), NoMemory> {
-        self.seen = self.seen || gives_address(&leaf);
+        self.seen = self.seen || gives_address(leaf.get());
         Ok(())
     }
 }

@@ -14,7 +14,7 @@ use crate::fault::ResolveFault;
 use crate::resolver::Resolver;
 use crate::steps::steps_of;
 use crate::visitor::WalkVisitor;
-use dns_data::{List, Name, RrType};
+use dns_data::{Boxed, List, Name, RrType};
 use net_model::{Config, Hop, Leaf, State, Walk};
 use std::alloc::Global;
 use zone_lookup::{Hosts, Step, starts};
@@ -83,7 +83,7 @@ pub(crate) fn visit_walks<V: WalkVisitor>(
 fn visit_from<V: WalkVisitor>(
     alloc: Global,
     resolver: &Resolver<'_, '_>,
-    state: State,
+    state: Boxed<State>,
     begun: &mut BegunWalk,
     room: &mut u32,
     visitor: &mut V,
@@ -94,7 +94,7 @@ fn visit_from<V: WalkVisitor>(
     ensures room { OnOk result (room.new + length (walks_on resolver.now begun.old state) ≡ room.old) }
     ensures passed { IsErrOf result ResolveFault.WalksPassed → room.old < length (walks_on resolver.now begun.old state) }
 {
-    let steps = steps_of(alloc, resolver, &state)?;
+    let steps = steps_of(alloc, resolver, state.get())?;
     begun.enter(state)?;
     for step in steps {
         match step {
@@ -114,8 +114,8 @@ fn visit_from<V: WalkVisitor>(
 fn visit_end<V: WalkVisitor>(
     alloc: Global,
     begun: &BegunWalk,
-    hop: Option<Hop>,
-    leaf: Leaf,
+    hop: Option<Boxed<Hop>>,
+    leaf: Boxed<Leaf>,
     room: &mut u32,
     visitor: &mut V,
 ) -> Result<(), ResolveFault>

@@ -83,6 +83,7 @@ fn other_of_branch<'a>(branch: &'a Branch, than: &Leaf) -> Option<&'a Leaf>
 {
     match branch {
         Branch::End { leaf, .. } => {
+            let leaf = leaf.get();
             if is_other(than, leaf) {
                 Some(leaf)
             } else {

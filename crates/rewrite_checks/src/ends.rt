@@ -54,7 +54,7 @@ fn end_fault(
     ensures { IfOk result (λ fault. fault ≡ end_fault represents state.now branch.now) }
 {
     match branch {
-        Branch::End { leaf, .. } => leaf_fault(alloc, represents, &state.last, leaf),
+        Branch::End { leaf, .. } => leaf_fault(alloc, represents, &state.last, leaf.get()),
         Branch::Go { .. } => Ok(None),
     }
 }

@@ -38,7 +38,7 @@ fn put_end<'g>(branch: &'g Branch, ends: &mut Vec<&'g Leaf>) -> Result<(), NoMem
     ensures { OnOk result (map (λ leaf. leaf.now) ends.new.items ≡ map (λ leaf. leaf.now) ends.old.items ++ branch_leaves branch.now) }
 {
     if let Branch::End { leaf, .. } = branch {
-        ends.push(leaf)?;
+        ends.push(leaf.get())?;
     }
     Ok(())
 }
@@ -77,11 +77,8 @@ fn node_ends_overlong(node: &Node, rtype: RrType) -> bool
 fn is_overlong_end(branch: &Branch) -> bool
     ensures { result ≡ branch_overlong branch.now }
 {
-    matches!(
-        branch,
-        Branch::End {
-            leaf: Leaf::Overlong(_),
-            ..
-        }
-    )
+    match branch {
+        Branch::End { leaf, .. } => matches!(leaf.get(), Leaf::Overlong(_)),
+        Branch::Go { .. } => false,
+    }
 }

@@ -1,5 +1,5 @@
 -- Ends whose places are listed for their servers.
-use Rattle.std.proofs.Common.{◌≡◌, ℕ, zero, suc, ◌<◌, Bool, true, false, cond, List, [], ◌∷◌, ◌++◌, length, is_eq, Contains, Option, Some, None, Result, Ok, Err, refl, sym, ap, ◌∙◌, subst, inl, inr, true≢false}
+use Rattle.std.proofs.Common.{◌≡◌, ℕ, zero, suc, Bool, true, false, cond, List, [], ◌∷◌, ◌++◌, length, is_eq, Contains, Option, Some, None, Result, Ok, Err, refl, sym, ap, ◌∙◌, subst, inl, inr, true≢false}
 use Rattle.std.specs.Prelude.{◌⊎◌, OnErr, OnOk, slice_get, unwrap_or}
 use Rattle.std.specs.BTreeMap as map
 use Rattle.std.specs.Cmp.Lexicographic.{lists_ties, texts_ties}

@@ -5,15 +5,15 @@ ghost use Rattle.std.specs.List.{fold};
 ghost use Rattle.dns_data.specs.Name.{Labels};
 ghost use Rattle.graph_form.specs.GraphOf.{IsGraphOf};
 ghost use Rattle.net_model.specs.Step.{Setting};
-ghost use Rattle.site_checks.specs.Ends.{AreEnds, end_eq};
+ghost use Rattle.site_checks.specs.Ends.{AreEnds, end_eq, typed_end};
 ghost use Rattle.site_checks.specs.Once.{with_new};
 ghost use Rattle.site_checks.specs.PathEnds.{AreDone, IsMet, ends_from, ends_with, path_ends};
 
 use crate::end_set::EndSet;
 use crate::views::{TypedEnd, View};
-use dns_data::{List, Name, NoMemory, RrType};
-use graph_form::{Branch, Graph};
-use net_model::Class;
+use dns_data::{Boxed, List, Name, NoMemory, RrType};
+use graph_form::{Branch, Graph, Node};
+use net_model::{Class, Leaf};
 use std::alloc::Global;
 
 /// The view of a class for which the query stands, from the graph of the query's walks. Each node of the graph is passed
@@ -86,9 +86,22 @@ fn put_ends_from(
     for branch in node.branches(rtype) {
         match branch {
             Branch::Go { hop: _, to } => put_ends_from(alloc, graph, rtype, *to, done, ends)?,
-            Branch::End { hop: _, leaf } => ends.put(alloc, rtype, &node.state.server, leaf)?,
+            Branch::End { hop: _, leaf } => put_end(alloc, rtype, node, leaf, ends)?,
         }
     }
     done[at as usize] = true;
     Ok(())
+}
+
+/// Puts an end of a node's walks behind the others, unless it is there.
+fn put_end(
+    alloc: Global,
+    rtype: RrType,
+    node: &Node,
+    leaf: &Boxed<Leaf>,
+    ends: &mut EndSet,
+) -> Result<(), NoMemory>
+    ensures { OnOk result (ends.new ≡ with_new end_eq ends.old (typed_end rtype node.now.state.server leaf.now)) }
+{
+    ends.put(alloc, rtype, &node.state.get().server, leaf.get())
 }

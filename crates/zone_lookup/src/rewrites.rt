@@ -10,18 +10,23 @@ ghost use Rattle.zone_lookup.specs.Steps.{branch_of};
 use crate::hosts::Hosts;
 use crate::steps::{Step, one_step};
 use crate::walker::Walker;
-use dns_data::{List, Name, NoMemory};
+use dns_data::{Boxed, List, Name, NoMemory};
 use net_model::{Hop, Place, State};
 use std::alloc::Global;
 
 /// The states in which the query begins, one at each top server.
-pub fn starts(alloc: Global, hosts: &Hosts<'_>, query: &Name) -> Result<List<State>, NoMemory>
+pub fn starts(
+    alloc: Global,
+    hosts: &Hosts<'_>,
+    query: &Name,
+) -> Result<List<Boxed<State>>, NoMemory>
     ensures { IfOk result (λ states. states ≡ start hosts.now query.now) }
 {
     let tops = hosts.config().tops.items();
     let mut states = Vec::with_capacity(alloc, tops.len())?;
     for server in tops {
-        states.push(arrived(alloc, hosts, query, true, 0, server)?)?;
+        let state = arrived(alloc, hosts, query, true, 0, server)?;
+        states.push(Boxed::new(alloc, state)?)?;
     }
     Ok(List::from_vec(states))
 }
@@ -87,7 +92,7 @@ fn rewrite_here(
         by_dname,
         to,
     };
-    Ok(Step::Go(hop, made))
+    Ok(Step::Go(Boxed::new(alloc, hop)?, made))
 }
 
 /// The state at the same server to which a rewrite leads, where its nearest zone for the new name has this origin.
@@ -98,11 +103,11 @@ fn stayed(
     by_dname: bool,
     to: &Name,
     origin: &Name,
-) -> Result<State, NoMemory>
+) -> Result<Boxed<State>, NoMemory>
     requires { state.now.used + 1 < 2 ^ 32 }
     ensures { IfOk result (λ made. made ≡ record { server = state.now.server; name = to.now; carried = state.now.carried && by_dname; cut = 0; used = state.now.used + 1; last = Some place.now; zone = Some origin.now }) }
 {
-    Ok(State {
+    let made = State {
         server: state.server.copy(alloc)?,
         name: to.copy(alloc)?,
         carried: state.carried && by_dname,
@@ -110,7 +115,8 @@ fn stayed(
         used: state.used + 1,
         last: Some(place.copy(alloc)?),
         zone: Some(origin.copy(alloc)?),
-    })
+    };
+    Boxed::new(alloc, made)
 }
 
 /// The step of a rewrite at a server.
@@ -132,16 +138,17 @@ fn rewrite(
 }
 
 /// The hop of a rewrite.
-fn hop_of(alloc: Global, place: &Place, by_dname: bool, to: &Name) -> Result<Hop, NoMemory>
+fn hop_of(alloc: Global, place: &Place, by_dname: bool, to: &Name) -> Result<Boxed<Hop>, NoMemory>
     ensures { IfOk result (λ hop. hop ≡ hop_as.Rewrite place.now by_dname to.now) }
 {
     let to = to.copy(alloc)?;
     let place = place.copy(alloc)?;
-    Ok(Hop::Rewrite {
+    let hop = Hop::Rewrite {
         place,
         by_dname,
         to,
-    })
+    };
+    Boxed::new(alloc, hop)
 }
 
 /// The state at a server to which a rewrite leads.
@@ -153,7 +160,7 @@ fn rewritten(
     by_dname: bool,
     to: &Name,
     server: &Name,
-) -> Result<State, NoMemory>
+) -> Result<Boxed<State>, NoMemory>
     requires { state.now.used + 1 < 2 ^ 32 }
     ensures { IfOk result (λ made. made ≡ arrived hosts.now to.now (state.now.carried && by_dname) (state.now.used + 1) (Some place.now) server.now) }
 {
@@ -161,7 +168,7 @@ fn rewritten(
     let carried = state.carried && by_dname;
     let mut made = arrived(alloc, hosts, to, carried, state.used + 1, server)?;
     made.last = Some(last);
-    Ok(made)
+    Boxed::new(alloc, made)
 }
 
 /// The state at a server to which neither a zone cut nor a rewrite led.

@@ -3,28 +3,30 @@
 ghost use Rattle.std.specs.Prelude.{◌≡◌, ◌∷◌, [], map, None, Some, IfOk};
 ghost use Rattle.net_model.specs.declared.config.Zone.{Zone};
 ghost use Rattle.net_model.specs.declared.found.Found.TheVariants as found_as;
+ghost use Rattle.net_model.specs.declared.walk.Hop.TheVariants as hop_as;
 ghost use Rattle.net_model.specs.declared.walk.Leaf.TheVariants.{Outside};
 ghost use Rattle.net_model.specs.Step.{End, after_lookup, delegated, referred};
 ghost use Rattle.zone_lookup.specs.Steps.{branch_of};
 
 use crate::rewrites::rewrites;
 use crate::walker::Walker;
-use dns_data::{List, Name, NoMemory};
+use dns_data::{Boxed, List, Name, NoMemory};
 use net_model::{Cut, Found, Hop, Leaf, Place, State};
 use std::alloc::Global;
 
-/// What a state leads to: a next state by a hop, or an end.
+/// What a state leads to: a next state by a hop, or an end. Each stands in memory of its own from where it is made to where
+/// it is kept, so that a step takes a few octets wherever it is moved.
 #[derive(Debug, Drop)]
 pub enum Step {
-    Go(Hop, State),
-    End(Option<Hop>, Leaf),
+    Go(Boxed<Hop>, Boxed<State>),
+    End(Option<Boxed<Hop>>, Boxed<Leaf>),
 }
 
 /// The steps of a state whose server holds no zone for the name.
 pub fn outside(alloc: Global) -> Result<List<Step>, NoMemory>
     ensures { IfOk result (λ steps. map branch_of steps ≡ End None Outside ∷ []) }
 {
-    one_step(alloc, Step::End(None, Leaf::Outside))
+    ended(alloc, Leaf::Outside)
 }
 
 /// The steps of a state, in order, by what its server finds in the zone with this origin.
@@ -38,9 +40,9 @@ pub fn after_lookup(
     ensures { IfOk result (λ steps. map branch_of steps ≡ after_lookup walker.now state.now origin.now found) }
 {
     match found {
-        Found::Answer(rdata) => one_step(alloc, Step::End(None, Leaf::Answer(rdata))),
-        Found::NoData => one_step(alloc, Step::End(None, Leaf::NoData)),
-        Found::NxDomain => one_step(alloc, Step::End(None, Leaf::NxDomain)),
+        Found::Answer(rdata) => ended(alloc, Leaf::Answer(rdata)),
+        Found::NoData => ended(alloc, Leaf::NoData),
+        Found::NxDomain => ended(alloc, Leaf::NxDomain),
         Found::Referral { cut, names } => {
             referrals(alloc, walker, state, origin, &cut, names.items())
         }
@@ -69,7 +71,7 @@ fn renamed(
     if state.used < walker.rewrites() {
         rewrites(alloc, walker, state, place, by_dname, to)
     } else {
-        one_step(alloc, Step::End(None, Leaf::Limit(place)))
+        ended(alloc, Leaf::Limit(place))
     }
 }
 
@@ -85,10 +87,18 @@ fn overlong(
 {
     let place = place_at(alloc, state, origin, owner)?;
     if state.used < walker.rewrites() {
-        one_step(alloc, Step::End(None, Leaf::Overlong(place)))
+        ended(alloc, Leaf::Overlong(place))
     } else {
-        one_step(alloc, Step::End(None, Leaf::Limit(place)))
+        ended(alloc, Leaf::Limit(place))
     }
+}
+
+/// The one step of a state in which its walks end.
+fn ended(alloc: Global, leaf: Leaf) -> Result<List<Step>, NoMemory>
+    ensures { IfOk result (λ steps. map branch_of steps ≡ End None leaf ∷ []) }
+{
+    let leaf = Boxed::new(alloc, leaf)?;
+    one_step(alloc, Step::End(None, leaf))
 }
 
 /// One step. It takes the memory of one alone.
@@ -159,14 +169,14 @@ fn referred(
 {
     let ns = cut.ns.copy(alloc)?;
     let Some(host) = walker.hosts().host(&cut.ns) else {
-        return Ok(Step::End(Some(Hop::Refer(cut)), Leaf::Unhosted(ns)));
+        return ended_at(alloc, cut, Leaf::Unhosted(ns));
     };
     if !walker.may_follow(&cut) {
-        return Ok(Step::End(Some(Hop::Refer(cut)), Leaf::NoAddress(ns)));
+        return ended_at(alloc, cut, Leaf::NoAddress(ns));
     }
     match host.nearest(&state.name) {
         Some(tree) => delegated(alloc, state, cut, ns, &tree.zone().origin),
-        None => Ok(Step::End(Some(Hop::Refer(cut)), Leaf::Lame(ns))),
+        None => ended_at(alloc, cut, Leaf::Lame(ns)),
     }
 }
 
@@ -182,10 +192,22 @@ fn delegated(
     ensures { IfOk result (λ step. (zone : Zone) → zone.origin ≡ origin.now → branch_of step ≡ delegated state.now cut (Some zone)) }
 {
     if !cut.cut.is_prefix_of(origin) {
-        return Ok(Step::End(Some(Hop::Refer(cut)), Leaf::Lame(ns)));
+        // Named, since the proof speaks of the step that comes where memory suffices.
+        let end = ended_at(alloc, cut, Leaf::Lame(ns))?;
+        return Ok(end);
     }
     let to = below_cut(alloc, state, ns, cut.cut.len(), origin)?;
-    Ok(Step::Go(Hop::Refer(cut), to))
+    let hop = Boxed::new(alloc, Hop::Refer(cut))?;
+    Ok(Step::Go(hop, to))
+}
+
+/// The step that ends the walk at a name server.
+fn ended_at(alloc: Global, cut: Cut, leaf: Leaf) -> Result<Step, NoMemory>
+    ensures { IfOk result (λ step. branch_of step ≡ End (Some (hop_as.Refer cut)) leaf) }
+{
+    let leaf = Boxed::new(alloc, leaf)?;
+    let hop = Boxed::new(alloc, Hop::Refer(cut))?;
+    Ok(Step::End(Some(hop), leaf))
 }
 
 /// The state at the server that a zone cut of this many labels led to, in its zone with this origin.
@@ -195,7 +217,7 @@ fn below_cut(
     server: Name,
     cut: u32,
     origin: &Name,
-) -> Result<State, NoMemory>
+) -> Result<Boxed<State>, NoMemory>
     ensures { IfOk result (λ to. to ≡ record state.now { server = server; cut = cut; zone = Some origin.now }) }
 {
     let zone = origin.copy(alloc)?;
@@ -203,5 +225,5 @@ fn below_cut(
     to.server = server;
     to.cut = cut;
     to.zone = Some(zone);
-    Ok(to)
+    Boxed::new(alloc, to)
 }

@@ -90,7 +90,7 @@ fn end_along<'g>(graph: &'g Graph, path: &[usize], states: &[State]) -> Option<&
         let node = node_like(graph, at, state)?;
         match node.branches(RrType::A).get(*number)? {
             Branch::Go { to, .. } => at = *to,
-            Branch::End { leaf, .. } => return Some(leaf),
+            Branch::End { leaf, .. } => return Some(leaf.get()),
         }
     }
     None
@@ -102,7 +102,8 @@ fn node_like<'g>(graph: &'g Graph, at: u32, state: &State) -> Option<&'g Node> {
         return None;
     }
     let node = graph.node(at);
-    let is_like = node.state.server == state.server && node.state.name == state.name;
+    let own = node.state.get();
+    let is_like = own.server == state.server && own.name == state.name;
     is_like.then_some(node)
 }
 

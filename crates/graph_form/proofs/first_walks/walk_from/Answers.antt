@@ -18,9 +18,9 @@ loop-place-preserved c =
     let has : HasBranch graph rtype c.loop-place.at number node (Go c.in-Go.hop c.in-Go.to) =
     subst (HasBranch graph rtype c.loop-place.at number node) c.in-Go.is c.in-Some.ensures in
     let states : c.push.new.self ≡ c.loop-place.states ++ node.state ∷ [] =
-    c.in_ok-push.ensures.ok ∙ ap (λ (s : State). c.loop-place.states ++ s ∷ []) c.in_ok-copy.ensures in
+    c.in_ok-push.ensures.ok ∙ ap (λ (s : State). c.loop-place.states ++ s ∷ []) (c.in_ok-copy.ensures ∙ c.get.ensures) in
     let hops : c.push-in-Go.new.self ≡ c.loop-place.hops ++ c.in-Go.hop ∷ [] =
-    c.in_ok-push-in-Go.ensures.ok ∙ ap (λ (h : Hop). c.loop-place.hops ++ h ∷ []) c.in_ok-copy-in-Go.ensures in
+    c.in_ok-push-in-Go.ensures.ok ∙ ap (λ (h : Hop). c.loop-place.hops ++ h ∷ []) (c.in_ok-copy-in-Go.ensures ∙ c.get-in-Go.ensures) in
     led_more graph rtype (path_from graph rtype numbers c.args.start) c.loop-place.states c.loop-place.hops numbers i c.loop-place.at c.loop-place.invariant
     number c.loop-place-test.true refl node c.in-Go.hop c.in-Go.to has
     ∙ (ap (λ (all : List State). option_map (behind all (c.loop-place.hops ++ c.in-Go.hop ∷ [])) (path_from graph rtype (drop (i + 1) numbers) c.in-Go.to)) (sym states)

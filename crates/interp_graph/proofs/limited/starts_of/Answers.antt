@@ -16,6 +16,6 @@ loop-at-preserved c =
     let items = c.starts-at-items.result.now in
     let at : ℕ = get_or items c.loop-at.at-index 0 in
     subst (AllZip (HasState c.args.graph.now) (take (c.loop-at.at-index + 1) items)) (sym c.in_ok-push.ensures.ok)
-    (zip_more_left (HasState c.args.graph.now) items c.loop-at.states c.loop-at.at-index at c.in_ok-copy.field-0 c.loop-at-test.true
+    (zip_more_left (HasState c.args.graph.now) items c.loop-at.states c.loop-at.at-index at c.in_ok-copied_state.field-0 c.loop-at-test.true
     (sym (get_or_from_slice_get items c.loop-at.at-index at at (slice_get-get_or items c.loop-at.at-index 0 c.loop-at-test.true)))
-    c.loop-at.invariant (c.node.result.now, c.node.ensures, sym c.in_ok-copy.ensures))
+    c.loop-at.invariant (c.node.result.now, c.node.ensures, sym c.in_ok-copied_state.ensures))

@@ -16,7 +16,8 @@ loop-step-init g t c =
     let state = c.args.state in
     let on = walks_on asked (entered begun state) in
     let steps : map branch_of c.into_iter-step-iterator.result ≡ next asked.setting asked.rtype state =
-    ap (map branch_of) c.into_iter-step-iterator.ensures.into_iter_gives.0 ∙ c.in_ok-steps.ensures in
+    ap (map branch_of) c.into_iter-step-iterator.ensures.into_iter_gives.0
+    ∙ (c.in_ok-steps.ensures ∙ ap (next asked.setting asked.rtype) c.get.ensures) in
     record {
       begun = c.in_ok-enter.ensures;
       shown = ap (λ (branches : List Branch). fold g.V.WalkVisitor.after c.args.visitor.now (map (led_along begun) (by_branches begun state on branches))) steps;

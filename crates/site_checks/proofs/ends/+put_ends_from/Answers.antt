@@ -5,7 +5,7 @@ use Rattle.site_checks.specs.PathEnds.{AreDone, ends_by, ends_from}
 use Rattle.site_checks.proofs.GoingOn.{on_from, whole_node}
 use Rattle.site_checks.proofs.SearchSteps.{put, one_more, all_given, still_done, done_leads, done_more}
 use Rattle.site_checks.proofs.ends.+put_ends_from.Goals as goal
-use Rattle.site_checks.proofs.ends.+put_ends_from.Goals.{in-Go+in_ok-put_ends_from-in-Go, in-End+in_ok-put-in-End}
+use Rattle.site_checks.proofs.ends.+put_ends_from.Goals.{in-Go+in_ok-put_ends_from-in-Go, in-End+in_ok-put_end-in-End}
 
 pub returns-then-done-at-clause-ends : goal.returns-then-done-at-clause-ends
 returns-then-done-at-clause-ends t c =
@@ -44,13 +44,13 @@ loop-branch-preserved t c =
                 subst (λ (l : List Bool). AreDone graph rtype l c.match-branch.ends) (sym w.done-is)
                 (subst (AreDone graph rtype w.put_ends_from.new.done) (sym w.ends-is) told.done);
           }
-      | in-End+in_ok-put-in-End w ↦
-          let told = w.in_ok-put-in-End.ensures in
+      | in-End+in_ok-put_end-in-End w ↦
+          let told = w.in_ok-put_end-in-End.ensures in
           record {
             room = ap length w.done-is ∙ kept.room;
             ends =
                 w.ends-is
-                ∙ one_more give branches i c.args.ends.now ends kept.ends w.put.new.self c.branch-item.result _ c.loop-branch-test.true c.branch-item.is
+                ∙ one_more give branches i c.args.ends.now ends kept.ends w.put_end.new.ends c.branch-item.result _ c.loop-branch-test.true c.branch-item.is
                 (told ∙ ap (λ (b : Branch). put ends (give b)) (sym w.in-End.is));
             done =
                 subst (λ (l : List Bool). AreDone graph rtype l c.match-branch.ends) (sym w.done-is)
