@@ -30,9 +30,9 @@ module _ (config : Config) (server name : Labels) (rewrites : ℕ) where
   ends_at_records tree owner so =
       record {
         node = so.0;
-        held = so.1;
+        held = ap (λ (zone : Option Zone). is_some zone) so.1;
         no_fewer = omega arith;
-        along = λ setting rtype state same enough other at named used. ([], omega arith, (so.2 setting rtype state same at named, λ is. absurd (data_exist (sorted_data tree.now.zone (name_of tree.now owner) rtype) is)));
+        along = λ setting rtype state same enough other at named used. ([], omega arith, (so.3 setting rtype state same at named, λ is. absurd (data_exist (sorted_data tree.now.zone (name_of tree.now owner) rtype) is)));
       }
 
   -- and lead from an alias where they lead from its target
@@ -77,7 +77,7 @@ module _ (config : Config) (server name : Labels) (rewrites : ℕ) where
     [],
     omega arith,
     subst (λ (leaf : Leaf). AnswersAlong setting rtype leaf state []) (sym (leaf_is tree.now (Some owner) rtype))
-        (so.2 setting rtype state same at named, λ is. absurd (data_exist (sorted_data tree.now.zone (name_of tree.now owner) rtype) is)),
+        (so.3 setting rtype state same at named, λ is. absurd (data_exist (sorted_data tree.now.zone (name_of tree.now owner) rtype) is)),
   )
 
   -- by an alias

@@ -1,5 +1,5 @@
 -- What is told of the ends that a search gives, where it gives some.
-use Rattle.std.proofs.Common.{◌≡◌, ℕ, ◌*◌, ◌/◌, ◌≤◌, true, Option, Some, None, Result, Ok, Err, refl, inl, inr, arith}
+use Rattle.std.proofs.Common.{◌≡◌, ℕ, ◌*◌, ◌/◌, ◌≤◌, ◌++◌, true, Option, Some, None, Result, Ok, Err, refl, inl, inr, arith}
 use Rattle.std.specs.Prelude.{◌↔◌, IfOk, IfSome}
 use Rattle.std.proofs.Math.Nat.{div-mul-le_self}
 use Rattle.std.proofs.lemmas.Nat.{mul-le}
@@ -10,13 +10,14 @@ use Rattle.net_model.specs.declared.fault.Fault.{Fault}
 use Rattle.net_model.specs.Nearest.{server_names}
 use Rattle.net_model.specs.Shown.{Shows, with_lists}
 use Rattle.net_model.specs.Step.{Setting, following}
+use Rattle.net_model.specs.Tails.{IsUnnamedTail}
 use Rattle.net_model.specs.Tree.{HasMoreThan, IsReached}
 use Rattle.net_model.specs.Walk.{IsBoundedWith}
 use Rattle.net_model.specs.declared.config.Config.{Config}
 use Rattle.net_model.specs.declared.walk.Leaf.{Leaf}
 use Rattle.walk_laws.specs.Outcome.{HasOutcome}
 use Rattle.straight_walks.specs.Ends.{IsOutcomeOf}
-use Rattle.straight_walks.specs.Searching.{GoStraightIn, GoesStraightIn}
+use Rattle.straight_walks.specs.Searching.{GoStraightIn, GoesStraightIn, nothing_below}
 use Rattle.straight_walks.specs.Straight.{GoesStraight, NoOriginBetween}
 use Rattle.straight_walks.specs.declared.ends.StraightEnds.{StraightEnds}
 use Rattle.straight_walks.proofs.FewStates.{few_states}
@@ -54,7 +55,7 @@ module _ (config : Config) (deps : Deps) (rewrites most : ℕ) (query : Labels) 
       → IfOk given (λ found. IfSome found (λ ends. HasMoreThan (IsReached config rewrites query) states → ⊥))
   few_given states fits =
       by_straight (λ ends. HasMoreThan (IsReached config rewrites query) states → ⊥)
-      (λ ends straight. few_states config rewrites deps most query ends (in_all config deps rewrites most query ends (straight query (inl refl))) states fits)
+      (λ ends straight. few_states config rewrites deps most query ends (in_all config deps rewrites most query ends (straight query ends (inl (refl, refl)))) states fits)
 
   -- and by the names of which they are the ends too
   pub few_given_below : (states : ℕ) → most * 12 ≤ states → IfOk given (λ found. IfSome found (GoStraightIn config deps rewrites most query))
@@ -63,7 +64,17 @@ module _ (config : Config) (deps : Deps) (rewrites most : ℕ) (query : Labels) 
   few_given_below states fits =
       by_straight (λ ends. ends.below ≡ true → (name : Labels) → NoOriginBetween config query name → HasMoreThan (IsReached config rewrites name) states → ⊥)
       (λ ends straight below name between.
-      few_states config rewrites deps most name ends (in_all config deps rewrites most name ends (straight name (inr (below, between)))) states fits)
+      few_states config rewrites deps most name ends (in_all config deps rewrites most name ends (straight name ends (inr (inl (below, between, refl))))) states fits)
+
+  -- and by it with an unnamed tail, where its ends are known then
+  pub few_given_unnamed : (states : ℕ) → most * 12 ≤ states → IfOk given (λ found. IfSome found (GoStraightIn config deps rewrites most query))
+      → IfOk given (λ found. IfSome found (λ ends. ends.unnamed_below ≡ true → (tail : Labels) → IsUnnamedTail config query tail
+      → HasMoreThan (IsReached config rewrites (query ++ tail)) states → ⊥))
+  few_given_unnamed states fits =
+      by_straight (λ ends. ends.unnamed_below ≡ true → (tail : Labels) → IsUnnamedTail config query tail → HasMoreThan (IsReached config rewrites (query ++ tail)) states → ⊥)
+      (λ ends straight below tail is.
+      few_states config rewrites deps most (query ++ tail) (nothing_below ends)
+      (in_all config deps rewrites most (query ++ tail) (nothing_below ends) (straight (query ++ tail) (nothing_below ends) (inr (inr (below, (tail, is, refl), refl))))) states fits)
 
   -- no fault is shown
   pub nothing_given : IfOk given (λ found. IfSome found (GoStraightIn config deps rewrites most query))
@@ -71,7 +82,7 @@ module _ (config : Config) (deps : Deps) (rewrites most : ℕ) (query : Labels) 
       → Shows (with_lists (following config rewrites deps.least) deps.least deps.greatest) query rtype fault → ⊥))
   nothing_given =
       by_straight (λ ends. (rtype : RrType) (fault : Fault) → Shows (with_lists (following config rewrites deps.least) deps.least deps.greatest) query rtype fault → ⊥)
-      (λ ends straight. shows_nothing (following config rewrites deps.least) deps most query ends (in_least config deps rewrites most query ends (straight query (inl refl))))
+      (λ ends straight. shows_nothing (following config rewrites deps.least) deps most query ends (in_least config deps rewrites most query ends (straight query ends (inl (refl, refl)))))
 
   -- nor by those names
   pub nothing_given_below : IfOk given (λ found. IfSome found (GoStraightIn config deps rewrites most query))
@@ -81,14 +92,25 @@ module _ (config : Config) (deps : Deps) (rewrites most : ℕ) (query : Labels) 
       by_straight (λ ends. ends.below ≡ true → (name : Labels) → NoOriginBetween config query name → (rtype : RrType) (fault : Fault)
       → Shows (with_lists (following config rewrites deps.least) deps.least deps.greatest) name rtype fault → ⊥)
       (λ ends straight below name between.
-      shows_nothing (following config rewrites deps.least) deps most name ends (in_least config deps rewrites most name ends (straight name (inr (below, between)))))
+      shows_nothing (following config rewrites deps.least) deps most name ends (in_least config deps rewrites most name ends (straight name ends (inr (inl (below, between, refl))))))
+
+  -- nor by it with an unnamed tail
+  pub nothing_given_unnamed : IfOk given (λ found. IfSome found (GoStraightIn config deps rewrites most query))
+      → IfOk given (λ found. IfSome found (λ ends. ends.unnamed_below ≡ true → (tail : Labels) → IsUnnamedTail config query tail → (rtype : RrType) (fault : Fault)
+      → Shows (with_lists (following config rewrites deps.least) deps.least deps.greatest) (query ++ tail) rtype fault → ⊥))
+  nothing_given_unnamed =
+      by_straight (λ ends. ends.unnamed_below ≡ true → (tail : Labels) → IsUnnamedTail config query tail → (rtype : RrType) (fault : Fault)
+      → Shows (with_lists (following config rewrites deps.least) deps.least deps.greatest) (query ++ tail) rtype fault → ⊥)
+      (λ ends straight below tail is.
+      shows_nothing (following config rewrites deps.least) deps most (query ++ tail) (nothing_below ends)
+      (in_least config deps rewrites most (query ++ tail) (nothing_below ends) (straight (query ++ tail) (nothing_below ends) (inr (inr (below, (tail, is, refl), refl))))))
 
   -- the query is bounded
   pub bounded_given : IfOk given (λ found. IfSome found (GoStraightIn config deps rewrites most query))
       → IfOk given (λ found. IfSome found (λ ends. (rtype : RrType) → IsBoundedWith (following config rewrites deps.least) query rtype))
   bounded_given =
       by_straight (λ ends. (rtype : RrType) → IsBoundedWith (following config rewrites deps.least) query rtype)
-      (λ ends straight. is_bounded (following config rewrites deps.least) deps most query ends (in_least config deps rewrites most query ends (straight query (inl refl))))
+      (λ ends straight. is_bounded (following config rewrites deps.least) deps most query ends (in_least config deps rewrites most query ends (straight query ends (inl (refl, refl)))))
 
   -- and it has the outcomes of the ends
   pub outcomes_given : IfOk given (λ found. IfSome found (GoStraightIn config deps rewrites most query))
@@ -96,7 +118,7 @@ module _ (config : Config) (deps : Deps) (rewrites most : ℕ) (query : Labels) 
       → HasOutcome (following config rewrites deps.least) query rtype outcome ↔ IsOutcomeOf ends rtype outcome))
   outcomes_given =
       by_straight (λ ends. (rtype : RrType) (outcome : Option Leaf) → HasOutcome (following config rewrites deps.least) query rtype outcome ↔ IsOutcomeOf ends rtype outcome)
-      (λ ends straight. outcomes_are (following config rewrites deps.least) deps most query ends (in_least config deps rewrites most query ends (straight query (inl refl))))
+      (λ ends straight. outcomes_are (following config rewrites deps.least) deps most query ends (in_least config deps rewrites most query ends (straight query ends (inl (refl, refl)))))
 
 -- so many times are within a number where so many are within its part
 pub times_fit : (states times most : ℕ) → states ≤ most / times → states * times ≤ most

@@ -19,4 +19,6 @@ pub mod RedirectedAnswers
 pub mod RegionSearch
 pub mod NearestRegions
 pub mod NamesBelow
+pub mod OriginsBelow
 pub mod OriginSets
+pub mod UnnamedBelow

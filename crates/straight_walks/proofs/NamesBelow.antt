@@ -1,6 +1,7 @@
--- What a search passes for a query it passes for the names below it of which the same ends are told.
-use Rattle.std.proofs.Common.{◌≡◌, ℕ, ◌+◌, ◌<◌, Bool, true, false, List, length, get_or, IfSome, Bor, sym, ◌∙◌, subst, inl, inr, true≢false}
+-- What a search passes for a query it passes for the names below it of which ends are told.
+use Rattle.std.proofs.Common.{◌≡◌, ℕ, ◌+◌, ◌<◌, ◌++◌, Bool, true, List, length, get_or, IfSome, Bor, refl, sym, ap, ◌∙◌, subst, inl, inr, true≢false}
 use Rattle.std.specs.List.{slice_get}
+use Rattle.std.proofs.lemmas.Bool.{and_parts}
 use Rattle.std.proofs.lemmas.Option.{IfSome_then}
 use Rattle.dns_data.specs.Name.{Labels}
 use Rattle.dns_data.proofs.Names.{all_so}
@@ -8,8 +9,7 @@ use Rattle.net_model.specs.declared.deps.Deps.{Deps}
 use Rattle.net_model.specs.Zone.{ns_names}
 use Rattle.net_model.specs.declared.config.Config.{Config}
 use Rattle.zone_tree.specs.Tree.{ZoneTree, name_of}
-use Rattle.straight_walks.specs.Answers.{Answering}
-use Rattle.straight_walks.specs.Searching.{AllEndOutside, AnswersSo, AreEndsFor, AreReferrals, EndsOutside, HavePassed, IsPut, IsReferral, IsReply, Passes, cut_to, failing, unanswered}
+use Rattle.straight_walks.specs.Searching.{AllEndOutside, AreEndsFor, AreReferrals, EndsOutside, HavePassed, HasPassed, IsAnswered, IsReferral, IsReply, Passes, cut_to, failing, nothing_below, nothing_there, unanswered}
 use Rattle.straight_walks.specs.Regions.{IsSearchBelow}
 use Rattle.straight_walks.specs.Straight.{NoOriginBetween}
 use Rattle.straight_walks.specs.declared.ends.StraightEnds.{StraightEnds}
@@ -22,64 +22,109 @@ use Rattle.straight_walks.proofs.GoingOn.{all_that_end}
 use Rattle.straight_walks.proofs.OtherNames.{refers_for}
 use Rattle.straight_walks.proofs.RegionSearch.{refers_below}
 use Rattle.straight_walks.proofs.StraightSearch.{answer_passes, one_passed, outside_passes, referral_passed, referral_passes}
+use Rattle.straight_walks.proofs.UnnamedBelow.{none_between, nothing_so, put_below}
 
 module _ (config : Config) (deps : Deps) (query : Labels) where
-  -- no origin stands between the query and a name of which they are the ends
-  between : (ends : StraightEnds) (name : Labels) → AreEndsFor config query ends name → NoOriginBetween config query name
-  between ends name (inl same) = subst (NoOriginBetween config query) (sym same) (none_between_itself config query)
-  between ends name (inr below) = below.1
+  -- no origin stands between the query and a name of which ends are told
+  between : (ends : StraightEnds) (name : Labels) (found : StraightEnds) → AreEndsFor config query ends name found → NoOriginBetween config query name
+  between ends name found (inl itself) = subst (NoOriginBetween config query) (sym itself.0) (none_between_itself config query)
+  between ends name found (inr (inl below)) = below.1
+  between ends name found (inr (inr unnamed)) =
+      let (tail, is, whole) = unnamed.1 in subst (NoOriginBetween config query) (sym whole) (none_between config query tail is)
 
-  -- where they are those of the query alone, it is the query
-  alone : (ends : StraightEnds) → ends.below ≡ false → (name : Labels) → AreEndsFor config query ends name → name ≡ query
-  alone ends none name (inl same) = same
-  alone ends none name (inr below) = absurd (true≢false (sym below.0 ∙ none))
+  -- no walk of such a name is rewritten more often
+  pub same_rewrites : (ends : StraightEnds) (name : Labels) (found : StraightEnds) → AreEndsFor config query ends name found → found.rewrites ≡ ends.rewrites
+  same_rewrites ends name found (inl itself) = ap (λ (e : StraightEnds). e.rewrites) itself.1
+  same_rewrites ends name found (inr (inl below)) = ap (λ (e : StraightEnds). e.rewrites) below.2
+  same_rewrites ends name found (inr (inr unnamed)) = ap (λ (e : StraightEnds). e.rewrites) unnamed.2
 
   -- a search that has begun
   pub begun : (searched : Search) → IsSearchBelow config deps query searched
       → HavePassed config deps query searched.queue.items searched.passed (unanswered searched.fails)
-  begun searched is name of = is name (between (unanswered searched.fails) name of)
+  begun searched is name found of =
+      subst (HasPassed config deps name searched.queue.items searched.passed) (sym (same of)) (is name (between (unanswered searched.fails) name found of))
+    where
+      same : AreEndsFor config query (unanswered searched.fails) name found → found ≡ unanswered searched.fails
+      same (inl itself) = itself.1
+      same (inr (inl below)) = below.2
+      same (inr (inr unnamed)) = unnamed.2
 
   -- ---- one server
 
-  -- a server passes a name of which the ends after it are those, and they were before
-  abbrev pub PassesFor : Labels → List Queued → StraightEnds → StraightEnds → Labels → Type 0
-  PassesFor server queue before after name = AreEndsFor config query before name × Passes config deps name server queue before queue after
+  -- a server passes a name of which it tells these ends, where others were told of it before
+  abbrev pub PassesFor : Labels → List Queued → StraightEnds → StraightEnds → Labels → StraightEnds → Type 0
+  PassesFor server queue before after name found =
+      (found_before : StraightEnds) × AreEndsFor config query before name found_before × Passes config deps name server queue found_before queue found
+
+  -- the ends with another failure
+  abbrev with_fails : StraightEnds → Bool → StraightEnds
+  with_fails ends fails = record ends { fails = fails }
+
+  -- those of which ends are told whatever fails are the same
+  before_failing : (ends : StraightEnds) (fails : Bool) (name : Labels) (found : StraightEnds) → AreEndsFor config query (with_fails ends fails) name found
+      → (found_before : StraightEnds) × AreEndsFor config query ends name found_before × (found ≡ with_fails found_before fails) × (found_before.fails ≡ ends.fails)
+  before_failing ends fails name found (inl itself) = (ends, inl (itself.0, refl), itself.1, refl)
+  before_failing ends fails name found (inr (inl below)) = (ends, inr (inl (below.0, below.1, refl)), below.2, refl)
+  before_failing ends fails name found (inr (inr unnamed)) = (nothing_below ends, inr (inr (unnamed.0, unnamed.1, refl)), unnamed.2, refl)
 
   module _ (server : Labels) (queue : List Queued) (ends : StraightEnds) where
     -- one without a zone for the query
-    pub outside_for : IsReply config query server reply.Outside → (name : Labels) → AreEndsFor config query (failing ends) name
-        → PassesFor server queue ends (failing ends) name
-    outside_for so name of =
-        (of, outside_passes config deps name server queue ends (same_nearest config query name (between ends name of) server ∙ so))
+    pub outside_for : IsReply config query server reply.Outside → (name : Labels) (found : StraightEnds) → AreEndsFor config query (failing ends) name found
+        → PassesFor server queue ends (failing ends) name found
+    outside_for so name found of =
+        let (found_before, of_before, is, fails) = before_failing ends true name found of in (
+          found_before,
+          of_before,
+          subst (Passes config deps name server queue found_before queue) (sym is)
+              (outside_passes config deps name server queue found_before (same_nearest config query name (between ends name found_before of_before) server ∙ so)),
+        )
 
     -- one that refers it by a zone cut at all of whose name servers walks end
     pub ending_for : (tree : Bor ZoneTree) (cut : ℕ) → IsReply config query server (reply.Refers tree cut) → AllEndOutside config tree.now cut
-        → (name : Labels) → AreEndsFor config query (failing ends) name → PassesFor server queue ends (failing ends) name
-    ending_for tree cut so all name of = (
-      of,
-      referral_passes config deps name server queue ends tree cut queue true (refers_below config deps query server tree cut so name (between ends name of))
-          (all_that_end config deps name server tree.now.zone (name_of tree.now cut) (ns_names tree.now.zone (name_of tree.now cut))
-          (all_so (EndsOutside config tree.now cut) (λ (ns : Labels). IsReferral config deps name (cut_to server tree.now.zone (name_of tree.now cut) ns) referral.Ends)
-          (ns_names tree.now.zone (name_of tree.now cut)) (λ ns end. end deps name server so.2) all.0)
-          all.1 queue ends.fails),
-    )
+        → (name : Labels) (found : StraightEnds) → AreEndsFor config query (failing ends) name found → PassesFor server queue ends (failing ends) name found
+    ending_for tree cut so all name found of =
+        let (found_before, of_before, is, fails) = before_failing ends true name found of in (
+          found_before,
+          of_before,
+          subst (Passes config deps name server queue found_before queue) (sym is)
+              (referral_passes config deps name server queue found_before tree cut queue true
+              (refers_below config deps query server tree cut so name (between ends name found_before of_before))
+              (all_that_end config deps name server tree.now.zone (name_of tree.now cut) (ns_names tree.now.zone (name_of tree.now cut))
+              (all_so (EndsOutside config tree.now cut) (λ (ns : Labels). IsReferral config deps name (cut_to server tree.now.zone (name_of tree.now cut) ns) referral.Ends)
+              (ns_names tree.now.zone (name_of tree.now cut)) (λ ns end. end deps name server so.2) all.0)
+              all.1 queue found_before.fails)),
+        )
 
-    -- one that answers, the query alone
-    pub answer_for : (answering : Answering) (rewrites : ℕ) (after : StraightEnds) → AnswersSo config query server answering rewrites → IsPut ends answering rewrites after
-        → (name : Labels) → AreEndsFor config query after name → PassesFor server queue ends after name
-    answer_for answering rewrites after so put name of =
-        let same = alone after put.alone name of in
-        (inl same, subst (λ (n : Labels). Passes config deps n server queue ends queue after) (sym same) (answer_passes config deps query server queue ends answering rewrites after so put))
+    -- one that answers: the query, and it with an unnamed tail where it has nothing there
+    pub answer_for : (after : StraightEnds) → IsAnswered config query server ends after
+        → (name : Labels) (found : StraightEnds) → AreEndsFor config query after name found → PassesFor server queue ends after name found
+    answer_for after so name found (inl itself) = (
+      ends,
+      inl (itself.0, refl),
+      subst (λ (n : Labels). Passes config deps n server queue ends queue found) (sym itself.0)
+          (subst (Passes config deps query server queue ends queue) (sym itself.1) (answer_passes config deps query server queue ends so.answering so.rewrites so.none_below after so.answers so.put)),
+    )
+    answer_for after so name found (inr (inl below)) = absurd (true≢false (sym below.0 ∙ so.put.alone))
+    answer_for after so name found (inr (inr unnamed)) =
+        let told = and_parts ends.unnamed_below so.none_below (sym so.put.unnamed ∙ unnamed.0) in
+        let (tail, is, whole) = unnamed.1 in (
+          nothing_below ends,
+          inr (inr (told.0, unnamed.1, refl)),
+          subst (λ (n : Labels). Passes config deps n server queue (nothing_below ends) queue found) (sym whole)
+              (subst (Passes config deps (query ++ tail) server queue (nothing_below ends) queue) (sym unnamed.2)
+              (answer_passes config deps (query ++ tail) server queue (nothing_below ends) (nothing_there so.answering) 0 so.none_below (nothing_below after)
+              (nothing_so config query server tail so.answering is (so.below told.1)) (put_below ends after so.answering so.rewrites so.none_below so.put))),
+        )
 
   -- ---- one state more
 
   -- that a server passes
   pub one_passed_for : (queue : List Queued) (at : ℕ) (ends_before ends : StraightEnds) (item : Queued) → at < length queue → item ≡ get_or queue at item
       → HavePassed config deps query queue at ends_before
-      → ((name : Labels) → AreEndsFor config query ends name → PassesFor item.server.now queue ends_before ends name)
+      → ((name : Labels) (found : StraightEnds) → AreEndsFor config query ends name found → PassesFor item.server.now queue ends_before ends name found)
       → HavePassed config deps query queue (at + 1) ends
-  one_passed_for queue at ends_before ends item within is so one name of =
-      let it = one name of in one_passed config deps name queue queue at ends_before ends item within is (so name it.0) it.1
+  one_passed_for queue at ends_before ends item within is so one name found of =
+      let (found_before, of_before, passes) = one name found of in one_passed config deps name queue queue at found_before found item within is (so name found_before of_before) passes
 
   -- whose server refers the query
   pub referral_passed_for : (queue after : List Queued) (at : ℕ) (ends : StraightEnds) (fails : Bool) (tree : Bor ZoneTree) (cut : ℕ) (item : Queued)
@@ -87,10 +132,14 @@ module _ (config : Config) (deps : Deps) (query : Labels) where
       → IfSome (slice_get queue at) (λ one. IsReply config query one.server.now (reply.Refers tree cut)) → HavePassed config deps query queue at ends
       → AreReferrals config deps query item.server.now tree.now.zone (name_of tree.now cut) (ns_names tree.now.zone (name_of tree.now cut)) queue ends.fails after fails
       → HavePassed config deps query after (at + 1) (record ends { fails = fails })
-  referral_passed_for queue after at ends fails tree cut item within is refers so on name of =
-      let none = between ends name of in
-      referral_passed config deps name queue after at ends fails tree cut item within is
+  referral_passed_for queue after at ends fails tree cut item within is refers so on name found of =
+      let (found_before, of_before, same, failed) = before_failing ends fails name found of in
+      let none = between ends name found_before of_before in
+      subst (HasPassed config deps name after (at + 1)) (sym same)
+      (referral_passed config deps name queue after at found_before fails tree cut item within is
       (IfSome_then (slice_get queue at) refers (λ one refers_it. refers_below config deps query one.server.now tree cut refers_it name none))
-      (so name of)
+      (so name found_before of_before)
       (refers_for config deps query name (same_nearest config query name none) item.server.now tree.now.zone (name_of tree.now cut) (ns_names tree.now.zone (name_of tree.now cut))
-      queue ends.fails after fails on)
+      queue found_before.fails after fails
+      (subst (λ (failing_before : Bool). AreReferrals config deps query item.server.now tree.now.zone (name_of tree.now cut) (ns_names tree.now.zone (name_of tree.now cut)) queue failing_before after fails)
+      (sym failed) on)))

@@ -46,25 +46,26 @@ module _ (regions : List Region) (name : Labels) (region : Region) (nearest : Is
       ((name_eq_decides (origin_of other) (take (length (origin_of other)) name)).1 front) in
       true≢false (sym (ap is_some there.1) ∙ nearest.none_longer (length (origin_of other)) (omega (arith, more, labels)) short)
 
+-- the origin of a zone that a server holds is one of the regions'
+pub has_region : (config : Config) (deps : Deps) (regions : List Region) → AreRegions config deps regions → (server origin : Labels) (zone : Zone)
+    → held_zone config server origin ≡ Some zone → Contains (region_origins regions) origin
+has_region config deps regions are server origin zone held = by (server_named config server) refl held where
+  by : (holder : Option Server) → server_named config server ≡ holder → option_and_then (λ h. zone_with_origin h origin) holder ≡ Some zone → Contains (region_origins regions) origin
+  by None named e = cc
+  by (Some holder) named e =
+      let one = found_there (λ (s : Server). name_eq s.name server) config.servers holder named in
+      let other = found_there (λ (z : Zone). name_eq z.origin origin) holder.zones zone e in
+      subst (Contains (region_origins regions)) ((name_eq_decides zone.origin origin).0 other.1) (are.all holder one.0 zone other.0)
+
 -- the names of a region
 module _ (config : Config) (deps : Deps) (regions : List Region) (are : AreRegions config deps regions) (name : Labels) (region : Region) (nearest : IsAtLongest (item_named origin_of regions) name (length name) region) where
-  -- the origin of a zone that a server holds is one of the region's
-  has_region : (server origin : Labels) (zone : Zone) → held_zone config server origin ≡ Some zone → Contains (region_origins regions) origin
-  has_region server origin zone held = by (server_named config server) refl held where
-    by : (holder : Option Server) → server_named config server ≡ holder → option_and_then (λ h. zone_with_origin h origin) holder ≡ Some zone → Contains (region_origins regions) origin
-    by None named e = cc
-    by (Some holder) named e =
-        let one = found_there (λ (s : Server). name_eq s.name server) config.servers holder named in
-        let other = found_there (λ (z : Zone). name_eq z.origin origin) holder.zones zone e in
-        subst (Contains (region_origins regions)) ((name_eq_decides zone.origin origin).0 other.1) (are.all holder one.0 zone other.0)
-
   is_nearest : NoOriginBetween config (origin_of region) name
   is_nearest = record { above = above regions name region nearest; none_longer = λ server longer inside more. none server longer inside more (held_zone config server longer) refl } where
     none : (server longer : Labels) → is_prefix longer name ≡ true → length (origin_of region) < length longer → (held : Option Zone) → held_zone config server longer ≡ held
         → held ≡ None
     none server longer inside more None is = refl
     none server longer inside more (Some zone) is =
-        let from = from_map origin_of regions longer (has_region server longer zone is) in
+        let from = from_map origin_of regions longer (has_region config deps regions are server longer zone is) in
         let inner : is_prefix (origin_of from.0) name ≡ true = ap (λ (n : Labels). is_prefix n name) from.2 ∙ inside in
         absurd (none_longer regions name region nearest from.0 from.1 inner (subst (λ (n : Labels). length (origin_of region) < length n) (sym from.2) more))
 

@@ -1,5 +1,5 @@
 -- What a server answers to a query that a DNAME record redirects.
-use Rattle.std.proofs.Common.{◌≡◌, ℕ, ◌<◌, Bool, true, false, nat_le, ◌∷◌, Ok, Err, Bor, refl, arith}
+use Rattle.std.proofs.Common.{◌≡◌, ℕ, ◌<◌, Bool, true, false, nat_le, ◌∷◌, Ok, Err, Bor, refl, sym, true≢false, arith}
 use Rattle.std.proofs.lemmas.Bool.{leb-false}
 use Rattle.dns_data.specs.Name.{Labels, swap, wire_octets}
 use Rattle.net_model.specs.declared.config.Config.{Config}
@@ -27,8 +27,10 @@ redirection_answers config query server owner target so to is short before after
     record {
       answering = on.answering;
       rewrites = on.most;
+      none_below = false;
       answers = answers;
       put = on.put;
+      below = λ some. absurd (true≢false (sym some));
     }
   where
     answers : AnswersSo config query server on.answering on.most

@@ -165,7 +165,8 @@ module _ (config : Config) (query server : Labels) where
         → first_name (targets_at tree.now.zone (name_of tree.now owner) types.Cname) ≡ None → IsReply config query server (reply.Records tree owner)
     records_decide owner node decides none = (
       node,
-      ap (λ (zone : Option Zone). is_some zone) (sym is),
+      sym is,
+      decides,
       λ setting rtype state same at named.
           decided_by config query server setting rtype state same at named tree.now.zone is (ByRecords (name_of tree.now owner)) decides
           ∙ ap (λ (alias : Option Labels). after_lookup setting state tree.now.zone.origin (aliased tree.now.zone (name_of tree.now owner) rtype alias))

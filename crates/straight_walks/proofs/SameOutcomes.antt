@@ -1,6 +1,6 @@
 -- Ends that are compared.
 use Rattle.std.proofs.Common.{◌≡◌, ℕ, ◌≤◌, Bool, true, false, List, [], ◌∷◌, Option, Some, None, refl, sym, ap, ◌∙◌, inl, inr, true≢false}
-use Rattle.std.specs.Prelude.{◌↔◌, ◌⊎◌, option_map, if◌then◌else◌}
+use Rattle.std.specs.Prelude.{◌↔◌, ◌⊎◌, ◌&&◌, option_map, if◌then◌else◌}
 use Rattle.std.specs.Option.{option_map_or}
 use Rattle.std.specs.Cmp.{booleans_Decides}
 use Rattle.std.proofs.lemmas.Bool.{and_from, and_parts}
@@ -150,14 +150,15 @@ alike_decides one other rtype = (
 
 -- ---- what one more server answers
 
--- the ends with another number of rewrites, of the query alone
-abbrev pub with_rewrites : StraightEnds → ℕ → StraightEnds
-with_rewrites ends rewrites = record ends { rewrites = rewrites; below = false }
+-- the ends with another number of rewrites, of the query alone and, where they were and it is said so, of it with an
+-- unnamed tail
+abbrev pub with_rewrites : StraightEnds → ℕ → Bool → StraightEnds
+with_rewrites ends rewrites none_below = record ends { rewrites = rewrites; below = false; unnamed_below = ends.unnamed_below && none_below }
 
-module _ (ends : StraightEnds) (answering : Answering) (rewrites more : ℕ) (kept : ends.rewrites ≤ more) (reached : rewrites ≤ more) where
+module _ (ends : StraightEnds) (answering : Answering) (rewrites more : ℕ) (none_below : Bool) (kept : ends.rewrites ≤ more) (reached : rewrites ≤ more) where
   -- it answers as those before
   pub put_same : (before : Answering) → ends.answer ≡ Some before → ((rtype : RrType) → leaf_of before rtype ≡ leaf_of answering rtype)
-      → IsPut ends answering rewrites (with_rewrites ends more)
+      → IsPut ends answering rewrites none_below (with_rewrites ends more none_below)
   put_same before is same =
       record {
         still = record { rewrites = kept; outcomes = still };
@@ -166,28 +167,39 @@ module _ (ends : StraightEnds) (answering : Answering) (rewrites more : ℕ) (ke
             ap (option_map (λ (one : Answering). leaf_of one rtype)) is ∙ ap (λ (leaf : Leaf). Some leaf) (same rtype);
         only = λ rtype outcome told. inl (back rtype outcome told);
         alone = refl;
+        unnamed = refl;
       }
     where
-      still : (rtype : RrType) (outcome : Option Leaf) → IsOutcomeOf ends rtype outcome → IsOutcomeOf (with_rewrites ends more) rtype outcome
+      still : (rtype : RrType) (outcome : Option Leaf) → IsOutcomeOf ends rtype outcome → IsOutcomeOf (with_rewrites ends more none_below) rtype outcome
       still rtype None told = told
       still rtype (Some leaf) told = told
 
-      back : (rtype : RrType) (outcome : Option Leaf) → IsOutcomeOf (with_rewrites ends more) rtype outcome → IsOutcomeOf ends rtype outcome
+      back : (rtype : RrType) (outcome : Option Leaf) → IsOutcomeOf (with_rewrites ends more none_below) rtype outcome → IsOutcomeOf ends rtype outcome
       back rtype None told = told
       back rtype (Some leaf) told = told
 
   -- or none answered before
-  pub put_first : ends.answer ≡ None → IsPut ends answering rewrites (record (with_rewrites ends more) { answer = Some answering })
-  put_first none = record { still = record { rewrites = kept; outcomes = still }; behind = reached; there = λ rtype. refl; only = only; alone = refl } where
-    still : (rtype : RrType) (outcome : Option Leaf) → IsOutcomeOf ends rtype outcome → IsOutcomeOf (record (with_rewrites ends more) { answer = Some answering }) rtype outcome
-    still rtype None is = is
-    still rtype (Some leaf) is =
-        let told = sym (ap (option_map (λ (one : Answering). leaf_of one rtype)) none) ∙ is in absurd (by told)
-      where
-        by : None ≡ Some leaf → ⊥
-        by e = cc
+  pub put_first : ends.answer ≡ None → IsPut ends answering rewrites none_below (record (with_rewrites ends more none_below) { answer = Some answering })
+  put_first none =
+      record {
+        still = record { rewrites = kept; outcomes = still };
+        behind = reached;
+        there = λ rtype. refl;
+        only = only;
+        alone = refl;
+        unnamed = refl;
+      }
+    where
+      still : (rtype : RrType) (outcome : Option Leaf) → IsOutcomeOf ends rtype outcome
+          → IsOutcomeOf (record (with_rewrites ends more none_below) { answer = Some answering }) rtype outcome
+      still rtype None is = is
+      still rtype (Some leaf) is =
+          let told = sym (ap (option_map (λ (one : Answering). leaf_of one rtype)) none) ∙ is in absurd (by told)
+        where
+          by : None ≡ Some leaf → ⊥
+          by e = cc
 
-    only : (rtype : RrType) (outcome : Option Leaf) → IsOutcomeOf (record (with_rewrites ends more) { answer = Some answering }) rtype outcome
-        → IsOutcomeOf ends rtype outcome ⊎ (outcome ≡ Some (leaf_of answering rtype))
-    only rtype None is = inl is
-    only rtype (Some leaf) is = inr (sym is)
+      only : (rtype : RrType) (outcome : Option Leaf) → IsOutcomeOf (record (with_rewrites ends more none_below) { answer = Some answering }) rtype outcome
+          → IsOutcomeOf ends rtype outcome ⊎ (outcome ≡ Some (leaf_of answering rtype))
+      only rtype None is = inl is
+      only rtype (Some leaf) is = inr (sym is)

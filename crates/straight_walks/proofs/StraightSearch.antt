@@ -96,9 +96,9 @@ module _ (config : Config) (deps : Deps) (query : Labels) where
             (subst (λ (all : List Branch). Contains all (End None Outside)) (sym (ends_so setting rtype above of.is_of)) (has_first (End None Outside) [])) refl)
 
     -- that answers as those before, or is the first
-    pub answer_passes : (answering : Answering) (rewrites : ℕ) (after : StraightEnds) → AnswersSo config query server answering rewrites → IsPut ends answering rewrites after
-        → Passes config deps query server queue ends queue after
-    answer_passes answering rewrites after so put =
+    pub answer_passes : (answering : Answering) (rewrites : ℕ) (none_below : Bool) (after : StraightEnds) → AnswersSo config query server answering rewrites
+        → IsPut ends answering rewrites none_below after → Passes config deps query server queue ends queue after
+    answer_passes answering rewrites none_below after so put =
         record {
           extends = ([], sym (append-nil queue));
           still = put.still;
@@ -300,4 +300,4 @@ module _ (config : Config) (deps : Deps) (query : Labels) where
   given_within rewrites most states ends None same few fewer straight = tt
   given_within rewrites most states ends (Some found) same few fewer straight =
       subst (GoStraightIn config deps rewrites most query) (sym same)
-      (λ name told setting of enough rtype. straight few name told setting of (omega (arith, fewer, enough)) rtype)
+      (λ name given_for told setting of enough rtype. straight few name given_for told setting of (omega (arith, fewer, enough)) rtype)

@@ -93,7 +93,7 @@ abbrev nothing : ZoneOwner
 nothing = record { zone = delegated; owner = None }
 
 abbrev ends : StraightEnds
-ends = record { answer = Some (record { own = nothing; last = nothing }); fails = false; rewrites = 0; below = false }
+ends = record { answer = Some (record { own = nothing; last = nothing }); fails = false; rewrites = 0; below = false; unnamed_below = false }
 
 second : Contains states (behind nsa)
 second = has_later first (behind nsa ∷ behind nsb ∷ []) (behind nsa) (has_first (behind nsa) (behind nsb ∷ []))

@@ -1,4 +1,5 @@
 pub use Rattle.net_model.specs.Shown
+pub use Rattle.net_model.specs.Tails
 pub use Rattle.net_model.specs.Tree
 pub use Rattle.walk_laws.specs.Outcome
 pub mod Answers

@@ -1,9 +1,10 @@
 -- Names by the longest origin of a zone at or above them, for all of which walks are the same as long as no zone
 -- answers. A public clause cites AreRegionsFor alone.
-use Rattle.std.specs.Prelude.{◌≡◌, ◌<◌, false, List, [], ◌∷◌, ◌++◌, ◌⊎◌, map, Contains}
+use Rattle.std.specs.Prelude.{◌≡◌, true, false, List, [], ◌∷◌, ◌++◌, ◌⊎◌, map, Contains}
 use Rattle.std.specs.List.{AllByRecursion}
 use Rattle.std.specs.List.Sorted.{IsStrictlySortedBy}
-use Rattle.dns_data.specs.Name.{Labels, name_cmp}
+use Rattle.std.specs.Ordering.{is_lt}
+use Rattle.dns_data.specs.Name.{Labels, is_prefix, name_cmp}
 use Rattle.net_model.specs.declared.deps.Deps.{Deps}
 use Rattle.net_model.specs.Step.{start}
 use Rattle.net_model.specs.declared.config.Config.{Config}
@@ -71,6 +72,11 @@ pub record AreRegions (config : Config) (deps : Deps) (regions : List Region) : 
   pub ordered : IsStrictlySortedBy name_cmp (region_origins regions)
   pub each : AllByRecursion (IsRegion config deps) regions
   pub all : HasEachOrigin config (region_origins regions)
+
+-- the origin stands behind the name and all names below it
+pub record IsPast (name origin : Labels) : Type 0 where
+  pub behind : is_lt (name_cmp name origin) ≡ true
+  pub not_below : is_prefix name origin ≡ false
 
 -- the regions are those of the configuration, with the two sets of learnt addresses
 abbrev pub AreRegionsFor : Config → Deps → Regions → Type 0

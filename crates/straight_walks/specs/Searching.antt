@@ -1,15 +1,17 @@
 -- What servers reply, and searches over the states of walks: for the contracts of inner calls alone.
-use Rattle.std.specs.Prelude.{◌≡◌, ◌≢◌, ◌<◌, ◌≤◌, ◌+◌, ◌*◌, ℕ, Bool, true, false, List, [], ◌∷◌, ◌++◌, map, take, length, Contains, Option, Some, None, is_some, option_map, IfSome, ◌⊎◌}
+use Rattle.std.specs.Prelude.{◌≡◌, ◌≢◌, ◌<◌, ◌≤◌, ◌+◌, ◌*◌, ℕ, Bool, true, false, ◌&&◌, List, [], ◌∷◌, ◌++◌, map, take, length, Contains, Option, Some, None, is_some, option_map, IfSome, ◌⊎◌}
 use Rattle.std.specs.List.{AllByRecursion, slice_get}
 use Rattle.dns_data.specs.Name.{Labels, is_prefix}
 use Rattle.dns_data.specs.RrType.{type_eq}
 use Rattle.dns_data.specs.declared.rr_type.RrType.{RrType}
 use Rattle.dns_data.specs.declared.rr_type.RrType.TheVariants as types
 use Rattle.net_model.specs.declared.deps.Deps.{Deps}
-use Rattle.net_model.specs.Lookup.{ByCut, ByRecords, ByRedirection, deciding, first_name}
+use Rattle.net_model.specs.Lookup.{ByCut, ByNothing, ByRecords, ByRedirection, deciding, first_name}
 use Rattle.net_model.specs.Nearest.{held_zone, nearest_of}
+use Rattle.net_model.specs.OpenTail.{open_deciding}
 use Rattle.net_model.specs.Shown.{is_authoritative}
 use Rattle.net_model.specs.Step.{Setting, Branch, Go, End, next, referred, start}
+use Rattle.net_model.specs.Tails.{IsUnnamedTail}
 use Rattle.net_model.specs.Walk.{IsWalk, walk_from}
 use Rattle.net_model.specs.Zone.{ns_names, targets_at}
 use Rattle.net_model.specs.declared.config.Config.{Config}
@@ -84,14 +86,30 @@ IsComeTo setting query rtype state =
 
 -- ---- ends
 
--- the ends are those of the name too: it is the query, or it is below it with no origin between, where the ends tell of
--- such names
-abbrev pub AreEndsFor : Config → Labels → StraightEnds → Labels → Type 0
-AreEndsFor config query ends name = (name ≡ query) ⊎ ((ends.below ≡ true) × NoOriginBetween config query name)
+-- the zones of a server that answers have no such name
+abbrev pub nothing_there : Answering → Answering
+nothing_there answering =
+    record { own = record { zone = answering.own.zone; owner = None }; last = record { zone = answering.last.zone; owner = None } }
+
+-- the ends of a name below the query of which the zones that answer the query answer that there is none
+abbrev pub nothing_below : StraightEnds → StraightEnds
+nothing_below ends = record ends { answer = option_map nothing_there ends.answer }
+
+-- the name is the query with an unnamed tail
+abbrev pub IsUnnamedBelow : Config → Labels → Labels → Type 0
+IsUnnamedBelow config query name = (tail : Labels) × IsUnnamedTail config query tail × (name ≡ query ++ tail)
+
+-- The ends of the name, by those of the query: it is the query; or it is below it with no origin between, where the ends
+-- tell of such names; or it is the query with an unnamed tail, where they tell of those.
+abbrev pub AreEndsFor : Config → Labels → StraightEnds → Labels → StraightEnds → Type 0
+AreEndsFor config query ends name found =
+    ((name ≡ query) × (found ≡ ends))
+    ⊎ (((ends.below ≡ true) × NoOriginBetween config query name × (found ≡ ends))
+    ⊎ ((ends.unnamed_below ≡ true) × IsUnnamedBelow config query name × (found ≡ nothing_below ends)))
 
 -- no zone answers the query nor a name below it, no walk is rewritten, and walks fail or don't
 abbrev pub unanswered : Bool → StraightEnds
-unanswered fails = record { answer = None; fails = fails; rewrites = 0; below = true }
+unanswered fails = record { answer = None; fails = fails; rewrites = 0; below = true; unnamed_below = true }
 
 -- the ends, and some walk ends where no zone answers
 abbrev pub failing : StraightEnds → StraightEnds
@@ -103,14 +121,16 @@ pub record KeepsOutcomes (before after : StraightEnds) : Type 0 where
   pub outcomes : (rtype : RrType) (outcome : Option Leaf) → IsOutcomeOf before rtype outcome → IsOutcomeOf after rtype outcome
 
 -- what a server answers behind so many rewrites is put to the ends: it is their answer then, no other outcome comes to
--- those before, and they tell of the query alone
-pub record IsPut (before : StraightEnds) (answering : Answering) (rewrites : ℕ) (after : StraightEnds) : Type 0 where
+-- those before, and of names below the query they tell at most of those with an unnamed tail, where the server has none
+-- of these
+pub record IsPut (before : StraightEnds) (answering : Answering) (rewrites : ℕ) (none_below : Bool) (after : StraightEnds) : Type 0 where
   pub still : KeepsOutcomes before after
   pub behind : rewrites ≤ after.rewrites
   pub there : (rtype : RrType) → IsOutcomeOf after rtype (Some (leaf_of answering rtype))
   pub only : (rtype : RrType) (outcome : Option Leaf) → IsOutcomeOf after rtype outcome
       → IsOutcomeOf before rtype outcome ⊎ (outcome ≡ Some (leaf_of answering rtype))
   pub alone : after.below ≡ false
+  pub unnamed : after.unnamed_below ≡ (before.unnamed_below && none_below)
 
 -- ---- referrals
 
@@ -171,7 +191,8 @@ abbrev pub IsReply : Config → Labels → Labels → Reply → Type 0
 IsReply config query server reply.Outside = nearest_of config server query ≡ None
 IsReply config query server (reply.Records tree owner) =
     IsNode tree.now owner
-    × (is_some (nearest_of config server query) ≡ true)
+    × (nearest_of config server query ≡ Some tree.now.zone)
+    × (deciding tree.now.zone query ≡ ByRecords (name_of tree.now owner))
     × AnswersAt config query server (zone_owner tree.now (Some owner))
 IsReply config query server (reply.Alias tree owner target) =
     IsNode tree.now owner
@@ -225,7 +246,7 @@ pub record IsAnsweredBehind (config : Config) (server name : Labels) (rewrites :
   pub most : ℕ
   pub no_fewer : rewrites ≤ most
   pub answers : AnswersBehind config server name rewrites answering most
-  pub put : IsPut before answering most after
+  pub put : IsPut before answering most false after
 
 -- with each type walks from the query's state at the server end in the answer, behind no more rewrites than these
 abbrev pub AnswersSo : Config → Labels → Labels → Answering → ℕ → Type 0
@@ -233,12 +254,24 @@ AnswersSo config query server answering rewrites =
     (setting : Setting) (rtype : RrType) (above : ℕ) → setting.config ≡ config → rewrites ≤ setting.rewrites
     → (behind : List State) × (length behind ≤ rewrites) × AnswersAlong setting rtype (leaf_of answering rtype) (state_at config query server above) behind
 
--- what the server answers to the query is put to the ends
+-- where the records of the tree's owner decide at the query, nothing decides at it with an open tail
+abbrev pub HasNothingBelow : ZoneTree → ℕ → Labels → Type 0
+HasNothingBelow tree owner query = deciding tree.zone query ≡ ByRecords (name_of tree owner) → open_deciding tree.zone query ≡ ByNothing
+
+-- to the query with an unnamed tail the server answers that there is no such name
+abbrev pub AnswersNothingBelow : Config → Labels → Labels → Type 0
+AnswersNothingBelow config query server =
+    (tail : Labels) → IsUnnamedTail config query tail → (zone : Zone) → AnswersAt config (query ++ tail) server (record { zone = zone; owner = None })
+
+-- what the server answers to the query is put to the ends, and whether it has none of the query's names with an unnamed
+-- tail
 pub record IsAnswered (config : Config) (query server : Labels) (before after : StraightEnds) : Type 0 where
   pub answering : Answering
   pub rewrites : ℕ
+  pub none_below : Bool
   pub answers : AnswersSo config query server answering rewrites
-  pub put : IsPut before answering rewrites after
+  pub put : IsPut before answering rewrites none_below after
+  pub below : none_below ≡ true → AnswersNothingBelow config query server
 
 -- ---- states that are passed
 
@@ -294,9 +327,10 @@ pub record HasPassed (config : Config) (deps : Deps) (query : Labels) (queue : L
 abbrev pub IsSearch : Config → Deps → Labels → Search → Type 0
 IsSearch config deps query searched = HasPassed config deps query searched.queue.items searched.passed (unanswered searched.fails)
 
--- for each name of which they are the ends the first queued states, as many as said, are passed
+-- for each name of which they tell the ends the first queued states, as many as said, are passed
 abbrev pub HavePassed : Config → Deps → Labels → List Queued → ℕ → StraightEnds → Type 0
-HavePassed config deps query queue passed ends = (name : Labels) → AreEndsFor config query ends name → HasPassed config deps name queue passed ends
+HavePassed config deps query queue passed ends =
+    (name : Labels) (found : StraightEnds) → AreEndsFor config query ends name found → HasPassed config deps name queue passed found
 
 -- in each setting of the configuration in which walks may use so many rewrites those of the query go straight to the
 -- ends, with each type, over at most so many states
@@ -304,9 +338,10 @@ abbrev pub GoesStraightIn : Config → Deps → ℕ → ℕ → Labels → Strai
 GoesStraightIn config deps rewrites most query ends =
     (setting : Setting) → IsSettingOf config deps setting → rewrites ≤ setting.rewrites → (rtype : RrType) → GoesStraight setting deps most query ends rtype
 
--- so do those of each name of which they are the ends
+-- so do those of each name of which they tell the ends
 abbrev pub GoStraightIn : Config → Deps → ℕ → ℕ → Labels → StraightEnds → Type 0
-GoStraightIn config deps rewrites most query ends = (name : Labels) → AreEndsFor config query ends name → GoesStraightIn config deps rewrites most name ends
+GoStraightIn config deps rewrites most query ends =
+    (name : Labels) (found : StraightEnds) → AreEndsFor config query ends name found → GoesStraightIn config deps rewrites most name found
 
 -- the next referral of a search that has passed so many of the states, with what walks end in before and after: where
 -- walks end at all of them the query goes straight; where a server refers the query the search has passed all up to

@@ -25,6 +25,11 @@ pub record NoOriginBetween (config : Config) (upper name : Labels) : Type 0 wher
   pub above : is_prefix upper name ≡ true
   pub none_longer : (server longer : Labels) → is_prefix longer name ≡ true → length upper < length longer → held_zone config server longer ≡ None
 
+-- no server has a zone with an origin below the name
+abbrev pub NoOriginBelow : Config → Labels → Type 0
+NoOriginBelow config upper =
+    (server longer : Labels) → is_prefix upper longer ≡ true → length upper < length longer → held_zone config server longer ≡ None
+
 -- the branch ends where no zone answers: its server holds none for the name, or the name server isn't configured
 abbrev pub EndsUnanswered : Config → Deps → Branch → Type 0
 EndsUnanswered config deps branch =

@@ -9,13 +9,16 @@ use dns_data::RrType;
 
 /// What walks end in that go straight: each server that answers answers this, where some walk ends in an answer, and
 /// some walks may end where no server answers. No walk is rewritten more often than so. It is told whether they are known
-/// to be the ends of each name below the query too, with no origin of a zone between.
+/// to be the ends of each name below the query too, with no origin of a zone between; and whether it is known what the
+/// walks of the query with any unnamed tail end in: a name below it, of which the configuration names no front that is
+/// longer than the query.
 #[derive(Drop)]
 pub struct StraightEnds<'h, 'a> {
     pub answer: Option<ZoneAnswer<'h, 'a>>,
     pub fails: bool,
     pub rewrites: u32,
     pub below: bool,
+    pub unnamed_below: bool,
 }
 
 impl<'h, 'a> StraightEnds<'h, 'a> {
@@ -28,12 +31,18 @@ impl<'h, 'a> StraightEnds<'h, 'a> {
     }
 
     /// Puts what one more server answers behind so many rewrites to the others: whether it answers as each one before.
-    /// Where none answered before, this is the answer from then on. It is one to the query, and tells nothing of the names
-    /// below it.
-    pub(crate) fn put(&mut self, answer: ZoneAnswer<'h, 'a>, rewrites: u32) -> bool
-        ensures { result ≡ true → IsPut self.old answer.entry rewrites self.new }
+    /// Where none answered before, this is the answer from then on. It is one to the query, and tells of the names below it
+    /// at most that the server has none with an unnamed tail.
+    pub(crate) fn put(
+        &mut self,
+        answer: ZoneAnswer<'h, 'a>,
+        rewrites: u32,
+        none_below: bool,
+    ) -> bool
+        ensures { result ≡ true → IsPut self.old answer.entry rewrites none_below self.new }
     {
         self.below = false;
+        self.unnamed_below = self.unnamed_below && none_below;
         self.rewrites = self.rewrites.max(rewrites);
         if let Some(before) = &self.answer {
             return before.is_same(&answer);

@@ -4,8 +4,8 @@
 //! The layer above may rest on this: where `straight_ends` gives what the walks of a query end in, the query shows no
 //! fault, reaches no more pairs of state and type than are allowed, and has the outcomes of these ends and no others.
 //! Where it is told that these are the ends of the names below too that have no origin of a zone between, these names
-//! show no fault either. Where it gives nothing, nothing is said. Ends of two configurations can be compared, type by
-//! type.
+//! show no fault either; nor does the query with any unnamed tail, where it is told that its ends are known too. Where it
+//! gives nothing, nothing is said. Ends of two configurations can be compared, type by type.
 //!
 //! Costs: for each origin of a zone, once, what decides at it is looked for at each of at most 32 states, and each name
 //! server of a zone cut is looked into: of one that isn't configured its glue alone is looked for, beside the zone cut,
@@ -13,26 +13,29 @@
 //! there is a search among the origins, of two comparisons where the query before it stands between the same two
 //! origins. At each server that answers for the query's nearest origin there is a search among the server's zones for
 //! the nearest zone, of three, one of them for the server, where no origin of the server's stands between the query and
-//! its nearest origin, and what decides at the query is looked for. Where that is an alias the same is done for its
-//! target, at the same server, and for no more than four aliases one behind the other. Where a DNAME record redirects
-//! the query, the name that it makes is made once, and the same is done for it and its aliases. Where several servers
-//! answer the query, their data are compared, type by type; nothing is looked for again, and so where ends are compared.
-//! Where one of these servers refers the query, each name server of the zone cut is looked into, as for an origin. All
-//! this takes no memory, but for a name that a DNAME record makes. Only where one of the zone cut's name servers is
-//! configured the states of the query's nearest origin are copied, once. The search goes on from there, over the states
-//! queued after that one and those at the servers to which it refers the query, and looks at no state twice. Where no
-//! origin is at or above the query, a queue is made of the states at the top servers. No graph is made. Where all these
-//! servers refer the query or hold no zone for it, its ends are told of the names below too: those take no search of
-//! their own.
+//! its nearest origin, and what decides at the query is looked for. Where that is the query itself two or three
+//! comparisons of names more tell whether anything is below it by an asterisk label. Where it is an alias the same is
+//! done for its target, at the same server, and for no more than four aliases one behind the other. Where a DNAME
+//! record redirects the query, the name that it makes is made once, and the same is done for it and its aliases. Where
+//! several servers answer the query, their data are compared, type by type; nothing is looked for again, and so where
+//! ends are compared. Where one of these servers refers the query, each name server of the zone cut is looked into, as
+//! for an origin. All this takes no memory, but for a name that a DNAME record makes. Only where one of the zone cut's
+//! name servers is configured the states of the query's nearest origin are copied, once. The search goes on from there,
+//! over the states queued after that one and those at the servers to which it refers the query, and looks at no state
+//! twice. Where no origin is at or above the query, a queue is made of the states at the top servers. No graph is made.
+//! Where all these servers refer the query or hold no zone for it, its ends are told of the names below too, and where
+//! the others answer it by its own data, of the query with an unnamed tail: those take no search of their own. Whether
+//! an origin stands below a name takes three comparisons.
 #![tactic(auto)]
 
 mod aliases;
+mod answering;
 mod answers;
+mod below;
 mod ends;
 mod name_server;
 mod origins;
 mod queue;
-mod redirections;
 mod referrals;
 mod referring;
 mod region;

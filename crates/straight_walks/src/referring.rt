@@ -2,11 +2,9 @@
 
 ghost use Rattle.straight_walks.specs.Searching.{IsNextReferral};
 
-use crate::aliases::alias_end;
-use crate::answers::ZoneAnswer;
+use crate::answering::put_answer;
 use crate::ends::StraightEnds;
 use crate::queue::Queued;
-use crate::redirections::put_redirected;
 use crate::referrals::all_end_outside;
 use crate::server::{Reply, reply_of};
 use dns_data::{Name, NoMemory};
@@ -31,7 +29,7 @@ pub(crate) enum NextReferral<'h, 'a> {
 }
 
 /// The next referral of the search that has passed this many of the queued states. What walks end in at the states on the
-/// way is put to what they ended in before. It takes memory for names alone that DNAME records make.
+/// way is put to what they ended in before. It takes memory for labels and names alone that it makes.
 pub(crate) fn next_referral<'h, 'a>(
     alloc: Global,
     hosts: &'h Hosts<'a>,
@@ -45,28 +43,11 @@ pub(crate) fn next_referral<'h, 'a>(
     let mut passed = passed;
     while passed < queue.len() {
         let one = queue[passed];
-        let answered = match reply_of(hosts, one.near, query, one.server) {
+        let passes = match reply_of(hosts, one.near, query, one.server) {
             Reply::Outside => {
                 ends.put_failing();
                 true
             }
-            Reply::Records(tree, owner) => ends.put(ZoneAnswer::of_owner(tree, owner), 0),
-            Reply::Alias(tree, owner, target) => {
-                match alias_end(hosts, one.near, one.server, target, 1) {
-                    Some(end) => ends.put(
-                        ZoneAnswer::of_alias(tree, owner, end.tree, end.owner),
-                        end.rewrites,
-                    ),
-                    None => false,
-                }
-            }
-            Reply::Redirects(owner, target) => {
-                match put_redirected(alloc, hosts, one, query, owner, target, ends) {
-                    Ok(answered) => answered,
-                    Err(NoMemory) => return NextReferral::NoMemory,
-                }
-            }
-            Reply::Nothing(tree) => ends.put(ZoneAnswer::of_nothing(tree), 0),
             Reply::Refers(tree, cut) => {
                 if !all_end_outside(hosts, tree, cut) {
                     return NextReferral::Refers { passed, tree, cut };
@@ -74,9 +55,12 @@ pub(crate) fn next_referral<'h, 'a>(
                 ends.put_failing();
                 true
             }
-            Reply::Unclear => false,
+            reply => match put_answer(alloc, hosts, one, query, reply, ends) {
+                Ok(answered) => answered,
+                Err(NoMemory) => return NextReferral::NoMemory,
+            },
         };
-        if !answered {
+        if !passes {
             return NextReferral::Unclear;
         }
         passed += 1;

@@ -1,18 +1,20 @@
 //! Regions of names whose walks are the same up to the servers that answer.
 
-ghost use Rattle.std.specs.Prelude.{◌≡◌, map, IfOk, IfSome};
+ghost use Rattle.std.specs.Prelude.{◌≡◌, true, map, IfOk, IfSome};
 ghost use Rattle.std.specs.List.{AllByRecursion};
 ghost use Rattle.std.specs.List.Sorted.{IsStrictlySortedBy};
 ghost use Rattle.dns_data.specs.Name.{name_cmp};
 ghost use Rattle.net_model.specs.declared.config.Config.{Config};
 ghost use Rattle.net_model.specs.declared.deps.Deps.{Deps};
-ghost use Rattle.straight_walks.specs.Regions.{AreRegionsFor, IsRegion, IsSearchBelow, region_origins};
+ghost use Rattle.straight_walks.specs.Regions.{AreRegionsFor, IsPast, IsRegion, IsSearchBelow, region_origins};
+ghost use Rattle.straight_walks.specs.Straight.{NoOriginBelow};
 
 use crate::origins::origins_of;
 use crate::region::{Region, search_below};
 use crate::searching::Search;
 use dns_data::{Name, NoMemory};
 use std::alloc::Global;
+use std::cmp::Ordering;
 use zone_lookup::{Hosts, LearntSets, nearest_item};
 
 /// The origins of a configuration's zones, each with the states to which walks for the names below it come, as far as
@@ -36,6 +38,25 @@ impl<'a> Regions<'a> {
         Ok(Regions { regions })
     }
 
+    /// Whether no server has a zone with an origin below the name, where the region at a place and the next one tell it: at
+    /// the place that is left where the name itself was looked for they do.
+    pub fn none_below(&self, near: usize, name: &Name) -> bool
+        ensures { result ≡ true → (config : Config) (deps : Deps) → AreRegionsFor config deps self.now → NoOriginBelow config name.now }
+    {
+        let regions = self.regions.as_slice();
+        if regions.len() <= near {
+            return false;
+        }
+        if regions[near].origin.compare(name).is_gt() {
+            return false;
+        }
+        if near + 1 < regions.len() {
+            is_past(name, regions[near + 1].origin)
+        } else {
+            true
+        }
+    }
+
     /// The search for a name, which has passed all states up to those whose servers answer for the nearest origin, or
     /// `None` where no origin is at or above the name. It is one for the names below too that have no origin between. The
     /// region is looked for near a place first, whatever that is, and the place is left near which that of the next name
@@ -49,6 +70,13 @@ impl<'a> Regions<'a> {
             None => None,
         }
     }
+}
+
+/// Whether the origin stands behind the name and all names below it.
+fn is_past(name: &Name, origin: &Name) -> bool
+    ensures { result ≡ true → IsPast name.now origin.now }
+{
+    name.compare(origin).is_lt() && !name.is_prefix_of(origin)
 }
 
 /// The region of each origin.

@@ -1,6 +1,6 @@
 //! Whether the walks of a query go straight, and what they end in.
 
-ghost use Rattle.std.specs.Prelude.{◌≡◌, ◌<◌, ◌≤◌, ◌+◌, ◌*◌, ◌↔◌, Option as Optional, IfOk, IfSome, length, true};
+ghost use Rattle.std.specs.Prelude.{◌≡◌, ◌<◌, ◌≤◌, ◌+◌, ◌*◌, ◌↔◌, ◌++◌, Option as Optional, IfOk, IfSome, length, true};
 ghost use Rattle.std.specs.List.{slice_get};
 ghost use Rattle.dns_data.specs.Name.{Labels};
 ghost use Rattle.dns_data.specs.declared.rr_type.RrType.{RrType as RrTypeValue};
@@ -8,6 +8,7 @@ ghost use Rattle.net_model.specs.declared.fault.Fault.{Fault as FaultValue};
 ghost use Rattle.net_model.specs.declared.walk.Leaf.{Leaf as LeafValue};
 ghost use Rattle.net_model.specs.Shown.{Shows, with_lists};
 ghost use Rattle.net_model.specs.Step.{following};
+ghost use Rattle.net_model.specs.Tails.{IsUnnamedTail};
 ghost use Rattle.net_model.specs.Tree.{HasMoreThan, IsReached};
 ghost use Rattle.net_model.specs.Walk.{IsBoundedWith};
 ghost use Rattle.straight_walks.specs.Ends.{IsOutcomeOf};
@@ -42,7 +43,8 @@ struct Limits {
 /// `None`. Each walk may use so many rewrites. Then the query shows no fault, with no type does a walk of it end in a
 /// name of more than 255 octets (RFC 6672 section 2.2), and it has the outcomes of these ends and no others. Where they
 /// are known to be the ends of each name below the query with no origin of a zone between, such a name shows no fault
-/// either. The sets are the least and the greatest set of learnt addresses; the servers of the least set are followed.
+/// either; nor does the query with any unnamed tail, where it is known what its walks end in. The sets are the least and
+/// the greatest set of learnt addresses; the servers of the least set are followed.
 /// The regions are those of the same servers and sets. The query's region is looked for near a place first, whatever
 /// that is, and the place is left near which that of the next query may be looked for.
 pub fn straight_ends<'h, 'a>(
@@ -68,6 +70,11 @@ pub fn straight_ends<'h, 'a>(
     ensures nothing_below { IfOk result (λ found. IfSome found (λ ends. ends.below ≡ true → (name : Labels) → NoOriginBetween hosts.now query.now name
         → (rtype : RrTypeValue) (fault : FaultValue)
         → Shows (with_lists (following hosts.now rewrites sets.now.least) sets.now.least sets.now.greatest) name rtype fault → ⊥)) }
+    ensures few_unnamed { IfOk result (λ found. IfSome found (λ ends. ends.unnamed_below ≡ true → (tail : Labels) → IsUnnamedTail hosts.now query.now tail
+        → HasMoreThan (IsReached hosts.now rewrites (query.now ++ tail)) states → ⊥)) }
+    ensures nothing_unnamed { IfOk result (λ found. IfSome found (λ ends. ends.unnamed_below ≡ true → (tail : Labels) → IsUnnamedTail hosts.now query.now tail
+        → (rtype : RrTypeValue) (fault : FaultValue)
+        → Shows (with_lists (following hosts.now rewrites sets.now.least) sets.now.least sets.now.greatest) (query.now ++ tail) rtype fault → ⊥)) }
 {
     let most = (states / 12).min(MOST);
     let limits = Limits {
@@ -122,6 +129,7 @@ fn ends_from<'h, 'a>(
         fails: searched.fails,
         rewrites: 0,
         below: true,
+        unnamed_below: true,
     };
     match next_referral(alloc, hosts, query, queue, searched.passed, &mut ends) {
         NextReferral::Ends => Ok(ends_within(ends, queue.len(), limits)),

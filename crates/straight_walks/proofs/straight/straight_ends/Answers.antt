@@ -1,6 +1,6 @@
 use Rattle.std.proofs.Common.{arith}
 use Rattle.std.proofs.Math.Nat.{div-mul-le_self}
-use Rattle.straight_walks.proofs.GivenEnds.{bounded_given, few_given, few_given_below, nothing_given, nothing_given_below, outcomes_given}
+use Rattle.straight_walks.proofs.GivenEnds.{bounded_given, few_given, few_given_below, few_given_unnamed, nothing_given, nothing_given_below, nothing_given_unnamed, outcomes_given}
 use Rattle.straight_walks.proofs.straight.straight_ends.Goals as goal
 
 pub returns-clause-few : goal.returns-clause-few
@@ -28,3 +28,12 @@ returns-clause-few_below c =
 pub returns-clause-nothing_below : goal.returns-clause-nothing_below
 returns-clause-nothing_below c =
     nothing_given_below c.args.hosts.now c.args.sets.now c.args.rewrites c.min-most.result c.args.query.now c.ends_by_region.result c.ends_by_region.ensures
+
+pub returns-clause-few_unnamed : goal.returns-clause-few_unnamed
+returns-clause-few_unnamed c =
+    few_given_unnamed c.args.hosts.now c.args.sets.now c.args.rewrites c.min-most.result c.args.query.now c.ends_by_region.result c.args.states
+    (omega (arith, c.min-most.ensures, div-mul-le_self c.args.states 12)) c.ends_by_region.ensures
+
+pub returns-clause-nothing_unnamed : goal.returns-clause-nothing_unnamed
+returns-clause-nothing_unnamed c =
+    nothing_given_unnamed c.args.hosts.now c.args.sets.now c.args.rewrites c.min-most.result c.args.query.now c.ends_by_region.result c.ends_by_region.ensures

@@ -2,7 +2,7 @@ use Rattle.std.proofs.Common.{◌<◌, subst}
 use Rattle.dns_data.specs.Name.{Labels, wire_octets}
 use Rattle.dns_data.specs.declared.fault.JoinFault.TheVariants as JoinFault
 use Rattle.straight_walks.proofs.RedirectedAnswers.{is_within, no_fault, redirection_answers}
-use Rattle.straight_walks.proofs.redirections.put_redirected.Goals as goal
+use Rattle.straight_walks.proofs.answering.put_redirected.Goals as goal
 
 pub returns-in-Ok : goal.returns-in-Ok
 returns-in-Ok c = λ yes.

@@ -1,4 +1,4 @@
-//! What servers answer to queries that DNAME records redirect.
+//! What servers answer to queries, put to the ends of walks.
 
 ghost use Rattle.std.specs.Prelude.{◌≡◌, true, IfOk};
 ghost use Rattle.straight_walks.specs.Searching.{IsAnswered, IsAnsweredBehind, IsReply};
@@ -6,6 +6,7 @@ ghost use Rattle.straight_walks.specs.declared.server.Reply.TheVariants as reply
 
 use crate::aliases::alias_end;
 use crate::answers::ZoneAnswer;
+use crate::below::has_nothing_below;
 use crate::ends::StraightEnds;
 use crate::queue::Queued;
 use crate::server::{Reply, reply_of};
@@ -14,10 +15,46 @@ use name_rules::substitute;
 use std::alloc::Global;
 use zone_lookup::Hosts;
 
+/// Whether the state's server, which gives the query this reply, is seen to answer as each one before. What it answers is
+/// put to the others. It isn't so where it gives no answer.
+pub(crate) fn put_answer<'h, 'a>(
+    alloc: Global,
+    hosts: &'h Hosts<'a>,
+    one: Queued<'a>,
+    query: &Name,
+    reply: Reply<'h, 'a>,
+    ends: &mut StraightEnds<'h, 'a>,
+) -> Result<bool, NoMemory>
+    requires { IsReply hosts.now query.now one.server.now reply }
+    ensures { IfOk result (λ answered. answered ≡ true → IsAnswered hosts.now query.now one.entry.server.now ends.old ends.new) }
+{
+    match reply {
+        Reply::Records(tree, owner) => {
+            let none_below = has_nothing_below(alloc, tree, owner, query)?;
+            Ok(ends.put(ZoneAnswer::of_owner(tree, owner), 0, none_below))
+        }
+        Reply::Alias(tree, owner, target) => {
+            match alias_end(hosts, one.near, one.server, target, 1) {
+                Some(end) => {
+                    let none_below = has_nothing_below(alloc, tree, owner, query)?;
+                    let answer = ZoneAnswer::of_alias(tree, owner, end.tree, end.owner);
+                    Ok(ends.put(answer, end.rewrites, none_below))
+                }
+                None => Ok(false),
+            }
+        }
+        Reply::Redirects(owner, target) => {
+            put_redirected(alloc, hosts, one, query, owner, target, ends)
+        }
+        Reply::Nothing(tree) => Ok(ends.put(ZoneAnswer::of_nothing(tree), 0, false)),
+        Reply::Outside | Reply::Refers(..) | Reply::Unclear => Ok(false),
+    }
+}
+
 /// Whether the state's server, at which a DNAME record of this owner with this target redirects the query, is seen to
 /// answer as each one before. What it answers to the name that the record makes is put to the others (RFC 6672 section
 /// 2.2).
-pub(crate) fn put_redirected<'h, 'a>(
+fn put_redirected<'h, 'a>(
     alloc: Global,
     hosts: &'h Hosts<'a>,
     one: Queued<'a>,
@@ -47,12 +84,13 @@ fn put_behind<'h, 'a>(
     ensures { result ≡ true → IsAnsweredBehind hosts.now one.entry.server.now name.now 1 ends.old ends.new }
 {
     match reply_of(hosts, one.near, name, one.server) {
-        Reply::Records(tree, owner) => ends.put(ZoneAnswer::of_owner(tree, owner), 1),
+        Reply::Records(tree, owner) => ends.put(ZoneAnswer::of_owner(tree, owner), 1, false),
         Reply::Alias(tree, owner, target) => {
             match alias_end(hosts, one.near, one.server, target, 2) {
                 Some(end) => ends.put(
                     ZoneAnswer::of_alias(tree, owner, end.tree, end.owner),
                     end.rewrites,
+                    false,
                 ),
                 None => false,
             }

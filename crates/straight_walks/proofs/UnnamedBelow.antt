@@ -1,0 +1,208 @@
+-- The query with an unnamed tail: no origin stands between, and a zone that has nothing there answers so.
+use Rattle.std.proofs.Common.{◌≡◌, ℕ, ◌<◌, Bool, true, false, cond, ◌&&◌, [], ◌∷◌, ◌++◌, length, Contains, Option, Some, None, Bor, refl, sym, ap, ◌∙◌, subst, inl, inr, true≢false, arith, append_assoc, append-nil, length-append, lt-ltb}
+use Rattle.std.specs.Prelude.{◌⊎◌, is_some, nat_le, nat_lt, option_map, option_and_then}
+use Rattle.std.proofs.lemmas.Bool.{and_right}
+use Rattle.dns_data.specs.Label.{IsLabel}
+use Rattle.dns_data.specs.Name.{Labels, is_prefix, name_eq}
+use Rattle.dns_data.specs.RrType.{type_eq}
+use Rattle.dns_data.specs.declared.rr_type.RrType.{RrType}
+use Rattle.dns_data.specs.declared.rr_type.RrType.TheVariants as types
+use Rattle.dns_data.proofs.NameFronts.{Begins, is_prefix_told, two_fronts, is_prefix_tells}
+use Rattle.dns_data.proofs.Names.{name_eq_decides}
+use Rattle.dns_data.proofs.Searches.{find_none, find_some, found_there}
+use Rattle.net_model.specs.Lookup.{ByCut, ByNothing, ByRecords, by_dname, closest_encloser, decided, deciding, dname_owner, shorter_decides, source_of_synthesis, synthesized, zone_cut}
+use Rattle.net_model.specs.Nearest.{held_zone, nearest_of, server_named, zone_with_origin}
+use Rattle.net_model.specs.OpenTail.{open_decided, open_deciding, redirecting}
+use Rattle.net_model.specs.Prefix.{prefixes}
+use Rattle.net_model.specs.Step.{End}
+use Rattle.net_model.specs.Tails.{IsUnnamedTail}
+use Rattle.net_model.specs.Zone.{exists_in, owns}
+use Rattle.net_model.specs.declared.config.Config.{Config}
+use Rattle.net_model.specs.declared.config.Server.{Server}
+use Rattle.net_model.specs.declared.config.Zone.{Zone}
+use Rattle.net_model.specs.declared.walk.Leaf.{Leaf}
+use Rattle.net_model.specs.declared.walk.Leaf.TheVariants.{NxDomain}
+use Rattle.net_model.proofs.Descent.{shorter_passes}
+use Rattle.net_model.proofs.NearestZones.{nearest_tells, origin_of_config, zone_of_config}
+use Rattle.net_model.proofs.OpenTails.{open_tail}
+use Rattle.net_model.proofs.Prefixes.{from_prefixes}
+use Rattle.walk_laws.proofs.WalksAlike.UnnamedTails.{far_names, nearest_with_tail, opens_in}
+use Rattle.zone_tree.specs.Tree.{ZoneTree}
+use Rattle.zone_tree.proofs.Prefixes.{longest_itself}
+use Rattle.straight_walks.specs.Answers.{Answering, leaf_of, owner_leaf}
+use Rattle.straight_walks.specs.Ends.{IsOutcomeOf}
+use Rattle.straight_walks.specs.Searching.{AnswersNothingBelow, AnswersSo, IsPut, nothing_below, nothing_there, state_at}
+use Rattle.straight_walks.specs.Straight.{NoOriginBetween}
+use Rattle.straight_walks.specs.declared.ends.StraightEnds.{StraightEnds}
+use Rattle.straight_walks.proofs.Replies.{nothing_decides}
+
+-- ---- no origin stands between
+
+module _ (config : Config) (query tail : Labels) (is : IsUnnamedTail config query tail) where
+  -- the query with the first label of the tail
+  abbrev front : Labels
+  front = query ++ is.first ∷ []
+
+  whole : front ++ is.rest ≡ query ++ tail
+  whole = append_assoc query (is.first ∷ []) is.rest ∙ ap (λ (x : Labels). query ++ x) (sym is.is)
+
+  -- a front of it that is longer than the query begins with that
+  begins_longer : (longer : Labels) → is_prefix longer (query ++ tail) ≡ true → length query < length longer → Begins front longer
+  begins_longer longer inside more =
+      let begins = is_prefix_tells longer (query ++ tail) inside in by (two_fronts longer begins.0 front is.rest (begins.1 ∙ sym whole))
+    where
+      by : Begins longer front ⊎ Begins front longer → Begins front longer
+      by (inr further) = further
+      by (inl (rest, e)) = further rest e where
+        further : (rest : Labels) → longer ++ rest ≡ front → Begins front longer
+        further [] same = ([], append-nil front ∙ sym same ∙ append-nil longer)
+        further (label ∷ rest) same =
+            absurd (omega (arith, more, ap (λ (n : Labels). length n) same, length-append longer (label ∷ rest), length-append query (is.first ∷ [])))
+
+  -- no server holds a zone whose origin has it
+  none_held : (server longer : Labels) → Begins front longer → (held : Option Zone) → held_zone config server longer ≡ held → held ≡ None
+  none_held server longer begins None held = refl
+  none_held server longer begins (Some zone) held = by (server_named config server) refl held where
+    by : (holder : Option Server) → server_named config server ≡ holder → option_and_then (λ h. zone_with_origin h longer) holder ≡ Some zone → Some zone ≡ None
+    by None named e = cc
+    by (Some holder) named e =
+        let one = found_there (λ (s : Server). name_eq s.name server) config.servers holder named in
+        let other = found_there (λ (z : Zone). name_eq z.origin longer) holder.zones zone e in
+        absurd (far_names config query is.first is.unnamed zone.origin (origin_of_config config zone (zone_of_config config holder zone one.0 other.0))
+        (subst (Begins front) (sym ((name_eq_decides zone.origin longer).0 other.1)) begins))
+
+  pub none_between : NoOriginBetween config query (query ++ tail)
+  none_between =
+      record {
+        above = is_prefix_told query (query ++ tail) (tail, refl);
+        none_longer = λ server longer inside more. none_held server longer (begins_longer longer inside more) (held_zone config server longer) refl;
+      }
+
+-- ---- a zone that has nothing there
+
+module _ (zone : Zone) (name : Labels) where
+  -- the test of a DNAME owner above the name, and of one at or above it
+  abbrev redirects_it : Labels → Bool
+  redirects_it above = nat_le (length zone.origin) (length above) && nat_lt (length above) (length name) && owns zone above types.Dname
+
+  abbrev redirects_below : Labels → Bool
+  redirects_below above = nat_le (length zone.origin) (length above) && owns zone above types.Dname
+
+  -- where neither passes, no name with an open tail is redirected
+  none_redirects : dname_owner zone name ≡ None → owns zone name types.Dname ≡ false → redirecting zone name ≡ None
+  none_redirects none not_it = find_none redirects_below (prefixes name) (λ above has. fails above has (from_prefixes name above has)) where
+    fails : (above : Labels) → Contains (prefixes name) above → Begins above name → redirects_below above ≡ false
+    fails above has ([], same) =
+        and_right (nat_le (length zone.origin) (length above)) (owns zone above types.Dname)
+        (ap (λ (x : Labels). owns zone x types.Dname) (sym (append-nil above) ∙ same) ∙ not_it)
+    fails above has (label ∷ rest, same) =
+        sym (shorter_passes (nat_le (length zone.origin) (length above)) (nat_lt (length above) (length name)) (owns zone above types.Dname)
+        (lt-ltb (length above) (length name) (omega (arith, ap (λ (x : Labels). length x) same, length-append above (label ∷ rest)))))
+        ∙ by (redirects_it above) refl
+      where
+        by : (b : Bool) → redirects_it above ≡ b → redirects_it above ≡ false
+        by false e = e
+        by true e =
+            let there = find_some redirects_it (prefixes name) above has e in absurd (true≢false (sym (ap (λ (found : Option Labels). is_some found) there.1) ∙ ap (λ (found : Option Labels). is_some found) none))
+
+  -- the name exists, owns no DNAME record, and has no asterisk label below it
+  module _ (exists : exists_in zone name ≡ true) (no_dname : owns zone name types.Dname ≡ false) (no_asterisk : exists_in zone (source_of_synthesis name) ≡ false) where
+    no_source : synthesized zone (closest_encloser zone name) ≡ ByNothing
+    no_source =
+        ap (synthesized zone) (longest_itself (exists_in zone) name exists)
+        ∙ ap (λ (b : Bool). cond b (ByRecords (source_of_synthesis name)) ByNothing) no_asterisk
+
+    -- then, where records decide at it, nothing does with an open tail
+    pub nothing_opens : (owner : Labels) → deciding zone name ≡ ByRecords owner → open_deciding zone name ≡ ByNothing
+    nothing_opens owner decides = by (zone_cut zone name) (dname_owner zone name) refl refl decides where
+      shorter : (cut by_owner : Labels) (b : Bool) → cond b (by_dname zone by_owner) (ByCut cut) ≡ ByRecords owner → ⊥
+      shorter cut by_owner true e = cc
+      shorter cut by_owner false e = cc
+
+      by : (cut redirecting_it : Option Labels) → zone_cut zone name ≡ cut → dname_owner zone name ≡ redirecting_it
+          → decided zone name (shorter_decides zone cut redirecting_it) ≡ ByRecords owner → open_deciding zone name ≡ ByNothing
+      by (Some cut) None cut_is owner_is e = cc
+      by (Some cut) (Some by_owner) cut_is owner_is e = absurd (shorter cut by_owner (nat_lt (length by_owner) (length cut)) e)
+      by None (Some by_owner) cut_is owner_is e = cc
+      by None None cut_is owner_is e =
+          ap (λ (cut : Option Labels). open_decided zone name (shorter_decides zone cut (redirecting zone name))) cut_is
+          ∙ ap (λ (by_owner : Option Labels). open_decided zone name (shorter_decides zone None by_owner)) (none_redirects owner_is no_dname)
+          ∙ no_source
+
+-- the asterisk label is one
+pub asterisk_is_label : IsLabel (42 ∷ [])
+asterisk_is_label = record { not_empty = omega arith; short = omega arith; octets = refl }
+
+-- ---- what servers answer there
+
+-- where nothing decides with an open tail in the zone in which the server looks the query up, it answers so
+pub nothing_answered : (config : Config) (query server : Labels) (tree : Bor ZoneTree) → nearest_of config server query ≡ Some tree.now.zone
+    → open_deciding tree.now.zone query ≡ ByNothing → AnswersNothingBelow config query server
+nothing_answered config query server tree nearest opens tail is zone =
+    let near : nearest_of config server (query ++ tail) ≡ Some tree.now.zone = nearest_with_tail config query tail is server ∙ nearest in
+    nothing_decides config (query ++ tail) server tree (sym near)
+    (is_prefix_told tree.now.zone.origin (query ++ tail) (nearest_tells config server (query ++ tail) tree.now.zone near).1)
+    (open_tail tree.now.zone query tail (opens_in config query tail server tree.now.zone is nearest) ∙ opens)
+
+-- ---- the ends there
+
+-- with each type the answer is that there is no such name
+nothing_leaf : (answering : Answering) (rtype : RrType) → leaf_of (nothing_there answering) rtype ≡ NxDomain
+nothing_leaf answering rtype = by (type_eq rtype types.Cname) where
+  by : (b : Bool) → owner_leaf (cond b (nothing_there answering).own (nothing_there answering).last) rtype ≡ NxDomain
+  by true = refl
+  by false = refl
+
+-- so walks of it end at once at a server that answers so
+pub nothing_so : (config : Config) (query server tail : Labels) (answering : Answering) → IsUnnamedTail config query tail → AnswersNothingBelow config query server
+    → AnswersSo config (query ++ tail) server (nothing_there answering) 0
+nothing_so config query server tail answering is so setting rtype above same enough = (
+  [],
+  omega arith,
+  (
+    so tail is answering.own.zone setting rtype (state_at config (query ++ tail) server above) same refl refl
+        ∙ ap (λ (leaf : Leaf). End None leaf ∷ []) (sym (nothing_leaf answering rtype)),
+    λ is. refl,
+  ),
+)
+
+-- where some server answers, an answer there is that there is no such name
+module _ (before after : StraightEnds) (answering : Answering) (rewrites : ℕ) (none_below : Bool) (put : IsPut before answering rewrites none_below after) (rtype : RrType) where
+  abbrev told : Option Answering → Option Leaf
+  told answer = option_map (λ (one : Answering). leaf_of one rtype) answer
+
+  only_nothing : (answer : Option Answering) (leaf : Leaf) → told (option_map nothing_there answer) ≡ Some leaf → leaf ≡ NxDomain
+  only_nothing None leaf e = cc
+  only_nothing (Some one) leaf e = let same : leaf_of (nothing_there one) rtype ≡ leaf = cc in sym same ∙ nothing_leaf one rtype
+
+  some_nothing : (answer : Option Answering) (leaf : Leaf) → told answer ≡ Some leaf → told (option_map nothing_there answer) ≡ Some NxDomain
+  some_nothing None leaf e = cc
+  some_nothing (Some one) leaf e = ap (λ (leaf : Leaf). Some leaf) (nothing_leaf one rtype)
+
+  there : IsOutcomeOf (nothing_below after) rtype (Some NxDomain)
+  there = some_nothing after.answer (leaf_of answering rtype) (put.there rtype)
+
+  still : (outcome : Option Leaf) → IsOutcomeOf (nothing_below before) rtype outcome → IsOutcomeOf (nothing_below after) rtype outcome
+  still None is = put.still.outcomes rtype None is
+  still (Some leaf) is = there ∙ ap (λ (leaf : Leaf). Some leaf) (sym (only_nothing before.answer leaf is))
+
+  only : (outcome : Option Leaf) → IsOutcomeOf (nothing_below after) rtype outcome
+      → IsOutcomeOf (nothing_below before) rtype outcome ⊎ (outcome ≡ Some (leaf_of (nothing_there answering) rtype))
+  only None is = by (put.only rtype None is) where
+    by : IsOutcomeOf before rtype None ⊎ (None ≡ Some (leaf_of answering rtype)) → IsOutcomeOf (nothing_below before) rtype None ⊎ (None ≡ Some (leaf_of (nothing_there answering) rtype))
+    by (inl early) = inl early
+    by (inr e) = cc
+  only (Some leaf) is = inr (ap (λ (leaf : Leaf). Some leaf) (only_nothing after.answer leaf is ∙ sym (nothing_leaf answering rtype)))
+
+-- so what is put for the query is put for it with an unnamed tail
+pub put_below : (before after : StraightEnds) (answering : Answering) (rewrites : ℕ) (none_below : Bool) → IsPut before answering rewrites none_below after
+    → IsPut (nothing_below before) (nothing_there answering) 0 none_below (nothing_below after)
+put_below before after answering rewrites none_below put =
+    record {
+      still = record { rewrites = put.still.rewrites; outcomes = λ rtype outcome is. still before after answering rewrites none_below put rtype outcome is };
+      behind = omega arith;
+      there = λ rtype. there before after answering rewrites none_below put rtype ∙ ap (λ (leaf : Leaf). Some leaf) (sym (nothing_leaf answering rtype));
+      only = λ rtype outcome is. only before after answering rewrites none_below put rtype outcome is;
+      alone = put.alone;
+      unnamed = put.unnamed;
+    }
