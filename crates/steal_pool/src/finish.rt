@@ -9,7 +9,7 @@ ghost use Rattle.steal_pool.specs.Ends.{IsRightCause};
 ghost use Rattle.steal_pool.specs.Finish.{IsFiledBelow};
 
 use pool_core::StopCause;
-use verdict_book::{Book, Claim, ClaimFault, FileFault, JudgeShare, Work};
+use verdict_book::{Book, Claim, ClaimFault, FileFault, JudgeShare, Judged, Work};
 
 /// Claims the tickets from 0 upwards, and judges and files each claim that is given, until no ticket is
 /// left. It asks no gate.
@@ -76,12 +76,10 @@ fn file_claim<W: Work>(
     ensures limit { book.new.limit ≡ book.old.limit }
     ensures fault { IfErr result (λ cause. IsRightCause W.first_item W.children_of book.old.limit (Some cause)) }
 {
-    let Ok(verdict) = work.judge(&claim.item, share) else {
+    let Ok(judged) = work.judge(&claim.item, share) else {
         return Err(StopCause::NoMemory);
     };
-    let Ok(children) = work.children(&claim.item) else {
-        return Err(StopCause::NoMemory);
-    };
+    let Judged { verdict, children } = judged;
     match book.file(claim, verdict, children) {
         Ok(_) => Ok(()),
         Err(FileFault::Full { .. }) => Err(StopCause::Full),

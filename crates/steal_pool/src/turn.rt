@@ -16,7 +16,7 @@ use pool_core::StopCause;
 use std::sync::ledger::{Ledger, Share};
 use std::sync::{Mutex, Wait};
 use std::thread;
-use verdict_book::{Claim, ClaimFault, FileFault, Issued, JudgeShare, Work};
+use verdict_book::{Claim, ClaimFault, FileFault, Issued, JudgeShare, Judged, Work};
 
 /// Claims a ticket, and after the gate judges its item and files it. The answer is the cause for which
 /// the worker ends, if it does.
@@ -110,15 +110,13 @@ fn judge_and_file<W: Work, A: Capped, B: Ledger, C: Ledger, R: Wait>(
     ensures foreign { result ≡ Ok None → filed.new.amount ≡ filed.old.amount }
     ensures stopped { IfErr result (λ cause. (filed.new.amount ≡ filed.old.amount) × IsRightCause W.first_item W.children_of A.limit (Some cause)) }
 {
-    let Ok(verdict) = work.judge(&claim.item, share) else {
+    let Ok(judged) = work.judge(&claim.item, share) else {
         return Err(StopCause::NoMemory);
     };
-    let Ok(children) = work.children(&claim.item) else {
-        return Err(StopCause::NoMemory);
-    };
-    if kept.reserve(children.items().len()).is_err() {
+    if kept.reserve(judged.children.items().len()).is_err() {
         return Err(StopCause::NoMemory);
     }
+    let Judged { verdict, children } = judged;
     match locked(rt, book).file(claim, verdict, children, filed) {
         Ok(issued) => Ok(Some(issued)),
         Err(FileFault::Foreign { .. }) => Ok(None),

@@ -19,4 +19,4 @@ pub use claim::{Claim, ClaimFault, Kept};
 pub use filed::Filed;
 pub use filing::{Back, FileFault, Issued};
 pub use walk::{PoolFault, walk_tree};
-pub use work::{JudgeShare, Work};
+pub use work::{JudgeShare, Judged, Work};

@@ -12,7 +12,7 @@ ghost use Rattle.verdict_book.specs.declared.walk.PoolFault.TheVariants.{NoMemor
 use crate::book::Book;
 use crate::filed::Filed;
 use crate::filing::FileFault;
-use crate::work::{JudgeShare, Work};
+use crate::work::{JudgeShare, Judged, Work};
 use dns_data::{List, NoMemory};
 use std::alloc::Global;
 use thiserror::Error;
@@ -83,8 +83,7 @@ fn file_ticket<W: Work>(
     let Ok(claim) = book.claim(work, ticket) else {
         return Err(PoolFault::NoMemory);
     };
-    let verdict = work.judge(&claim.item, share)?;
-    let children = work.children(&claim.item)?;
+    let Judged { verdict, children } = work.judge(&claim.item, share)?;
     match book.file(claim, verdict, children) {
         Ok(_) => Ok(()),
         Err(FileFault::Full { limit, .. }) => Err(PoolFault::TooMany(limit)),

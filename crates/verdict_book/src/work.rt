@@ -42,6 +42,13 @@ impl JudgeShare {
     }
 }
 
+/// What is found of an item: its verdict, and its children in order.
+#[derive(Drop)]
+pub struct Judged<I, V> {
+    pub verdict: V,
+    pub children: List<I>,
+}
+
 /// Items in a tree, each with its children and its verdict.
 ///
 /// The meanings belong to the type and not to one value, since only the type of a value behind a lock
@@ -62,15 +69,15 @@ pub trait Work {
     fn first(&self) -> Result<Self::Item, NoMemory>
         ensures { IfOk result (λ item. item ≡ first_item) };
 
-    /// The children of a reached item, in order.
-    fn children(&self, item: &Self::Item) -> Result<List<Self::Item>, NoMemory>
+    /// The verdict and the children of a reached item. The share counts the call, also where memory runs out.
+    fn judge(
+        &self,
+        item: &Self::Item,
+        share: &mut JudgeShare,
+    ) -> Result<Judged<Self::Item, Self::Verdict>, NoMemory>
         requires { Reached first_item children_of item.now }
-        ensures { IfOk result (λ items. items ≡ children_of item.now) };
-
-    /// The verdict of a reached item. The share counts the call, also where memory runs out.
-    fn judge(&self, item: &Self::Item, share: &mut JudgeShare) -> Result<Self::Verdict, NoMemory>
-        requires { Reached first_item children_of item.now }
-        ensures verdict { IfOk result (λ verdict. verdict ≡ verdict_of item.now) }
+        ensures verdict { IfOk result (λ judged. judged.verdict ≡ verdict_of item.now) }
+        ensures children { IfOk result (λ judged. judged.children ≡ children_of item.now) }
         ensures calls { share.new ≡ min (share.old + 1) (2 ^ 64 - 1) };
 
     /// An equal item.

@@ -1,6 +1,6 @@
 //! A work in one thread and in several.
 
-ghost use Rattle.std.specs.Prelude.{◌/◌, ◌≤◌};
+ghost use Rattle.std.specs.Prelude.{◌≡◌, ◌/◌, ◌≤◌, IfOk};
 ghost use Rattle.std.proofs.lemmas.Map.Lookups.{exact_unsigned};
 ghost use Rattle.verdict_book.specs.Sevens.{children, sevens_apart};
 
@@ -12,7 +12,7 @@ use std::sync::atomic::{AtomicU64, Ordering};
 use std::test::Fail;
 use std::thread::Threads;
 use steal_pool::{OwnRow, PoolCount, PoolFault, StealOutcome, run_tree_counted};
-use verdict_book::{Filed, JudgeShare, Work, walk_tree};
+use verdict_book::{Filed, JudgeShare, Judged, Work, walk_tree};
 
 /// The items 0 to 6: each below 3 has two children. The verdict is half the item. It counts its judging calls, and at one
 /// item it has no memory.
@@ -38,22 +38,16 @@ impl Work for Sevens {
         Ok(0)
     }
 
-    fn children(&self, item: &u32) -> Result<List<u32>, NoMemory> {
-        let mut list = List::new(self.alloc);
-        if *item < 3 {
-            list.push(2 * *item + 1)?;
-            list.push(2 * *item + 2)?;
-        }
-        Ok(list)
-    }
-
-    fn judge(&self, item: &u32, share: &mut JudgeShare) -> Result<u32, NoMemory> {
+    fn judge(&self, item: &u32, share: &mut JudgeShare) -> Result<Judged<u32, u32>, NoMemory> {
         share.raise();
         self.calls.fetch_add(1, Ordering::SeqCst);
         if *item == self.fails {
             return Err(NoMemory);
         }
-        Ok(*item / 2)
+        Ok(Judged {
+            verdict: *item / 2,
+            children: children_of(self.alloc, *item)?,
+        })
     }
 
     fn copy_item(&self, item: &u32) -> Result<u32, NoMemory> {
@@ -63,6 +57,18 @@ impl Work for Sevens {
     ghost parents_apart = { sevens_apart };
 
     ghost equal_is_same = { exact_unsigned };
+}
+
+/// The two children of an item below 3.
+fn children_of(alloc: Global, item: u32) -> Result<List<u32>, NoMemory>
+    ensures { IfOk result (λ list. list ≡ children item) }
+{
+    let mut list = List::new(alloc);
+    if item < 3 {
+        list.push(2 * item + 1)?;
+        list.push(2 * item + 2)?;
+    }
+    Ok(list)
 }
 
 fn new_work(alloc: Global, fails: u32) -> Sevens {
