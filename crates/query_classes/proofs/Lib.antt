@@ -10,6 +10,7 @@ pub mod NamesBelow
 pub mod Partition
 pub mod ReadsDecided
 pub mod SameGrounds
+pub mod ToldBelow
 pub mod TreeItems
 pub mod TreeRows
 pub mod TreeWalk

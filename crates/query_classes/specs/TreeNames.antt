@@ -1,9 +1,10 @@
--- The live sets that the names of a class tree keep: for the contracts of the calls on such names alone.
-use Rattle.std.specs.Prelude.{ℕ, List}
-use Rattle.dns_data.specs.Name.{Labels, AreInOrder}
+-- What the names of a class tree keep: for the contracts of the calls on such names alone.
+use Rattle.std.specs.Prelude.{◌≡◌, ℕ, Bool, true, List}
+use Rattle.dns_data.specs.Name.{Labels, AreInOrder, is_prefix}
 use Rattle.label_graph.specs.LiveSet.{IsLiveSet}
 use Rattle.label_graph.specs.Pairs.{AreSame}
 use Rattle.net_model.specs.Reading.{Ground}
+use Rattle.query_classes.specs.declared.live_name.LiveName.{LiveName}
 
 -- the graph has the names of the ground, in order, and its redirections
 pub record AreBaseNamesOf (basis graph : Ground) : Type 0 where
@@ -13,3 +14,12 @@ pub record AreBaseNamesOf (basis graph : Ground) : Type 0 where
 -- the places are the live set of the name in each such graph
 abbrev pub IsLiveIn : Ground → Labels → List ℕ → Type 0
 IsLiveIn basis name places = (graph : Ground) → AreBaseNamesOf basis graph → IsLiveSet graph name places
+
+-- it is told of each name at or below this one
+abbrev pub IsToldBelow : (Labels → Type 0) → Labels → Type 0
+IsToldBelow told above = (name : Labels) → is_prefix above name ≡ true → told name
+
+-- the name has its live set, and where it is said so it is told of each name at or below it
+pub record IsTreeName (basis : Ground) (told : Labels → Type 0) (all_told : Bool) (found : LiveName) : Type 0 where
+  pub live : IsLiveIn basis found.name found.live
+  pub told_below : all_told ≡ true → IsToldBelow told found.name

@@ -1,7 +1,7 @@
 //! Names of the class tree, as the items of a work.
 
-ghost use Rattle.std.specs.Prelude.{◌≡◌, map, All, IfOk};
-ghost use Rattle.query_classes.specs.TreeNames.{AreBaseNamesOf, IsLiveIn};
+ghost use Rattle.std.specs.Prelude.{◌≡◌, true, map, All, IfOk};
+ghost use Rattle.query_classes.specs.TreeNames.{AreBaseNamesOf, IsLiveIn, IsToldBelow, IsTreeName};
 ghost use Rattle.query_classes.specs.Children.{AreChildren};
 
 use crate::live_name::LiveName;
@@ -12,42 +12,44 @@ use std::alloc::Global;
 use std::cmp::Ordering;
 use std::marker::{Model, PhantomData};
 
-/// A name of the class tree of a ground with its live set, so that it isn't walked to again. Contracts see the name,
-/// and names are ordered as `Name` orders them.
+/// A name of the class tree of a ground with its live set, so that it isn't walked to again, and with a mark, where what
+/// may be told is told of each name at or below it. Contracts see the name, and names are ordered as `Name` orders them.
 #[derive(Drop)]
 pub struct TreeName<G: OnGround> {
     found: LiveName,
+    all_told: bool,
     of: PhantomData<G>,
 }
 
 impl<G: OnGround> Model for TreeName<G> {
-    ghost use Rattle.query_classes.specs.TreeNames.{IsLiveIn};
+    ghost use Rattle.query_classes.specs.TreeNames.{IsTreeName};
     ghost use Rattle.dns_data.specs.Name.{Labels};
 
     ghost Value = { Labels };
 
     ghost view = { λ item. item.found.name };
 
-    ghost invariant = { λ item. IsLiveIn G.ground item.found.name item.found.live };
+    ghost invariant = { λ item. IsTreeName G.ground G.told item.all_told item.found };
 }
 
 impl<G: OnGround> TreeName<G> {
-    /// The name with its live set, found from the root down.
+    /// The name with its live set, found from the root down, without the mark.
     pub fn of_name(alloc: Global, graph: &LabelGraph, name: &Name) -> Result<TreeName<G>, NoMemory>
         requires { AreBaseNamesOf G.ground graph.now }
         ensures { IfOk result (λ item. item ≡ name.now) }
     {
         let found = LiveName::of(alloc, graph, name)?;
-        Ok(TreeName::of(found))
+        Ok(TreeName::of(found, false))
     }
 
-    /// The item of a name with its live set.
-    fn of(found: LiveName) -> TreeName<G>
-        requires { IsLiveIn G.ground found.name found.live }
+    /// The item of a name with its live set, and with the mark where that is said.
+    fn of(found: LiveName, all_told: bool) -> TreeName<G>
+        requires { IsTreeName G.ground G.told all_told found }
         ensures { result ≡ found.name }
     {
         TreeName {
             found,
+            all_told,
             of: PhantomData,
         }
     }
@@ -60,22 +62,35 @@ impl<G: OnGround> TreeName<G> {
         &self.found
     }
 
-    /// The names of the class tree one label below, in order.
-    pub fn children(&self, alloc: Global, graph: &LabelGraph) -> Result<List<TreeName<G>>, NoMemory>
-        requires { AreBaseNamesOf G.ground graph.now }
+    /// Whether it has the mark: what may be told is told of each name at or below it.
+    pub fn is_told_below(&self) -> bool
+        ensures { result ≡ true → IsToldBelow G.told self.now }
+    {
+        self.all_told
+    }
+
+    /// The names of the class tree one label below, in order, all with the mark where that is said.
+    pub fn children(
+        &self,
+        alloc: Global,
+        graph: &LabelGraph,
+        all_told: bool,
+    ) -> Result<List<TreeName<G>>, NoMemory>
+        requires base { AreBaseNamesOf G.ground graph.now }
+        requires told { all_told ≡ true → IsToldBelow G.told self.now }
         ensures { IfOk result (AreChildren G.ground self.now) }
     {
         let found = self.found.children(alloc, graph)?;
-        items_of(alloc, found)
+        items_of(alloc, found, all_told)
     }
 
-    /// An equal item.
+    /// An equal item, with the mark where this one has it.
     pub fn copy(&self, alloc: Global) -> Result<TreeName<G>, NoMemory>
         ensures { IfOk result (λ copy. copy ≡ self.now) }
     {
         let name = self.found.name.copy(alloc)?;
         let live = self.found.live.copy(alloc)?;
-        Ok(TreeName::of(LiveName { name, live }))
+        Ok(TreeName::of(LiveName { name, live }, self.all_told))
     }
 
     /// The name alone.
@@ -88,17 +103,18 @@ impl<G: OnGround> TreeName<G> {
     }
 }
 
-/// Names with their live sets, as items.
+/// Names with their live sets, as items, all with the mark where that is said.
 fn items_of<G: OnGround>(
     alloc: Global,
     found: List<LiveName>,
+    all_told: bool,
 ) -> Result<List<TreeName<G>>, NoMemory>
-    requires { All (λ one. IsLiveIn G.ground one.name one.live) found }
+    requires { All (IsTreeName G.ground G.told all_told) found }
     ensures { IfOk result (λ items. items ≡ map (λ one. one.name) found) }
 {
     let mut items = Vec::with_capacity(alloc, found.len())?;
     for one in found {
-        items.push(TreeName::of(one))?;
+        items.push(TreeName::of(one, all_told))?;
     }
     Ok(List::from_vec(items))
 }

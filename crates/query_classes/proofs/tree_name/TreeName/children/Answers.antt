@@ -1,18 +1,19 @@
 use Rattle.std.proofs.Common.{sym, subst}
-use Rattle.std.proofs.lemmas.List.Elements.{All-weaker}
 use Rattle.std.proofs.lemmas.Result.{IfOk-weaker}
 use Rattle.dns_data.specs.Name.{Labels}
 use Rattle.query_classes.specs.Children.{AreChildren}
-use Rattle.query_classes.proofs.LiveInEach.{live_in_each}
+use Rattle.query_classes.specs.TreeNames.{IsToldBelow}
 use Rattle.query_classes.proofs.SameGrounds.{children_same}
+use Rattle.query_classes.proofs.ToldBelow.{children_told}
 use Rattle.query_classes.proofs.tree_name.TreeName.children.Goals as goal
 
 pub children-requires : goal.children-requires
-children-requires g c = c.self.invariant c.args.graph.now c.requires
+children-requires g c = c.self.invariant.live c.args.graph.now c.requires.base
 
 pub items_of-requires : goal.items_of-requires
 items_of-requires g c =
-    All-weaker _ _ (λ one live. live_in_each g.G.OnGround.ground c.args.graph.now c.requires one.name one.live live) c.in_ok-found.found c.in_ok-found.ensures.live
+    children_told g.G.OnGround.ground c.args.graph.now c.requires.base g.G.OnGround.told c.args.all_told c.self.inside.found.name
+    (λ said. subst (IsToldBelow g.G.OnGround.told) (sym c.self.view_is) (c.requires.told said)) c.in_ok-found.found c.in_ok-found.ensures.names c.in_ok-found.ensures.live
 
 pub returns : goal.returns
 returns g c =
@@ -20,5 +21,5 @@ returns g c =
     IfOk-weaker c.items_of.result _ (AreChildren ground c.args.self.now)
     (λ items are. subst (λ (name : Labels). AreChildren ground name items) c.self.view_is
     (subst (AreChildren ground c.self.inside.found.name) (sym are)
-    (children_same c.args.graph.now ground c.requires.same c.self.inside.found.name _ c.in_ok-found.ensures.names)))
+    (children_same c.args.graph.now ground c.requires.base.same c.self.inside.found.name _ c.in_ok-found.ensures.names)))
     c.items_of.ensures
