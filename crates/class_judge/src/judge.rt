@@ -21,7 +21,7 @@ use query_classes::TreeName;
 use query_verdicts::{FiledVerdict, NameJudge, QueryGraphs, ReportFault, SubjectGround};
 use std::alloc::Global;
 use std::marker::Model;
-use verdict_book::{Filed, JudgeShare, Work};
+use verdict_book::{Filed, JudgeShare, Judged, Work};
 
 /// A judge of the class tree of a configuration. Contracts see the configuration.
 #[derive(Drop)]
@@ -56,18 +56,11 @@ impl<'a, N: Naming + Send> Work for Judge<'a, N> {
         self.names.first()
     }
 
-    fn children(
-        &self,
-        item: &TreeName<SubjectGround<OfConfig<N>>>,
-    ) -> Result<List<TreeName<SubjectGround<OfConfig<N>>>>, NoMemory> {
-        self.names.children(item)
-    }
-
     fn judge(
         &self,
         item: &TreeName<SubjectGround<OfConfig<N>>>,
         share: &mut JudgeShare,
-    ) -> Result<FiledVerdict, NoMemory> {
+    ) -> Result<Judged<TreeName<SubjectGround<OfConfig<N>>>, FiledVerdict>, NoMemory> {
         share.raise();
         self.names.judge(item)
     }

@@ -22,7 +22,7 @@ use query_verdicts::{
 };
 use std::alloc::Global;
 use std::marker::Model;
-use verdict_book::{Filed, JudgeShare, Work};
+use verdict_book::{Filed, JudgeShare, Judged, Work};
 
 /// A judge of the scope of a name in a configuration: of the names at or below it that the configuration's base names
 /// and the prefixes of the name tell apart. Contracts see the configuration.
@@ -57,18 +57,11 @@ impl<'a, N: ScopeNaming + Send> Work for ScopeJudge<'a, N> {
         self.names.first()
     }
 
-    fn children(
-        &self,
-        item: &TreeName<SubjectGround<OfScope<N>>>,
-    ) -> Result<List<TreeName<SubjectGround<OfScope<N>>>>, NoMemory> {
-        self.names.children(item)
-    }
-
     fn judge(
         &self,
         item: &TreeName<SubjectGround<OfScope<N>>>,
         share: &mut JudgeShare,
-    ) -> Result<FiledVerdict, NoMemory> {
+    ) -> Result<Judged<TreeName<SubjectGround<OfScope<N>>>, FiledVerdict>, NoMemory> {
         share.raise();
         self.names.judge(item)
     }

@@ -1,5 +1,5 @@
 -- What the walks of a query end in that go straight, and its verdict: no faults.
-use Rattle.std.proofs.Common.{◌≡◌, ℕ, true, [], Option, Some, None, Result, Ok, Err, arith}
+use Rattle.std.proofs.Common.{◌≡◌, ℕ, true, [], ◌++◌, Option, Some, None, Result, Ok, Err, arith}
 use Rattle.std.specs.Prelude.{◌↔◌, IfOk, IfSome}
 use Rattle.dns_data.specs.Name.{Labels}
 use Rattle.dns_data.specs.declared.rr_type.RrType.{RrType}
@@ -9,6 +9,7 @@ use Rattle.net_model.specs.declared.config.Config.{Config}
 use Rattle.net_model.specs.declared.fault.Fault.{Fault}
 use Rattle.net_model.specs.Shown.{FaultSetting, Shows, with_lists}
 use Rattle.net_model.specs.Step.{following}
+use Rattle.net_model.specs.Tails.{IsUnnamedTail}
 use Rattle.net_model.specs.Tree.{HasMoreThan, IsReached}
 use Rattle.net_model.specs.Walk.{IsBoundedWith}
 use Rattle.net_model.specs.declared.walk.Leaf.{Leaf}
@@ -54,7 +55,7 @@ module _ (config : Config) (rewrites states : ℕ) (query : Labels) (deps : Deps
         ((lists_show config rewrites deps.least deps.least deps.greatest sets.least sets.greatest name rtype fault).1 shows))),
   )
 
-  -- and what is told of the ends that a call gives holds of the query, and of the names of which they are the ends too
+  -- and what is told of the ends that a call gives holds of the query, and of the names of which they tell the ends too
   pub straight_ends : {E : Type 0} (given : Result (Option StraightEnds) E) → IfOk given (λ found. IfSome found (λ ends. IsFew config rewrites states query))
       → IfOk given (λ found. IfSome found (λ ends. IsSilent config rewrites query deps))
       → IfOk given (λ found. IfSome found (λ ends. (rtype : RrType) → IsBoundedWith (following config rewrites deps.least) query rtype))
@@ -62,9 +63,11 @@ module _ (config : Config) (rewrites states : ℕ) (query : Labels) (deps : Deps
       → HasOutcome (following config rewrites deps.least) query rtype outcome ↔ IsOutcomeOf ends rtype outcome))
       → IfOk given (λ found. IfSome found (λ ends. ends.below ≡ true → (name : Labels) → NoOriginBetween config query name → IsFew config rewrites states name))
       → IfOk given (λ found. IfSome found (λ ends. ends.below ≡ true → (name : Labels) → NoOriginBetween config query name → IsSilent config rewrites name deps))
+      → IfOk given (λ found. IfSome found (λ ends. ends.unnamed_below ≡ true → (tail : Labels) → IsUnnamedTail config query tail → IsFew config rewrites states (query ++ tail)))
+      → IfOk given (λ found. IfSome found (λ ends. ends.unnamed_below ≡ true → (tail : Labels) → IsUnnamedTail config query tail → IsSilent config rewrites (query ++ tail) deps))
       → IfOk given (λ found. IfSome found (AreStraightEnds config rewrites states query))
-  straight_ends (Ok None) few silent bounded outcomes few_below silent_below = tt
-  straight_ends (Ok (Some ends)) few silent bounded outcomes few_below silent_below =
+  straight_ends (Ok None) few silent bounded outcomes few_below silent_below few_unnamed silent_unnamed = tt
+  straight_ends (Ok (Some ends)) few silent bounded outcomes few_below silent_below few_unnamed silent_unnamed =
       record {
         few = few;
         learnt = sets.none_passes;
@@ -74,5 +77,6 @@ module _ (config : Config) (rewrites states : ℕ) (query : Labels) (deps : Deps
         outcomes = outcomes;
         quiet = quiet query few silent;
         quiet_below = λ below name between. quiet name (few_below below name between) (silent_below below name between);
+        quiet_unnamed = λ below tail is. quiet (query ++ tail) (few_unnamed below tail is) (silent_unnamed below tail is);
       }
-  straight_ends (Err fault) few silent bounded outcomes few_below silent_below = tt
+  straight_ends (Err fault) few silent bounded outcomes few_below silent_below few_unnamed silent_unnamed = tt

@@ -1,6 +1,6 @@
 -- The queries of a configuration within their limits, and what is known of the class of one: for the contracts of the calls
 -- on query graphs.
-use Rattle.std.specs.Prelude.{◌≡◌, ◌↔◌, ℕ, true, List, [], Option}
+use Rattle.std.specs.Prelude.{◌≡◌, ◌↔◌, ◌++◌, ℕ, true, List, [], Option}
 use Rattle.dns_data.specs.Name.{Labels}
 use Rattle.dns_data.specs.declared.rr_type.RrType.{RrType}
 use Rattle.graph_form.specs.Graph.{PlainGraph}
@@ -12,6 +12,7 @@ use Rattle.net_model.specs.Class.{IsClassOf, IsRepresentative}
 use Rattle.net_model.specs.Learnt.{IsLeast, IsGreatest, IsInForce}
 use Rattle.net_model.specs.Reading.{Ground, ground_of}
 use Rattle.net_model.specs.Step.{following}
+use Rattle.net_model.specs.Tails.{IsUnnamedTail}
 use Rattle.net_model.specs.Walk.{IsBoundedWith}
 use Rattle.net_model.specs.declared.deps.Deps.{Deps}
 use Rattle.net_model.specs.declared.walk.Leaf.{Leaf}
@@ -67,7 +68,7 @@ pub record IsLeastGraph (config : Config) (rewrites : ℕ) (query : Labels) (gra
 -- The walks of the query end so while the servers of the set in force are followed: it has these outcomes and no
 -- others, and no walk of it ends in a name of more than 255 octets (RFC 6672 section 2.2). Neither it nor the name of
 -- some server reaches too many pairs of state and type, and it shows no fault; nor does a name below it with no origin
--- between, where they are its ends too.
+-- between, where they are its ends too, or the query with an unnamed tail, where its ends are known too.
 pub record AreStraightEnds (config : Config) (rewrites states : ℕ) (query : Labels) (ends : StraightEnds) : Type 0 where
   pub few : PassesStates config rewrites states query → ⊥
   pub learnt : SomeServerPasses config rewrites states → ⊥
@@ -77,6 +78,7 @@ pub record AreStraightEnds (config : Config) (rewrites states : ℕ) (query : La
   pub outcomes : (rtype : RrType) (outcome : Option Leaf) → HasOutcome (following config rewrites followed) query rtype outcome ↔ IsOutcomeOf ends rtype outcome
   pub quiet : IsClassVerdict config rewrites states query (Faults [])
   pub quiet_below : ends.below ≡ true → (name : Labels) → NoOriginBetween config query name → IsClassVerdict config rewrites states name (Faults [])
+  pub quiet_unnamed : ends.unnamed_below ≡ true → (tail : Labels) → IsUnnamedTail config query tail → IsClassVerdict config rewrites states (query ++ tail) (Faults [])
 
 -- the query is of the class under the ground, and its representative
 pub record StandsFor (ground : Ground) (class : Class) (query : Labels) : Type 0 where

@@ -37,6 +37,10 @@ IsClassVerdict config rewrites states query (Faults shown) =
     (PassesStates config rewrites states query → ⊥) × AreFaultsOf config rewrites states query shown
 IsClassVerdict config rewrites states query StatesPassed = PassesStates config rewrites states query
 
+-- the query shows no fault, and reaches no more pairs than are looked at
+abbrev pub IsQuiet : Subject → ℕ → Labels → Type 0
+IsQuiet subject states query = IsClassVerdict subject.config subject.rewrites states query (Faults [])
+
 -- the verdict of the class below a name of the subject's class tree, if it has a representative
 abbrev pub IsBelowVerdict : Subject → ℕ → Labels → Option ClassVerdict → Type 0
 IsBelowVerdict subject states above below = IsVerdictBelow subject.ground (IsClassVerdict subject.config subject.rewrites states) above below

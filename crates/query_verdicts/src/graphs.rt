@@ -1,9 +1,10 @@
 //! The graphs and the verdicts of the queries of a configuration.
 
-ghost use Rattle.std.specs.Prelude.{◌≡◌, IfOk, IfErr, IfSome, OnOk, IsErrOf, MatchOption};
+ghost use Rattle.std.specs.Prelude.{◌≡◌, true, IfOk, IfErr, IfSome, OnOk, IsErrOf, MatchOption};
 ghost use Rattle.query_verdicts.specs.Passed.{IsFirstServerPassed};
 ghost use Rattle.query_verdicts.specs.Queries.{AreSets, AreStraightEnds, IsLeastGraph, IsOwnClass, limited_to};
 ghost use Rattle.query_verdicts.specs.Verdict.{IsClassVerdict, PassesStates, SomeServerPasses};
+ghost use Rattle.straight_walks.specs.Straight.{NoOriginBelow};
 
 use crate::learnt::{Learnt, learnt_of};
 use crate::own_class::OwnClass;
@@ -93,8 +94,9 @@ impl<'a> QueryGraphs<'a> {
 
     /// What the walks of a query end in while the servers of the least set of learnt addresses are followed, where they
     /// are seen to go straight there without a graph, or `None`. The query shows no fault then, nor does a name below it
-    /// with no origin of a zone between, where these are its ends too. The query's region is looked for near a place
-    /// first, whatever that is, and the place is left near which that of the next query may be looked for.
+    /// with no origin of a zone between, where these are its ends too, or the query with any unnamed tail, where its ends
+    /// are known too. The query's region is looked for near a place first, whatever that is, and the place is left near
+    /// which that of the next query may be looked for.
     pub fn straight_ends(
         &self,
         near: &mut usize,
@@ -114,6 +116,17 @@ impl<'a> QueryGraphs<'a> {
                 self.queries.states,
             ),
             Err(_) => Ok(None),
+        }
+    }
+
+    /// Whether no server has a zone with an origin below the name, where that is seen near a place: the one near which the
+    /// walks of this name were looked for last.
+    pub(crate) fn no_origin_below(&self, near: usize, name: &Name) -> bool
+        ensures { result ≡ true → NoOriginBelow self.now.config name.now }
+    {
+        match &self.learnt {
+            Ok(learnt) => learnt.regions.none_below(near, name),
+            Err(_) => false,
         }
     }
 

@@ -12,17 +12,18 @@
 //! in the graph, `verdict` has what is told of a class and of a name and how that is filed, `name_judge` judges the two
 //! classes of a name, and `report` picks the first class that shows a fault and makes the entry.
 //!
-//! Costs: `prepare` makes the trees of all zones and, where walks of a server's name may lead on from the top servers or
-//! these are few, a graph of that name, once. A name of the tree keeps its own live set, found once, one label on from that
-//! of the name above it: none is walked to from the root to be judged, and judging copies neither the name nor its live
-//! set. Judging a name makes a graph for each of its classes, which is dropped when its faults are found: a verdict keeps
-//! no walk, and takes no memory of its own where no class of the name shows a fault. No graph is made where the
-//! representative's walks are seen to go straight to their ends. Where these are the ends of the names below too, as they
-//! are where all servers refer the name to servers elsewhere, the class below is judged by the same search. A graph is
-//! restricted to the least set of learnt addresses only where some configured server is neither in that set nor a top
-//! server. The class of a query under the configuration's own names is asked only where a graph was made and the subject
-//! tells other names apart. The report makes one graph more for each class that is the first to show some fault, and finds
-//! the first walks of all these faults in it.
+//! Costs: `prepare` makes the trees of all zones and, where walks of a server's name may lead on from the top servers
+//! or these are few, a graph of that name, once. A name of the tree keeps its own live set, found once, one label on
+//! from that of the name above it: none is walked to from the root to be judged, and judging copies neither the name
+//! nor its live set. Judging a name makes a graph for each of its classes, which is dropped when its faults are found:
+//! a verdict keeps no walk, and takes no memory of its own where no class of the name shows a fault. No graph is made
+//! where the representative's walks are seen to go straight to their ends. Where all servers refer the name to servers
+//! elsewhere, or answer it by data of its own and have no wildcard below it, the class below is judged by the same
+//! search, and its representative isn't made. Where all refer it elsewhere and no zone's origin stands below it, no
+//! name below it is searched for at all. A graph is restricted to the least set of learnt addresses only where some
+//! configured server is neither in that set nor a top server. The class of a query under the configuration's own names
+//! is asked only where a graph was made and the subject tells other names apart. The report makes one graph more for
+//! each class that is the first to show some fault, and finds the first walks of all these faults in it.
 #![tactic(auto)]
 
 mod graphs;
@@ -32,6 +33,7 @@ mod name_judge;
 mod own_class;
 mod passed;
 mod queries;
+mod quiet;
 mod report;
 mod servers;
 mod subject;

@@ -1,20 +1,21 @@
 //! The judge of the names of a class tree.
 
-ghost use Rattle.std.specs.Prelude.{◌≡◌, [], true, IfOk, IfSome, IsErrOf, MatchOption};
+ghost use Rattle.std.specs.Prelude.{◌≡◌, ◌++◌, [], true, IfOk, IfSome, IsErrOf, MatchOption};
 ghost use Rattle.dns_data.specs.Name.{Labels};
+ghost use Rattle.net_model.specs.Tails.{IsUnnamedTail};
 ghost use Rattle.net_model.specs.declared.class.Class.TheVariants.{Below};
 ghost use Rattle.query_verdicts.specs.Passed.{IsFirstServerPassed};
 ghost use Rattle.query_verdicts.specs.Queries.{IsLeastGraph, StandsFor};
-ghost use Rattle.query_verdicts.specs.Subjects.{AreOfSubject, IsCovering, RepresentsBelow};
-ghost use Rattle.query_verdicts.specs.Verdict.{IsBelowVerdict, IsClassVerdict, IsNameVerdict, PassesStates, SomeServerPasses};
+ghost use Rattle.query_verdicts.specs.Subjects.{AreOfSubject, IsCovering, IsQuietAt, RepresentsBelow};
+ghost use Rattle.query_verdicts.specs.Verdict.{IsBelowVerdict, IsClassVerdict, IsNameVerdict, IsQuiet, PassesStates, SomeServerPasses};
 ghost use Rattle.query_verdicts.specs.declared.verdict.ClassVerdict.TheVariants.{Faults};
 ghost use Rattle.query_classes.specs.Children.{AreChildren, IsInTree};
 ghost use Rattle.query_classes.specs.Members.{RepresentsClass};
-ghost use Rattle.query_classes.specs.TreeNames.{AreBaseNamesOf, IsLiveIn};
-ghost use Rattle.straight_walks.specs.Straight.{NoOriginBetween};
+ghost use Rattle.query_classes.specs.TreeNames.{AreBaseNamesOf, IsLiveIn, IsToldBelow};
 
 use crate::graphs::QueryGraphs;
 use crate::own_class::OwnClass;
+use crate::quiet::Quiet;
 use crate::subject::{OnSubject, SubjectGround};
 use crate::verdict::{ClassVerdict, FiledVerdict, NameVerdict};
 use dns_data::{List, Name, NoMemory};
@@ -25,6 +26,7 @@ use net_model::Class;
 use query_classes::{LiveName, TreeName};
 use std::alloc::Global;
 use std::marker::{Model, PhantomData};
+use verdict_book::Judged;
 
 /// What judges the names of a subject's class tree at or below the subject's name, and makes the subject's report of their
 /// verdicts. Contracts see the queries of the configuration with their limits.
@@ -79,23 +81,22 @@ impl<'a, S: OnSubject> NameJudge<'a, S> {
         TreeName::of_name(self.alloc, &self.names, &self.first)
     }
 
-    /// The names of the class tree one label below, in order.
-    pub fn children(
+    /// The verdict of a name of the class tree, to be filed, and the names of the tree one label below it, in order. No name
+    /// below it is searched for where it is known that none shows a fault.
+    pub fn judge(
         &self,
         item: &TreeName<SubjectGround<S>>,
-    ) -> Result<List<TreeName<SubjectGround<S>>>, NoMemory>
-        ensures { IfOk result (AreChildren S.subject.ground item.now) }
-    {
-        item.children(self.alloc, &self.names)
-    }
-
-    /// The verdict of a name of the class tree, to be filed.
-    pub fn judge(&self, item: &TreeName<SubjectGround<S>>) -> Result<FiledVerdict, NoMemory>
+    ) -> Result<Judged<TreeName<SubjectGround<S>>, FiledVerdict>, NoMemory>
         requires { IsInTree S.subject.ground item.now }
-        ensures { IfOk result (IsNameVerdict S.subject S.states item.now) }
+        ensures verdict { IfOk result (λ judged. IsNameVerdict S.subject S.states item.now judged.verdict) }
+        ensures children { IfOk result (λ judged. AreChildren S.subject.ground item.now judged.children) }
     {
-        let verdict = self.judge_name(item.live_name())?;
-        FiledVerdict::of(self.alloc, verdict)
+        if item.is_told_below() {
+            let verdict = self.quiet_name(item.live_name())?;
+            self.with_children(item, verdict, true)
+        } else {
+            self.judge_searched(item)
+        }
     }
 
     /// An equal item.
@@ -108,35 +109,99 @@ impl<'a, S: OnSubject> NameJudge<'a, S> {
         item.copy(self.alloc)
     }
 
-    /// The verdict of a name of the class tree: of the class of the name alone, and of the class below it. The region of
-    /// the second query is searched from that of the first; `usize::MAX` means no hint. Where the names below show no
-    /// fault as the name doesn't, no second query is looked at.
-    fn judge_name(&self, name: &LiveName) -> Result<NameVerdict<ClassVerdict>, NoMemory>
-        requires live { IsLiveIn S.subject.ground name.now.name name.now.live }
-        requires in_tree { IsInTree S.subject.ground name.now.name }
-        ensures { IfOk result (IsNameVerdict S.subject S.states name.now.name) }
+    /// The verdict of a name of the class tree and the names one label below it. The region of its representative below is
+    /// searched from its own; `usize::MAX` means no hint.
+    fn judge_searched(
+        &self,
+        item: &TreeName<SubjectGround<S>>,
+    ) -> Result<Judged<TreeName<SubjectGround<S>>, FiledVerdict>, NoMemory>
+        requires { IsInTree S.subject.ground item.now }
+        ensures verdict { IfOk result (λ judged. IsNameVerdict S.subject S.states item.now judged.verdict) }
+        ensures children { IfOk result (λ judged. AreChildren S.subject.ground item.now judged.children) }
     {
         let mut near = usize::MAX;
-        match self.quiet(&mut near, &name.name)? {
-            Some(true) => self.quiet_name(name),
-            Some(false) => self.with_below(&mut near, name, self.no_fault()),
+        let name = item.live_name();
+        let quiet = self.quiet(&mut near, &name.name)?;
+        let all_quiet = self.all_quiet(quiet, near, &name.name);
+        let verdict = self.judge_name(quiet, &mut near, name)?;
+        self.with_children(item, verdict, all_quiet)
+    }
+
+    /// A name of the class tree with this verdict, to be filed, and the names one label below it: where that is said, no
+    /// name at or below the name shows a fault.
+    fn with_children(
+        &self,
+        item: &TreeName<SubjectGround<S>>,
+        verdict: NameVerdict<ClassVerdict>,
+        all_quiet: bool,
+    ) -> Result<Judged<TreeName<SubjectGround<S>>, FiledVerdict>, NoMemory>
+        requires verdict { IsNameVerdict S.subject S.states item.now verdict }
+        requires quiet { all_quiet ≡ true → IsToldBelow (IsQuiet S.subject S.states) item.now }
+        ensures verdict { IfOk result (λ judged. IsNameVerdict S.subject S.states item.now judged.verdict) }
+        ensures children { IfOk result (λ judged. AreChildren S.subject.ground item.now judged.children) }
+    {
+        let children = item.children(self.alloc, &self.names, all_quiet)?;
+        let verdict = FiledVerdict::of(self.alloc, verdict)?;
+        Ok(Judged { verdict, children })
+    }
+
+    /// The verdict of a name of the class tree: of the class of the name alone, of which it is told whether it shows no
+    /// fault, and of the class below it. The region of the second query is searched near a place first.
+    fn judge_name(
+        &self,
+        quiet: Option<Quiet>,
+        near: &mut usize,
+        name: &LiveName,
+    ) -> Result<NameVerdict<ClassVerdict>, NoMemory>
+        requires live { IsLiveIn S.subject.ground name.now.name name.now.live }
+        requires in_tree { IsInTree S.subject.ground name.now.name }
+        requires quiet { IfSome quiet (IsQuietAt S.subject S.states name.now.name) }
+        ensures { IfOk result (IsNameVerdict S.subject S.states name.now.name) }
+    {
+        match quiet {
+            Some(quiet) => {
+                if quiet.unnamed {
+                    self.quiet_name(name)
+                } else {
+                    self.with_below(near, name, self.no_fault())
+                }
+            }
             None => {
                 let exact = self.looked_alone(&name.name)?;
-                self.with_below(&mut near, name, exact)
+                self.with_below(near, name, exact)
             }
         }
     }
 
     /// Whether the walks of a query are seen to go straight, so that it shows no fault: `None` where they aren't, and else
-    /// whether no name below it shows one either, as long as no origin of a zone stands between.
-    fn quiet(&self, near: &mut usize, query: &Name) -> Result<Option<bool>, NoMemory>
-        ensures alone { IfOk result (λ found. IfSome found (λ below. IsClassVerdict S.subject.config S.subject.rewrites S.states query.now (Faults []))) }
-        ensures below { IfOk result (λ found. IfSome found (λ below. below ≡ true → (name : Labels) → NoOriginBetween S.subject.config query.now name
-            → IsClassVerdict S.subject.config S.subject.rewrites S.states name (Faults []))) }
+    /// of which names below it it is known that they show none either.
+    fn quiet(&self, near: &mut usize, query: &Name) -> Result<Option<Quiet>, NoMemory>
+        ensures { IfOk result (λ found. IfSome found (IsQuietAt S.subject S.states query.now)) }
     {
         match self.graphs.straight_ends(near, query)? {
-            Some(ends) => Ok(Some(ends.below)),
+            Some(ends) => Ok(Some(Quiet {
+                below: ends.below,
+                unnamed: ends.unnamed_below,
+            })),
             None => Ok(None),
+        }
+    }
+
+    /// Whether it is known that no name at or below a query shows a fault: no origin of a zone stands below it, as seen
+    /// near a place.
+    fn all_quiet(&self, quiet: Option<Quiet>, near: usize, query: &Name) -> bool
+        requires { IfSome quiet (IsQuietAt S.subject S.states query.now) }
+        ensures { result ≡ true → IsToldBelow (IsQuiet S.subject S.states) query.now }
+    {
+        match quiet {
+            Some(quiet) => {
+                if quiet.below {
+                    self.graphs.no_origin_below(near, query)
+                } else {
+                    false
+                }
+            }
+            None => false,
         }
     }
 
@@ -147,13 +212,12 @@ impl<'a, S: OnSubject> NameJudge<'a, S> {
         ClassVerdict::Faults(List::new(self.alloc))
     }
 
-    /// The verdict of a name of the class tree where neither it nor a name below it, with no origin between, shows a fault.
+    /// The verdict of a name of the class tree where neither it nor it with an unnamed tail shows a fault.
     fn quiet_name(&self, name: &LiveName) -> Result<NameVerdict<ClassVerdict>, NoMemory>
         requires live { IsLiveIn S.subject.ground name.now.name name.now.live }
         requires in_tree { IsInTree S.subject.ground name.now.name }
-        requires alone { IsClassVerdict S.subject.config S.subject.rewrites S.states name.now.name (Faults []) }
-        requires below { (query : Labels) → NoOriginBetween S.subject.config name.now.name query
-            → IsClassVerdict S.subject.config S.subject.rewrites S.states query (Faults []) }
+        requires alone { IsQuiet S.subject S.states name.now.name }
+        requires below { (tail : Labels) → IsUnnamedTail S.subject.config name.now.name tail → IsQuiet S.subject S.states (name.now.name ++ tail) }
         ensures { IfOk result (IsNameVerdict S.subject S.states name.now.name) }
     {
         let below = self.quiet_below(name)?;
@@ -163,13 +227,12 @@ impl<'a, S: OnSubject> NameJudge<'a, S> {
         })
     }
 
-    /// The verdict of the class below a name of the class tree, or `None` where it is empty, where no name below it shows
-    /// a fault, with no origin between.
+    /// The verdict of the class below a name of the class tree, or `None` where it is empty, where the name shows no fault
+    /// with any unnamed tail.
     fn quiet_below(&self, above: &LiveName) -> Result<Option<ClassVerdict>, NoMemory>
         requires live { IsLiveIn S.subject.ground above.now.name above.now.live }
         requires in_tree { IsInTree S.subject.ground above.now.name }
-        requires below { (query : Labels) → NoOriginBetween S.subject.config above.now.name query
-            → IsClassVerdict S.subject.config S.subject.rewrites S.states query (Faults []) }
+        requires below { (tail : Labels) → IsUnnamedTail S.subject.config above.now.name tail → IsQuiet S.subject S.states (above.now.name ++ tail) }
         ensures { IfOk result (IsBelowVerdict S.subject S.states above.now.name) }
     {
         if above.has_below(self.alloc, &self.names)? {

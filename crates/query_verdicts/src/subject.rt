@@ -14,12 +14,17 @@ pub trait OnSubject {
     ghost states: { ℕ };
 }
 
-/// The ground of a subject, on which the names of its class tree stand.
+/// The ground of a subject, on which the names of its class tree stand. What may be told of all names at or below one of
+/// them is that they show no fault.
 #[derive(Drop)]
 pub struct SubjectGround<S: OnSubject> {
     of: PhantomData<S>,
 }
 
 impl<S: OnSubject> OnGround for SubjectGround<S> {
+    ghost use Rattle.query_verdicts.specs.Verdict.{IsQuiet};
+
     ghost ground = { S.subject.ground };
+
+    ghost told = { IsQuiet S.subject S.states };
 }

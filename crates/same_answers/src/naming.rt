@@ -1,6 +1,6 @@
 //! The names under which comparisons go.
 
-ghost use Rattle.std.specs.Prelude.{[], List as Items, None};
+ghost use Rattle.std.specs.Prelude.{[], ⊤, List as Items, None};
 ghost use Rattle.dns_data.specs.Name.{Labels};
 ghost use Rattle.query_verdicts.specs.declared.verdict.NameVerdict.{NameVerdict};
 ghost use Rattle.same_answers.specs.Compared.{Compared, joint};
@@ -35,7 +35,8 @@ impl PairNaming for Brand {
     ghost apart = { childless_apart [] };
 }
 
-/// The joint ground of the two configurations of a name, on which the names of their class tree stand.
+/// The joint ground of the two configurations of a name, on which the names of their class tree stand. Nothing is told of
+/// all names at or below one of them.
 #[derive(Drop)]
 pub struct JointGround<N: PairNaming> {
     of: PhantomData<N>,
@@ -43,4 +44,6 @@ pub struct JointGround<N: PairNaming> {
 
 impl<N: PairNaming> OnGround for JointGround<N> {
     ghost ground = { joint N.compared };
+
+    ghost told = { λ _. ⊤ };
 }

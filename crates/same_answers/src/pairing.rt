@@ -23,7 +23,7 @@ use query_classes::{LiveName, TreeName};
 use query_verdicts::{NameVerdict, QueryGraphs};
 use std::alloc::Global;
 use std::marker::{Model, PhantomData};
-use verdict_book::{JudgeShare, Work};
+use verdict_book::{JudgeShare, Judged, Work};
 
 /// The comparison of two configurations. Contracts see the two with the limits of their queries.
 #[derive(Drop)]
@@ -61,22 +61,17 @@ impl<'a, N: PairNaming + Send> Work for Pairing<'a, N> {
         TreeName::of_name(self.alloc, &self.names, &Name::root())
     }
 
-    fn children(
-        &self,
-        item: &TreeName<JointGround<N>>,
-    ) -> Result<List<TreeName<JointGround<N>>>, NoMemory> {
-        item.children(self.alloc, &self.names)
-    }
-
     fn judge(
         &self,
         item: &TreeName<JointGround<N>>,
         share: &mut JudgeShare,
-    ) -> Result<NameVerdict<PairEnd>, NoMemory> {
+    ) -> Result<Judged<TreeName<JointGround<N>>, NameVerdict<PairEnd>>, NoMemory> {
         // The graph is read, so that what the work is made of is known here.
         let _ = &self.names;
         share.raise();
-        self.judge_name(item.live_name())
+        let verdict = self.judge_name(item.live_name())?;
+        let children = item.children(self.alloc, &self.names, false)?;
+        Ok(Judged { verdict, children })
     }
 
     fn copy_item(

@@ -1,8 +1,6 @@
 use Rattle.std.proofs.Common.{◌≡◌, []}
 use Rattle.std.proofs.lemmas.Result.{IfOk-weaker}
-use Rattle.query_verdicts.specs.Carried.{whole_config}
-use Rattle.query_verdicts.specs.Verdict.{IsNameVerdict}
-use Rattle.query_verdicts.proofs.JudgedItems.{item_in_tree, verdict_picked}
+use Rattle.query_verdicts.proofs.JudgedItems.{children_picked, item_in_tree, verdict_picked}
 use Rattle.query_verdicts.proofs.OneVerdict.{one_verdict}
 use Rattle.class_judge.proofs.ConfigTrees.{is_covered}
 use Rattle.class_judge.proofs.judge.JudgeWork.judge.Goals as goal
@@ -16,7 +14,14 @@ pub returns-clause-verdict : goal.returns-clause-verdict
 returns-clause-verdict g c =
     let N = g.N.Naming in
     let item = c.args.item.now in
-    IfOk-weaker c.judge.result (IsNameVerdict (whole_config N.config N.rewrites) N.states item) (λ filed. filed ≡ N.verdict_of item)
-    (verdict_picked c.self.invariant item (one_verdict N.config N.rewrites N.states)
-    (item_in_tree c.self.invariant item [] (is_covered N.config N.rewrites).in_tree c.requires))
-    c.judge.ensures
+    IfOk-weaker c.judge.result _ (λ judged. judged.verdict ≡ N.verdict_of item)
+    (λ judged. verdict_picked c.self.invariant item (one_verdict N.config N.rewrites N.states)
+    (item_in_tree c.self.invariant item [] (is_covered N.config N.rewrites).in_tree c.requires) judged.verdict)
+    c.judge.ensures.verdict
+
+pub returns-clause-children : goal.returns-clause-children
+returns-clause-children g c =
+    let N = g.N.Naming in
+    let item = c.args.item.now in
+    IfOk-weaker c.judge.result _ (λ judged. judged.children ≡ N.children_of item)
+    (λ judged. children_picked c.self.invariant item judged.children) c.judge.ensures.children

@@ -1,9 +1,7 @@
 use Rattle.std.proofs.Common.{◌≡◌}
 use Rattle.std.proofs.lemmas.Result.{IfOk-weaker}
-use Rattle.query_verdicts.specs.Verdict.{IsNameVerdict}
-use Rattle.query_verdicts.proofs.JudgedItems.{item_in_tree, verdict_picked}
+use Rattle.query_verdicts.proofs.JudgedItems.{children_picked, item_in_tree, verdict_picked}
 use Rattle.query_verdicts.proofs.OneVerdict.{one_verdict}
-use Rattle.job_scope.specs.Scoped.{scoped}
 use Rattle.job_scope.proofs.Scopes.{is_covered}
 use Rattle.job_scope.proofs.scope_judge.ScopeJudgeWork.judge.Goals as goal
 
@@ -16,7 +14,14 @@ pub returns-clause-verdict : goal.returns-clause-verdict
 returns-clause-verdict g c =
     let N = g.N.ScopeNaming in
     let item = c.args.item.now in
-    IfOk-weaker c.judge.result (IsNameVerdict (scoped N.config N.rewrites N.scope) N.states item) (λ filed. filed ≡ N.verdict_of item)
-    (verdict_picked c.self.invariant.values item (one_verdict N.config N.rewrites N.states)
-    (item_in_tree c.self.invariant.values item N.scope (is_covered N.config N.rewrites N.scope c.self.invariant.is_name).in_tree c.requires))
-    c.judge.ensures
+    IfOk-weaker c.judge.result _ (λ judged. judged.verdict ≡ N.verdict_of item)
+    (λ judged. verdict_picked c.self.invariant.values item (one_verdict N.config N.rewrites N.states)
+    (item_in_tree c.self.invariant.values item N.scope (is_covered N.config N.rewrites N.scope c.self.invariant.is_name).in_tree c.requires) judged.verdict)
+    c.judge.ensures.verdict
+
+pub returns-clause-children : goal.returns-clause-children
+returns-clause-children g c =
+    let N = g.N.ScopeNaming in
+    let item = c.args.item.now in
+    IfOk-weaker c.judge.result _ (λ judged. judged.children ≡ N.children_of item)
+    (λ judged. children_picked c.self.invariant.values item judged.children) c.judge.ensures.children

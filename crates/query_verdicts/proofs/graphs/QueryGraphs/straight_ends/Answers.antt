@@ -19,4 +19,4 @@ returns-in-Ok c =
     let told = c.straight_ends.ensures in
     subst (λ (q : LimitedQueries). IfOk c.straight_ends.result (λ found. IfSome found (AreStraightEnds q.config q.rewrites q.states c.args.query.now))) c.self.view_is
     (straight_ends queries.trees queries.rewrites queries.states c.args.query.now c.in-Ok.learnt.sets learnt.sets c.straight_ends.result
-    told.few told.shows_nothing told.bounded told.outcomes told.few_below told.nothing_below)
+    told.few told.shows_nothing told.bounded told.outcomes told.few_below told.nothing_below told.few_unnamed told.nothing_unnamed)

@@ -1,24 +1,31 @@
-use Rattle.std.proofs.Common.{◌≡◌, sym, subst}
-use Rattle.std.proofs.lemmas.Result.{IfOk-weaker}
+use Rattle.std.proofs.Common.{sym, subst}
 use Rattle.dns_data.specs.Name.{Labels}
 use Rattle.query_classes.specs.Children.{IsInTree}
-use Rattle.query_verdicts.specs.Verdict.{IsNameVerdict}
-use Rattle.query_verdicts.specs.declared.verdict.ClassVerdict.{ClassVerdict}
-use Rattle.query_verdicts.specs.declared.verdict.NameVerdict.{NameVerdict}
+use Rattle.query_classes.specs.TreeNames.{IsToldBelow}
+use Rattle.query_verdicts.specs.Verdict.{IsNameVerdict, IsQuiet}
+use Rattle.query_verdicts.proofs.QuietBelow.{told_itself, told_with_tail}
 use Rattle.query_verdicts.proofs.name_judge.NameJudge.judge.Goals as goal
 
-pub judge_name-requires-clause-live : goal.judge_name-requires-clause-live
-judge_name-requires-clause-live g c = c.live_name.ensures.live
+-- the name of the item with its live set is the item's
+pub quiet_name-requires-clause-live : goal.quiet_name-requires-clause-live
+quiet_name-requires-clause-live g c = c.live_name.ensures.live
 
-pub judge_name-requires-clause-in_tree : goal.judge_name-requires-clause-in_tree
-judge_name-requires-clause-in_tree g c = subst (IsInTree g.S.OnSubject.subject.ground) (sym c.live_name.ensures.name) c.requires
+pub quiet_name-requires-clause-in_tree : goal.quiet_name-requires-clause-in_tree
+quiet_name-requires-clause-in_tree g c = subst (IsInTree g.S.OnSubject.subject.ground) (sym c.live_name.ensures.name) c.requires
 
-pub returns : goal.returns
-returns g c =
-    let subject = g.S.OnSubject.subject in
-    let states = g.S.OnSubject.states in
-    let item = c.args.item.now in
-    let verdict = c.in_ok-verdict.verdict in
-    IfOk-weaker c.of.result (λ filed. filed ≡ verdict) (IsNameVerdict subject states item)
-    (λ filed is. subst (λ (v : NameVerdict ClassVerdict). IsNameVerdict subject states item v) (sym is)
-    (subst (λ (n : Labels). IsNameVerdict subject states n verdict) c.live_name.ensures.name c.in_ok-verdict.ensures)) c.of.ensures
+pub quiet_name-requires-clause-alone : goal.quiet_name-requires-clause-alone
+quiet_name-requires-clause-alone g c =
+    let IsTold = IsQuiet g.S.OnSubject.subject g.S.OnSubject.states in
+    told_itself IsTold c.live_name.result.now.name (subst (IsToldBelow IsTold) (sym c.live_name.ensures.name) (c.is_told_below.ensures c.if-is_told_below.true))
+
+pub quiet_name-requires-clause-below : goal.quiet_name-requires-clause-below
+quiet_name-requires-clause-below g c = λ tail is.
+    let IsTold = IsQuiet g.S.OnSubject.subject g.S.OnSubject.states in
+    told_with_tail IsTold c.live_name.result.now.name (subst (IsToldBelow IsTold) (sym c.live_name.ensures.name) (c.is_told_below.ensures c.if-is_told_below.true)) tail
+
+pub with_children-requires-clause-verdict : goal.with_children-requires-clause-verdict
+with_children-requires-clause-verdict g c =
+    subst (λ (name : Labels). IsNameVerdict g.S.OnSubject.subject g.S.OnSubject.states name c.in_ok-verdict.verdict) c.live_name.ensures.name c.in_ok-verdict.ensures
+
+pub with_children-requires-clause-quiet : goal.with_children-requires-clause-quiet
+with_children-requires-clause-quiet g c = λ said. c.is_told_below.ensures c.if-is_told_below.true

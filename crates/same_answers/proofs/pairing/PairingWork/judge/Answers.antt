@@ -1,8 +1,7 @@
-use Rattle.std.proofs.Common.{◌≡◌, [], sym, subst}
-use Rattle.std.proofs.lemmas.Result.{IfOk-weaker}
+use Rattle.std.proofs.Common.{[], sym, subst, true≢false}
 use Rattle.dns_data.specs.Name.{Labels}
 use Rattle.query_classes.specs.Children.{IsInTree}
-use Rattle.query_verdicts.proofs.JudgedItems.{item_in_tree, verdict_picked}
+use Rattle.query_verdicts.proofs.JudgedItems.{children_picked, item_in_tree, verdict_picked}
 use Rattle.same_answers.specs.Compared.{joint}
 use Rattle.same_answers.specs.Verdict.{IsPairVerdict}
 use Rattle.same_answers.proofs.Comparing.{is_covering}
@@ -18,11 +17,18 @@ judge_name-requires-clause-in_tree g c =
     subst (IsInTree (joint N.compared)) (sym c.live_name.ensures.name)
     (item_in_tree c.self.invariant.values c.args.item.now [] (is_covering N.compared).in_tree c.requires)
 
+pub children-requires-clause-base : goal.children-requires-clause-base
+children-requires-clause-base g c = c.self.invariant.names_are
+
+pub children-requires-clause-told : goal.children-requires-clause-told
+children-requires-clause-told g c = λ said. absurd (true≢false (sym said))
+
 pub returns-clause-verdict : goal.returns-clause-verdict
 returns-clause-verdict g c =
     let N = g.N.PairNaming in
     let item = c.args.item.now in
-    IfOk-weaker c.judge_name.result (IsPairVerdict N.compared c.live_name.result.now.name) (λ verdict. verdict ≡ N.verdict_of item)
-    (λ verdict is. verdict_picked c.self.invariant.values item (one_end N.compared)
-    (item_in_tree c.self.invariant.values item [] (is_covering N.compared).in_tree c.requires) verdict
-    (subst (λ (name : Labels). IsPairVerdict N.compared name verdict) c.live_name.ensures.name is)) c.judge_name.ensures
+    verdict_picked c.self.invariant.values item (one_end N.compared) (item_in_tree c.self.invariant.values item [] (is_covering N.compared).in_tree c.requires) c.in_ok-verdict.verdict
+    (subst (λ (name : Labels). IsPairVerdict N.compared name c.in_ok-verdict.verdict) c.live_name.ensures.name c.in_ok-verdict.ensures)
+
+pub returns-clause-children : goal.returns-clause-children
+returns-clause-children g c = children_picked c.self.invariant.values c.args.item.now c.in_ok-children.children c.in_ok-children.ensures
