@@ -1,4 +1,5 @@
 pub mod Places
+pub mod Ranks
 pub mod Items
 pub mod Once
 pub mod Keeping

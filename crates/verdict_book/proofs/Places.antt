@@ -1,13 +1,11 @@
 -- What stands at which place of a list, after an append, a write, a map and a change of order.
 use Rattle.std.proofs.Common.{◌≡◌, ℕ, zero, suc, ◌+◌, ◌<◌, ◌==◌, Bool, true, false, cond, List, [], ◌∷◌, ◌++◌, length, map, get_or, set, count_by, Option, Some, None, IfSome, slice_get, refl, sym, ◌∙◌, ap, subst, arith, ◌⊎◌, inl, inr, ⊎_elim}
-use Rattle.std.specs.Prelude.{Result, Ok, Err, is_err, OnOk, IfOk}
+use Rattle.std.specs.Prelude.{Result, Ok, Err, is_err, OnOk}
 use Rattle.std.specs.List.{swap}
-use Rattle.std.specs.List.Sorted.{IsPermutation, IsSortedByKey}
-use Rattle.std.specs.Ordering.{is_lt}
-use Rattle.std.specs.declared.cmp.Ordering.{Ordering}
+use Rattle.std.specs.List.Sorted.{IsPermutation}
 use Rattle.std.proofs.lemmas.Bool.{cases_eq, ne_eqb, eq-eqb}
 use Rattle.std.proofs.lemmas.Option.{slice_get_within, slice_get-get_or, get_or_from_slice_get}
-use Rattle.std.proofs.lemmas.List.{length-set, length-map}
+use Rattle.std.proofs.lemmas.List.{length-set}
 use Rattle.std.proofs.lemmas.List.Sums.{sum_by-set, count_by-le-length}
 use Rattle.std.proofs.lemmas.List.Sorted.{IsPermutation-keeps}
 use Rattle.pool_core.proofs.Lists.{slice_get-set_same, slice_get-set_other, count_by-cons}
@@ -53,11 +51,6 @@ module _ {X : Type 0} where
   pub ok_means : {E : Type 0} (r : Result X E) (P : Type 0) → is_err r ≡ false → OnOk r P → P
   ok_means (Ok x) P e h = h
   ok_means (Err x) P e h = absurd cc
-
-  -- what follows from two things that hold of a value holds of the value, if the call gives one
-  pub both_ok : {E : Type 0} (r : Result X E) (P Q R : X → Type 0) → IfOk r P → IfOk r Q → ((x : X) → P x → Q x → R x) → IfOk r R
-  both_ok (Ok x) P Q R p q each = each x p q
-  both_ok (Err e) P Q R p q each = tt
 
   -- an item that is counted takes the place of one
   pub count_set : (p : X → Bool) (xs : List X) (k : ℕ) (x y : X) → slice_get xs k ≡ Some x → count_by p (set xs k y) + cond (p x) 1 0 ≡ count_by p xs + cond (p y) 1 0
@@ -110,7 +103,8 @@ module _ {X Y : Type 0} (f : X → Y) where
 abbrev pub moved : ℕ → ℕ → ℕ → ℕ
 moved i j k = cond (k == j) i (cond (k == i) j k)
 
-moved_back : (i j k : ℕ) → moved i j (moved i j k) ≡ k
+-- a second exchange of the two puts it back
+pub moved_back : (i j k : ℕ) → moved i j (moved i j k) ≡ k
 moved_back i j k =
     ⊎_elim
     (λ (e : k ≡ j).
@@ -126,7 +120,8 @@ moved_back i j k =
     (cases_eq k j)
 
 module _ {X : Type 0} where
-  get_swap : (xs : List X) (i j k : ℕ) → i < length xs → j < length xs → slice_get (swap xs i j) k ≡ slice_get xs (moved i j k)
+  -- what stands at a place after an exchange stood where it leads
+  pub get_swap : (xs : List X) (i j k : ℕ) → i < length xs → j < length xs → slice_get (swap xs i j) k ≡ slice_get xs (moved i j k)
   get_swap [] i j k hi hj = absurd (omega (arith, hi))
   get_swap (d ∷ ys) i j k hi hj =
       let xs : List X = d ∷ ys in
@@ -158,29 +153,3 @@ module _ {X : Type 0} where
       IsPermutation-keeps xs (HasItems xs) (λ x h. h) (λ l i j hi hj old x h.
       let at = old x h in
       (moved i j at.0, get_swap l i j (moved i j at.0) hi hj ∙ ap (slice_get l) (moved_back i j at.0) ∙ at.1)) ys perm
-
--- values in order, of one list, are so of another one with the same values
-module _ {A B I : Type 0} (cmp : I → I → Ordering) (f : A → I) (g : B → I) where
-  value_at : (xs : List A) (ys : List B) → map f xs ≡ map g ys → (k : ℕ) (d : A) (e : B) → k < length ys → g (get_or ys k e) ≡ f (get_or xs k d)
-  value_at [] [] same k d e low = absurd (omega (arith, low))
-  value_at [] (y ∷ ys) same k d e low = absurd cc
-  value_at (x ∷ xs) [] same k d e low = absurd cc
-  value_at (x ∷ xs) (y ∷ ys) same zero d e low = sym (cons_head same)
-    where
-      cons_head : map f (x ∷ xs) ≡ map g (y ∷ ys) → f x ≡ g y
-      cons_head s = cc
-  value_at (x ∷ xs) (y ∷ ys) same (suc k) d e low = value_at xs ys (cons_tail same) k d e (omega (arith, low))
-    where
-      cons_tail : map f (x ∷ xs) ≡ map g (y ∷ ys) → map f xs ≡ map g ys
-      cons_tail s = cc
-
-  -- two lists with the same keys, item by item, are in order together
-  pub sorted_alike : (xs : List A) (ys : List B) → map f xs ≡ map g ys → IsSortedByKey f cmp xs → IsSortedByKey g cmp ys
-  sorted_alike [] [] same sorted k e low high = absurd (omega (arith, high))
-  sorted_alike [] (y ∷ ys) same sorted k e low high = absurd cc
-  sorted_alike (x ∷ xs) ys same sorted k e low high =
-      let len : length (x ∷ xs) ≡ length ys = sym (length-map (x ∷ xs) f) ∙ ap (λ l. length l) same ∙ length-map ys g in
-      let old = sorted k x low (omega (arith, high, len)) in
-      let here = value_at (x ∷ xs) ys same k x e (omega (arith, high)) in
-      let next = value_at (x ∷ xs) ys same (k + 1) x e high in
-      ap (λ v. is_lt (cmp v (g (get_or ys k e)))) next ∙ ap (λ v. is_lt (cmp (f (get_or (x ∷ xs) (k + 1) x)) v)) here ∙ old

@@ -1,12 +1,13 @@
 -- The list of a whole tree: from the rows of a book, and against more items than it has.
-use Rattle.std.proofs.Common.{◌≡◌, ℕ, suc, ◌<◌, ◌≤◌, true, false, List, [], ◌∷◌, ◌++◌, length, map, Some, slice_get, refl, sym, ◌∙◌, ap, subst, arith, ⊎_elim}
+use Rattle.std.proofs.Common.{◌≡◌, ℕ, suc, ◌<◌, ◌≤◌, true, false, List, [], ◌∷◌, ◌++◌, length, map, reverse, Some, slice_get, refl, sym, ◌∙◌, ap, subst, arith, ⊎_elim}
 use Rattle.std.specs.Prelude.{All, eqb}
 use Rattle.std.specs.List.{list_any, IsDistinct, AllByRecursion}
 use Rattle.std.specs.List.Sorted.{IsPermutation, IsSortedByKey}
 use Rattle.std.specs.declared.cmp.Ordering.{Ordering}
 use Rattle.std.proofs.lemmas.Bool.{ne_eqb, cases_eq}
 use Rattle.std.proofs.lemmas.Option.{slice_get_within}
-use Rattle.std.proofs.lemmas.List.Sorted.{IsPermutation-map, IsPermutation-sym}
+use Rattle.std.proofs.lemmas.List.{append_assoc, map_push, reverse-append, length-map, length-reverse}
+use Rattle.std.proofs.lemmas.List.Sorted.{IsPermutation-map, IsPermutation-sym, IsPermutation-trans, IsPermutation-reverse, All-permutation}
 use Rattle.std.proofs.lemmas.Map.Steps.{length-le_from_distinct_below}
 use Rattle.verdict_book.specs.Items.{NoneTwice, AreReachedItems, ReachesMore}
 use Rattle.verdict_book.specs.Lists.{Judges, JudgesState, IsWholeTree}
@@ -14,7 +15,7 @@ use Rattle.verdict_book.specs.declared.filed.Filed.{Filed}
 use Rattle.verdict_book.specs.declared.row.Row.{Row}
 use Rattle.verdict_book.specs.declared.row.TicketState.{TicketState}
 use Rattle.verdict_book.specs.declared.row.TicketState.TheVariants.{Issued, Claimed, Filed as FiledState}
-use Rattle.verdict_book.proofs.Places.{none_twice_permuted, items_permuted, sorted_alike}
+use Rattle.verdict_book.proofs.Places.{none_twice_permuted, items_permuted}
 
 -- a state that isn't that of a filed ticket has no verdict
 pub not_judged : {I V : Type 0} (verdict_of : I → V) (item : I) (state : TicketState V) → JudgesState verdict_of item state → ((v : V) → state ≡ FiledState v → ⊥) → ⊥
@@ -22,36 +23,36 @@ not_judged verdict_of item Issued right none = right
 not_judged verdict_of item Claimed right none = right
 not_judged verdict_of item (FiledState v) right none = none v refl
 
--- the first row goes over to the list
-pub gone_over : {A B I : Type 0} (f : A → I) (r : B → I) (xs : List A) (y : A) (row : B) (rest : List B) → f y ≡ r row → map f (xs ++ y ∷ []) ++ map r rest ≡ map f xs ++ map r (row ∷ rest)
-gone_over f r [] y row rest e = ap (λ v. v ∷ map r rest) e
-gone_over f r (x ∷ xs) y row rest e = ap (λ l. f x ∷ l) (gone_over f r xs y row rest e)
+-- the last row goes over to the list
+pub gone_over : {A B I : Type 0} (f : A → I) (r : B → I) (xs : List A) (y : A) (rest : List B) (row : B) → f y ≡ r row → map f (xs ++ y ∷ []) ++ reverse (map r rest) ≡ map f xs ++ reverse (map r (rest ++ row ∷ []))
+gone_over f r xs y rest row same =
+    ap (λ l. l ++ reverse (map r rest)) (map_push f xs y)
+    ∙ append_assoc (map f xs) (f y ∷ []) (reverse (map r rest))
+    ∙ ap (λ v. map f xs ++ (v ∷ reverse (map r rest))) same
+    ∙ ap (λ l. map f xs ++ l) (sym (ap reverse (map_push r rest row) ∙ reverse-append (map r rest) (r row ∷ [])))
 
-module _ {X : Type 0} (P : X → Type 0) where
-  -- what holds of all items holds of the first
-  pub all_head : (x : X) (xs : List X) → All P (x ∷ xs) → P x
-  all_head x xs all = all 0 x (omega arith)
-
-  -- what holds of all items holds of those behind the first
-  pub all_tail : (x : X) (xs : List X) → All P (x ∷ xs) → All P xs
-  all_tail x xs all k d low = all (suc k) d (omega (arith, low))
+-- a list with the items of rows, from the last row on, has as many as there are rows
+pub listed_many : {W I V : Type 0} (rows : List (Row I V)) (list : List (Filed W I V)) → map (λ (f : Filed W I V). f.item) list ≡ reverse (map (λ (r : Row I V). r.item) rows) → length list ≡ length rows
+listed_many {W} {I} {V} rows list items =
+    sym (length-map list (λ (f : Filed W I V). f.item)) ∙ ap length items ∙ length-reverse (map (λ (r : Row I V). r.item) rows) ∙ length-map rows (λ (r : Row I V). r.item)
 
 module _ {W I V : Type 0} (cmp : I → I → Ordering) (first : I) (children : I → List I) (verdict_of : I → V) where
-  -- rows whose items are the reached ones, sorted and listed, give the whole tree
-  pub whole_tree : (rows rows' : List (Row I V)) (list : List (Filed W I V)) → AreReachedItems first children (map (λ (r : Row I V). r.item) rows) → IsPermutation rows rows' → IsSortedByKey (λ (r : Row I V). r.item) cmp rows'
-      → map (λ (f : Filed W I V). f.item) list ≡ map (λ (r : Row I V). r.item) rows' → All (Judges verdict_of) list → IsWholeTree cmp first children verdict_of list
-  whole_tree rows rows' list are perm sorted items verdicts =
-      let item = λ (r : Row I V). r.item in
-      let moved = IsPermutation-map item rows rows' perm in
-      let back = IsPermutation-sym (map item rows) (map item rows') moved in
-      let are' : AreReachedItems first children (map item rows') = record {
-        each = λ i. ((λ r. items_permuted (map item rows) (map item rows') moved i ((are.each i).0 r)), λ p. (are.each i).1 (items_permuted (map item rows') (map item rows) back i p));
-        once = none_twice_permuted (map item rows) (map item rows') moved are.once;
-      } in
+  -- rows whose items are the reached ones, listed from the last on and then sorted, give the whole tree
+  pub whole_tree : (rows : List (Row I V)) (list list' : List (Filed W I V)) → AreReachedItems first children (map (λ (r : Row I V). r.item) rows) → map (λ (f : Filed W I V). f.item) list ≡ reverse (map (λ (r : Row I V). r.item) rows)
+      → All (Judges verdict_of) list → IsPermutation list list' → IsSortedByKey (λ (f : Filed W I V). f.item) cmp list' → IsWholeTree cmp first children verdict_of list'
+  whole_tree rows list list' are items verdicts perm sorted =
+      let item = λ (f : Filed W I V). f.item in
+      let from = map (λ (r : Row I V). r.item) rows in
+      let listed = subst (IsPermutation from) (sym items) (IsPermutation-reverse from) in
+      let moved = IsPermutation-trans from (map item list) (map item list') listed (IsPermutation-map item list list' perm) in
+      let back = IsPermutation-sym from (map item list') moved in
       record {
-        reached = subst (AreReachedItems first children) (sym items) are';
-        sorted = sorted_alike cmp item (λ (f : Filed W I V). f.item) rows' list (sym items) sorted;
-        verdicts = verdicts;
+        reached = record {
+          each = λ i. ((λ r. items_permuted from (map item list') moved i ((are.each i).0 r)), λ p. (are.each i).1 (items_permuted (map item list') from back i p));
+          once = none_twice_permuted from (map item list') moved are.once;
+        };
+        sorted = sorted;
+        verdicts = All-permutation (Judges verdict_of) list list' perm verdicts;
       }
 
 module _ {I : Type 0} (xs : List I) where

@@ -3,4 +3,5 @@ pub mod Books
 pub mod Refusals
 pub mod Keeping
 pub mod Lists
+pub mod Ranks
 pub mod Sevens

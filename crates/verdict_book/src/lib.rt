@@ -10,6 +10,7 @@ mod claim;
 mod filed;
 mod filing;
 pub mod laws;
+mod order;
 mod row;
 mod walk;
 mod work;

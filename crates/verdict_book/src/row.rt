@@ -1,11 +1,10 @@
 //! What a book keeps of each ticket.
 
-ghost use Rattle.std.specs.Prelude.{◌≡◌, ◌+◌, ◌<◌, ◌≤◌, length, IfSome, OnOk, OnErr, slice_get, vec_len, vec_capacity};
-ghost use Rattle.std.specs.List.Sorted.{IsPermutation, IsSortedByKey};
+ghost use Rattle.std.specs.Prelude.{◌≡◌, ◌+◌, ◌<◌, ◌≤◌, length, IfSome, slice_get, vec_len, vec_capacity};
 ghost use Rattle.verdict_book.specs.Keeping.{kept_row, kept_state, rows_filed};
 
 use crate::claim::Kept;
-use dns_data::{List, NoMemory};
+use dns_data::List;
 
 /// How far a ticket has come.
 #[derive(Drop)]
@@ -15,12 +14,10 @@ pub enum TicketState<V> {
     Filed(V),
 }
 
-/// The item of a ticket, and how far the ticket has come. Rows are ordered by their items.
+/// The item of a ticket, and how far the ticket has come.
 #[derive(Drop)]
-#[derive_where(PartialEq, Eq, PartialOrd, Ord; I)]
 pub struct Row<I, V> {
     pub item: I,
-    #[derive_where(skip(EqHashOrd))]
     pub state: TicketState<V>,
 }
 
@@ -63,14 +60,4 @@ pub fn file_row<I: Drop, V: Drop>(
             state: TicketState::Issued,
         });
     }
-}
-
-/// Orders the rows by their items. After an error the rows are as they were.
-pub fn sort_rows<I: Ord, V>(rows: &mut Vec<Row<I, V>>) -> Result<(), NoMemory>
-    ensures same { IsPermutation rows.old.items rows.new.items }
-    ensures sorted { OnOk result (IsSortedByKey (λ row. row.item) I.cmp rows.new.items) }
-    ensures err { OnErr result (rows.new.items ≡ rows.old.items) }
-{
-    rows.sort()?;
-    Ok(())
 }
