@@ -1,4 +1,4 @@
-//! A run of the pool: the whole tree of a work, judged by workers in threads.
+//! A run of the pool: the whole tree of a work, judged by workers.
 
 ghost use Rattle.std.specs.Prelude.{◌≡◌, ◌+◌, ◌≤◌, ◌<◌, ◌^◌, length, IfOk, IfErr, OnOk};
 ghost use Rattle.verdict_book.specs.Books.{claims_in, filings_in};
@@ -8,7 +8,7 @@ ghost use Rattle.steal_pool.specs.Runs.{IsGathered};
 
 use crate::count::{PoolCount, fault_of};
 use crate::finish::finish;
-use crate::gather::{Gathered, gather};
+use crate::gather::{Gathered, Tally, gather};
 use crate::locked::{Capped, LockedBook};
 use crate::slots::{make_slots, run_slots};
 use dns_data::{List, NoMemory};
@@ -20,8 +20,9 @@ use std::sync::{Mutex, Wait};
 use std::thread::Threads;
 use verdict_book::{Book, Filed, JudgeShare, PoolFault, Work, walk_tree};
 
-/// The reached items of the work with their verdicts, each once, sorted by item, judged by this many workers
-/// in threads. `TooMany` comes exactly where more than `limit` items are reached.
+/// The reached items of the work with their verdicts, each once, sorted by item, judged by this many workers.
+/// One worker is the caller's own thread, which passes no gate; more are a thread each. `TooMany` comes exactly
+/// where more than `limit` items are reached.
 pub fn run_tree<W: Work + Sync, G: Gate + Sync, R: Threads + Wait + Sync>(
     rt: &R,
     alloc: Global,
@@ -69,8 +70,29 @@ pub fn run_tree_counted<W: Work + Sync, G: Gate + Sync, R: Threads + Wait + Sync
     ensures items { IfOk result (λ list. count.new.foreign ≡ 0 → (count.new.given ≡ length list) × (count.new.filed ≡ length list) × (count.new.judged ≡ length list)) }
 {
     *count = PoolCount::new();
+    let gathered = run_through(rt, alloc, work, workers, limit, gate)?;
+    answer(alloc, work, limit, gathered, count)
+}
+
+/// What the workers leave. One worker needs no thread, lock or deque: then it is a new book, which the caller
+/// finishes.
+fn run_through<W: Work + Sync, G: Gate + Sync, R: Threads + Wait + Sync>(
+    rt: &R,
+    alloc: Global,
+    work: &W,
+    workers: u32,
+    limit: u32,
+    gate: &G,
+) -> Result<Gathered<W>, NoMemory>
+    requires workers { 1 ≤ workers }
+    requires limit { 1 ≤ limit }
+    ensures { IfOk result (IsGathered W.first_item W.children_of limit) }
+{
+    if workers == 1 {
+        return untouched(alloc, work, limit);
+    }
     let parts = workers as u64 + 1;
-    let gathered = run_workers::<W, Brand, Brand, Brand, G, R>(
+    run_workers::<W, Brand, Brand, Brand, G, R>(
         rt,
         alloc,
         work,
@@ -80,8 +102,21 @@ pub fn run_tree_counted<W: Work + Sync, G: Gate + Sync, R: Threads + Wait + Sync
         Blank::new(parts),
         Blank::new(parts),
         Blank::new(parts),
-    )?;
-    answer(alloc, work, limit, gathered, count)
+    )
+}
+
+/// A new book, as it is left where no worker ran.
+fn untouched<W: Work>(alloc: Global, work: &W, limit: u32) -> Result<Gathered<W>, NoMemory>
+    requires { 1 ≤ limit }
+    ensures { IfOk result (IsGathered W.first_item W.children_of limit) }
+{
+    let book = Book::new(alloc, work, limit)?;
+    let tally = Tally {
+        judged: 0,
+        foreign: 0,
+        stop: None,
+    };
+    Ok(Gathered { book, tally })
 }
 
 /// Runs the workers on a new book, and gathers what they leave.

@@ -1,4 +1,4 @@
-use Rattle.steal_pool.proofs.run.run_tree_counted.Given as goal
+use Rattle.steal_pool.proofs.run.run_through.Given as goal
 
 abbrev pub ghosts-run_workers-A-Capped : goal.ghosts-run_workers-A-Capped
 ghosts-run_workers-A-Capped g a = record { limit = a.limit }
