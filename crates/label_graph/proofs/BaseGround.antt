@@ -1,6 +1,6 @@
 -- The names that fronts of origins, owners and given names are, and the ground of several configurations with some names
 -- more.
-use Rattle.std.proofs.Common.{◌∙◌, ◌⊎◌, [], ◌∷◌, ◌++◌, length, take, drop, map, Contains, inl, inr, refl, sym, ap, subst, List, arith}
+use Rattle.std.proofs.Common.{◌≡◌, ◌∙◌, ◌⊎◌, Bor, [], ◌∷◌, ◌++◌, length, take, drop, map, Contains, inl, inr, refl, sym, ap, subst, List, arith}
 use Rattle.std.specs.Prelude.{◌↔◌}
 use Rattle.std.specs.List.{flat_map}
 use Rattle.std.proofs.lemmas.List.{take_at, take-append-drop, length-append}
@@ -16,18 +16,18 @@ use Rattle.net_model.specs.Reading.{Ground, Redirection, redirection_of, redirec
 use Rattle.net_model.proofs.JoinedNames.{front_is_base, base_is_front, root_is_base, above_is_base, owner_is_base, alone_is_own}
 use Rattle.label_graph.specs.Base.{IsInConfig, server_redirections, zone_redirections}
 use Rattle.label_graph.specs.Graphs.{SomeItem}
-use Rattle.label_graph.specs.LiveSet.{IsClosed}
+use Rattle.label_graph.specs.LiveSet.{HavePrefixes, IsClosed}
 use Rattle.label_graph.specs.Pairs.{AreSame}
 use Rattle.label_graph.specs.Targets.{IsPrefixFrom}
-use Rattle.label_graph.proofs.Passing.{some_flat}
+use Rattle.label_graph.proofs.Passing.{some_seen, some_flat}
 
 -- a front begins the name
-front_begins : (name front : Labels) → IsPrefixFrom 0 name front → Begins front name
+pub front_begins : (name front : Labels) → IsPrefixFrom 0 name front → Begins front name
 front_begins name front (count, low, high, is) =
     (drop count name, ap (λ (n : Labels). n ++ drop count name) is ∙ take-append-drop count name)
 
 -- and what begins it is one
-begins_front : (name front : Labels) → Begins front name → IsPrefixFrom 0 name front
+pub begins_front : (name front : Labels) → Begins front name → IsPrefixFrom 0 name front
 begins_front name front (below, e) = (
   length front,
   omega arith,
@@ -118,6 +118,53 @@ same_as_joined configs given base names redirections =
         λ has. (redirections pair).1 ((some_flat redirections_of configs pair).1 has),
       );
     }
+
+-- ---- names that are put in turn: the root, those of the configurations and the given ones
+
+-- only the root begins the root
+nothing_above : (above below : Labels) → [] ≡ above ++ below → [] ≡ above
+nothing_above [] below e = refl
+nothing_above (label ∷ above) below e = absurd cc
+
+-- the root alone has its prefixes
+pub root_alone : HavePrefixes ([] ∷ [])
+root_alone =
+    record {
+      root = has_first [] [];
+      prefixes = λ above below has. elim (first_or_later [] [] (above ++ below) has) [
+        | inl same ↦ subst (Contains ([] ∷ [])) (nothing_above above below same) (has_first [] [])
+        | inr none ↦ absurd (none_in_nil (above ++ below) none)
+      ];
+    }
+
+module _ {X : Type 0} (config_of : X → Config) (configs : List X) where
+  -- the root, then the fronts of the configurations' names, then those of the given ones
+  pub in_turn : (more : List (Bor Labels)) (name : Labels) (root first all sorted : Type 0)
+      → (first ↔ (root ⊎ SomeItem (λ (x : X). IsInConfig name (config_of x)) configs))
+      → (all ↔ (first ⊎ SomeItem (λ (one : Bor Labels). IsPrefixFrom 0 one.now name) more)) → (sorted ↔ all)
+      → sorted ↔ ((root ⊎ SomeItem (IsInConfig name) (map config_of configs)) ⊎ IsFrontOf name (map (λ (one : Bor Labels). one.now) more))
+  in_turn more name root first all sorted of_configs of_names same =
+      let seen = some_seen config_of (IsInConfig name) configs in
+      let given = some_seen (λ (one : Bor Labels). one.now) (λ (other : Labels). IsPrefixFrom 0 other name) more in (
+        λ has. elim (of_names.0 (same.0 has)) [
+          | inl old ↦ inl (elim (of_configs.0 old) [ inl r ↦ inl r | inr some ↦ inr (seen.0 some) ])
+          | inr some ↦ inr (given.0 some)
+        ],
+        λ either. same.1 (of_names.1 (elim either [
+          | inl old ↦ inl (of_configs.1 (elim old [ inl r ↦ inl r | inr some ↦ inr (seen.1 some) ]))
+          | inr some ↦ inr (given.1 some)
+        ])),
+      )
+
+  -- the redirections of the configurations alone
+  pub from_nothing : (pair : Redirection) (none there : Type 0) → (none → ⊥)
+      → (there ↔ (none ⊎ SomeItem (λ (x : X). Contains (redirections_of (config_of x)) pair) configs))
+      → there ↔ SomeItem (λ config. Contains (redirections_of config) pair) (map config_of configs)
+  from_nothing pair none there never put =
+      let seen = some_seen config_of (λ (config : Config). Contains (redirections_of config) pair) configs in (
+        λ has. elim (put.0 has) [ inl nothing ↦ absurd (never nothing) | inr some ↦ seen.0 some ],
+        λ some. put.1 (inr (seen.1 some)),
+      )
 
 -- the redirections of all servers are those of the configuration
 pub base_redirections : (config : Config) (redirection : Redirection)

@@ -14,6 +14,7 @@ pub mod Parents
 pub mod Passing
 pub mod Readings
 pub mod RowItems
+pub mod RowsOfChildren
 pub mod Saturating
 pub mod StandardFacts
 pub mod TargetLinks

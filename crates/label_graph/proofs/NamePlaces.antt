@@ -1,6 +1,6 @@
 -- Places of names in order.
-use Rattle.std.proofs.Common.{◌≡◌, ℕ, ◌+◌, false, ◌<◌, ◌⊎◌, List, [], ◌∷◌, ◌++◌, ◌-◌, length, take, drop, get_or, Contains, AllPairs, is_lt, Less, Equal, Greater, Result, Ok, Err, sym, refl, ap, ◌∙◌, subst, inl, inr, arith}
-use Rattle.std.specs.Prelude.{◌↔◌, MatchResult, slice_set}
+use Rattle.std.proofs.Common.{◌≡◌, ℕ, ◌+◌, false, ◌<◌, List, [], ◌∷◌, ◌++◌, ◌-◌, length, take, drop, get_or, Contains, AllPairs, is_lt, Less, Equal, Greater, Result, Ok, Err, sym, refl, ap, ◌∙◌, subst, inl, inr, arith}
+use Rattle.std.specs.Prelude.{MatchResult}
 use Rattle.std.specs.List.Sorted.{IsSearchInRange, IsBinarySearchResult, IsSortedBy}
 use Rattle.std.specs.Cmp.{IsTotalOrder}
 use Rattle.std.specs.Ordering.{ordering_reverse}
@@ -15,9 +15,6 @@ use Rattle.dns_data.proofs.NameOrder.{names_total}
 use Rattle.dns_data.proofs.Names.{same_names}
 use Rattle.dns_data.proofs.OrderedLists.{never_before_itself}
 use Rattle.label_graph.specs.LiveSet.{name_at}
-use Rattle.label_graph.specs.NameTree.{IsNextBelow}
-use Rattle.label_graph.specs.Rows.{RowHas}
-use Rattle.label_graph.proofs.RowItems.{put_there, put_keeps, from_put}
 
 -- a name has one place
 pub one_place : (names : List Labels) → AreInOrder names → (i j : ℕ) → i < length names → j < length names
@@ -96,37 +93,6 @@ last_label name some = (
     not_empty : (labels : Labels) → (labels ≡ [] → ⊥) → 0 < length labels
     not_empty [] none = absurd (none refl)
     not_empty (x ∷ rest) none = omega arith
-
-module _ (names : List Labels) (rows : List (List ℕ)) (order : AreInOrder names) (place : ℕ) (within : place < length names) where
-  -- the name's place put into its parent's row
-  pub row_put : (above : Labels) (label : List ℕ) (parent : ℕ) → name_at names place ≡ above ++ label ∷ []
-      → parent < length names → name_at names parent ≡ above → parent < length rows → (p q : ℕ)
-      → RowHas (slice_set rows parent (get_or rows parent [] ++ place ∷ [])) p q
-      ↔ (RowHas rows p q ⊎ ((q ≡ place) × IsNextBelow names p q))
-  row_put above label parent is inside at room p q = (there, back) where
-    there : RowHas (slice_set rows parent (get_or rows parent [] ++ place ∷ [])) p q → RowHas rows p q ⊎ ((q ≡ place) × IsNextBelow names p q)
-    there has =
-        elim (from_put rows parent place room p q has) [
-          | inl old ↦ inl old
-          | inr (here, new) ↦ inr (
-            new,
-            record {
-              within = subst (λ (k : ℕ). k < length names) (sym here) inside;
-              inside = subst (λ (k : ℕ). k < length names) (sym new) within;
-              label = label;
-              is = ap (name_at names) new ∙ is ∙ ap (λ (n : Labels). n ++ label ∷ []) (sym at ∙ ap (name_at names) (sym here));
-            },
-          )
-        ]
-
-    back : RowHas rows p q ⊎ ((q ≡ place) × IsNextBelow names p q) → RowHas (slice_set rows parent (get_or rows parent [] ++ place ∷ [])) p q
-    back (inl old) = put_keeps rows parent place room p q old
-    back (inr (new, next)) =
-        let same : name_at names p ≡ name_at names parent =
-        same_above (name_at names p) above next.label label (sym next.is ∙ ap (name_at names) new ∙ is) ∙ sym at in
-        let here : p ≡ parent = one_place names order p parent next.within inside same in
-        subst (λ (k : ℕ). RowHas (slice_set rows parent (get_or rows parent [] ++ place ∷ [])) k q) (sym here)
-        (subst (RowHas (slice_set rows parent (get_or rows parent [] ++ place ∷ [])) parent) (sym new) (put_there rows parent place room))
 
 -- what is read at a place is the name there
 pub read_at : (items names : List Labels) (k : ℕ) (x : Labels) → items ≡ names → x ≡ get_or items k x → k < length names → get_or names k [] ≡ x

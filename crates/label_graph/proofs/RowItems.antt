@@ -1,9 +1,8 @@
 -- What rows have, after a place was put into one.
-use Rattle.std.proofs.Common.{◌≡◌, ℕ, ◌<◌, ◌≤◌, ◌⊎◌, List, [], ◌∷◌, ◌++◌, length, get_or, replicate, Contains, inl, inr, sym, subst, arith}
+use Rattle.std.proofs.Common.{◌≡◌, ℕ, ◌<◌, ◌⊎◌, List, [], ◌∷◌, ◌++◌, length, get_or, Contains, inl, inr, sym, subst, arith}
 use Rattle.std.specs.Prelude.{slice_set}
 use Rattle.std.proofs.lemmas.Bool.{cases_lt}
-use Rattle.std.proofs.lemmas.List.{get_or-set_same, get_or-set_other, get_or-replicate, length-replicate}
-use Rattle.std.proofs.Math.ListN.{get_or-eq_default}
+use Rattle.std.proofs.lemmas.List.{get_or-set_same, get_or-set_other}
 use Rattle.std.proofs.lemmas.List.Elements.{Contains-append_left, Contains-append_right, Contains-append_cases}
 use Rattle.dns_data.proofs.Membership.{none_in_nil, has_first, first_or_later}
 use Rattle.label_graph.specs.Rows.{RowHas}
@@ -15,17 +14,6 @@ same_or_not m n =
       | inl below ↦ inr (λ same. omega arith)
       | inr above ↦ elim (cases_lt n m) [ inl over ↦ inr (λ same. omega arith) | inr under ↦ inl (omega arith) ]
     ]
-
--- empty rows have nothing
-pub empty_rows : (count place other : ℕ) → RowHas (replicate count []) place other → ⊥
-empty_rows count place other has =
-    elim (cases_lt place count) [
-      | inl below ↦ none_in_nil other (subst (λ (row : List ℕ). Contains row other) (get_or-replicate count place [] [] below) has)
-      | inr beyond ↦ none_in_nil other (subst (λ (row : List ℕ). Contains row other) (past (replicate count []) (omega (arith, length-replicate {A = List ℕ} count []))) has)
-    ]
-  where
-    past : (rows : List (List ℕ)) → length rows ≤ place → get_or rows place [] ≡ []
-    past rows beyond = get_or-eq_default rows [] beyond
 
 module _ (rows : List (List ℕ)) (place other : ℕ) (within : place < length rows) where
   abbrev put : List (List ℕ)

@@ -2,6 +2,7 @@ pub use Rattle.dns_data.specs.Label
 pub use Rattle.dns_data.specs.Name
 pub use Rattle.net_model.specs.Reading
 pub mod Base
+pub mod ChildRows
 pub mod Graphs
 pub mod LinkRows
 pub mod LiveSet

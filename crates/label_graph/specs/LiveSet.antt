@@ -1,5 +1,5 @@
 -- The live set of a name: the base names to which it reads on (RFC 6672 section 2.2).
-use Rattle.std.specs.Prelude.{◌≡◌, ◌↔◌, ℕ, ◌<◌, List, [], ◌++◌, length, slice_index_or, Contains, All}
+use Rattle.std.specs.Prelude.{◌↔◌, ℕ, ◌<◌, List, [], ◌++◌, length, slice_index_or, Contains, All}
 use Rattle.dns_data.specs.Name.{Labels}
 use Rattle.net_model.specs.Reading.{Redirection, Ground, ReadsOnTo}
 

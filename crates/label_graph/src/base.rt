@@ -1,6 +1,7 @@
 //! The base names of configurations.
 
 ghost use Rattle.std.specs.Prelude.{◌≡◌, ◌↔◌, ◌⊎◌, [], ◌++◌, map, Contains, IsPermutation, IfOk, OnOk};
+ghost use Rattle.std.specs.List.{flat_map};
 ghost use Rattle.dns_data.specs.Name.{Labels, AreInOrder};
 ghost use Rattle.net_model.specs.Reading.{Redirection, redirection_of, redirections_of, ground_of, joined_ground};
 ghost use Rattle.label_graph.specs.Base.{
@@ -82,7 +83,7 @@ fn put_configs(
 }
 
 /// Puts the fronts of the origins and owners of a configuration, and the pairs of its DNAME records, at the end.
-fn put_config(
+pub fn put_config(
     alloc: Global,
     config: &Config,
     names: &mut Vec<Name>,
@@ -101,7 +102,7 @@ fn put_config(
 }
 
 /// Puts the fronts of names at the end.
-fn put_names(alloc: Global, more: &[&Name], names: &mut Vec<Name>) -> Result<(), NoMemory>
+pub fn put_names(alloc: Global, more: &[&Name], names: &mut Vec<Name>) -> Result<(), NoMemory>
     requires { HavePrefixes names.old.items }
     ensures { OnOk result ((name : Labels) → Contains names.new.items name ↔ (Contains names.old.items name ⊎ SomeItem (λ one. IsPrefixFrom 0 one.now name) more.now)) }
 {
@@ -112,7 +113,7 @@ fn put_names(alloc: Global, more: &[&Name], names: &mut Vec<Name>) -> Result<(),
 }
 
 /// Puts the fronts of the origins and owners of a server, and the pairs of its DNAME records, at the end.
-fn put_server(
+pub fn put_server(
     alloc: Global,
     server: &Server,
     names: &mut Vec<Name>,
@@ -152,7 +153,7 @@ fn zones_of<'a>(alloc: Global, server: &'a Server) -> Result<Vec<&'a Zone>, NoMe
 }
 
 /// Puts the fronts of the origin and the owners of a zone, in order, and the pairs of its DNAME records, at the end.
-fn put_zone(
+pub fn put_zone(
     alloc: Global,
     zone: &Zone,
     names: &mut Vec<Name>,
@@ -185,6 +186,24 @@ fn put_record(
     ensures pairs { OnOk result (map redirection dnames.new.items ≡ map redirection dnames.old.items ++ redirection_of rr.now.owner rr.now.rdata) }
 {
     put_new_fronts(alloc, names, &rr.owner)?;
+    put_pair(alloc, rr, dnames)?;
+    Ok(())
+}
+
+/// Puts the pairs of the DNAME records among these at the end.
+pub fn put_pairs(alloc: Global, rrs: &[Rr], dnames: &mut Vec<Pair>) -> Result<(), NoMemory>
+    ensures { OnOk result (map redirection dnames.new.items ≡ map redirection dnames.old.items ++ flat_map (λ rr. redirection_of rr.owner rr.rdata) rrs.now) }
+{
+    for rr in rrs {
+        put_pair(alloc, rr, dnames)?;
+    }
+    Ok(())
+}
+
+/// Puts the pair of a record at the end if it is a DNAME record.
+fn put_pair(alloc: Global, rr: &Rr, dnames: &mut Vec<Pair>) -> Result<(), NoMemory>
+    ensures { OnOk result (map redirection dnames.new.items ≡ map redirection dnames.old.items ++ redirection_of rr.now.owner rr.now.rdata) }
+{
     match &rr.rdata {
         Rdata::Dname(target) => {
             let from = rr.owner.copy(alloc)?;

@@ -65,13 +65,13 @@ impl LabelGraph {
         LabelGraph::of_ordered(alloc, names.into_vec(), dnames.items())
     }
 
-    /// The graph of the names and of the pairs of DNAME records. The names are copied, and put in order.
-    pub fn build(alloc: Global, names: &[Name], dnames: &[Pair]) -> Result<LabelGraph, NoMemory>
-        requires { IsClosed (ground_with names.now dnames.now) }
-        ensures same { IfOk result (λ graph. AreSame graph (ground_with names.now dnames.now)) }
+    /// The graph of the names and of the pairs of DNAME records. The names are put in order.
+    pub fn build(alloc: Global, names: Vec<Name>, dnames: &[Pair]) -> Result<LabelGraph, NoMemory>
+        requires { IsClosed (ground_with names.items dnames.now) }
+        ensures same { IfOk result (λ graph. AreSame graph (ground_with names.items dnames.now)) }
         ensures order { IfOk result (λ graph. AreInOrder graph.names) }
     {
-        let names = in_order(copies(alloc, names)?)?;
+        let names = in_order(names)?;
         LabelGraph::of_ordered(alloc, names, dnames)
     }
 
@@ -145,15 +145,4 @@ impl LabelGraph {
         // The table is read, so that what holds of the graph is known here.
         let _ = &self.table;
     }
-}
-
-/// Equal names.
-fn copies(alloc: Global, names: &[Name]) -> Result<Vec<Name>, NoMemory>
-    ensures { IfOk result (λ copies. copies.items ≡ names.now) }
-{
-    let mut copies = Vec::with_capacity(alloc, names.len())?;
-    for name in names {
-        copies.push(name.copy(alloc)?)?;
-    }
-    Ok(copies)
 }

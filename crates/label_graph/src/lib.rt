@@ -2,23 +2,27 @@
 //! base names to which the name reads on, found label by label. A name is named where its live set isn't empty.
 //!
 //! The layer above may rest on this: `of_config` makes the graph of a configuration, `of_names` that of several and of
-//! some names more, `start` and `advance` give the live set of a name in a graph, `has_next` tells whether a label
-//! makes a named name below a name with that live set, and `next_names` gives all labels that do, with the live sets of
-//! the names that they make.
+//! some names more, and `build` that of names which others gather, by `put_zone` and the like or from what they know of
+//! a zone. `start` and `advance` give the live set of a name in a graph, `has_next` tells whether a label makes a named
+//! name below a name with that live set, and `next_names` gives all labels that do, with the live sets of the names
+//! that they make.
 //!
 //! Costs: the base names of configurations are made once for the records with one owner in a row. Those of each zone
 //! are put in order before the next, zone after zone in the order of their origins: so the sort of all names finds
-//! them nearly in order. They move into the graph as they are; `build` copies and sorts the names that it is given.
-//! Building sorts the fronts of targets, finds the name above each name along the one before it, and looks once at
-//! each pair of a front and a base name to which it reads on. Rows of places behind the last that has something take
-//! no memory. A live set has at most one place where no DNAME record plays a part, and one of one place takes no
-//! memory of its own; a label more costs a binary search among the last labels below each place, and no more where
+//! them nearly in order. `build` sorts the names that it is given: it compares each with the next alone where they stand
+//! in order, and merges runs that do. The names move into the graph as they are. Building sorts the fronts of targets,
+//! finds the name above each name along the one before it, puts the names one label below each together in two passes,
+//! and looks once at each pair of a front and a base name to which it reads on. Each name has two numbers beside it: its
+//! place among those one label below another, and where those below itself end. Lists of links behind the last place that
+//! has one take no memory. A live set has at most one place where no DNAME record plays a part, and one of one place takes
+//! no memory of its own; a label more costs a binary search among the last labels below each place, and no more where
 //! none of the names found is redirected. The labels below one place are listed in order without a search or a sort,
 //! each with its own live set; those below several are sorted, and looked for.
 #![tactic(auto)]
 
 mod base;
 mod below;
+mod child_rows;
 mod closing;
 mod graph;
 pub mod laws;
@@ -33,8 +37,11 @@ mod saturation;
 mod sorting;
 mod targets;
 
-pub use base::{BaseNames, base_of, base_of_all};
+pub use base::{
+    BaseNames, base_of, base_of_all, put_config, put_names, put_pairs, put_server, put_zone,
+};
 pub use graph::LabelGraph;
 pub use live::LiveSet;
 pub use next::NextName;
 pub use pair::Pair;
+pub use parts::put_new_fronts;

@@ -8,7 +8,7 @@ ghost use Rattle.dns_data.specs.Name.{Labels, AreInOrder};
 ghost use Rattle.label_graph.specs.LiveSet.{HavePrefixes, name_at};
 ghost use Rattle.label_graph.specs.NameTree.{IsNextBelow, AreParents, AreRowsBelow, octets_from};
 
-use crate::rows::Rows;
+use crate::child_rows::ChildRows;
 use crate::sorting::in_order;
 use dns_data::{Name, NoMemory, octets_order};
 use std::alloc::Global;
@@ -20,7 +20,7 @@ use std::marker::Model;
 #[derive(Drop)]
 pub(crate) struct NameTree {
     names: Vec<Name>,
-    below: Rows,
+    below: ChildRows,
 }
 
 impl Model for NameTree {
@@ -166,20 +166,31 @@ fn place_with(names: &[Name], row: &[usize], from: usize, octets: &[u8]) -> Opti
 }
 
 /// For each of the names the places of those one label below, in order.
-fn rows_below(alloc: Global, names: &[Name]) -> Result<Rows, NoMemory>
+fn rows_below(alloc: Global, names: &[Name]) -> Result<ChildRows, NoMemory>
     requires order { AreInOrder names.now }
     requires closed { HavePrefixes names.now }
     ensures { IfOk result (AreRowsBelow names.now) }
 {
-    let mut rows = Rows::new(alloc, names.len());
+    let parents = parents_of(alloc, names)?;
+    // Named, since the proof speaks of the rows that come where memory suffices.
+    let rows = ChildRows::of(alloc, parents.as_slice())?;
+    Ok(rows)
+}
+
+/// For each of the names the place of the one a label above; 0 for the root.
+fn parents_of(alloc: Global, names: &[Name]) -> Result<Vec<usize>, NoMemory>
+    requires order { AreInOrder names.now }
+    requires closed { HavePrefixes names.now }
+    ensures len { IfOk result (λ parents. length parents.items ≡ length names.now) }
+    ensures parents { IfOk result (λ parents. AreParents names.now parents.items) }
+{
     let mut parents = Vec::with_capacity(alloc, names.len())?;
     parents.push(0)?;
     for place in 1..names.len() {
         let parent = parent_of(names, parents.as_slice(), place);
-        rows.put(alloc, parent, place)?;
         parents.push(parent)?;
     }
-    Ok(rows)
+    Ok(parents)
 }
 
 /// The place of the name one label above the one at this place. The places of the names one label above those before

@@ -21,11 +21,7 @@ pub(crate) fn front_of(alloc: Global, name: &Name, count: usize) -> Result<Name,
 
 /// Puts the fronts of the name that aren't among the names at the end, where the names have the root and the prefixes of
 /// each: those that the name shares with the last of them are passed over.
-pub(crate) fn put_new_fronts(
-    alloc: Global,
-    names: &mut Vec<Name>,
-    name: &Name,
-) -> Result<(), NoMemory>
+pub fn put_new_fronts(alloc: Global, names: &mut Vec<Name>, name: &Name) -> Result<(), NoMemory>
     requires { HavePrefixes names.old.items }
     ensures fronts { OnOk result ((front : Labels) → Contains names.new.items front ↔ (Contains names.old.items front ⊎ IsPrefixFrom 0 name.now front)) }
     ensures prefixes { OnOk result (HavePrefixes names.new.items) }

@@ -2,7 +2,7 @@
 
 use super::configs::{alone, name, spells};
 use dns_data::{Name, NameFault, NoMemory};
-use label_graph::{LabelGraph, base_of};
+use label_graph::{BaseNames, LabelGraph, base_of};
 use net_model::{Class, Config};
 use query_classes::{children, class_of, representative};
 use std::alloc::Global;
@@ -19,8 +19,8 @@ fn wildcard_graph(alloc: Global) -> Result<LabelGraph, Fail> {
 
 /// The graph of the configuration's base names and redirections.
 fn graph_by_names(alloc: Global, config: &Config) -> Result<LabelGraph, NoMemory> {
-    let base = base_of(alloc, config)?;
-    LabelGraph::build(alloc, base.names.items(), base.dnames.items())
+    let BaseNames { names, dnames } = base_of(alloc, config)?;
+    LabelGraph::build(alloc, names.into_vec(), dnames.items())
 }
 
 // A name that is named is alone, any other is in the class below its longest named prefix. The first label that is free
