@@ -1,3 +1,4 @@
+mod AllFirsts
 pub mod CutsInside
 pub mod FirstsByName
 pub mod Glue

@@ -1,6 +1,6 @@
 //! Servers with the trees of their zones.
 
-ghost use Rattle.std.specs.Prelude.{◌≡◌, true, IfOk, IfSome};
+ghost use Rattle.std.specs.Prelude.{◌≡◌, true, length, map, IsPermutation, IfOk, IfSome};
 ghost use Rattle.std.specs.Option.{option_map};
 ghost use Rattle.dns_data.specs.Name.{is_prefix};
 ghost use Rattle.net_model.specs.Nearest.{server_named, zone_with_origin, held_zone, nearest, nearest_of};
@@ -45,6 +45,13 @@ impl<'a> Hosts<'a> {
         ensures { result.now ≡ self.now }
     {
         self.config
+    }
+
+    /// The servers, in the order of their names, or `None` where two of them have one name.
+    pub fn hosts(&self) -> Option<&[Host<'a>]>
+        ensures { IfSome result (λ hosts. IsPermutation self.now.servers hosts.now) }
+    {
+        if_as_many(self.hosts.as_slice(), self.config.servers.items().len())
     }
 
     /// The configured server of this name, the first of several.
@@ -141,6 +148,20 @@ impl<'a> Host<'a> {
         Ok(Host { server, trees })
     }
 
+    /// The server.
+    pub fn server(&self) -> &'a Server
+        ensures { result.now ≡ self.now }
+    {
+        self.server
+    }
+
+    /// The trees of the server's zones, in the order of their origins, or `None` where two of them have one origin.
+    pub fn trees(&self) -> Option<&[Tree<'a>]>
+        ensures { IfSome result (λ trees. IsPermutation self.now.zones (map (λ tree. tree.zone) trees.now)) }
+    {
+        if_as_many(self.trees.as_slice(), self.server.zones.items().len())
+    }
+
     /// The server's name.
     pub fn name(&self) -> &'a Name
         ensures { result.now ≡ self.now.name }
@@ -182,6 +203,17 @@ impl<'a> Host<'a> {
         ensures { option_map (λ tree. tree.now.zone) result ≡ zone_with_origin self.now origin.now }
     {
         item_named(self.trees.as_slice(), origin)
+    }
+}
+
+/// The items, if there are this many.
+fn if_as_many<T>(items: &[T], count: usize) -> Option<&[T]>
+    ensures { IfSome result (λ all. (all.now ≡ items.now) × (length items.now ≡ count)) }
+{
+    if items.len() == count {
+        Some(items)
+    } else {
+        None
     }
 }
 

@@ -3,10 +3,11 @@
 //!
 //! The layer above may rest on this: `find` answers what the definition `found` says of the zone; `Hosts` finds a
 //! server, a zone by its origin and the nearest zone of a name as the definitions do, and tells which name servers may
-//! be followed. `starts` gives the states in which a query begins, and `after_lookup` the steps of a state, as the
-//! definitions do. Of a referral it is told as the definitions say whether the two zones list other name servers or
-//! hold other addresses, whether glue is missing, and whether the name server's address depends on itself (`LearntSets`
-//! has the learnt addresses); one that `is_sound` lets pass shows none of these, whatever comes behind it.
+//! be followed. It gives all servers, and a server all trees, where no two have one name or one origin. `starts` gives
+//! the states in which a query begins, and `after_lookup` the steps of a state, as the definitions do. Of a referral it
+//! is told as the definitions say whether the two zones list other name servers or hold other addresses, whether glue
+//! is missing, and whether the name server's address depends on itself (`LearntSets` has the learnt addresses); one
+//! that `is_sound` lets pass shows none of these, whatever comes behind it.
 //!
 //! Costs: what decides at a name is found in one search among the zone's names, or in two where a wildcard may answer.
 //! No data are looked at but those that are answered. A server and a zone are found in as many comparisons of names as

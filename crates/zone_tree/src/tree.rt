@@ -79,6 +79,13 @@ impl<'a> Tree<'a> {
         self.zone
     }
 
+    /// The existing names of the zone, in order.
+    pub fn names(&self) -> &[Name]
+        ensures { result.now ≡ self.now.names }
+    {
+        self.names.items()
+    }
+
     /// The node of the origin.
     pub fn apex(&self) -> NodeId
         ensures node { IsNode self.now result }
