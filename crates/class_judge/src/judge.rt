@@ -18,7 +18,9 @@ use graph_form::Report;
 use label_graph::LabelGraph;
 use net_model::Config;
 use query_classes::TreeName;
-use query_verdicts::{FiledVerdict, NameJudge, QueryGraphs, ReportFault, SubjectGround};
+use query_verdicts::{
+    FiledVerdict, NameJudge, QueryGraphs, ReportFault, SubjectGround, base_graph,
+};
 use std::alloc::Global;
 use std::marker::Model;
 use verdict_book::{Filed, JudgeShare, Judged, Work};
@@ -94,7 +96,7 @@ impl<'a, N: Naming> Judge<'a, N> {
         ensures config { IfOk result (λ judge. judge ≡ config.now) }
     {
         let graphs = QueryGraphs::prepare(alloc, config, rewrites, states)?;
-        let base = LabelGraph::of_config(alloc, config)?;
+        let base = base_graph(alloc, &graphs)?;
         let names = NameJudge::new(alloc, graphs, base, None, Name::root());
         Ok(Judge { names })
     }

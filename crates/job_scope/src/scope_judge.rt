@@ -18,7 +18,8 @@ use label_graph::LabelGraph;
 use net_model::Config;
 use query_classes::TreeName;
 use query_verdicts::{
-    FiledVerdict, NameJudge, QueryGraphs, ReportFault as ScopeFault, SubjectGround,
+    FiledVerdict, NameJudge, QueryGraphs, ReportFault as ScopeFault, SubjectGround, base_graph,
+    joint_base_graph,
 };
 use std::alloc::Global;
 use std::marker::Model;
@@ -100,9 +101,9 @@ impl<'a, N: ScopeNaming> ScopeJudge<'a, N> {
         // The labels are read, so that the length of the name is known here.
         let _ = scope.labels();
         let first = scope.copy(alloc)?;
-        let own = LabelGraph::of_config(alloc, config)?;
-        let names = LabelGraph::of_names(alloc, &[config], &[scope])?;
         let graphs = QueryGraphs::prepare(alloc, config, rewrites, states)?;
+        let own = base_graph(alloc, &graphs)?;
+        let names = joint_base_graph(alloc, &[&graphs], &[scope])?;
         let names = NameJudge::new(alloc, graphs, names, Some(own), first);
         Ok(ScopeJudge { names })
     }

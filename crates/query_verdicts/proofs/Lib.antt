@@ -31,3 +31,4 @@ pub mod StraightVerdicts
 pub mod TreeValues
 pub mod VerdictsExist
 pub mod WholeReport
+pub mod ZoneNames

@@ -1,3 +1,5 @@
+pub use Rattle.net_model.specs.Reading
+pub use Rattle.label_graph.specs.Pairs
 pub use Rattle.graph_form.specs.Report
 pub use Rattle.query_classes.specs.Children
 pub use Rattle.query_classes.specs.TreeNames

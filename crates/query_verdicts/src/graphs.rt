@@ -148,4 +148,11 @@ impl<'a> QueryGraphs<'a> {
     {
         self.queries.rewrites
     }
+
+    /// The servers of the configuration with the trees of their zones.
+    pub(crate) fn hosts(&self) -> &Hosts<'a>
+        ensures { result.now ≡ self.now.config }
+    {
+        &self.queries.trees
+    }
 }

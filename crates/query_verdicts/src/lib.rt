@@ -8,6 +8,10 @@
 //! queries. A subject is a configuration with its limits, the names that are told apart in it, and the name at or below
 //! which queries are looked at.
 //!
+//! `base_graph` and `joint_base_graph` make graphs of base names. The names of a zone come from its tree, where they stand
+//! in order: putting them in order costs a comparison a name for one zone, and a merge of their runs for several. They come
+//! from the records where two servers have one name, two zones of a server one origin, or an owner lies outside its zone.
+//!
 //! The way of a fault, from the graph of a query's walks to its entry, goes through four files: `verdicts` finds the faults
 //! in the graph, `verdict` has what is told of a class and of a name and how that is filed, `name_judge` judges the two
 //! classes of a name, and `report` picks the first class that shows a fault and makes the entry.
@@ -26,6 +30,7 @@
 //! each class that is the first to show some fault, and finds the first walks of all these faults in it.
 #![tactic(auto)]
 
+mod base_names;
 mod graphs;
 pub mod laws;
 mod learnt;
@@ -40,6 +45,7 @@ mod subject;
 mod verdict;
 mod verdicts;
 
+pub use base_names::{base_graph, joint_base_graph};
 pub use graphs::QueryGraphs;
 pub use name_judge::NameJudge;
 pub use own_class::OwnClass;

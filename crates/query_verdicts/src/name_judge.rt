@@ -81,8 +81,8 @@ impl<'a, S: OnSubject> NameJudge<'a, S> {
         TreeName::of_name(self.alloc, &self.names, &self.first)
     }
 
-    /// The verdict of a name of the class tree, to be filed, and the names of the tree one label below it, in order. No name
-    /// below it is searched for where it is known that none shows a fault.
+    /// The verdict of a name of the class tree, to be filed, and the names of the tree one label below it, in order. No
+    /// name below it is searched for where it is known that none shows a fault.
     pub fn judge(
         &self,
         item: &TreeName<SubjectGround<S>>,

@@ -20,7 +20,7 @@ use dns_data::{List, Name, NoMemory};
 use label_graph::LabelGraph;
 use net_model::Config;
 use query_classes::{LiveName, TreeName};
-use query_verdicts::{NameVerdict, QueryGraphs};
+use query_verdicts::{NameVerdict, QueryGraphs, joint_base_graph};
 use std::alloc::Global;
 use std::marker::{Model, PhantomData};
 use verdict_book::{JudgeShare, Judged, Work};
@@ -106,7 +106,7 @@ impl<'a, N: PairNaming> Pairing<'a, N> {
     {
         let of_first = QueryGraphs::prepare(alloc, first, rewrites, states)?;
         let of_second = QueryGraphs::prepare(alloc, second, rewrites, states)?;
-        let names = LabelGraph::of_names(alloc, &[first, second], &[])?;
+        let names = joint_base_graph(alloc, &[&of_first, &of_second], &[])?;
         Ok(Pairing {
             alloc,
             first: of_first,

@@ -3,7 +3,7 @@ use Rattle.dns_data.specs.Name.{Labels, IsName}
 use Rattle.label_graph.specs.Pairs.{AreSame}
 use Rattle.net_model.specs.declared.config.Config.{Config}
 use Rattle.net_model.specs.Reading.{ground_of, joined_ground}
-use Rattle.query_verdicts.specs.Queries.{limited_to}
+use Rattle.query_verdicts.specs.Queries.{LimitedQueries, limited_to}
 use Rattle.job_scope.proofs.Scopes.{is_covered}
 use Rattle.job_scope.proofs.scope_judge.ScopeJudge.prepare.Goals as goal
 
@@ -20,11 +20,13 @@ new-names-requires g c =
       names_are = record {
         same =
             subst (λ (name : Labels). AreSame c.in_ok-names.names (joined_ground (N.config ∷ []) (name ∷ []))) c.requires.scope
-            (subst (λ (config : Config). AreSame c.in_ok-names.names (joined_ground (config ∷ []) (c.args.scope.now ∷ []))) c.requires.config c.in_ok-names.ensures.same);
+            (subst (λ (config : Config). AreSame c.in_ok-names.names (joined_ground (config ∷ []) (c.args.scope.now ∷ [])))
+            (ap (λ (queries : LimitedQueries). queries.config) c.in_ok-graphs.ensures ∙ c.requires.config) c.in_ok-names.ensures.same);
         order = c.in_ok-names.ensures.order;
       };
       own_are = record {
-        same = subst (λ (config : Config). AreSame c.in_ok-own.own (ground_of config)) c.requires.config c.in_ok-own.ensures.same;
+        same = subst (λ (config : Config). AreSame c.in_ok-own.own (ground_of config))
+            (ap (λ (queries : LimitedQueries). queries.config) c.in_ok-graphs.ensures ∙ c.requires.config) c.in_ok-own.ensures.same;
         order = c.in_ok-own.ensures.order;
       };
       first_is = c.in_ok-first.ensures ∙ c.requires.scope;
