@@ -12,6 +12,7 @@ mod NameKeys
 mod NameTexts
 mod NamesBelow
 mod NextDeciders
+mod OneDatum
 mod Owned
 mod Pairs
 pub mod Prefixes

@@ -8,6 +8,7 @@ pub mod KeyedRecords
 pub mod Keys
 pub mod Merged
 pub mod Names
+pub mod OwnedData
 pub mod Owners
 pub mod Preceding
 pub mod Records

@@ -9,7 +9,7 @@ ghost use Rattle.zone_tree.specs.Owners.{AreByOwner, leading};
 ghost use Rattle.zone_tree.specs.Records.{data_of, TellsData};
 
 use crate::keys::key_if_below;
-use crate::records::{OwnedRecords, records_of};
+use crate::owned_data::OwnedData;
 use dns_data::{Name, NoMemory, Rr};
 use net_model::Zone;
 use std::alloc::Global;
@@ -72,7 +72,7 @@ pub(crate) fn records_by_name<'a>(
     alloc: Global,
     names: &[Name],
     rrs: &[&'a Rr],
-) -> Result<Vec<OwnedRecords<'a>>, NoMemory>
+) -> Result<Vec<OwnedData<'a>>, NoMemory>
     requires names { AreInOrder names.now }
     requires sorted { IsSorted name_cmp (map (λ rr. rr.owner) (map (λ rr. rr.now) rrs.now)) }
     requires among { (rr : Rr) → Contains (map (λ rr. rr.now) rrs.now) rr → Contains names.now rr.owner }
@@ -84,7 +84,7 @@ pub(crate) fn records_by_name<'a>(
     for name in names {
         let left = &rrs[at..];
         let (own, _) = left.split_at(leading(left, name));
-        all.push(records_of(alloc, own)?)?;
+        all.push(OwnedData::of(alloc, own)?)?;
         at += own.len();
     }
     Ok(all)

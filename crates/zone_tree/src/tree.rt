@@ -20,9 +20,10 @@ use crate::names::existing_names;
 use crate::node::NodeId;
 use crate::order::merged;
 use crate::ordered_names::OrderedNames;
+use crate::owned_data::OwnedData;
 use crate::owners::{records_by_name, rrs_in_order};
 use crate::places::{Preceding, place_among, place_behind, place_of_child, place_up_to};
-use crate::records::{OwnedRecords, data_in, first_in, target_of};
+use crate::records::target_of;
 use dns_data::{Label, Labels, List, Name, NoMemory, Rdata, RrType, TypeSet};
 use net_model::Zone;
 use std::alloc::Global;
@@ -34,7 +35,7 @@ use std::marker::Model;
 pub struct Tree<'a> {
     zone: &'a Zone,
     names: OrderedNames,
-    records: Vec<OwnedRecords<'a>>,
+    records: Vec<OwnedData<'a>>,
     first_deciders: Vec<NodeId>,
 }
 
@@ -190,7 +191,7 @@ impl<'a> Tree<'a> {
         requires { IsNode self.now node }
         ensures { (rtype : RrType) → has_bit result rtype ≡ owns self.now.zone (name_of self.now node) rtype }
     {
-        self.records(node).types
+        self.records(node).types()
     }
 
     /// The data of a type that a node's name owns, in the order of their texts, each once.
@@ -198,7 +199,7 @@ impl<'a> Tree<'a> {
         requires { IsNode self.now node }
         ensures { result.now ≡ in_order data_cmp (data_at self.now.zone (name_of self.now node) t) }
     {
-        data_in(self.records(node).sets.items(), t)
+        self.records(node).set(t)
     }
 
     /// The addresses of both types that a node's name owns, in the order of their texts, each once.
@@ -218,7 +219,7 @@ impl<'a> Tree<'a> {
         requires { IsNode self.now node }
         ensures { option_map (λ target. target.now) result ≡ first_name (targets_at self.now.zone (name_of self.now node) rr_type.Cname) }
     {
-        target_of(first_in(self.records(node).sets.items(), RrType::Cname)?)
+        target_of(self.records(node).first(RrType::Cname)?)
     }
 
     /// The target of the DNAME record that a node's name owns, the first in file order.
@@ -226,7 +227,7 @@ impl<'a> Tree<'a> {
         requires { IsNode self.now node }
         ensures { option_map (λ target. target.now) result ≡ first_name (targets_at self.now.zone (name_of self.now node) rr_type.Dname) }
     {
-        target_of(first_in(self.records(node).sets.items(), RrType::Dname)?)
+        target_of(self.records(node).first(RrType::Dname)?)
     }
 
     /// The names of the name servers that a node's name owns, in the order of names.
@@ -234,11 +235,11 @@ impl<'a> Tree<'a> {
         requires { IsNode self.now node }
         ensures { map (λ server. server.now) result.now ≡ ns_names self.now.zone (name_of self.now node) }
     {
-        self.records(node).servers.items()
+        self.records(node).servers()
     }
 
     /// What tells of all data of a node's name.
-    fn records(&self, node: NodeId) -> &OwnedRecords<'a>
+    fn records(&self, node: NodeId) -> &OwnedData<'a>
         requires { IsNode self.now node }
         ensures { TellsData (data_of self.now.zone.rrs (name_of self.now node)) result.now }
     {

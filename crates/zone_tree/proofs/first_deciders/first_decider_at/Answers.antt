@@ -33,7 +33,9 @@ decides_at-requires-clause-types c = λ rtype.
     let zone = c.args.zone.now in
     let names = c.args.names.now in
     let above = item names c.args.before c.place.result c.index-names-place-2.result c.requires.before.within c.place.ensures.value c.index-names-place-2.is in
-    ap (λ (n : ℕ). has_bit (get_or c.args.records.now n c.index-records-place.result).types rtype) c.place-2.ensures.value
+    c.types.ensures rtype
+    ∙ ap (λ (records : OwnedRecords). has_bit records.types rtype) c.index-records-place.is
+    ∙ ap (λ (n : ℕ). has_bit (get_or c.args.records.now n c.index-records-place.result).types rtype) c.place-2.ensures.value
     ∙ types_at zone names c.args.records.now c.requires.tree c.args.before c.index-records-place.result c.requires.before.within rtype
     ∙ ap (λ (x : Labels). owns zone x rtype) above
 
@@ -60,7 +62,9 @@ decides_below-requires-clause-types c = λ rtype.
     let zone = c.args.zone.now in
     let names = c.args.names.now in
     let name = item names c.args.place c.args.place c.index-names-place.result c.requires.within refl c.index-names-place.is in
-    types_at zone names c.args.records.now c.requires.tree c.args.place c.index-records-place-2.result c.requires.within rtype
+    c.types-2.ensures rtype
+    ∙ ap (λ (records : OwnedRecords). has_bit records.types rtype) c.index-records-place-2.is
+    ∙ types_at zone names c.args.records.now c.requires.tree c.args.place c.index-records-place-2.result c.requires.within rtype
     ∙ ap (λ (x : Labels). owns zone x rtype) name
 
 pub returns-then-decides_below : goal.returns-then-decides_below

@@ -36,7 +36,7 @@ loop-name-preserved c =
     let name : Labels = get_or names i [] in
     let rest : List Rr = drop at rrs in
     let own : List (Bor Rr) = c.split_at.result.0.now in
-    let new : OwnedRecords = c.in_ok-records_of.field-0 in
+    let new : OwnedRecords = c.in_ok-of.field-0 in
     let whole : take (length c.args.rrs.now - at) (drop at c.args.rrs.now) ≡ drop at c.args.rrs.now =
     take_all (length c.args.rrs.now - at) (drop at c.args.rrs.now) (omega (arith, length-drop at c.args.rrs.now)) in
     let left : map now_of (take (length c.args.rrs.now - at) (drop at c.args.rrs.now)) ≡ rest =
@@ -56,7 +56,7 @@ loop-name-preserved c =
     ∙ ap (map rdata_of) (sym (take-map now_of c.leading.result (take (length c.args.rrs.now - at) (drop at c.args.rrs.now))) ∙ ap (take c.leading.result) left ∙ ap (λ (n : ℕ). take n rest) count)
     ∙ sym (data_leading name rest order)
     ∙ c.loop-name.invariant.left i (omega arith) c.loop-name-test.true in
-    let told : TellsData (data_of rrs name) new = subst (λ (all : List Rdata). TellsData all new) owned c.in_ok-records_of.ensures in
+    let told : TellsData (data_of rrs name) new = subst (λ (all : List Rdata). TellsData all new) owned c.in_ok-of.ensures in
     record {
       within =
           omega (arith, c.leading.ensures.within, c.split_at.ensures.front_len, ap (λ (xs : List (Bor Rr)). length xs) whole, length-drop at c.args.rrs.now, c.loop-name.invariant.within);

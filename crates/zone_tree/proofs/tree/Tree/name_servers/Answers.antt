@@ -11,7 +11,7 @@ use Rattle.zone_tree.proofs.tree.Tree.name_servers.Goals as goal
 
 pub returns : goal.returns
 returns c =
-    ap (map (λ (server : Bor Labels). server.now)) c.items.ensures
+    ap (map (λ (server : Bor Labels). server.now)) c.servers.ensures
     ∙ c.records.ensures.servers
     ∙ ap (λ (all : List Rdata). in_order name_cmp (filter_map target_of all))
     (sym (data_of_type (name_of c.args.self.now c.args.node) rr_type.Ns c.args.self.now.zone.rrs))
