@@ -2,12 +2,11 @@
 
 ghost use Rattle.std.specs.Prelude.{◌≡◌, ◌++◌, ◌<◌, IfOk, OnOk, length, map, true};
 ghost use Rattle.std.specs.Option.{option_copied};
-ghost use Rattle.dns_data.specs.Name.{is_prefix};
 ghost use Rattle.delegation_checks.specs.Met.{AreOfReferrals, IsAgain, is_met, met_cmp};
 ghost use Rattle.delegation_checks.specs.Referrals.{leaf_faults, referral_end_faults};
 ghost use Rattle.graph_form.specs.Branches.{with_type};
 ghost use Rattle.net_model.specs.declared.fault.Fault.{Fault as FaultValue};
-ghost use Rattle.zone_lookup.specs.ReferralFaults.{cut_faults, if_shown, referral_faults};
+ghost use Rattle.zone_lookup.specs.ReferralFaults.{cut_faults, if_shown};
 
 use crate::referrals::Met;
 use dns_data::{List, NoMemory, RrType};
@@ -15,9 +14,7 @@ use graph_form::Seen;
 use net_model::{Cut, Fault, Leaf};
 use std::alloc::Global;
 use std::cmp::Ordering;
-use zone_lookup::{
-    Hosts, LearntSets, addresses_differ, depends_on_itself, wants_glue, zones_differ,
-};
+use zone_lookup::{Hosts, LearntSets, put_cut_faults};
 
 /// The faults of referrals. The zones are asked once for each name server of a cut.
 pub(crate) fn faults_of(
@@ -76,8 +73,7 @@ fn comes_again(met: &[Met<'_>], place: usize) -> bool
     earlier.cut.compare(now.cut) == Ordering::Equal && earlier.rtype.number() <= now.rtype.number()
 }
 
-/// Puts the faults of a referral, whatever comes behind it, behind those seen, if its zone cut is at or below its zone's
-/// origin, as the zone cut of every referral on a walk is.
+/// Puts the faults of a referral, whatever comes behind it, behind those seen.
 fn put_cut(
     alloc: Global,
     hosts: &Hosts<'_>,
@@ -88,33 +84,19 @@ fn put_cut(
 ) -> Result<(), NoMemory>
     ensures { OnOk result (seen.new ≡ seen.old ++ with_type rtype (cut_faults hosts.now sets.now cut.now)) }
 {
-    if cut.zone.is_prefix_of(&cut.cut) {
-        put_referral(alloc, hosts, sets, cut, rtype, seen)
-    } else {
-        Ok(())
-    }
+    let mut faults = List::new(alloc);
+    put_cut_faults(alloc, hosts, sets, cut, &mut faults)?;
+    put_faults(faults, rtype, seen)
 }
 
-/// Puts the faults of a referral to a name server, whatever comes behind it, behind those seen.
-fn put_referral(
-    alloc: Global,
-    hosts: &Hosts<'_>,
-    sets: &LearntSets,
-    cut: &Cut,
-    rtype: RrType,
-    seen: &mut List<Seen>,
-) -> Result<(), NoMemory>
-    requires { is_prefix cut.now.zone cut.now.cut ≡ true }
-    ensures { OnOk result (seen.new ≡ seen.old ++ with_type rtype (referral_faults hosts.now sets.now cut.now)) }
+/// Puts faults that a query of the type shows behind those seen.
+fn put_faults(faults: List<Fault>, rtype: RrType, seen: &mut List<Seen>) -> Result<(), NoMemory>
+    ensures { OnOk result (seen.new ≡ seen.old ++ with_type rtype faults) }
 {
-    let differs = zones_differ(hosts, cut);
-    put_shown(alloc, differs, Fault::Differs, cut, rtype, seen)?;
-    let no_glue = wants_glue(hosts, cut);
-    put_shown(alloc, no_glue, Fault::NoGlue, cut, rtype, seen)?;
-    let glue_differs = addresses_differ(alloc, hosts, cut)?;
-    put_shown(alloc, glue_differs, Fault::GlueDiffers, cut, rtype, seen)?;
-    let cyclic = depends_on_itself(hosts, sets, cut);
-    put_shown(alloc, cyclic, Fault::Cyclic, cut, rtype, seen)
+    for fault in faults {
+        seen.push(Seen { fault, rtype })?;
+    }
+    Ok(())
 }
 
 /// Puts the fault of this kind at a zone cut behind those seen, where it is shown.

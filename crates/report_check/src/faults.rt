@@ -2,16 +2,13 @@
 
 ghost use Rattle.std.specs.Prelude.{◌≡◌, ◌++◌, ◌-◌, length, slice_get, true, IfOk, OnOk};
 ghost use Rattle.std.specs.Option.{option_map};
-ghost use Rattle.dns_data.specs.Name.{is_prefix};
 ghost use Rattle.report_check.specs.WalkFaults.{blackhole_in, blackhole_of, end_faults, lame_behind, last_of, unlearnt_behind, walk_faults};
-ghost use Rattle.zone_lookup.specs.ReferralFaults.{cut_faults, hop_faults, if_shown, referral_faults};
+ghost use Rattle.zone_lookup.specs.ReferralFaults.{hop_faults, if_shown};
 
 use dns_data::{List, Name, NoMemory};
 use net_model::{Cut, Fault, Hop, Leaf, Place, State, Walk};
 use std::alloc::Global;
-use zone_lookup::{
-    Hosts, LearntSets, addresses_differ, depends_on_itself, wants_glue, zones_differ,
-};
+use zone_lookup::{Hosts, LearntSets, put_cut_faults};
 
 /// The faults that a walk shows by itself: those of its referrals, whatever comes behind them, and those of its end. An
 /// overlong rewrite is among them whatever the query.
@@ -52,48 +49,9 @@ fn put_hop(
     ensures { OnOk result (faults.new ≡ faults.old ++ hop_faults hosts.now sets.now hop.now) }
 {
     match hop {
-        Hop::Refer(cut) => put_cut(alloc, hosts, sets, cut, faults),
+        Hop::Refer(cut) => put_cut_faults(alloc, hosts, sets, cut, faults),
         Hop::Rewrite { .. } => Ok(()),
     }
-}
-
-/// Puts the faults of a referral behind the others, if its zone cut is at or below its zone's origin, as the zone cut
-/// of every referral on a walk is.
-fn put_cut(
-    alloc: Global,
-    hosts: &Hosts<'_>,
-    sets: &LearntSets,
-    cut: &Cut,
-    faults: &mut List<Fault>,
-) -> Result<(), NoMemory>
-    ensures { OnOk result (faults.new ≡ faults.old ++ cut_faults hosts.now sets.now cut.now) }
-{
-    if cut.zone.is_prefix_of(&cut.cut) {
-        put_referral(alloc, hosts, sets, cut, faults)
-    } else {
-        Ok(())
-    }
-}
-
-/// Puts the faults of a referral to a name server behind the others.
-fn put_referral(
-    alloc: Global,
-    hosts: &Hosts<'_>,
-    sets: &LearntSets,
-    cut: &Cut,
-    faults: &mut List<Fault>,
-) -> Result<(), NoMemory>
-    requires { is_prefix cut.now.zone cut.now.cut ≡ true }
-    ensures { OnOk result (faults.new ≡ faults.old ++ referral_faults hosts.now sets.now cut.now) }
-{
-    let differ = zones_differ(hosts, cut);
-    put_shown(faults, differ, Fault::Differs(cut.copy(alloc)?))?;
-    let wants = wants_glue(hosts, cut);
-    put_shown(faults, wants, Fault::NoGlue(cut.copy(alloc)?))?;
-    let others = addresses_differ(alloc, hosts, cut)?;
-    put_shown(faults, others, Fault::GlueDiffers(cut.copy(alloc)?))?;
-    let cyclic = depends_on_itself(hosts, sets, cut);
-    put_shown(faults, cyclic, Fault::Cyclic(cut.copy(alloc)?))
 }
 
 /// Puts the faults of a walk's end behind the others.

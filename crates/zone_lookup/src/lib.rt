@@ -4,10 +4,10 @@
 //! The layer above may rest on this: `find` answers what the definition `found` says of the zone; `Hosts` finds a
 //! server, a zone by its origin and the nearest zone of a name as the definitions do, and tells which name servers may
 //! be followed. It gives all servers, and a server all trees, where no two have one name or one origin. `starts` gives
-//! the states in which a query begins, and `after_lookup` the steps of a state, as the definitions do. Of a referral it
-//! is told as the definitions say whether the two zones list other name servers or hold other addresses, whether glue
-//! is missing, and whether the name server's address depends on itself (`LearntSets` has the learnt addresses); one
-//! that `is_sound` lets pass shows none of these, whatever comes behind it.
+//! the states in which a query begins, and `after_lookup` the steps of a state, as the definitions do. `put_cut_faults`
+//! puts what a referral shows, whatever comes behind it, as the definitions say: whether the two zones list other name
+//! servers or hold other addresses, whether glue is missing, and whether the name server's address depends on itself
+//! (`LearntSets` has the learnt addresses); one that `is_sound` lets pass shows none of these.
 //!
 //! Costs: what decides at a name is found in one search among the zone's names, or in two where a wildcard may answer.
 //! No data are looked at but those that are answered. A server and a zone are found in as many comparisons of names as
@@ -30,6 +30,7 @@ mod learnt_sets;
 mod lookup;
 mod named;
 mod redirection;
+mod referral_faults;
 mod rewrites;
 mod sides;
 mod sound;
@@ -42,8 +43,7 @@ pub use hosts::{Host, Hosts, Near};
 pub use learnt_sets::{LearntSets, set_of};
 pub use lookup::find;
 pub use named::{Named, nearest_item};
+pub use referral_faults::put_cut_faults;
 pub use rewrites::starts;
-pub use sides::{addresses_differ, zones_differ};
-pub use sound::{depends_on_itself, wants_glue};
 pub use steps::{Step, after_lookup, outside};
 pub use walker::Walker;

@@ -15,7 +15,7 @@ use std::alloc::Global;
 use zone_tree::Tree;
 
 /// Whether the delegated zone lists other name servers than the referring one.
-pub fn zones_differ(hosts: &Hosts<'_>, cut: &Cut) -> bool
+pub(crate) fn zones_differ(hosts: &Hosts<'_>, cut: &Cut) -> bool
     requires { is_prefix cut.now.zone cut.now.cut ≡ true }
     ensures { result ≡ zones_differ hosts.now cut.now }
 {
@@ -29,7 +29,11 @@ pub fn zones_differ(hosts: &Hosts<'_>, cut: &Cut) -> bool
 }
 
 /// Whether the name server is at or below the cut, and both zones hold addresses of it, and not the same ones.
-pub fn addresses_differ(alloc: Global, hosts: &Hosts<'_>, cut: &Cut) -> Result<bool, NoMemory>
+pub(crate) fn addresses_differ(
+    alloc: Global,
+    hosts: &Hosts<'_>,
+    cut: &Cut,
+) -> Result<bool, NoMemory>
     requires { is_prefix cut.now.zone cut.now.cut ≡ true }
     ensures { IfOk result (λ differ. differ ≡ addresses_differ hosts.now cut.now) }
 {

@@ -12,7 +12,7 @@ use net_model::Cut;
 use std::alloc::Global;
 
 /// Whether the name server is at or below the cut and has no glue.
-pub fn wants_glue(hosts: &Hosts<'_>, cut: &Cut) -> bool
+pub(crate) fn wants_glue(hosts: &Hosts<'_>, cut: &Cut) -> bool
     requires { is_prefix cut.now.zone cut.now.cut ≡ true }
     ensures { result ≡ wants_glue hosts.now cut.now }
 {
@@ -21,7 +21,7 @@ pub fn wants_glue(hosts: &Hosts<'_>, cut: &Cut) -> bool
 
 /// Whether the configured name server is no top server and has no glue, and its address is learnt only by way of name
 /// servers of which the same is true.
-pub fn depends_on_itself(hosts: &Hosts<'_>, sets: &LearntSets, cut: &Cut) -> bool
+pub(crate) fn depends_on_itself(hosts: &Hosts<'_>, sets: &LearntSets, cut: &Cut) -> bool
     requires { is_prefix cut.now.zone cut.now.cut ≡ true }
     ensures { result ≡ depends_on_itself hosts.now sets.now cut.now }
 {

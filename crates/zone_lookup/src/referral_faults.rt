@@ -1,0 +1,71 @@
+//! The faults that a referral shows, whatever comes behind it.
+
+ghost use Rattle.std.specs.Prelude.{◌≡◌, ◌++◌, true, OnOk};
+ghost use Rattle.dns_data.specs.Name.{is_prefix};
+ghost use Rattle.net_model.specs.declared.fault.Fault.{Fault as FaultValue};
+ghost use Rattle.zone_lookup.specs.ReferralFaults.{cut_faults, if_shown, referral_faults};
+
+use crate::hosts::Hosts;
+use crate::learnt_sets::LearntSets;
+use crate::sides::{addresses_differ, zones_differ};
+use crate::sound::{depends_on_itself, wants_glue};
+use dns_data::{List, NoMemory};
+use net_model::{Cut, Fault};
+use std::alloc::Global;
+
+/// Puts the faults of a referral, whatever comes behind it, behind the others, if its zone cut is at or below its zone's
+/// origin, as the zone cut of every referral on a walk is. `NoMemory` comes where there is no room for them (RFC 1034
+/// sections 4.2.1 and 4.3.2).
+pub fn put_cut_faults(
+    alloc: Global,
+    hosts: &Hosts<'_>,
+    sets: &LearntSets,
+    cut: &Cut,
+    faults: &mut List<Fault>,
+) -> Result<(), NoMemory>
+    ensures { OnOk result (faults.new ≡ faults.old ++ cut_faults hosts.now sets.now cut.now) }
+{
+    if cut.zone.is_prefix_of(&cut.cut) {
+        put_referral(alloc, hosts, sets, cut, faults)
+    } else {
+        Ok(())
+    }
+}
+
+/// Puts the faults of a referral to a name server behind the others.
+fn put_referral(
+    alloc: Global,
+    hosts: &Hosts<'_>,
+    sets: &LearntSets,
+    cut: &Cut,
+    faults: &mut List<Fault>,
+) -> Result<(), NoMemory>
+    requires { is_prefix cut.now.zone cut.now.cut ≡ true }
+    ensures { OnOk result (faults.new ≡ faults.old ++ referral_faults hosts.now sets.now cut.now) }
+{
+    let differs = zones_differ(hosts, cut);
+    put_shown(alloc, differs, Fault::Differs, cut, faults)?;
+    let no_glue = wants_glue(hosts, cut);
+    put_shown(alloc, no_glue, Fault::NoGlue, cut, faults)?;
+    let glue_differs = addresses_differ(alloc, hosts, cut)?;
+    put_shown(alloc, glue_differs, Fault::GlueDiffers, cut, faults)?;
+    let cyclic = depends_on_itself(hosts, sets, cut);
+    put_shown(alloc, cyclic, Fault::Cyclic, cut, faults)
+}
+
+/// Puts the fault of this kind at a zone cut behind the others, where it is shown.
+fn put_shown<F: Fn(Cut) -> Fault>(
+    alloc: Global,
+    shown: bool,
+    kind: F,
+    cut: &Cut,
+    faults: &mut List<Fault>,
+) -> Result<(), NoMemory>
+    requires { F.IsAlwaysCallable kind }
+    ensures { OnOk result ((fault : FaultValue) → ((made : FaultValue) → F.post kind cut.now made → made ≡ fault) → faults.new ≡ faults.old ++ if_shown shown fault) }
+{
+    if shown {
+        return faults.push(kind(cut.copy(alloc)?));
+    }
+    Ok(())
+}
