@@ -7,7 +7,7 @@ use Rattle.net_model.specs.declared.config.Config.{Config}
 use Rattle.config_load.specs.Conf.{conf}
 use Rattle.config_load.specs.Faults.{FailedAt}
 use Rattle.config_load.specs.Follows.{ByTold, TellsNoOther, StopsEarly, Follows, Reaches, Answers}
-use Rattle.config_load.specs.Load.{without, Comes, NoReadFailed, Gives, FailedWhereItCame, IsReadFault, IsWhole}
+use Rattle.config_load.specs.Load.{without, ComesToFile, NoReadFailed, Gives, FailedWhereItCame, IsReadFault, IsAnswerTo}
 use Rattle.config_load.specs.Reading.{Reading, Reads, Refuses, Misses, Unknown}
 use Rattle.config_load.specs.declared.fault.LoadFault.{LoadFault}
 use Rattle.config_load.specs.declared.fault.LoadFault.TheVariants.{Read, TooLong, Meta, Text, Rule, ZoneTwice, NoMemory}
@@ -78,9 +78,9 @@ without-only told file name untold some = by_test (pointwise nat_eq name file) r
 
 module _ {A : Type 0} where
   -- the reading comes to a file to which what is told takes it
-  pub comes-reaches : (told : FilesTold) (reading : ByTold A) (file : List ℕ) → Reaches told reading file → Comes reading told file
+  pub comes-reaches : (told : FilesTold) (reading : ByTold A) (file : List ℕ) → Reaches told reading file → ComesToFile reading told file
   comes-reaches told reading file a = by_cases (a (without file told) (TellsNoOther-without told file) (without-here told file)) where
-    by_cases : (reading (without file told) ≡ Unknown file) ⊎ StopsEarly told (without file told) (reading (without file told)) → Comes reading told file
+    by_cases : (reading (without file told) ≡ Unknown file) ⊎ StopsEarly told (without file told) (reading (without file told)) → ComesToFile reading told file
     by_cases (inl e) = e
     by_cases (inr (name, is, untold, some)) = is ∙ ap Unknown (without-only told file name untold some)
 
@@ -96,15 +96,15 @@ module _ {A : Type 0} where
   FailedWhereItCame-answers told reading (Err (ZoneTwice row)) a = tt
 
 -- where no read failed the answer is the whole of what the reading gives
-pub IsWhole-answers : (told : FilesTold) (meta : List ℕ) (before after : List ℕ → ℕ) (reading : Reading Config) (result : Result Config LoadFault) → Gives reading result → FailedAt before after result → FailedWhereItCame (conf meta) told result → NoReadFailed meta told before after → IsWhole reading result
-IsWhole-answers told meta before after reading (Ok value) gives rose came none = subst (λ r. IsWhole r (Ok value)) (sym gives) (inl refl)
-IsWhole-answers told meta before after reading (Err (Read file)) gives rose came none = absurd (none file came rose)
-IsWhole-answers told meta before after (Reads value) (Err NoMemory) gives rose came none = inr refl
-IsWhole-answers told meta before after (Refuses fault) (Err NoMemory) gives rose came none = inr refl
-IsWhole-answers told meta before after (Misses file) (Err NoMemory) gives rose came none = refl
-IsWhole-answers told meta before after (Unknown file) (Err NoMemory) gives rose came none = refl
-IsWhole-answers told meta before after reading (Err (TooLong file)) gives rose came none = subst (λ r. IsWhole r (Err (TooLong file))) (sym gives) (inl refl)
-IsWhole-answers told meta before after reading (Err (Meta fault)) gives rose came none = subst (λ r. IsWhole r (Err (Meta fault))) (sym gives) (inl refl)
-IsWhole-answers told meta before after reading (Err (Text file line cause)) gives rose came none = subst (λ r. IsWhole r (Err (Text file line cause))) (sym gives) (inl refl)
-IsWhole-answers told meta before after reading (Err (Rule file line cause)) gives rose came none = subst (λ r. IsWhole r (Err (Rule file line cause))) (sym gives) (inl refl)
-IsWhole-answers told meta before after reading (Err (ZoneTwice row)) gives rose came none = subst (λ r. IsWhole r (Err (ZoneTwice row))) (sym gives) (inl refl)
+pub IsAnswerTo-answers : (told : FilesTold) (meta : List ℕ) (before after : List ℕ → ℕ) (reading : Reading Config) (result : Result Config LoadFault) → Gives reading result → FailedAt before after result → FailedWhereItCame (conf meta) told result → NoReadFailed meta told before after → IsAnswerTo reading result
+IsAnswerTo-answers told meta before after reading (Ok value) gives rose came none = subst (λ r. IsAnswerTo r (Ok value)) (sym gives) (inl refl)
+IsAnswerTo-answers told meta before after reading (Err (Read file)) gives rose came none = absurd (none file came rose)
+IsAnswerTo-answers told meta before after (Reads value) (Err NoMemory) gives rose came none = inr refl
+IsAnswerTo-answers told meta before after (Refuses fault) (Err NoMemory) gives rose came none = inr refl
+IsAnswerTo-answers told meta before after (Misses file) (Err NoMemory) gives rose came none = refl
+IsAnswerTo-answers told meta before after (Unknown file) (Err NoMemory) gives rose came none = refl
+IsAnswerTo-answers told meta before after reading (Err (TooLong file)) gives rose came none = subst (λ r. IsAnswerTo r (Err (TooLong file))) (sym gives) (inl refl)
+IsAnswerTo-answers told meta before after reading (Err (Meta fault)) gives rose came none = subst (λ r. IsAnswerTo r (Err (Meta fault))) (sym gives) (inl refl)
+IsAnswerTo-answers told meta before after reading (Err (Text file line cause)) gives rose came none = subst (λ r. IsAnswerTo r (Err (Text file line cause))) (sym gives) (inl refl)
+IsAnswerTo-answers told meta before after reading (Err (Rule file line cause)) gives rose came none = subst (λ r. IsAnswerTo r (Err (Rule file line cause))) (sym gives) (inl refl)
+IsAnswerTo-answers told meta before after reading (Err (ZoneTwice row)) gives rose came none = subst (λ r. IsAnswerTo r (Err (ZoneTwice row))) (sym gives) (inl refl)

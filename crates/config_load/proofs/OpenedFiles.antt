@@ -7,8 +7,8 @@ use Rattle.io_edges.specs.Files.{FilesTold, StaysTold}
 use Rattle.master_read.proofs.Counts.{texts_ask}
 use Rattle.master_read.specs.Reader.{Held, IsReaderOf, GoesOn, HasEnded, asked_by, is_over, is_no_memory}
 use Rattle.master_read.specs.ZoneText.{Unread, Faulty, Asks, zone_text}
-use Rattle.master_read.specs.declared.asked.Asked.{Asked}
-use Rattle.master_read.specs.declared.asked.Asked.TheVariants.{Include, Done}
+use Rattle.master_read.specs.declared.asked.AfterFile.{AfterFile}
+use Rattle.master_read.specs.declared.asked.AfterFile.TheVariants.{Include, Done}
 use Rattle.master_read.specs.declared.fault.TextFault.{TextFault}
 use Rattle.master_read.specs.declared.fault.TextFault.TheVariants as text_faults
 use Rattle.master_read.specs.declared.zone_text.ZoneText.{ZoneText}
@@ -45,7 +45,7 @@ asks-asked (Err (Faulty fault)) file is = absurd cc
 asks-asked (Err (Asks name)) file is = let same : file ≡ name = cc in ap (λ n. Err (Asks n)) (sym same)
 
 -- what asks for no file has ended
-pub is_done : (asked : Asked) → ((file : List ℕ) → asked ≡ Include file → ⊥) → asked ≡ Done
+pub is_done : (asked : AfterFile) → ((file : List ℕ) → asked ≡ Include file → ⊥) → asked ≡ Done
 is_done (Include file) never = absurd (never file refl)
 is_done Done never = refl
 
@@ -90,7 +90,7 @@ Follows-read first old new meta origin left times names texts name octets stays 
 
 -- The files of a row's zone that were fed to a reader, in the order in which they were opened: these are their names, and
 -- this is asked behind them.
-pub record HasFedFiles (meta : List ℕ) (row : MetaRow) (left : Left) (told : FilesTold) (names : List (List ℕ)) (asked : Asked) (reader : Held) : Type 0 where
+pub record HasFedFiles (meta : List ℕ) (row : MetaRow) (left : Left) (told : FilesTold) (names : List (List ℕ)) (asked : AfterFile) (reader : Held) : Type 0 where
   pub texts : List (List ℕ)
   pub times : ℕ
   pub few : times + length names ≡ left.includes + 1
@@ -151,9 +151,9 @@ module _ (meta : List ℕ) (row : MetaRow) (left : Left) where
       }
 
     -- the file that is asked for is open
-    pub HasOpened-asked : (asked : Asked) (file name : List ℕ) → asked ≡ Include file → HasFedFiles meta row left told names asked reader → name ≡ joined meta file → HasOpened meta row left told names name reader
+    pub HasOpened-asked : (asked : AfterFile) (file name : List ℕ) → asked ≡ Include file → HasFedFiles meta row left told names asked reader → name ≡ joined meta file → HasOpened meta row left told names name reader
     HasOpened-asked asked file name include fed is =
-        opened-behind file name (subst (λ (a : Asked). HasFedFiles meta row left told names a reader) include fed) is
+        opened-behind file name (subst (λ (a : AfterFile). HasFedFiles meta row left told names a reader) include fed) is
 
     -- behind the open file fewer may be opened
     pub fewer-left : (name : List ℕ) (more : List (List ℕ)) → HasOpened meta row left told names name reader → more ≡ names ++ name ∷ [] → left.includes + 1 - length more < left.includes + 1 - length names
@@ -182,7 +182,7 @@ module _ (meta : List ℕ) (row : MetaRow) (left : Left) where
 
   module _ (old new : FilesTold) (names : List (List ℕ)) (name : List ℕ) (reader : Held) where
     -- the open file is fed whole
-    pub HasFedFiles-more : (asked : Asked) (after : Held) → StaysTold old new → HasOpened meta row left old names name reader → HasFed new name reader asked after → HasFedFiles meta row left new (names ++ name ∷ []) asked after
+    pub HasFedFiles-more : (asked : AfterFile) (after : Held) → StaysTold old new → HasOpened meta row left old names name reader → HasFed new name reader asked after → HasFedFiles meta row left new (names ++ name ∷ []) asked after
     HasFedFiles-more asked after stays opened fed =
         let ended = fed.ended (unwrap_or row.origin []) left.records left.includes opened.texts opened.stands in
         record {
@@ -202,10 +202,10 @@ module _ (meta : List ℕ) (row : MetaRow) (left : Left) where
         (ReadsFor-bind (file_octets name) (λ told text. files_behind meta (unwrap_or row.origin []) left opened.times (names ++ name ∷ []) (opened.texts ++ text ∷ []) told) (ReadsFor-file only))
 
     -- the open file isn't read
-    pub HasAnswered-unread : {before : FilesTold} {counts counts' counts'' : List ℕ → ℕ} (fault : LoadFault) (result : Result ZoneFiles LoadFault) → ReadsFor before old counts counts' (zone_files meta row left) → HasOpened meta row left old names name reader → ReadsOnly name old new counts' counts'' → FailsToRead new name fault → (let answer : Result Asked LoadFault = Err fault in FailedAt counts' counts'' answer) → IsErrAnd result (λ passed. passed ≡ fault) → HasAnswered before new counts counts'' (zone_files meta row left) result
+    pub HasAnswered-unread : {before : FilesTold} {counts counts' counts'' : List ℕ → ℕ} (fault : LoadFault) (result : Result ZoneFiles LoadFault) → ReadsFor before old counts counts' (zone_files meta row left) → HasOpened meta row left old names name reader → ReadsOnly name old new counts' counts'' → FailsToRead new name fault → (let answer : Result AfterFile LoadFault = Err fault in FailedAt counts' counts'' answer) → IsErrAnd result (λ passed. passed ≡ fault) → HasAnswered before new counts counts'' (zone_files meta row left) result
     HasAnswered-unread {counts = counts} {counts' = counts'} {counts'' = counts''} fault result source opened only fails failed is = record {
       answers = Answers-then old new (zone_files meta row left) (next_file meta (unwrap_or row.origin []) left opened.times names opened.texts name) result only.stays opened.so_far
           (Answers-passed new (file_octets name) (λ told text. files_behind meta (unwrap_or row.origin []) left opened.times (names ++ name ∷ []) (opened.texts ++ text ∷ []) told) fault result is fails);
-      cause = FailedAt-then counts counts' counts'' result source.never_fall (FailedAt-passed Asked counts' counts'' fault result is failed);
+      cause = FailedAt-then counts counts' counts'' result source.never_fall (FailedAt-passed AfterFile counts' counts'' fault result is failed);
       source = HasOpened-source source opened only;
     }

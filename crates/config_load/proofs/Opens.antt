@@ -4,7 +4,7 @@ use lib.Pointwise.{pointwise}
 use Rattle.dns_data.proofs.Names.{label_eq_decides}
 use Rattle.io_edges.specs.Files.{FilesTold, SameElsewhere, StaysTold}
 use Rattle.config_load.specs.Follows.{ByTold, StopsEarly, Follows, Reaches, OpensWhereItComes}
-use Rattle.config_load.specs.Load.{OpensNoOther, Comes}
+use Rattle.config_load.specs.Load.{OpensNoOther, ComesToFile}
 use Rattle.config_load.specs.Reading.{Reading, Unknown, ◌>>=◌, file_octets, told_octets}
 use Rattle.config_load.proofs.Answered.{comes-reaches}
 use Rattle.config_load.proofs.Follows.{TellsNoOther-stays, StopsEarly-stays, Reaches-then, Reaches-bind}
@@ -51,6 +51,6 @@ module _ {A : Type 0} where
   -- by what is told at the end
   pub OpensNoOther-answers : (reading : ByTold A) (before after : FilesTold) → OpensWhereItComes before after reading → OpensNoOther reading before after
   OpensNoOther-answers reading before after a name = by_cases (a name) where
-    by_cases : (after name ≡ before name) ⊎ Reaches after reading name → (after name ≡ before name) ⊎ Comes reading after name
+    by_cases : (after name ≡ before name) ⊎ Reaches after reading name → (after name ≡ before name) ⊎ ComesToFile reading after name
     by_cases (inl same) = inl same
     by_cases (inr reached) = inr (comes-reaches after reading name reached)

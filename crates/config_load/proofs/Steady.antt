@@ -14,7 +14,7 @@ use Rattle.config_load.specs.Conf.{settled, files_behind, zone_files, zone_read,
 use Rattle.config_load.specs.Faults.{of_metadata, of_rule}
 use Rattle.config_load.specs.Follows.{ByTold, StopsEarly}
 use Rattle.config_load.specs.Joined.{joined}
-use Rattle.config_load.specs.Load.{without, Comes, IsSteady, Gives, OpensNoOther}
+use Rattle.config_load.specs.Load.{without, ComesToFile, IsSteady, Gives, OpensNoOther}
 use Rattle.config_load.specs.Reading.{Reading, Reads, Refuses, Misses, Unknown, ◌>>=◌, both, unless_refused, file_octets, told_octets}
 use Rattle.config_load.specs.Servers.{given}
 use Rattle.config_load.specs.declared.fault.LoadFault.{LoadFault}
@@ -169,9 +169,9 @@ module _ {A : Type 0} {reading : ByTold A} (steady : IsSteady reading) where
   Gives-later told later (Err (faults.ZoneTwice row)) stays gives = refuses_later told later (faults.ZoneTwice row) stays gives
 
   -- a file to which the reading comes
-  pub comes_later : (told later : FilesTold) (file : List ℕ) → StaysTold told later → Comes reading told file → Comes reading later file
+  pub comes_later : (told later : FilesTold) (file : List ℕ) → StaysTold told later → ComesToFile reading told file → ComesToFile reading later file
   comes_later told later file stays comes = by (steady (without file told) (without file later) (StaysTold-both told later file stays)) where
-    by : (reading (without file later) ≡ reading (without file told)) ⊎ StopsEarly (without file later) (without file told) (reading (without file told)) → Comes reading later file
+    by : (reading (without file later) ≡ reading (without file told)) ⊎ StopsEarly (without file later) (without file told) (reading (without file told)) → ComesToFile reading later file
     by (inl same) = same ∙ comes
     by (inr (name, stopped, untold, some)) =
         let here : name ≡ file = same_Unknown (sym stopped ∙ comes) in
@@ -181,9 +181,9 @@ module _ {A : Type 0} {reading : ByTold A} (steady : IsSteady reading) where
         same_Unknown e = cc
 
   -- without a file to which it may come, it gives what it gave, or comes to the file
-  gives_without : (told : FilesTold) (file : List ℕ) → (reading (without file told) ≡ reading told) ⊎ Comes reading told file
+  gives_without : (told : FilesTold) (file : List ℕ) → (reading (without file told) ≡ reading told) ⊎ ComesToFile reading told file
   gives_without told file = by (steady (without file told) told (StaysTold-without told file)) where
-    by : (reading told ≡ reading (without file told)) ⊎ StopsEarly told (without file told) (reading (without file told)) → (reading (without file told) ≡ reading told) ⊎ Comes reading told file
+    by : (reading told ≡ reading (without file told)) ⊎ StopsEarly told (without file told) (reading (without file told)) → (reading (without file told) ≡ reading told) ⊎ ComesToFile reading told file
     by (inl same) = inl (sym same)
     by (inr (name, stopped, untold, some)) = inr (stopped ∙ ap Unknown (without-only told file name untold some))
 
@@ -191,13 +191,13 @@ module _ {A : Type 0} {reading : ByTold A} (steady : IsSteady reading) where
 
 module _ {A B : Type 0} (first : ByTold A) (second : ByTold B) where
   -- a file to which the first comes
-  pub comes_first : (told : FilesTold) (file : List ℕ) → Comes first told file → Comes (both first second) told file
+  pub comes_first : (told : FilesTold) (file : List ℕ) → ComesToFile first told file → ComesToFile (both first second) told file
   comes_first told file comes = ap (λ read. read >>= λ one. second (without file told) >>= λ other. Reads (one, other)) comes
 
   -- a file to which the second comes, where the first was read
-  pub comes_second : IsSteady first → (told : FilesTold) (value : A) (file : List ℕ) → first told ≡ Reads value → Comes second told file → Comes (both first second) told file
+  pub comes_second : IsSteady first → (told : FilesTold) (value : A) (file : List ℕ) → first told ≡ Reads value → ComesToFile second told file → ComesToFile (both first second) told file
   comes_second steady told value file is comes = by (gives_without steady told file) where
-    by : (first (without file told) ≡ first told) ⊎ Comes first told file → Comes (both first second) told file
+    by : (first (without file told) ≡ first told) ⊎ ComesToFile first told file → ComesToFile (both first second) told file
     by (inl same) =
         ap (λ read. read >>= λ one. second (without file told) >>= λ other. Reads (one, other)) (same ∙ is)
         ∙ ap (λ read. read >>= λ other. Reads (value, other)) comes
@@ -207,7 +207,7 @@ module _ {A B : Type 0} (first : ByTold A) (second : ByTold B) where
   pub opens_both : IsSteady first → (before between after : FilesTold) (value : A) → StaysTold between after → first between ≡ Reads value
       → OpensNoOther first before between → OpensNoOther second between after → OpensNoOther (both first second) before after
   opens_both steady before between after value stays is a b file = by (a file) (b file) where
-    by : (between file ≡ before file) ⊎ Comes first between file → (after file ≡ between file) ⊎ Comes second after file → (after file ≡ before file) ⊎ Comes (both first second) after file
+    by : (between file ≡ before file) ⊎ ComesToFile first between file → (after file ≡ between file) ⊎ ComesToFile second after file → (after file ≡ before file) ⊎ ComesToFile (both first second) after file
     by (inl kept) (inl same) = inl (same ∙ kept)
     by (inr comes) (inl same) = inr (comes_first after file (comes_later steady between after file stays comes))
     by earlier (inr comes) = inr (comes_second steady after value file (reads_later steady between after value stays is) comes)
@@ -215,6 +215,6 @@ module _ {A B : Type 0} (first : ByTold A) (second : ByTold B) where
   -- where the first gives nothing, no other file is opened than those to which it comes
   pub opens_first : (before after : FilesTold) → OpensNoOther first before after → OpensNoOther (both first second) before after
   opens_first before after a file = by (a file) where
-    by : (after file ≡ before file) ⊎ Comes first after file → (after file ≡ before file) ⊎ Comes (both first second) after file
+    by : (after file ≡ before file) ⊎ ComesToFile first after file → (after file ≡ before file) ⊎ ComesToFile (both first second) after file
     by (inl same) = inl same
     by (inr comes) = inr (comes_first after file comes)

@@ -4,7 +4,7 @@ use Rattle.dns_data.specs.Name.{Labels}
 use Rattle.io_edges.specs.Files.{FilesTold}
 use Rattle.master_read.specs.Reader.{Held, IsReaderOf, GoesOn, asked_by}
 use Rattle.master_read.specs.ZoneText.{zone_text}
-use Rattle.master_read.specs.declared.asked.Asked.{Asked}
+use Rattle.master_read.specs.declared.asked.AfterFile.{AfterFile}
 use Rattle.config_load.specs.Follows.{Follows, Answers}
 use Rattle.config_load.specs.Reading.{Reads, file_octets}
 use Rattle.config_load.specs.declared.fault.LoadFault.{LoadFault}
@@ -16,13 +16,13 @@ IsFed old first new second =
     → IsReaderOf new origin room includes ended second
 
 -- a reader whose open file ended with these octets answered what comes behind them
-abbrev pub HasEndedFile : Held → List ℕ → Asked → Held → Type 0
+abbrev pub HasEndedFile : Held → List ℕ → AfterFile → Held → Type 0
 HasEndedFile old octets asked new =
     (origin : Labels) (room includes : ℕ) (ended : List (List ℕ)) → IsReaderOf old origin room includes ended []
     → (asked ≡ asked_by (zone_text origin room includes (ended ++ octets ∷ []))) × GoesOn asked new origin room includes (ended ++ octets ∷ [])
 
 -- the octets of this file were fed to a reader, as those of its open file, which ended with them
-pub record HasFed (told : FilesTold) (name : List ℕ) (old : Held) (asked : Asked) (new : Held) : Type 0 where
+pub record HasFed (told : FilesTold) (name : List ℕ) (old : Held) (asked : AfterFile) (new : Held) : Type 0 where
   pub octets : List ℕ
   pub whole : Follows told (file_octets name) (λ _. Reads octets)
   pub ended : HasEndedFile old octets asked new

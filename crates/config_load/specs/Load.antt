@@ -14,12 +14,12 @@ without file told name = if pointwise nat_eq name file then Untold else told nam
 
 -- A reading comes to this file: if nothing were told of it, nothing more would be known. Each step before gives no
 -- refusal and comes to no file that isn't held.
-abbrev pub Comes : {T : Type 0} → (FilesTold → Reading T) → FilesTold → List ℕ → Type 0
-Comes reading told file = reading (without file told) ≡ Unknown file
+abbrev pub ComesToFile : {T : Type 0} → (FilesTold → Reading T) → FilesTold → List ℕ → Type 0
+ComesToFile reading told file = reading (without file told) ≡ Unknown file
 
 -- the reading of a metadata file and of the files that it names comes to this file
 abbrev pub ReadingComesTo : List ℕ → FilesTold → List ℕ → Type 0
-ReadingComesTo meta told file = Comes (conf meta) told file
+ReadingComesTo meta told file = ComesToFile (conf meta) told file
 
 -- no count of a file rose to which the reading comes
 abbrev pub NoReadFailed : List ℕ → FilesTold → (List ℕ → ℕ) → (List ℕ → ℕ) → Type 0
@@ -34,12 +34,12 @@ Gives reading (Err fault) = reading ≡ Refuses fault
 
 -- a failed read is of a file to which the reading comes
 abbrev pub FailedWhereItCame : {T : Type 0} → (FilesTold → Reading T) → FilesTold → Result T LoadFault → Type 0
-FailedWhereItCame reading told (Err (Read file)) = Comes reading told file
+FailedWhereItCame reading told (Err (Read file)) = ComesToFile reading told file
 FailedWhereItCame reading told result = Unit {0}
 
 -- no other file is opened than those to which the reading comes: of any other name the same is told as before
 abbrev pub OpensNoOther : {T : Type 0} → (FilesTold → Reading T) → FilesTold → FilesTold → Type 0
-OpensNoOther reading before after = (file : List ℕ) → (after file ≡ before file) ⊎ Comes reading after file
+OpensNoOther reading before after = (file : List ℕ) → (after file ≡ before file) ⊎ ComesToFile reading after file
 
 -- By what tells more a reading gives the same, unless it stopped at a name of which nothing was told and now something is.
 abbrev pub IsSteady : {T : Type 0} → (FilesTold → Reading T) → Type 0
@@ -55,8 +55,8 @@ IsReadFault (Err NoMemory) = Unit {0}
 IsReadFault (Err fault) = ⊥
 
 -- where no read failed, the answer to a reading, or `NoMemory`
-abbrev pub IsWhole : {T : Type 0} → Reading T → Result T LoadFault → Type 0
-IsWhole (Reads value) result = (result ≡ Ok value) ⊎ (result ≡ Err NoMemory)
-IsWhole (Refuses fault) result = (result ≡ Err fault) ⊎ (result ≡ Err NoMemory)
-IsWhole (Misses file) result = result ≡ Err NoMemory
-IsWhole (Unknown file) result = result ≡ Err NoMemory
+abbrev pub IsAnswerTo : {T : Type 0} → Reading T → Result T LoadFault → Type 0
+IsAnswerTo (Reads value) result = (result ≡ Ok value) ⊎ (result ≡ Err NoMemory)
+IsAnswerTo (Refuses fault) result = (result ≡ Err fault) ⊎ (result ≡ Err NoMemory)
+IsAnswerTo (Misses file) result = result ≡ Err NoMemory
+IsAnswerTo (Unknown file) result = result ≡ Err NoMemory

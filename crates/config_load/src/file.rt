@@ -12,7 +12,7 @@ ghost use Rattle.config_load.specs.Sources.{ReadsOnly, HasAnswered};
 use crate::fault::LoadFault;
 use dns_data::List;
 use io_edges::Files;
-use master_read::{Asked, ZoneReader};
+use master_read::{AfterFile, ZoneReader};
 use std::alloc::Global;
 
 /// How many octets a file may have.
@@ -119,7 +119,7 @@ pub(crate) fn feed_whole<F: Files>(
     files: &mut F,
     name: &str,
     reader: &mut ZoneReader,
-) -> Result<Asked, LoadFault>
+) -> Result<AfterFile, LoadFault>
     requires open { reader.old.ended ≡ false }
     requires none { reader.old.fed ≡ 0 }
     ensures asked { IfOk result (λ asked. HasFed (F.told files.new) name.now reader.old asked reader.new) }

@@ -8,7 +8,7 @@ ghost use Rattle.meta_read.specs.Metadata.{metadata_of};
 ghost use Rattle.meta_read.specs.Rows.{most_rows};
 ghost use Rattle.config_load.specs.Conf.{conf, loaded, metadata};
 ghost use Rattle.config_load.specs.Faults.{FailedAt, of_metadata};
-ghost use Rattle.config_load.specs.Load.{Gives, FailedWhereItCame, IsReadFault, IsWhole, NoReadFailed, OpensNoOther};
+ghost use Rattle.config_load.specs.Load.{Gives, FailedWhereItCame, IsReadFault, IsAnswerTo, NoReadFailed, OpensNoOther};
 ghost use Rattle.config_load.specs.Reading.{Misses, Unknown};
 ghost use Rattle.config_load.specs.Sources.{HasAnswered};
 
@@ -34,7 +34,7 @@ pub fn load<F: Files>(alloc: Global, files: &mut F, meta: &str) -> Result<Config
     ensures gives { Gives (conf meta.now (F.told files.new)) result }
     ensures later { (later : FilesTold) → StaysTold (F.told files.new) later → Gives (conf meta.now later) result }
     ensures whole { NoReadFailed meta.now (F.told files.new) (F.faults files.old) (F.faults files.new)
-        → IsWhole (conf meta.now (F.told files.new)) result }
+        → IsAnswerTo (conf meta.now (F.told files.new)) result }
 
     // A failed read has its cause in a count, and comes before no refusal.
     ensures cause { FailedAt (F.faults files.old) (F.faults files.new) result }

@@ -14,7 +14,7 @@ use crate::joined::joined_name;
 use crate::left::Left;
 use dns_data::{List, Name, NoMemory, Text};
 use io_edges::Files;
-use master_read::{Asked, TextFault, ZoneReader, ZoneText};
+use master_read::{AfterFile, TextFault, ZoneReader, ZoneText};
 use meta_read::MetaRow;
 use std::alloc::Global;
 
@@ -46,7 +46,7 @@ pub(crate) fn read_zone_files<F: Files>(
         &mut names,
         &mut reader,
     )?;
-    while let Asked::Include { file } = asked {
+    while let AfterFile::Include { file } = asked {
         asked = feed_next(alloc, files, meta, file.as_str(), &mut names, &mut reader)?;
     }
     told(alloc, names, reader.finish())
@@ -61,7 +61,7 @@ fn feed_next<F: Files>(
     file: &str,
     names: &mut List<Text>,
     reader: &mut ZoneReader,
-) -> Result<Asked, LoadFault>
+) -> Result<AfterFile, LoadFault>
     requires open { reader.old.ended ≡ false }
     requires none { reader.old.fed ≡ 0 }
     ensures named { OnOk result (names.new ≡ names.old ++ joined meta.now file.now ∷ []) }

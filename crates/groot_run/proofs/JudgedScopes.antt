@@ -15,7 +15,7 @@ use Rattle.query_verdicts.specs.Passed.{IsRefusedFor, NonePasses}
 use Rattle.query_verdicts.specs.Queries.{LimitedQueries, limited_to, most_states, queries_of}
 use Rattle.report_json.specs.Sites.{scope_text}
 use Rattle.site_checks.specs.Views.{Site}
-use Rattle.site_checks.specs.declared.shown.Told.{Told}
+use Rattle.site_checks.specs.declared.shown.SiteFindings.{SiteFindings}
 use Rattle.site_checks.specs.declared.views.View.{View}
 use Rattle.site_checks.proofs.Seen.{told_after}
 use Rattle.verdict_book.specs.Items.{ReachesMore}
@@ -80,11 +80,11 @@ list_is_short {W} {V} name children_of cmp verdict_of list whole few =
 -- ---- what checks tell
 
 -- the report of the scope of a name, with what checks tell
-abbrev pub with_told : Report → Labels → List Told → Ending
+abbrev pub with_told : Report → Labels → List SiteFindings → Ending
 with_told report name told = with_output (status_of report.entries) (scope_text report name told)
 
 -- a text that is written with the report's status is that
-pub as_written : (report : Report) (name asked : Labels) (told : List Told) (exit : Status) (ending : Ending) → exit ≡ status_of report.entries → asked ≡ name
+pub as_written : (report : Report) (name asked : Labels) (told : List SiteFindings) (exit : Status) (ending : Ending) → exit ≡ status_of report.entries → asked ≡ name
     → (ending ≡ with_output exit (scope_text report asked told)) ⊎ (ending ≡ no_memory) → (ending ≡ with_told report name told) ⊎ (ending ≡ no_memory)
 as_written report name asked told exit ending status_is same (inl is) =
     inl (is ∙ ap (λ (s : Status). with_output s (scope_text report asked told)) status_is

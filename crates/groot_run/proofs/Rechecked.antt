@@ -1,7 +1,7 @@
 -- A report that is read behind a configuration.
 use Rattle.std.proofs.Common.{◌≡◌, ◌≢◌, ℕ, ◌⊎◌, List, Result, Ok, Err, sym, subst, inl, inr}
 use Rattle.config_load.specs.Faults.{FailedAt}
-use Rattle.config_load.specs.Load.{Comes, FailedWhereItCame, Gives}
+use Rattle.config_load.specs.Load.{ComesToFile, FailedWhereItCame, Gives}
 use Rattle.config_load.specs.Reading.{Reading, Reads, file_octets}
 use Rattle.config_load.specs.declared.fault.LoadFault.{LoadFault}
 use Rattle.config_load.specs.declared.fault.LoadFault.TheVariants as load_faults
@@ -30,7 +30,7 @@ by_answer file config octets result answer ending is answered checked (inr ran_o
 -- the file is read, and the run ends by its octets
 pub over_file : (told : FilesTold) (before after : List ℕ → ℕ) (name octets : List ℕ) (of_octets : List ℕ → Ending → Type 0) (ending : Ending)
     → file_octets name told ≡ Reads octets → of_octets octets ending ⊎ (ending ≡ no_memory)
-    → EndsOrFails (OfReading name of_octets (file_octets name told) ending) (Comes (file_octets name) told) before after ending
+    → EndsOrFails (OfReading name of_octets (file_octets name told) ending) (ComesToFile (file_octets name) told) before after ending
 over_file told before after name octets of_octets ending reads (inl ends) =
     inl (subst (λ (read : Reading (List ℕ)). OfReading name of_octets read ending) (sym reads) ends)
 over_file told before after name octets of_octets ending reads (inr ran_out) = inr (inr ran_out)
@@ -39,7 +39,7 @@ over_file told before after name octets of_octets ending reads (inr ran_out) = i
 pub over_no_file : (told : FilesTold) (before after : List ℕ → ℕ) (name : List ℕ) (of_octets : List ℕ → Ending → Type 0) (fault : LoadFault) (ending : Ending)
     → Gives {T = List ℕ} (file_octets name told) (Err fault) → FailedWhereItCame {T = List ℕ} (file_octets name) told (Err fault) → FailedAt {T = List ℕ} before after (Err fault)
     → IsNotLoaded name fault ending ⊎ (ending ≡ no_memory)
-    → EndsOrFails (OfReading name of_octets (file_octets name told) ending) (Comes (file_octets name) told) before after ending
+    → EndsOrFails (OfReading name of_octets (file_octets name told) ending) (ComesToFile (file_octets name) told) before after ending
 over_no_file told before after name of_octets fault ending gives came failed (inr ran_out) = inr (inr ran_out)
 over_no_file told before after name of_octets (load_faults.Read file) ending gives came failed (inl is) = inr (inl (file, is, came, failed))
 over_no_file told before after name of_octets load_faults.NoMemory ending gives came failed (inl is) = inr (inr is)

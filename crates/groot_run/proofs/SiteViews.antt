@@ -23,7 +23,7 @@ use Rattle.query_verdicts.proofs.ClassesJudged.{some_name}
 use Rattle.query_verdicts.proofs.PassingNames.{class_passes}
 use Rattle.report_json.specs.Sites.{sites_text}
 use Rattle.site_checks.specs.Views.{IsView, AreViews}
-use Rattle.site_checks.specs.declared.shown.Told.{Told}
+use Rattle.site_checks.specs.declared.shown.SiteFindings.{SiteFindings}
 use Rattle.site_checks.specs.declared.views.View.{View}
 use Rattle.site_checks.proofs.OneViews.{one_view}
 use Rattle.site_checks.proofs.Seen.{told_after}
@@ -140,7 +140,7 @@ module _ (queries : LimitedQueries) (same : queries ≡ limited_to queries.confi
         record {
           views = seen.views;
           are_views = all_views subject most_states classes are seen.views (limited (λ q. AreViewsOfClasses q classes seen.views) seen.are_views);
-          as_text = is ∙ ap (λ (told : List Told). with_output Clean (sites_text told)) tells;
+          as_text = is ∙ ap (λ (told : List SiteFindings). with_output Clean (sites_text told)) tells;
         },
       )
 

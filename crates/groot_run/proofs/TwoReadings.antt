@@ -3,7 +3,7 @@ use Rattle.std.proofs.Common.{◌≡◌, ℕ, List, sym, subst, inl, inr}
 use Rattle.config_load.proofs.Sources.{rose_then}
 use Rattle.config_load.proofs.Steady.{conf_is_steady, reads_later, comes_first, comes_second}
 use Rattle.config_load.specs.Conf.{conf}
-use Rattle.config_load.specs.Load.{Comes}
+use Rattle.config_load.specs.Load.{ComesToFile}
 use Rattle.config_load.specs.Reading.{Reading, Reads, both}
 use Rattle.io_edges.specs.Counts.{NoneFell}
 use Rattle.io_edges.specs.Files.{FilesTold, StaysTold}
@@ -16,14 +16,14 @@ use Rattle.run_endings.specs.declared.ending.Ending.{Ending}
 module _ {T : Type 0} (meta : List ℕ) (second : FilesTold → Reading T) (of_config : Config → Ending → Type 0) (ending : Ending) where
   -- the second reading comes behind the configuration
   pub over_both : (between told : FilesTold) (before middle after : List ℕ → ℕ) (config : Config) → conf meta between ≡ Reads config → StaysTold between told → NoneFell before middle
-      → EndsOrFails (of_config config ending) (Comes second told) middle after ending
-      → EndsOrFails (OfReading meta of_config (conf meta told) ending) (Comes (both (conf meta) second) told) before after ending
+      → EndsOrFails (of_config config ending) (ComesToFile second told) middle after ending
+      → EndsOrFails (OfReading meta of_config (conf meta told) ending) (ComesToFile (both (conf meta) second) told) before after ending
   over_both between told before middle after config reads stays none ends = by ends where
     later : conf meta told ≡ Reads config
     later = reads_later (conf_is_steady meta) between told config stays reads
 
-    by : EndsOrFails (of_config config ending) (Comes second told) middle after ending
-        → EndsOrFails (OfReading meta of_config (conf meta told) ending) (Comes (both (conf meta) second) told) before after ending
+    by : EndsOrFails (of_config config ending) (ComesToFile second told) middle after ending
+        → EndsOrFails (OfReading meta of_config (conf meta told) ending) (ComesToFile (both (conf meta) second) told) before after ending
     by (inl outcome) = inl (subst (λ (read : Reading Config). OfReading meta of_config read ending) (sym later) outcome)
     by (inr (inl (file, is, comes, rose))) =
         inr (inl (file, is, comes_second (conf meta) second (conf_is_steady meta) told config file later comes, rose_then (before file) (middle file) (after file) (none file) rose))
@@ -31,7 +31,7 @@ module _ {T : Type 0} (meta : List ℕ) (second : FilesTold → Reading T) (of_c
 
   -- there is no configuration, so it doesn't come
   pub over_neither : (told : FilesTold) (before after : List ℕ → ℕ) → EndsWithoutConfig meta told before after ending
-      → EndsOrFails (OfReading meta of_config (conf meta told) ending) (Comes (both (conf meta) second) told) before after ending
+      → EndsOrFails (OfReading meta of_config (conf meta told) ending) (ComesToFile (both (conf meta) second) told) before after ending
   over_neither told before after (inl (fault, refuses, is)) = inl (subst (λ (read : Reading Config). OfReading meta of_config read ending) (sym refuses) is)
   over_neither told before after (inr (inl (file, is, comes, rose))) = inr (inl (file, is, comes_first (conf meta) second told file comes, rose))
   over_neither told before after (inr (inr ran_out)) = inr (inr ran_out)

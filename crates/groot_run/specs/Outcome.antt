@@ -16,7 +16,7 @@ use Rattle.query_verdicts.specs.Carried.{whole_config}
 use Rattle.query_verdicts.specs.Passed.{SomeClassPasses, IsFirstPassed, IsRefusedFor, NonePasses}
 use Rattle.query_verdicts.specs.Queries.{most_states}
 use Rattle.config_load.specs.Conf.{conf}
-use Rattle.config_load.specs.Load.{Comes, ReadingComesTo}
+use Rattle.config_load.specs.Load.{ComesToFile, ReadingComesTo}
 use Rattle.config_load.specs.Reading.{both, file_octets}
 use Rattle.config_load.specs.Refusal.{fields_line}
 use Rattle.graph_form.specs.Report.{Subject, IsReport}
@@ -376,8 +376,8 @@ JobComesTo told (Ok (jobs.Check meta workers classes rewrites)) file = ReadingCo
 JobComesTo told (Ok (jobs.Classes meta classes)) file = ReadingComesTo meta told file
 JobComesTo told (Ok (jobs.Ask meta name rtype)) file = ReadingComesTo meta told file
 JobComesTo told (Ok (jobs.Site meta)) file = ReadingComesTo meta told file
-JobComesTo told (Ok (jobs.Recheck meta report)) file = Comes (both (conf meta) (file_octets report)) told file
-JobComesTo told (Ok (jobs.Same first second)) file = Comes (both (conf first) (conf second)) told file
+JobComesTo told (Ok (jobs.Recheck meta report)) file = ComesToFile (both (conf meta) (file_octets report)) told file
+JobComesTo told (Ok (jobs.Same first second)) file = ComesToFile (both (conf first) (conf second)) told file
 JobComesTo told (Ok (jobs.Scope meta name)) file = ReadingComesTo meta told file
 JobComesTo told job file = ⊥
 

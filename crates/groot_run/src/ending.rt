@@ -10,7 +10,7 @@ use groot_line::usage_line;
 use itoa::Buffer;
 use plain_resolver::MOST_WALKS_FOLLOWED;
 use query_verdicts::MOST_STATES;
-use run_endings::{Ending, Line, Status, more_than, refusal_line};
+use run_endings::{Ending, EndingLine, Status, more_than, refusal_line};
 use std::alloc::Global;
 
 /// The words are no job.
@@ -63,12 +63,12 @@ fn more_than_for_entry<'a>(
     front: &'a [u8],
     limit: u32,
     entry: u64,
-) -> Result<Line, NoMemory>
+) -> Result<EndingLine, NoMemory>
     ensures { IfOk result (λ line. line ≡ front.now ++ (decimal limit ++ (codes " for entry " ++ (decimal entry ++ codes "\n")))) }
 {
     let mut digits = Buffer::new();
     let mut numeral = Buffer::new();
-    Line::of_pieces(
+    EndingLine::of_pieces(
         alloc,
         &[
             front,

@@ -24,4 +24,4 @@ mod site;
 
 pub use laws::{drills_read, one_outcome, one_report, query_classes};
 pub use run::{groot, groot_with_sites, run_words};
-pub use run_endings::{Ending, Line, Status};
+pub use run_endings::{Ending, EndingLine, Status};

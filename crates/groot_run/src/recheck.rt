@@ -3,7 +3,7 @@
 ghost use Rattle.std.specs.Prelude.{◌≡◌, ◌⊎◌, ◌++◌, codes, decimal, IfOk};
 ghost use Rattle.io_edges.specs.Files.{StaysTold, TellsAll};
 ghost use Rattle.config_load.specs.Conf.{conf};
-ghost use Rattle.config_load.specs.Load.{Comes, OpensNoOther};
+ghost use Rattle.config_load.specs.Load.{ComesToFile, OpensNoOther};
 ghost use Rattle.config_load.specs.Reading.{both, file_octets};
 ghost use Rattle.run_endings.specs.Ends.{EndsOrFails};
 ghost use Rattle.run_endings.specs.Endings.{OfReading, no_memory};
@@ -24,7 +24,7 @@ use std::alloc::Global;
 /// report is read behind the configuration.
 pub(crate) fn recheck<F: Files>(alloc: Global, files: &mut F, meta: &str, report: &str) -> Ending
     ensures cause { EndsOrFails (OfReading meta.now (Rechecks (F.told files.new) report.now) (conf meta.now (F.told files.new)) result)
-        (Comes (both (conf meta.now) (file_octets report.now)) (F.told files.new)) (F.faults files.old) (F.faults files.new) result }
+        (ComesToFile (both (conf meta.now) (file_octets report.now)) (F.told files.new)) (F.faults files.old) (F.faults files.new) result }
     ensures from_the_start { TellsAll (F.told files.old) → F.told files.new ≡ F.told files.old }
     ensures opens { OpensNoOther (both (conf meta.now) (file_octets report.now)) (F.told files.old) (F.told files.new) }
 {
@@ -37,7 +37,7 @@ pub(crate) fn recheck<F: Files>(alloc: Global, files: &mut F, meta: &str, report
 /// Whether the entries of the report in a file are right, by the walks of the configuration.
 fn of_config<F: Files>(alloc: Global, files: &mut F, config: &Config, report: &str) -> Ending
     ensures cause { EndsOrFails (OfReading report.now (IsRechecked report.now config.now) (file_octets report.now (F.told files.new)) result)
-        (Comes (file_octets report.now) (F.told files.new)) (F.faults files.old) (F.faults files.new) result }
+        (ComesToFile (file_octets report.now) (F.told files.new)) (F.faults files.old) (F.faults files.new) result }
     ensures stays { StaysTold (F.told files.old) (F.told files.new) }
     ensures from_the_start { TellsAll (F.told files.old) → F.told files.new ≡ F.told files.old }
     ensures opens { OpensNoOther (file_octets report.now) (F.told files.old) (F.told files.new) }

@@ -5,7 +5,7 @@ ghost use Rattle.dns_data.specs.RrType.{word_of};
 ghost use Rattle.dns_data.specs.Spelling.{name_text};
 ghost use Rattle.io_edges.specs.Files.{StaysTold, TellsAll};
 ghost use Rattle.config_load.specs.Conf.{conf};
-ghost use Rattle.config_load.specs.Load.{Comes, OpensNoOther};
+ghost use Rattle.config_load.specs.Load.{ComesToFile, OpensNoOther};
 ghost use Rattle.config_load.specs.Reading.{both};
 ghost use Rattle.query_verdicts.specs.Queries.{most_states};
 ghost use Rattle.same_answers.specs.Values.{ArePairValues};
@@ -41,7 +41,7 @@ pub(crate) fn same<F: Files, G: Gate + Sync, R: Threads + Wait + Sync>(
     gate: &G,
 ) -> Ending
     ensures cause { EndsOrFails (OfReading first.now (ComparesWith (F.told files.new) second.now) (conf first.now (F.told files.new)) result)
-        (Comes (both (conf first.now) (conf second.now)) (F.told files.new)) (F.faults files.old) (F.faults files.new) result }
+        (ComesToFile (both (conf first.now) (conf second.now)) (F.told files.new)) (F.faults files.old) (F.faults files.new) result }
     ensures from_the_start { TellsAll (F.told files.old) → F.told files.new ≡ F.told files.old }
     ensures opens { OpensNoOther (both (conf first.now) (conf second.now)) (F.told files.old) (F.told files.new) }
 {
@@ -61,7 +61,7 @@ fn with_second<F: Files, G: Gate + Sync, R: Threads + Wait + Sync>(
     gate: &G,
 ) -> Ending
     ensures cause { EndsOrFails (ComparesWith (F.told files.new) second.now first.now result)
-        (Comes (conf second.now) (F.told files.new)) (F.faults files.old) (F.faults files.new) result }
+        (ComesToFile (conf second.now) (F.told files.new)) (F.faults files.old) (F.faults files.new) result }
     ensures stays { StaysTold (F.told files.old) (F.told files.new) }
     ensures from_the_start { TellsAll (F.told files.old) → F.told files.new ≡ F.told files.old }
     ensures opens { OpensNoOther (conf second.now) (F.told files.old) (F.told files.new) }

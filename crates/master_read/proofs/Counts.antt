@@ -18,7 +18,7 @@ use Rattle.master_read.specs.declared.context.Context.{Context}
 use Rattle.master_read.specs.declared.fault.TextCause.{TextCause}
 use Rattle.master_read.specs.declared.fault.TextCause.TheVariants.{TooMany, TooManyIncludes}
 use Rattle.master_read.specs.declared.fault.TextFault.TheVariants.{At}
-use Rattle.master_read.specs.declared.records.Limits.{Limits}
+use Rattle.master_read.specs.declared.records.ReadLimits.{ReadLimits}
 use Rattle.master_read.specs.declared.records.Records.{Records}
 use Rattle.master_read.specs.declared.zone_text.ZoneText.{ZoneText}
 
@@ -54,7 +54,7 @@ count_of false = 1
 
 -- What stands between two points of reading: so many record entries of files that were open before, and the files that
 -- were opened. The limits hold behind them where they did before.
-record Counts (limits : Limits) (before : Progress) (count : ℕ) (behind : Progress) : Type 0 where
+record Counts (limits : ReadLimits) (before : Progress) (count : ℕ) (behind : Progress) : Type 0 where
   used : List (List ℕ)
   texts : before.texts ≡ used ++ behind.texts
   included : behind.records.included ≡ before.records.included + length used
@@ -63,7 +63,7 @@ record Counts (limits : Limits) (before : Progress) (count : ℕ) (behind : Prog
   includes : before.records.included ≤ limits.includes → behind.records.included ≤ limits.includes
 
 -- nothing, and one thing behind another
-counts_same : (limits : Limits) (p q : Progress) → q.texts ≡ p.texts → q.records.included ≡ p.records.included → q.records.seen ≡ p.records.seen → Counts limits p 0 q
+counts_same : (limits : ReadLimits) (p q : Progress) → q.texts ≡ p.texts → q.records.included ≡ p.records.included → q.records.seen ≡ p.records.seen → Counts limits p 0 q
 counts_same limits p q texts included seen = record {
   used = [];
   texts = sym texts;
@@ -81,7 +81,7 @@ counted_append (x ∷ xs) ys =
     let rest = counted_append xs ys in
     omega (arith, here, there, rest)
 
-counts_then : (limits : Limits) (p q r : Progress) (m n : ℕ) → Counts limits p m q → Counts limits q n r → Counts limits p (m + n) r
+counts_then : (limits : ReadLimits) (p q r : Progress) (m n : ℕ) → Counts limits p m q → Counts limits q n r → Counts limits p (m + n) r
 counts_then limits p q r m n first second =
     let lengths = length-append first.used second.used in
     let counts = counted_append first.used second.used in
@@ -154,23 +154,23 @@ length_kept : (entry : Entry) (entries : List Entry) → length (record_entries 
 length_kept entry entries = sym (length_by (is_directive entry) entry (record_entries entries))
 
 -- what an `$INCLUDE` makes, and where it asks for a file
-abbrev IncludeCounts : Limits → Include → Type 0
+abbrev IncludeCounts : ReadLimits → Include → Type 0
 IncludeCounts limits include = (file line : ℕ) (name : List ℕ) (origin : Labels) (p q : Progress) → include file line name origin p ≡ Ok q → Counts limits p 0 q
 
-abbrev IsWithin : Limits → Progress → Type 0
+abbrev IsWithin : ReadLimits → Progress → Type 0
 IsWithin limits p = p.records.included + length p.texts < limits.includes
 
-abbrev IncludeAsks : Limits → Include → Type 0
+abbrev IncludeAsks : ReadLimits → Include → Type 0
 IncludeAsks limits include = (file line : ℕ) (name : List ℕ) (origin : Labels) (p : Progress) (asked : List ℕ) → include file line name origin p ≡ Err (Asks asked) → IsWithin limits p
 
 -- where it is within the limits behind, it is before
-within_before : (limits : Limits) (p q : Progress) (count : ℕ) → Counts limits p count q → IsWithin limits q → IsWithin limits p
+within_before : (limits : ReadLimits) (p q : Progress) (count : ℕ) → Counts limits p count q → IsWithin limits q → IsWithin limits p
 within_before limits p q count counts within =
     let lengths : length p.texts ≡ length counts.used + length q.texts = ap (λ (ts : List (List ℕ)). length ts) counts.texts ∙ length-append counts.used q.texts in
     let included = counts.included in
     omega (arith, lengths, included, within)
 
-module _ (limits : Limits) (include : Include) (counts : IncludeCounts limits include) where
+module _ (limits : ReadLimits) (include : Include) (counts : IncludeCounts limits include) where
   effect_counts : (file line : ℕ) (so_far : Records) (texts : List (List ℕ)) (entry : Entry) (effect : Effect) (q : Progress) → effect_of limits.room file so_far entry ≡ Ok effect
       → with_effect include file line effect (record { records = so_far; texts = texts }) ≡ Ok q → Counts limits (record { records = so_far; texts = texts }) (count_of (is_directive entry)) q
   effect_counts file line so_far texts entry (Leaves records) q e d =
@@ -257,7 +257,7 @@ module _ (limits : Limits) (include : Include) (counts : IncludeCounts limits in
 -- ---- an `$INCLUDE`, at each level
 
 -- the text of the file that is included, in front of the others
-next_counts : (limits : Limits) (p q : Progress) (text : List ℕ) (texts : List (List ℕ)) → p.texts ≡ text ∷ texts → p.records.included < limits.includes
+next_counts : (limits : ReadLimits) (p q : Progress) (text : List ℕ) (texts : List (List ℕ)) → p.texts ≡ text ∷ texts → p.records.included < limits.includes
     → Counts limits (record (one_included p) { texts = texts }) (length (record_entries (text_entries text))) q → Counts limits p 0 q
 next_counts limits p q text texts is less rest =
     let lengths = length-append (record_entries (text_entries text)) (counted rest.used) in
@@ -272,13 +272,13 @@ next_counts limits p q text texts is less rest =
       includes = λ h. rest.includes (omega (arith, less));
     }
 
-next_text_counts : (limits : Limits) (include : Include) → IncludeCounts limits include → (name : List ℕ) (origin : Labels) (p q : Progress) (texts : List (List ℕ)) → p.texts ≡ texts
+next_text_counts : (limits : ReadLimits) (include : Include) → IncludeCounts limits include → (name : List ℕ) (origin : Labels) (p q : Progress) (texts : List (List ℕ)) → p.texts ≡ texts
     → p.records.included < limits.includes → with_next_text name (with_include include limits.room origin) (one_included p) texts ≡ Ok q → Counts limits p 0 q
 next_text_counts limits include counts name origin p q [] is less e = absurd cc
 next_text_counts limits include counts name origin p q (text ∷ texts) is less e =
     next_counts limits p q text texts is less (file_counts limits include counts origin text (record (one_included p) { texts = texts }) q e)
 
-next_text_asks : (limits : Limits) (include : Include) → IncludeCounts limits include → IncludeAsks limits include → (name : List ℕ) (origin : Labels) (p : Progress) (asked : List ℕ) (texts : List (List ℕ))
+next_text_asks : (limits : ReadLimits) (include : Include) → IncludeCounts limits include → IncludeAsks limits include → (name : List ℕ) (origin : Labels) (p : Progress) (asked : List ℕ) (texts : List (List ℕ))
     → p.texts ≡ texts → p.records.included < limits.includes → with_next_text name (with_include include limits.room origin) (one_included p) texts ≡ Err (Asks asked) → IsWithin limits p
 next_text_asks limits include counts asks name origin p asked [] is less e = let none : length p.texts ≡ 0 = ap (λ (ts : List (List ℕ)). length ts) is in omega (arith, none, less)
 next_text_asks limits include counts asks name origin p asked (text ∷ texts) is less e =
@@ -286,7 +286,7 @@ next_text_asks limits include counts asks name origin p asked (text ∷ texts) i
     let within = file_asks limits include counts asks origin text (record (one_included p) { texts = texts }) asked e in
     omega (arith, one, within)
 
-included_counts : (limits : Limits) (levels : ℕ) → IncludeCounts limits (included limits levels)
+included_counts : (limits : ReadLimits) (levels : ℕ) → IncludeCounts limits (included limits levels)
 unfolding included
 included_counts limits zero file line name origin p q e = absurd cc
 included_counts limits (suc levels) file line name origin p q e =
@@ -297,7 +297,7 @@ included_counts limits (suc levels) file line name origin p q e =
       by true is d next = absurd cc
       by false is d next = next (grind (arith, nat_tests)) d
 
-included_asks : (limits : Limits) (levels : ℕ) → IncludeAsks limits (included limits levels)
+included_asks : (limits : ReadLimits) (levels : ℕ) → IncludeAsks limits (included limits levels)
 unfolding included
 included_asks limits zero file line name origin p asked e = absurd cc
 included_asks limits (suc levels) file line name origin p asked e =
@@ -320,7 +320,7 @@ texts_count origin room includes [] given e =
     let same : zone_text_of no_records ≡ given = cc in
     rw (← same) (refl, omega arith, omega arith)
 texts_count origin room includes (text ∷ later) given e =
-    let limits : Limits = record { room = room; includes = includes } in
+    let limits : ReadLimits = record { room = room; includes = includes } in
     let include : Include = included limits most_levels in
     let start : Progress = record { records = no_records; texts = later } in
     let steps = both_steps (with_include include room origin text start) (λ progress. Ok (zone_text_of progress.records)) given e in
@@ -344,7 +344,7 @@ pub texts_ask : (origin : Labels) (room includes : ℕ) (texts : List (List ℕ)
 unfolding zone_text
 texts_ask origin room includes [] file e = absurd cc
 texts_ask origin room includes (text ∷ later) file e =
-    let limits : Limits = record { room = room; includes = includes } in
+    let limits : ReadLimits = record { room = room; includes = includes } in
     let include : Include = included limits most_levels in
     let start : Progress = record { records = no_records; texts = later } in
     rw (← add-one (length later)) (by (with_include include room origin text start) e (file_asks limits include (included_counts limits most_levels) (included_asks limits most_levels) origin text start file)) where

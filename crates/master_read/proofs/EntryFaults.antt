@@ -36,7 +36,7 @@ use Rattle.master_read.specs.declared.fault.TextCause.{TextCause}
 use Rattle.master_read.specs.declared.fault.TextCause.TheVariants.{BadDirective, BadOwner, NoOwner, NoTtl, BadTtl, UnknownType, Rdata as BadData}
 use Rattle.master_read.specs.declared.fault.TextFault.{TextFault}
 use Rattle.master_read.specs.declared.fault.TextFault.TheVariants.{At, NoMemory}
-use Rattle.master_read.specs.declared.records.Limits.{Limits}
+use Rattle.master_read.specs.declared.records.ReadLimits.{ReadLimits}
 use Rattle.master_read.specs.declared.records.Records.{Records}
 use Rattle.master_read.specs.declared.words.ClassWord.{ClassWord}
 use Rattle.master_read.specs.declared.words.ClassWord.TheVariants.{In, NotIn}
@@ -252,7 +252,7 @@ next_told include told room name origin progress [] = tt
 next_told include told room name origin progress (text ∷ texts) = with_file_told include told room origin text _
 
 -- whatever may be included below a file, its fault is no `NoMemory`, and none stands in it
-pub included_told : (limits : Limits) (levels : ℕ) → ToldBy (included limits levels)
+pub included_told : (limits : ReadLimits) (levels : ℕ) → ToldBy (included limits levels)
 unfolding included
 included_told limits zero file line name origin progress = record { own = λ e. cc; tells = refl }
 included_told limits (suc levels) file line name origin progress =

@@ -4,7 +4,7 @@ use Rattle.std.proofs.lemmas.List.{append-nil, length-append}
 use Rattle.dns_data.specs.Name.{Labels}
 use Rattle.master_read.specs.Reader.{Held, IsReading, IsSettled, texts_give}
 use Rattle.master_read.specs.declared.fault.TextFault.{TextFault}
-use Rattle.master_read.specs.declared.records.Limits.{Limits}
+use Rattle.master_read.specs.declared.records.ReadLimits.{ReadLimits}
 
 -- so much of a piece was read in front of the rest
 pub record HasReadPart (old new : Held) (piece rest : List ℕ) : Type 0 where
@@ -52,7 +52,7 @@ all_read old new piece rest h none origin ended text reading =
     subst (λ (p : List ℕ). IsReading new origin ended (text ++ p)) is (h.reads origin ended text reading)
 
 -- a fault that is settled in a part is settled in the piece
-pub part_settles : (old mid : Held) (piece rest front after : List ℕ) (fault : TextFault) (limits : Limits) (origin : Labels) (ended : List (List ℕ)) (text : List ℕ)
+pub part_settles : (old mid : Held) (piece rest front after : List ℕ) (fault : TextFault) (limits : ReadLimits) (origin : Labels) (ended : List (List ℕ)) (text : List ℕ)
     → (h : HasReadPart old mid piece rest) → front ++ after ≡ rest → IsSettled fault limits origin ended ((text ++ h.front) ++ front) → IsSettled fault limits origin ended (text ++ piece)
 part_settles old mid piece rest front after fault limits origin ended text h cut settled more later =
     let read = text ++ h.front in

@@ -21,7 +21,7 @@ use Rattle.master_read.specs.declared.fault.TextCause.TheVariants.{Lex, IncludeD
 use Rattle.master_read.specs.declared.fault.TextFault.{TextFault}
 use Rattle.master_read.specs.declared.fault.TextFault.TheVariants.{At, NoMemory}
 use Rattle.master_read.specs.declared.file.File.{File}
-use Rattle.master_read.specs.declared.records.Limits.{Limits}
+use Rattle.master_read.specs.declared.records.ReadLimits.{ReadLimits}
 use Rattle.master_read.specs.declared.records.Records.{Records}
 
 -- the first entry was read
@@ -64,14 +64,14 @@ first_fault include room file entry entries records texts fault h =
     (entry_fault include room file entry records texts fault h)
 
 -- what is left of a file is what its entries give, and then its end
-pub same_rest : (limits : Limits) (file : File) (xs ys : List Entry) (fault : Option LexFault) (p q : Progress)
+pub same_rest : (limits : ReadLimits) (file : File) (xs ys : List Entry) (fault : Option LexFault) (p q : Progress)
     → with_entries (included limits file.levels) limits.room file.number xs p ≡ with_entries (included limits file.levels) limits.room file.number ys q
     → rest_of limits file xs fault p ≡ rest_of limits file ys fault q
 unfolding with_rest
 same_rest limits file xs ys fault p q e = ap (λ (r : Result Progress Unread). r >>= ended file.number file.before fault) e
 
 -- where the entries that are left of a file end in a fault, or ask for a file, the steps behind them change nothing
-pub unread_rest : (limits : Limits) (file : File) (xs : List Entry) (fault : Option LexFault) (p : Progress) (unread : Unread) (next : Progress → Result Progress Unread)
+pub unread_rest : (limits : ReadLimits) (file : File) (xs : List Entry) (fault : Option LexFault) (p : Progress) (unread : Unread) (next : Progress → Result Progress Unread)
     → with_entries (included limits file.levels) limits.room file.number xs p ≡ Err unread
     → as_zone_text (rest_of limits file xs fault p >>= next) ≡ Err unread
 unfolding with_rest
@@ -96,7 +96,7 @@ same_next (Err fault) f g same = refl
 -- ---- the file that is open
 
 -- what was taken of the file that is open, was read but these entries
-abbrev pub Reads : Limits → File → List File → Records → List Entry → Labels → List (List ℕ) → List Entry → Type 0
+abbrev pub Reads : ReadLimits → File → List File → Records → List Entry → Labels → List (List ℕ) → List Entry → Type 0
 Reads limits file around records entries origin ended taken =
     (text : List ℕ) (others : List Entry) (later : List (List ℕ)) → text_entries text ≡ taken ++ others
     → texts_give limits origin (ended ++ text ∷ later)
@@ -115,7 +115,7 @@ HasFault room file records entries fault =
     (include : Include) (behind : List Entry) (texts : List (List ℕ))
     → IsFaultOf fault (with_entries include room file (entries ++ behind) (record { records = records; texts = texts }))
 
-module _ (limits : Limits) (file : File) (around : List File) (origin : Labels) where
+module _ (limits : ReadLimits) (file : File) (around : List File) (origin : Labels) where
   -- more was taken
   pub takes : (records : Records) (entries waiting : List Entry) (ended : List (List ℕ)) (taken more : List Entry) → waiting ≡ entries ++ more
       → Reads limits file around records entries origin ended taken → Reads limits file around records waiting origin ended (taken ++ more)
@@ -200,13 +200,13 @@ module _ (limits : Limits) (file : File) (around : List File) (origin : Labels) 
   left_fault records fault texts before = now records [] (Some fault) texts before
 
 -- no file lies around it
-pub left_all : (limits : Limits) (file : File) (origin : Labels) (records : Records) (texts : List (List ℕ)) → Pauses limits file [] origin records [] None texts
+pub left_all : (limits : ReadLimits) (file : File) (origin : Labels) (records : Records) (texts : List (List ℕ)) → Pauses limits file [] origin records [] None texts
     → texts_give limits origin texts ≡ Ok (zone_text_of records)
 unfolding with_rest with_entries
 left_all limits file origin records texts before = now limits file [] origin records [] None texts before
 
 -- the inmost of the files around
-pub rest_inmost : (limits : Limits) (files : List File) (file : File) (progress : Progress)
+pub rest_inmost : (limits : ReadLimits) (files : List File) (file : File) (progress : Progress)
     → rest_around limits (files ++ file ∷ []) progress ≡ (rest_of limits file file.entries.items file.fault progress >>= rest_around limits files)
 rest_inmost limits [] file progress = sym (behind_ok (rest_of limits file file.entries.items file.fault progress))
 rest_inmost limits (outer ∷ files) file progress =
@@ -214,7 +214,7 @@ rest_inmost limits (outer ∷ files) file progress =
     ∙ regroup (rest_of limits file file.entries.items file.fault progress) (rest_around limits files) (rest_of limits outer outer.entries.items outer.fault)
 
 -- the file around it goes on
-pub left_file : (limits : Limits) (file outer : File) (around files : List File) (origin : Labels) (records : Records) (texts : List (List ℕ)) → around ≡ files ++ outer ∷ []
+pub left_file : (limits : ReadLimits) (file outer : File) (around files : List File) (origin : Labels) (records : Records) (texts : List (List ℕ)) → around ≡ files ++ outer ∷ []
     → Pauses limits file around origin records [] None texts
     → Pauses limits outer files origin (record records { context = back_at file.before records.context }) outer.entries.items outer.fault texts
 unfolding with_rest with_entries
@@ -225,7 +225,7 @@ left_file limits file outer around files origin records texts last before later 
 
 -- ---- an `$INCLUDE`
 
-rest_first : (limits : Limits) (file : File) (entry : Entry) (entries : List Entry) (fault : Option LexFault) (progress : Progress)
+rest_first : (limits : ReadLimits) (file : File) (entry : Entry) (entries : List Entry) (fault : Option LexFault) (progress : Progress)
     → rest_of limits file (entry ∷ entries) fault progress
     ≡ (with_entry (included limits file.levels) limits.room file.number entry progress >>= rest_of limits file entries fault)
 unfolding with_rest with_entries
@@ -234,7 +234,7 @@ rest_first limits file entry entries fault progress =
     (with_entries (included limits file.levels) limits.room file.number entries) (ended file.number file.before fault)
 
 -- what it makes, where the file may be opened
-opens : (limits : Limits) (levels room file line : ℕ) (name : List ℕ) (origin : Labels) (progress : Progress) → progress.records.included < limits.includes
+opens : (limits : ReadLimits) (levels room file line : ℕ) (name : List ℕ) (origin : Labels) (progress : Progress) → progress.records.included < limits.includes
     → included limits (suc levels) file line name origin progress
     ≡ with_next_text name (with_include (included limits levels) limits.room origin) (one_included progress) progress.texts
 unfolding included
@@ -253,13 +253,13 @@ unfolding with_entry
 entry_opens include room file entry records texts name origin e =
     ap (λ (said : Result Effect TextCause). at file entry.line said >>= (λ effect. with_effect include file entry.line effect (record { records = records; texts = texts }))) e
 
-too_deep : (limits : Limits) (levels file line : ℕ) (name : List ℕ) (origin : Labels) (progress : Progress) → levels ≡ 0
+too_deep : (limits : ReadLimits) (levels file line : ℕ) (name : List ℕ) (origin : Labels) (progress : Progress) → levels ≡ 0
     → included limits levels file line name origin progress ≡ Err (Faulty (At file line IncludeDepth))
 unfolding included
 too_deep limits zero file line name origin progress e = refl
 too_deep limits (suc levels) file line name origin progress e = absurd (omega arith)
 
-too_many : (limits : Limits) (levels file line : ℕ) (name : List ℕ) (origin : Labels) (progress : Progress) → 0 < levels → limits.includes ≤ progress.records.included
+too_many : (limits : ReadLimits) (levels file line : ℕ) (name : List ℕ) (origin : Labels) (progress : Progress) → 0 < levels → limits.includes ≤ progress.records.included
     → included limits levels file line name origin progress ≡ Err (Faulty (At file line TooManyIncludes))
 unfolding included
 too_many limits zero file line name origin progress deep less = absurd (omega arith)

@@ -6,7 +6,7 @@ use Rattle.dns_data.specs.Name.{Labels}
 use Rattle.master_read.specs.Reader.{Held, HasLimits, IsReading, IsSettled, IsReaderOf, GoesOn, asked_by, texts_give}
 use Rattle.master_read.specs.Steps.{HasComeTo}
 use Rattle.master_read.specs.ZoneText.{Faulty, zone_text}
-use Rattle.master_read.specs.declared.asked.Asked.TheVariants.{Include, Done}
+use Rattle.master_read.specs.declared.asked.AfterFile.TheVariants.{Include, Done}
 use Rattle.master_read.specs.declared.fault.TextFault.{TextFault}
 use Rattle.master_read.specs.declared.fault.TextFault.TheVariants.{NoMemory}
 

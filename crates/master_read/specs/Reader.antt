@@ -9,12 +9,12 @@ use Rattle.master_lex.specs.declared.entry.Entry.{Entry}
 use Rattle.master_lex.specs.declared.fault.LexFault.{LexFault}
 use Rattle.master_read.specs.Fault.{TellsOfText}
 use Rattle.master_read.specs.ZoneText.{Unread, Faulty, Asks, Progress, included, as_zone_text, with_rest, zone_text, zone_text_of}
-use Rattle.master_read.specs.declared.asked.Asked.{Asked}
-use Rattle.master_read.specs.declared.asked.Asked.TheVariants.{Include, Done}
+use Rattle.master_read.specs.declared.asked.AfterFile.{AfterFile}
+use Rattle.master_read.specs.declared.asked.AfterFile.TheVariants.{Include, Done}
 use Rattle.master_read.specs.declared.fault.TextFault.{TextFault}
 use Rattle.master_read.specs.declared.fault.TextFault.TheVariants.{NoMemory}
 use Rattle.master_read.specs.declared.file.File.{File}
-use Rattle.master_read.specs.declared.records.Limits.{Limits}
+use Rattle.master_read.specs.declared.records.ReadLimits.{ReadLimits}
 use Rattle.master_read.specs.declared.records.Records.{Records}
 use Rattle.master_read.specs.declared.zone_text.ZoneText.{ZoneText}
 
@@ -25,7 +25,7 @@ pub record Held : Type 0 where
   pub file : File
   pub around : List File
   pub records : Records
-  pub limits : Limits
+  pub limits : ReadLimits
   pub fed : ℕ
   pub fault : Option TextFault
   pub ended : Bool
@@ -37,19 +37,19 @@ pub record IsSoundReader (held : Held) : Type 0 where
   pub tells : IfSome held.fault TellsOfText
 
 -- what is left of a file, by the entries that are left of it and the fault of a spelling behind them, or none
-abbrev pub rest_of : Limits → File → List Entry → Option LexFault → Progress → Result Progress Unread
+abbrev pub rest_of : ReadLimits → File → List Entry → Option LexFault → Progress → Result Progress Unread
 rest_of limits file entries fault progress =
     with_rest (included limits file.levels) limits.room file.number file.before entries fault progress
 
 -- what is left of files around others, the outermost first
-abbrev pub rest_around : Limits → List File → Progress → Result Progress Unread
+abbrev pub rest_around : ReadLimits → List File → Progress → Result Progress Unread
 rest_around limits [] progress = Ok progress
 rest_around limits (file ∷ files) progress = do
   more ← rest_around limits files progress
   rest_of limits file file.entries.items file.fault more
 
 -- the records of texts, where these limits hold
-abbrev pub texts_give : Limits → Labels → List (List ℕ) → Result ZoneText Unread
+abbrev pub texts_give : ReadLimits → Labels → List (List ℕ) → Result ZoneText Unread
 texts_give limits origin texts = zone_text origin limits.room limits.includes texts
 
 -- Of the texts that ended and of what was taken of the text of the file that is open, all was read but the entries that
@@ -67,7 +67,7 @@ IsReading held origin ended text =
     (taken : List Entry) × (IsLexerOf held.lexer text taken × HasRead held origin ended taken)
 
 -- the fault of the texts is settled, however the last of them goes on and whatever comes later
-abbrev pub IsSettled : TextFault → Limits → Labels → List (List ℕ) → List ℕ → Type 0
+abbrev pub IsSettled : TextFault → ReadLimits → Labels → List (List ℕ) → List ℕ → Type 0
 IsSettled fault limits origin ended text =
     (more : List ℕ) (later : List (List ℕ)) → texts_give limits origin (ended ++ (text ++ more) ∷ later) ≡ Err (Faulty fault)
 
@@ -102,18 +102,18 @@ pub record HasEnded (held : Held) (origin : Labels) (room includes : ℕ) (texts
   pub gives : GivesBy held.fault held origin texts
 
 -- what is answered at a file's end by what the texts so far give: the file that they ask for, or that they have ended
-abbrev pub asked_by : Result ZoneText Unread → Asked
+abbrev pub asked_by : Result ZoneText Unread → AfterFile
 asked_by (Ok text) = Done
 asked_by (Err (Faulty fault)) = Done
 asked_by (Err (Asks file)) = Include file
 
 -- whether a file is open behind this answer, of which nothing was fed
-abbrev pub IsOpenBehind : Asked → Held → Type 0
+abbrev pub IsOpenBehind : AfterFile → Held → Type 0
 IsOpenBehind (Include file) held = (held.ended ≡ false) × (held.fed ≡ 0)
 IsOpenBehind Done held = held.ended ≡ true
 
 -- behind this answer a file is open, of which nothing was fed, or the texts have ended
-abbrev pub GoesOn : Asked → Held → Labels → ℕ → ℕ → List (List ℕ) → Type 0
+abbrev pub GoesOn : AfterFile → Held → Labels → ℕ → ℕ → List (List ℕ) → Type 0
 GoesOn (Include file) held origin room includes texts = (held.ended ≡ false) × (held.fed ≡ 0) × IsReaderOf held origin room includes texts []
 GoesOn Done held origin room includes texts = (held.ended ≡ true) × HasEnded held origin room includes texts
 

@@ -15,7 +15,7 @@ use Rattle.master_read.specs.declared.fault.TextCause.{TextCause}
 use Rattle.master_read.specs.declared.fault.TextCause.TheVariants.{Lex, TooMany, IncludeDepth, TooManyIncludes}
 use Rattle.master_read.specs.declared.fault.TextFault.{TextFault}
 use Rattle.master_read.specs.declared.fault.TextFault.TheVariants.{At}
-use Rattle.master_read.specs.declared.records.Limits.{Limits}
+use Rattle.master_read.specs.declared.records.ReadLimits.{ReadLimits}
 use Rattle.master_read.specs.declared.records.Records.{Records}
 use Rattle.master_read.specs.declared.zone_text.ZoneText.{ZoneText}
 
@@ -124,7 +124,7 @@ abbrev pub one_included : Progress → Progress
 one_included progress = record progress { records = record progress.records { included = progress.records.included + 1 } }
 
 -- what an `$INCLUDE` makes of what was read, in a file below which only so many levels of included files may lie
-unfoldable pub included : Limits → ℕ → Include
+unfoldable pub included : ReadLimits → ℕ → Include
 included limits zero file line name origin progress = Err (Faulty (At file line IncludeDepth))
 included limits (suc levels) file line name origin progress =
     if nat_le limits.includes progress.records.included then Err (Faulty (At file line TooManyIncludes))

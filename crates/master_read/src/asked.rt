@@ -4,7 +4,7 @@ use dns_data::Text;
 
 /// What comes behind the end of a file.
 #[derive(Debug, Drop)]
-pub enum Asked {
+pub enum AfterFile {
     /// A file of this name is included there, and is open from now on.
     Include {
         /// The name as it stands in the file, its escapes resolved.

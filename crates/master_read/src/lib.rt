@@ -29,7 +29,7 @@ mod rr;
 mod words;
 mod zone_text;
 
-pub use asked::Asked;
+pub use asked::AfterFile;
 pub use fault::{TextCause, TextFault};
 pub use laws::{
     asks_within_the_limit, front_is_whole, no_text_wants_memory, seen_counts_record_entries,

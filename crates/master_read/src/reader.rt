@@ -10,12 +10,12 @@ ghost use Rattle.master_read.specs.Reader.{IsReaderOf, GoesOn, HasEnded, HasFail
 ghost use Rattle.master_read.specs.Steps.{HasComeTo, IsFaultOf, OpensFile, IsPausing, MayOpen, entry_makes, fault_at};
 ghost use Rattle.master_read.specs.ZoneText.{Asks, Faulty, zone_text};
 
-use crate::asked::Asked;
+use crate::asked::AfterFile;
 use crate::context::Context;
 use crate::directive::{Include, read_include};
 use crate::fault::{EntryFault, TextCause, TextFault};
 use crate::file::{File, read_ready, take_all};
-use crate::records::{Limits, Records};
+use crate::records::{ReadLimits, Records};
 use crate::zone_text::ZoneText;
 use dns_data::{Name, NoMemory, Text};
 use master_lex::{Entry, Lexer};
@@ -37,7 +37,7 @@ pub struct ZoneReader {
     file: File,
     around: Vec<File>,
     records: Records,
-    limits: Limits,
+    limits: ReadLimits,
     fed: u32,
     fault: Option<TextFault>,
     ended: bool,
@@ -72,7 +72,7 @@ impl ZoneReader {
             },
             around: Vec::new(alloc),
             records: Records::new(alloc, origin),
-            limits: Limits { room, includes },
+            limits: ReadLimits { room, includes },
             fed: 0,
             fault: None,
             ended: false,
@@ -105,7 +105,7 @@ impl ZoneReader {
     /// Says that the file that is open has ended, and answers what comes behind it: a file that is included there, of
     /// which nothing was fed, or `Done`, where the records or their first fault are known. An error comes again at
     /// each call.
-    pub fn end_file(&mut self, alloc: Global) -> Result<Asked, NoMemory>
+    pub fn end_file(&mut self, alloc: Global) -> Result<AfterFile, NoMemory>
         requires { self.old.ended ≡ false }
         ensures asked { (origin : Labels) (room includes : ℕ) (ended : List (List ℕ)) (text : List ℕ) → IsReaderOf self.old origin room includes ended text
             → IfOk result (λ asked. asked ≡ asked_by (zone_text origin room includes (ended ++ text ∷ []))) }
@@ -121,7 +121,7 @@ impl ZoneReader {
             return Ok(self.end());
         }
         match self.read_on(alloc) {
-            Ok(Some(file)) => Ok(Asked::Include { file }),
+            Ok(Some(file)) => Ok(AfterFile::Include { file }),
             Ok(None) => Ok(self.end()),
             Err(fault) => {
                 self.fault = Some(fault);
@@ -345,12 +345,12 @@ impl ZoneReader {
     }
 
     /// Says that all has ended.
-    fn end(&mut self) -> Asked
-        ensures done { result ≡ Asked.Done }
+    fn end(&mut self) -> AfterFile
+        ensures done { result ≡ AfterFile.Done }
         ensures ended { self.new ≡ record self.old { ended = true } }
     {
         self.ended = true;
-        Asked::Done
+        AfterFile::Done
     }
 }
 

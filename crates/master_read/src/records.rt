@@ -18,7 +18,7 @@ use std::mem;
 
 /// How much may be read.
 #[derive(Clone, Copy, Debug)]
-pub struct Limits {
+pub struct ReadLimits {
     /// How many record entries.
     pub room: u32,
     /// How many files may be included.

@@ -6,7 +6,7 @@ use Rattle.dns_data.proofs.Names.{all_push}
 use Rattle.net_model.specs.declared.config.Config.{Config}
 use Rattle.serde_json.specs.Data.{Data}
 use Rattle.report_check.specs.Checked.{IsChecked, IsConfirmed, IsFirst, IsWrong, LearningPasses, PassesWalks}
-use Rattle.report_check.specs.Entries.{ComesTo, IsLookedAt}
+use Rattle.report_check.specs.Entries.{EntriesComeTo, EntryComesTo}
 use Rattle.report_check.specs.ReportIn.{report_in}
 use Rattle.report_check.specs.declared.answer.Checked.{Checked}
 use Rattle.report_check.specs.declared.answer.Checked.TheVariants.{Right, Wrong}
@@ -60,7 +60,7 @@ module _ {V : Type 0} (see : V → Data) where
 
 -- what the entries come to is the answer, where they are looked at
 pub comes_checked : (config : Config) (octets : List ℕ) (rewrites : ℕ) (all : List Data) → report_in octets ≡ Some (record { rewrites = rewrites; entries = all })
-    → (LearningPasses config rewrites → ⊥) → (answer : Result Checked CheckFault) → ComesTo config rewrites all answer → IsChecked config octets answer
+    → (LearningPasses config rewrites → ⊥) → (answer : Result Checked CheckFault) → EntriesComeTo config rewrites all answer → IsChecked config octets answer
 comes_checked config octets rewrites all stated few (Ok (Right entries)) comes = (record { rewrites = rewrites; entries = all }, stated, (few, comes))
 comes_checked config octets rewrites all stated few (Ok (Wrong entry)) comes = (record { rewrites = rewrites; entries = all }, stated, (few, comes))
 comes_checked config octets rewrites all stated few (Err NotReport) comes = absurd comes
@@ -71,7 +71,7 @@ comes_checked config octets rewrites all stated few (Err NoMemory) comes = tt
 module _ {V : Type 0} (see : V → Data) (config : Config) (rewrites : ℕ) (xs : List V) (i : ℕ) (x : V) (there : i < length xs) (is : x ≡ get_or xs i x)
     (each : AllByRecursion (IsConfirmed config rewrites) (map see (take i xs))) where
   -- where all before an entry are confirmed, a fault at the entry is that of all
-  pub fault_comes : (fault : CheckFault) → IsLookedAt config rewrites (i + 1) (see x) (Err fault) → ComesTo config rewrites (map see xs) (Err fault)
+  pub fault_comes : (fault : CheckFault) → EntryComesTo config rewrites (i + 1) (see x) (Err fault) → EntriesComeTo config rewrites (map see xs) (Err fault)
   fault_comes NotReport looked = absurd looked
   fault_comes (Walks entry) looked = first_so see config rewrites (PassesWalks config rewrites) xs i x entry there is looked.0 each looked.1
   fault_comes NoMemory looked = tt
@@ -82,6 +82,6 @@ module _ {V : Type 0} (see : V → Data) (config : Config) (rewrites : ℕ) (xs 
 
 -- a fault that is handed on
 pub handed_on : (config : Config) (rewrites : ℕ) (all : List Data) (fault : CheckFault) (answer : Result Checked CheckFault) → IsErr answer × IsErrAnd answer (λ own. own ≡ fault)
-    → ComesTo config rewrites all (Err fault) → ComesTo config rewrites all answer
+    → EntriesComeTo config rewrites all (Err fault) → EntriesComeTo config rewrites all answer
 handed_on config rewrites all fault (Ok checked) is comes = absurd cc
-handed_on config rewrites all fault (Err own) is comes = subst (λ (f : CheckFault). ComesTo config rewrites all (Err f)) (sym is.1) comes
+handed_on config rewrites all fault (Err own) is comes = subst (λ (f : CheckFault). EntriesComeTo config rewrites all (Err f)) (sym is.1) comes

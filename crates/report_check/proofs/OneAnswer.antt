@@ -5,7 +5,7 @@ use Rattle.std.specs.List.{AllByRecursion}
 use Rattle.net_model.specs.declared.config.Config.{Config}
 use Rattle.serde_json.specs.Data.{Data}
 use Rattle.report_check.specs.Checked.{IsChecked, IsConfirmed, IsFirst, IsWrong, LearningPasses, OfEntries, OfReport, PassesWalks}
-use Rattle.report_check.specs.Entries.{ComesTo}
+use Rattle.report_check.specs.Entries.{EntriesComeTo}
 use Rattle.report_check.specs.ReportIn.{StatedReport, report_in}
 use Rattle.report_check.specs.declared.answer.Checked.{Checked}
 use Rattle.report_check.specs.declared.answer.Checked.TheVariants.{Right, Wrong}
@@ -66,7 +66,7 @@ module _ (config : Config) (rewrites : ℕ) where
       wrong.is_so.1 (subst (PassesWalks config rewrites) (sym same.1) passes.is_so)
 
   -- entries come to one answer
-  one_end : (all : List Data) (one other : Result Checked CheckFault) → ComesTo config rewrites all one → ComesTo config rewrites all other
+  one_end : (all : List Data) (one other : Result Checked CheckFault) → EntriesComeTo config rewrites all one → EntriesComeTo config rewrites all other
       → one ≢ Err NoMemory → other ≢ Err NoMemory → one ≡ other
   one_end all (Ok (Right n)) (Ok (Right m)) is also some more =
       let same : n ≡ m = is.1 ∙ sym also.1 in
@@ -97,7 +97,7 @@ module _ (config : Config) (octets : List ℕ) where
   IsUnlearnt answer = (answer ≡ Err (Walks 0)) × OfReport octets (λ report. LearningPasses config report.rewrites)
 
   abbrev IsOfEntries : Result Checked CheckFault → Type 0
-  IsOfEntries answer = OfEntries config octets (λ rewrites all. ComesTo config rewrites all answer)
+  IsOfEntries answer = OfEntries config octets (λ rewrites all. EntriesComeTo config rewrites all answer)
 
   way_of : (answer : Result Checked CheckFault) → IsChecked config octets answer → answer ≢ Err NoMemory → IsNone answer ⊎ (IsUnlearnt answer ⊎ IsOfEntries answer)
   way_of (Ok (Right n)) is some = inr (inr is)
@@ -128,7 +128,7 @@ module _ (config : Config) (octets : List ℕ) where
       absurd (is.2.0 (subst (λ (r : StatedReport). LearningPasses config r.rewrites) (one_report also.1.0 is.0 also.1.1 is.1) also.1.2))
   of_ways one other some more (inr (inr is)) (inr (inr also)) =
       one_end config is.0.rewrites is.0.entries one other is.2.1
-      (subst (λ (r : StatedReport). ComesTo config r.rewrites r.entries other) (one_report also.0 is.0 also.1 is.1) also.2.1) some more
+      (subst (λ (r : StatedReport). EntriesComeTo config r.rewrites r.entries other) (one_report also.0 is.0 also.1 is.1) also.2.1) some more
 
 -- two answers to a configuration and octets, of which neither is `NoMemory`, are one
 pub only_answer : (config : Config) (octets : List ℕ) (one other : Result Checked CheckFault) → IsChecked config octets one → IsChecked config octets other

@@ -29,13 +29,13 @@ use Rattle.zone_lookup.specs.Sides.{addresses_differ, zones_differ}
 use Rattle.zone_lookup.specs.Sound.{depends_on_itself, wants_glue}
 use Rattle.zone_lookup.proofs.ReferralParts.{each_part, from_cut, has_cyclic, has_differs, has_no_glue, has_other_glue, in_cut, one_shown, shown_one}
 use Rattle.zone_lookup.proofs.ZonesTell.{cyclic_told, differ_told, glue_told, other_addresses, told_addresses, told_cyclic, told_differ, told_glue}
-use Rattle.report_check.specs.Entries.{AreLearnt}
+use Rattle.report_check.specs.Entries.{HasLearntNames}
 use Rattle.query_classes.proofs.TreeWalk.{only}
-use Rattle.report_check.specs.WalkFaults.{blackhole_in, blackhole_of, end_faults, lame_behind, last_of, unlearnt_behind, walk_faults}
+use Rattle.report_check.specs.WalkFaults.{blackhole_in, blackhole_of, faults_of_end, lame_behind, last_of, unlearnt_behind, walk_faults}
 use Rattle.report_check.proofs.HopsInside.{refers_inside}
 use Rattle.report_check.proofs.Lasts.{before_last, last_behind}
 
-module _ (setting : Setting) (deps : Deps) (learnt : AreLearnt setting.config setting.rewrites deps) where
+module _ (setting : Setting) (deps : Deps) (learnt : HasLearntNames setting.config setting.rewrites deps) where
   -- ---- the lists stand for the sets
 
   by_sets : (cut : Cut) → DependsOnItself (with_lists setting deps.least deps.greatest) cut → DependsOnItself (with_sets setting) cut
@@ -120,7 +120,7 @@ module _ (setting : Setting) (deps : Deps) (learnt : AreLearnt setting.config se
           (record { rewritten = record { before = before.0; last = state; states = before.1; at_place = e }; ends = is })
 
     of_end : (hop : Option Hop) (state : Option State) (leaf : Leaf) (fault : Fault) → last_of walk.hops ≡ hop → last_of walk.states ≡ state → walk.leaf ≡ leaf
-        → Contains (end_faults deps hop state leaf) fault → Shown fault
+        → Contains (faults_of_end deps hop state leaf) fault → Shown fault
     of_end hop state (leaves.Lame ns) fault hops states is has = of_lame ns hop fault hops is has
     of_end hop state (leaves.NoAddress ns) fault hops states is has = of_unlearnt ns hop fault hops is has
     of_end hop state (leaves.Limit place) fault hops states is has = subst Shown (only (faults.Limit place) fault has) is
@@ -130,7 +130,7 @@ module _ (setting : Setting) (deps : Deps) (learnt : AreLearnt setting.config se
 
     found_shown : (fault : Fault) → Contains (walk_faults setting.config deps walk) fault → Shown fault
     found_shown fault has =
-        elim (Contains-append_cases (flat_map (hop_faults setting.config deps) walk.hops) (end_faults deps (last_of walk.hops) (last_of walk.states) walk.leaf) fault has) [
+        elim (Contains-append_cases (flat_map (hop_faults setting.config deps) walk.hops) (faults_of_end deps (last_of walk.hops) (last_of walk.states) walk.leaf) fault has) [
           | inl of_hops ↦ (
               let from = from_flat_map (hop_faults setting.config deps) walk.hops fault of_hops in
               of_hop from.0 fault from.1 from.2)
@@ -142,16 +142,16 @@ module _ (setting : Setting) (deps : Deps) (learnt : AreLearnt setting.config se
     by_referral : (cut : Cut) (fault : Fault) → Refers walk cut → is_prefix cut.zone cut.cut ≡ true → Contains (referral_faults setting.config deps cut) fault
         → Contains (walk_faults setting.config deps walk) fault
     by_referral cut fault refers inside has =
-        Contains-append_left (flat_map (hop_faults setting.config deps) walk.hops) (end_faults deps (last_of walk.hops) (last_of walk.states) walk.leaf) fault
+        Contains-append_left (flat_map (hop_faults setting.config deps) walk.hops) (faults_of_end deps (last_of walk.hops) (last_of walk.states) walk.leaf) fault
         (flat_map_has (hop_faults setting.config deps) walk.hops (Refer cut) fault refers (in_cut setting.config deps cut inside fault has))
 
     by_end : (hop : Option Hop) (state : Option State) (leaf : Leaf) (fault : Fault) → last_of walk.hops ≡ hop → last_of walk.states ≡ state → walk.leaf ≡ leaf
-        → Contains (end_faults deps hop state leaf) fault → Contains (walk_faults setting.config deps walk) fault
+        → Contains (faults_of_end deps hop state leaf) fault → Contains (walk_faults setting.config deps walk) fault
     by_end hop state leaf fault hops states is has =
-        Contains-append_right (flat_map (hop_faults setting.config deps) walk.hops) (end_faults deps (last_of walk.hops) (last_of walk.states) walk.leaf) fault
-        (subst (λ (h : Option Hop). Contains (end_faults deps h (last_of walk.states) walk.leaf) fault) (sym hops)
-        (subst (λ (s : Option State). Contains (end_faults deps hop s walk.leaf) fault) (sym states)
-        (subst (λ (l : Leaf). Contains (end_faults deps hop state l) fault) (sym is) has)))
+        Contains-append_right (flat_map (hop_faults setting.config deps) walk.hops) (faults_of_end deps (last_of walk.hops) (last_of walk.states) walk.leaf) fault
+        (subst (λ (h : Option Hop). Contains (faults_of_end deps h (last_of walk.states) walk.leaf) fault) (sym hops)
+        (subst (λ (s : Option State). Contains (faults_of_end deps hop s walk.leaf) fault) (sym states)
+        (subst (λ (l : Leaf). Contains (faults_of_end deps hop state l) fault) (sym is) has)))
 
     last_hop : (cut : Cut) (before : List Hop) → walk.hops ≡ before ++ Refer cut ∷ [] → last_of walk.hops ≡ Some (Refer cut)
     last_hop cut before e = ap (λ (hops : List Hop). last_of hops) e ∙ last_behind before (Refer cut)

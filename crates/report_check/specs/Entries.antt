@@ -23,7 +23,7 @@ use Rattle.report_check.specs.declared.answer.CheckFault.{CheckFault}
 use Rattle.report_check.specs.declared.answer.CheckFault.TheVariants.{NotReport, Walks, NoMemory}
 
 -- the lists have the names of the two sets of learnt addresses
-pub record AreLearnt (config : Config) (rewrites : ℕ) (deps : Deps) : Type 0 where
+pub record HasLearntNames (config : Config) (rewrites : ℕ) (deps : Deps) : Type 0 where
   pub least : IsLeast config rewrites deps.least
   pub greatest : IsGreatest config rewrites deps.greatest
 
@@ -77,17 +77,17 @@ is_of_representatives (faults.Overlong place) = true
 is_of_representatives fault = false
 
 -- whether the entry with this number is right, or too many walks of its query
-abbrev pub IsLookedAt : Config → ℕ → ℕ → Data → Result Bool CheckFault → Type 0
-IsLookedAt config rewrites number value (Ok true) = IsConfirmed config rewrites value
-IsLookedAt config rewrites number value (Ok false) = IsWrong config rewrites value
-IsLookedAt config rewrites number value (Err NotReport) = ⊥
-IsLookedAt config rewrites number value (Err (Walks entry)) = (entry ≡ number) × PassesWalks config rewrites value
-IsLookedAt config rewrites number value (Err NoMemory) = Unit {0}
+abbrev pub EntryComesTo : Config → ℕ → ℕ → Data → Result Bool CheckFault → Type 0
+EntryComesTo config rewrites number value (Ok true) = IsConfirmed config rewrites value
+EntryComesTo config rewrites number value (Ok false) = IsWrong config rewrites value
+EntryComesTo config rewrites number value (Err NotReport) = ⊥
+EntryComesTo config rewrites number value (Err (Walks entry)) = (entry ≡ number) × PassesWalks config rewrites value
+EntryComesTo config rewrites number value (Err NoMemory) = Unit {0}
 
 -- what entries come to
-abbrev pub ComesTo : Config → ℕ → List Data → Result Checked CheckFault → Type 0
-ComesTo config rewrites all (Ok (Right entries)) = AllByRecursion (IsConfirmed config rewrites) all × (entries ≡ length all)
-ComesTo config rewrites all (Ok (Wrong entry)) = IsFirst config rewrites (IsWrong config rewrites) all entry
-ComesTo config rewrites all (Err NotReport) = ⊥
-ComesTo config rewrites all (Err (Walks entry)) = IsFirst config rewrites (PassesWalks config rewrites) all entry
-ComesTo config rewrites all (Err NoMemory) = Unit {0}
+abbrev pub EntriesComeTo : Config → ℕ → List Data → Result Checked CheckFault → Type 0
+EntriesComeTo config rewrites all (Ok (Right entries)) = AllByRecursion (IsConfirmed config rewrites) all × (entries ≡ length all)
+EntriesComeTo config rewrites all (Ok (Wrong entry)) = IsFirst config rewrites (IsWrong config rewrites) all entry
+EntriesComeTo config rewrites all (Err NotReport) = ⊥
+EntriesComeTo config rewrites all (Err (Walks entry)) = IsFirst config rewrites (PassesWalks config rewrites) all entry
+EntriesComeTo config rewrites all (Err NoMemory) = Unit {0}

@@ -41,15 +41,15 @@ blackhole_in (Some state) = blackhole_of state.last
 blackhole_in None = []
 
 -- the faults of an end, behind its last hop and in its last state
-abbrev pub end_faults : Deps → Option Hop → Option State → Leaf → List Fault
-end_faults deps hop state (leaves.Lame ns) = lame_behind ns hop
-end_faults deps hop state (leaves.NoAddress ns) = unlearnt_behind deps ns hop
-end_faults deps hop state (leaves.Limit place) = faults.Limit place ∷ []
-end_faults deps hop state (leaves.Overlong place) = faults.Overlong place ∷ []
-end_faults deps hop state leaves.NxDomain = blackhole_in state
-end_faults deps hop state leaf = []
+abbrev pub faults_of_end : Deps → Option Hop → Option State → Leaf → List Fault
+faults_of_end deps hop state (leaves.Lame ns) = lame_behind ns hop
+faults_of_end deps hop state (leaves.NoAddress ns) = unlearnt_behind deps ns hop
+faults_of_end deps hop state (leaves.Limit place) = faults.Limit place ∷ []
+faults_of_end deps hop state (leaves.Overlong place) = faults.Overlong place ∷ []
+faults_of_end deps hop state leaves.NxDomain = blackhole_in state
+faults_of_end deps hop state leaf = []
 
 -- the faults of a walk, but those of two walks
 abbrev pub walk_faults : Config → Deps → Walk → List Fault
 walk_faults config deps walk =
-    flat_map (hop_faults config deps) walk.hops ++ end_faults deps (last_of walk.hops) (last_of walk.states) walk.leaf
+    flat_map (hop_faults config deps) walk.hops ++ faults_of_end deps (last_of walk.hops) (last_of walk.states) walk.leaf

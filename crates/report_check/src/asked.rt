@@ -18,13 +18,13 @@ use std::alloc::Global;
 
 /// A query and its type.
 #[derive(Debug, Drop)]
-pub(crate) struct Asked {
+pub(crate) struct EntryQuery {
     pub query: Name,
     pub rtype: RrType,
 }
 
 /// The query and the type that the value of an entry names, or `None` where it names none.
-pub(crate) fn asked_in(alloc: Global, value: &Value) -> Result<Option<Asked>, NoMemory>
+pub(crate) fn asked_in(alloc: Global, value: &Value) -> Result<Option<EntryQuery>, NoMemory>
     ensures { IfOk result (λ found. MatchOption found ((query : Labels) (rtype : TypeValue) → NamesQuery (view value.now) query rtype → ⊥)
         (λ asked. NamesQuery (view value.now) asked.query asked.rtype)) }
 {
@@ -32,7 +32,7 @@ pub(crate) fn asked_in(alloc: Global, value: &Value) -> Result<Option<Asked>, No
         return Ok(None);
     };
     match query_in(alloc, value)? {
-        Some(query) => Ok(Some(Asked { query, rtype })),
+        Some(query) => Ok(Some(EntryQuery { query, rtype })),
         None => Ok(None),
     }
 }

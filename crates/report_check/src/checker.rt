@@ -12,9 +12,9 @@ ghost use Rattle.net_model.specs.Walk.{AreWalks, IsWalk};
 ghost use Rattle.net_model.specs.declared.class.Class.{Class as ClassValue};
 ghost use Rattle.net_model.specs.declared.fault.Fault.{Fault as FaultValue};
 ghost use Rattle.plain_resolver.specs.Passed.{HasMoreWalks, most_walks_followed};
-ghost use Rattle.report_check.specs.Entries.{AreLearnt};
+ghost use Rattle.report_check.specs.Entries.{HasLearntNames};
 
-use crate::asked::Asked;
+use crate::asked::EntryQuery;
 use crate::classes::Classes;
 use crate::faults::faults_of_walk;
 use dns_data::{List, Name, NoMemory};
@@ -37,19 +37,19 @@ pub(crate) struct Checker<'h, 'a> {
 impl<'h, 'a> Model for Checker<'h, 'a> {
     ghost use Rattle.std.specs.Prelude.{◌≡◌};
     ghost use Rattle.net_model.specs.Step.{Setting, following};
-    ghost use Rattle.report_check.specs.Entries.{AreLearnt};
+    ghost use Rattle.report_check.specs.Entries.{HasLearntNames};
 
     ghost Value = { Setting };
 
     ghost view = { λ checker. following checker.hosts.now checker.rewrites checker.sets.least };
 
-    ghost invariant = { λ checker. AreLearnt checker.hosts.now checker.rewrites checker.sets × (checker.classes ≡ checker.hosts.now) };
+    ghost invariant = { λ checker. HasLearntNames checker.hosts.now checker.rewrites checker.sets × (checker.classes ≡ checker.hosts.now) };
 }
 
 impl<'h, 'a> Checker<'h, 'a> {
     /// What entries are checked by, with these sets of learnt addresses.
     pub fn new(hosts: &'h Hosts<'a>, rewrites: u32, sets: LearntSets) -> Checker<'h, 'a>
-        requires { AreLearnt hosts.now rewrites sets }
+        requires { HasLearntNames hosts.now rewrites sets }
         ensures { result ≡ following hosts.entry.now rewrites sets.least }
     {
         Checker {
@@ -61,7 +61,7 @@ impl<'h, 'a> Checker<'h, 'a> {
     }
 
     /// All walks of a query with its type, in order. It is `WalksPassed` where there are more than 10,000.
-    pub fn walks_of(&self, alloc: Global, asked: &Asked) -> Result<List<Walk>, ResolveFault>
+    pub fn walks_of(&self, alloc: Global, asked: &EntryQuery) -> Result<List<Walk>, ResolveFault>
         ensures walks { IfOk result (AreWalks self.now asked.now.query asked.now.rtype) }
         ensures few { OnOk result (HasMoreWalks self.now asked.now.query asked.now.rtype most_walks_followed → ⊥) }
         ensures passed { IsErrOf result ResolveFault.WalksPassed → HasMoreWalks self.now asked.now.query asked.now.rtype most_walks_followed }

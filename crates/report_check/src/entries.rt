@@ -3,7 +3,7 @@
 ghost use Rattle.std.specs.Prelude.{◌≡◌, ◌↔◌, ◌≤◌, ℕ, map, true, IfOk, IsErrOf, OnOk};
 ghost use Rattle.std.specs.List.{AllByRecursion};
 ghost use Rattle.report_check.specs.Checked.{IsConfirmed, IsWrong, PassesWalks};
-ghost use Rattle.report_check.specs.Entries.{ComesTo, IsLookedAt};
+ghost use Rattle.report_check.specs.Entries.{EntriesComeTo, EntryComesTo};
 ghost use Rattle.serde_json.specs.Data.{depth};
 ghost use Rattle.serde_json.specs.Read.{max_depth};
 ghost use Rattle.serde_json.specs.View.{view};
@@ -22,7 +22,7 @@ pub(crate) fn check_entries(
     entries: &[Value],
 ) -> Result<Checked, CheckFault>
     requires { AllByRecursion (λ value. depth value ≤ max_depth) (map view entries.now) }
-    ensures { ComesTo checker.old.config checker.old.rewrites (map view entries.now) result }
+    ensures { EntriesComeTo checker.old.config checker.old.rewrites (map view entries.now) result }
 {
     for (i, value) in entries.iter().enumerate() {
         let entry = i as u64 + 1;
@@ -43,7 +43,7 @@ fn is_confirmed(
     value: &Value,
 ) -> Result<bool, CheckFault>
     requires { depth (view value.now) ≤ max_depth }
-    ensures looked { IsLookedAt checker.old.config checker.old.rewrites entry (view value.now) result }
+    ensures looked { EntryComesTo checker.old.config checker.old.rewrites entry (view value.now) result }
     ensures kept { checker.new ≡ checker.old }
 {
     match is_right(alloc, checker, value) {

@@ -6,7 +6,7 @@ ghost use Rattle.report_json.specs.Report.{entry_value};
 ghost use Rattle.report_check.specs.Entries.{entry_with, first_repeats};
 ghost use Rattle.serde_json.specs.Data.{Data};
 
-use crate::asked::Asked;
+use crate::asked::EntryQuery;
 use crate::texts::is_entry_text;
 use dns_data::{List, Name, NoMemory, RrType};
 use graph_form::{ReportEntry, Seen, repeats};
@@ -15,7 +15,7 @@ use std::alloc::Global;
 
 /// What an entry has beside its fault.
 #[derive(Drop)]
-struct EntryParts {
+struct EntryRest {
     query: Name,
     rtype: RrType,
     repeats: bool,
@@ -25,7 +25,7 @@ struct EntryParts {
 /// Whether the text is that of the entry of the query and the type with these walks and this fault.
 pub(crate) fn is_entry_of(
     alloc: Global,
-    asked: &Asked,
+    asked: &EntryQuery,
     walks: &[&Walk],
     fault: Fault,
     text: &[u8],
@@ -49,7 +49,7 @@ pub(crate) fn is_entry_of(
 }
 
 /// The entry of a fault with these parts.
-fn entry_of(parts: EntryParts, fault: Fault) -> ReportEntry
+fn entry_of(parts: EntryRest, fault: Fault) -> ReportEntry
     ensures { result ≡ entry_with parts.query parts.rtype parts.repeats parts.walks fault }
 {
     ReportEntry {
@@ -64,13 +64,13 @@ fn entry_of(parts: EntryParts, fault: Fault) -> ReportEntry
 }
 
 /// What the entry of the query and the type with these walks has beside a fault.
-fn parts_of(alloc: Global, asked: &Asked, walks: &[&Walk]) -> Result<EntryParts, NoMemory>
+fn parts_of(alloc: Global, asked: &EntryQuery, walks: &[&Walk]) -> Result<EntryRest, NoMemory>
     ensures { IfOk result (λ parts. parts ≡ record { query = asked.now.query; rtype = asked.now.rtype; repeats = first_repeats (map (λ walk. walk.now) walks.now); walks = map (λ walk. walk.now) walks.now }) }
 {
     let repeats = repeated(alloc, walks)?;
     let query = asked.query.copy(alloc)?;
     let walks = copied_walks(alloc, walks)?;
-    Ok(EntryParts {
+    Ok(EntryRest {
         query,
         rtype: asked.rtype,
         repeats,

@@ -2,7 +2,7 @@
 
 ghost use Rattle.std.specs.Prelude.{◌≡◌, ◌++◌, ◌-◌, length, slice_get, true, IfOk, OnOk};
 ghost use Rattle.std.specs.Option.{option_map};
-ghost use Rattle.report_check.specs.WalkFaults.{blackhole_in, blackhole_of, end_faults, lame_behind, last_of, unlearnt_behind, walk_faults};
+ghost use Rattle.report_check.specs.WalkFaults.{blackhole_in, blackhole_of, faults_of_end, lame_behind, last_of, unlearnt_behind, walk_faults};
 ghost use Rattle.zone_lookup.specs.ReferralFaults.{hop_faults, if_shown};
 
 use dns_data::{List, Name, NoMemory};
@@ -61,7 +61,7 @@ fn put_end(
     walk: &Walk,
     faults: &mut List<Fault>,
 ) -> Result<(), NoMemory>
-    ensures { OnOk result (faults.new ≡ faults.old ++ end_faults sets.now (last_of walk.now.hops) (last_of walk.now.states) walk.now.leaf) }
+    ensures { OnOk result (faults.new ≡ faults.old ++ faults_of_end sets.now (last_of walk.now.hops) (last_of walk.now.states) walk.now.leaf) }
 {
     match &walk.leaf {
         Leaf::Lame(ns) => put_lame(alloc, walk.hops.items().last(), ns, faults),

@@ -4,7 +4,7 @@ ghost use Rattle.std.specs.Prelude.{◌≡◌, map, IfOk, IsErrOf, OnOk};
 ghost use Rattle.dns_data.specs.Name.{Labels};
 ghost use Rattle.net_model.specs.Nearest.{server_names};
 ghost use Rattle.report_check.specs.Checked.{LearningPasses};
-ghost use Rattle.report_check.specs.Entries.{AreLearnt};
+ghost use Rattle.report_check.specs.Entries.{HasLearntNames};
 
 use dns_data::{List, Name, NoMemory};
 use net_model::{Config, Deps};
@@ -20,7 +20,7 @@ pub(crate) fn learnt_sets(
     hosts: &Hosts<'_>,
     rewrites: u32,
 ) -> Result<LearntSets, LearntFault>
-    ensures sets { IfOk result (AreLearnt hosts.now rewrites) }
+    ensures sets { IfOk result (HasLearntNames hosts.now rewrites) }
     ensures few { OnOk result (LearningPasses hosts.now rewrites → ⊥) }
     ensures passed { (name : Labels) → IsErrOf result (LearntFault.WalksPassed name) → LearningPasses hosts.now rewrites }
 {

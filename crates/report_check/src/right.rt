@@ -13,7 +13,7 @@ ghost use Rattle.serde_json.specs.Data.{Data, depth};
 ghost use Rattle.serde_json.specs.Read.{max_depth};
 ghost use Rattle.serde_json.specs.View.{view};
 
-use crate::asked::{Asked, asked_in};
+use crate::asked::{EntryQuery, asked_in};
 use crate::checker::Checker;
 use crate::entry::is_entry_of;
 use crate::texts::{is_walk_text, text_of};
@@ -49,7 +49,7 @@ pub(crate) fn is_right(
 fn is_shown(
     alloc: Global,
     checker: &mut Checker<'_, '_>,
-    asked: &Asked,
+    asked: &EntryQuery,
     walks: &[Walk],
     value: &Value,
 ) -> Result<bool, NoMemory>
@@ -73,7 +73,7 @@ fn is_shown(
 fn by_one(
     alloc: Global,
     checker: &mut Checker<'_, '_>,
-    asked: &Asked,
+    asked: &EntryQuery,
     walks: &[Walk],
     steps: &Value,
     text: &[u8],
@@ -99,7 +99,7 @@ fn by_one(
 fn shows_alone(
     alloc: Global,
     checker: &mut Checker<'_, '_>,
-    asked: &Asked,
+    asked: &EntryQuery,
     walk: &Walk,
     text: &[u8],
 ) -> Result<bool, NoMemory>
@@ -117,7 +117,7 @@ fn shows_alone(
 fn is_one_of(
     alloc: Global,
     checker: &mut Checker<'_, '_>,
-    asked: &Asked,
+    asked: &EntryQuery,
     walk: &Walk,
     faults: List<Fault>,
     text: &[u8],
@@ -140,7 +140,7 @@ fn is_one_of(
 fn shows_fault(
     alloc: Global,
     checker: &mut Checker<'_, '_>,
-    asked: &Asked,
+    asked: &EntryQuery,
     walk: &Walk,
     fault: Fault,
     text: &[u8],
@@ -173,7 +173,7 @@ fn is_of_representatives(fault: &Fault) -> bool
 fn by_two(
     alloc: Global,
     checker: &mut Checker<'_, '_>,
-    asked: &Asked,
+    asked: &EntryQuery,
     walks: &[Walk],
     one: &Value,
     other: &Value,
@@ -202,7 +202,7 @@ fn by_two(
 fn by_other(
     alloc: Global,
     checker: &mut Checker<'_, '_>,
-    asked: &Asked,
+    asked: &EntryQuery,
     one: &Walk,
     walks: &[Walk],
     steps: &[u8],
@@ -236,7 +236,7 @@ fn differ(one: &Walk, other: &Walk) -> bool
 fn shows_answers(
     alloc: Global,
     checker: &mut Checker<'_, '_>,
-    asked: &Asked,
+    asked: &EntryQuery,
     one: &Walk,
     other: &Walk,
     text: &[u8],

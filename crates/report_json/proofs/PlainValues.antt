@@ -24,7 +24,7 @@ use Rattle.report_json.specs.Report.{entry_value, report_value}
 use Rattle.report_json.specs.Sites.{site_value, sites_value, scope_value}
 use Rattle.graph_form.specs.declared.report.Report.{Report}
 use Rattle.graph_form.specs.declared.report.ReportEntry.{ReportEntry}
-use Rattle.site_checks.specs.declared.shown.Told.{Told}
+use Rattle.site_checks.specs.declared.shown.SiteFindings.{SiteFindings}
 use Rattle.report_json.proofs.ReadBack.{no_float, items_no_float}
 
 -- ---- lists
@@ -202,36 +202,36 @@ ask_no_float name rtype walks = no_float (ask_value name rtype walks) (ask_is_pl
 
 -- ---- what checks tell
 
-site_is_plain : (told : Told) → IsPlain (site_value told)
+site_is_plain : (told : SiteFindings) → IsPlain (site_value told)
 site_is_plain told = ((refl, tt), each_plain values.string (λ line. tt) told.findings, (tt, tt, tt))
 
-site_is_deep : (told : Told) → depth (site_value told) ≤ 2
+site_is_deep : (told : SiteFindings) → depth (site_value told) ≤ 2
 site_is_deep told = omega (arith, each_deep values.string 0 (λ line. omega arith) told.findings)
 
 -- the value of what checks tell is plain
-pub sites_are_plain : (told : List Told) → IsPlain (sites_value told)
+pub sites_are_plain : (told : List SiteFindings) → IsPlain (sites_value told)
 sites_are_plain told = (tt, each_plain site_value site_is_plain told, tt)
 
 -- the value of what checks tell nests seven deep at most
-pub sites_are_deep : (told : List Told) → depth (sites_value told) ≤ 7
+pub sites_are_deep : (told : List SiteFindings) → depth (sites_value told) ≤ 7
 sites_are_deep told = omega (arith, each_deep site_value 2 site_is_deep told)
 
 -- the value of what checks tell has no number with a fraction
-pub sites_no_float : (told : List Told) → has_float (sites_value told) ≡ false
+pub sites_no_float : (told : List SiteFindings) → has_float (sites_value told) ≡ false
 sites_no_float told = no_float (sites_value told) (sites_are_plain told)
 
 -- the value of a scope's report whose numbers take 64 bits, with what checks tell, is plain
-pub scope_is_plain : (report : Report) (name : Labels) (told : List Told) → report.classes < 2 ^ 64 → report.names < 2 ^ 64 → report.rewrites < 2 ^ 64
+pub scope_is_plain : (report : Report) (name : Labels) (told : List SiteFindings) → report.classes < 2 ^ 64 → report.names < 2 ^ 64 → report.rewrites < 2 ^ 64
     → IsPlain (scope_value report name told)
 scope_is_plain report name told classes names rewrites =
     ((refl, (refl, (refl, (refl, (refl, tt))))), classes, ((refl, (refl, (refl, (refl, tt)))), each_plain entry_value entry_is_plain report.entries, ((refl, (refl, (refl, tt))), names, ((refl, (refl, tt)), rewrites, ((refl, tt), tt, (tt, each_plain site_value site_is_plain told, tt))))))
 
 -- the value of a scope's report, with what checks tell, nests seven deep at most
-pub scope_is_deep : (report : Report) (name : Labels) (told : List Told) → depth (scope_value report name told) ≤ 7
+pub scope_is_deep : (report : Report) (name : Labels) (told : List SiteFindings) → depth (scope_value report name told) ≤ 7
 scope_is_deep report name told = omega (arith, each_deep entry_value 5 entry_is_deep report.entries, each_deep site_value 2 site_is_deep told)
 
 -- what serde_json writes of it is its compact text, whatever its numbers are
-pub scope_no_float : (report : Report) (name : Labels) (told : List Told) → has_float (scope_value report name told) ≡ false
+pub scope_no_float : (report : Report) (name : Labels) (told : List SiteFindings) → has_float (scope_value report name told) ≡ false
 scope_no_float report name told =
     rw (
       items_no_float (json_items (map entry_value report.entries)) (each_plain entry_value entry_is_plain report.entries),

@@ -12,7 +12,7 @@ use Rattle.serde_json.specs.Read.{read, max_depth, of_json, of_items, of_members
 use Rattle.serde_json.specs.Written.{compact_text, outline, items_outline, members_outline, has_float, items_have_float, members_have_float}
 use Rattle.serde_json.proofs.Numbers.{number_of-decimal}
 use Rattle.serde_json.proofs.Texts.{print-outline}
-use Rattle.report_json.specs.Plain.{AreAbove, IsPlain, ArePlain, MembersPlain, IsWritten}
+use Rattle.report_json.specs.Plain.{NamesAreAbove, IsPlain, ArePlain, MembersPlain, IsWritten}
 use Rattle.report_json.proofs.LineFeed.{tokens_before_line_feed}
 
 -- numbers that are printed are numbers
@@ -71,13 +71,13 @@ joined_last (member l e found) k d ms = ap (member l e) (joined_last found k d m
 -- each member of the first is below all of the second
 abbrev AllBelow : Members → Members → Type 0
 AllBelow no_members ms = ⊤
-AllBelow (member k d found) ms = AreAbove k ms × AllBelow found ms
+AllBelow (member k d found) ms = NamesAreAbove k ms × AllBelow found ms
 
 below_rest : (found : Members) (k : List ℕ) (d : Data) (ms : Members) → AllBelow found (member k d ms) → AllBelow found ms
 below_rest no_members k d ms h = tt
 below_rest (member l e found) k d ms h = (h.0.1, below_rest found k d ms h.1)
 
-below_more : (found : Members) (k : List ℕ) (d : Data) (ms : Members) → AllBelow found ms → AreAbove k ms → AllBelow (joined found (member k d no_members)) ms
+below_more : (found : Members) (k : List ℕ) (d : Data) (ms : Members) → AllBelow found ms → NamesAreAbove k ms → AllBelow (joined found (member k d no_members)) ms
 below_more no_members k d ms h above = (above, tt)
 below_more (member l e found) k d ms h above = (h.0, below_more found k d ms h.1 above)
 

@@ -12,7 +12,7 @@ use Rattle.report_json.specs.Plain.{IsWritten}
 use Rattle.report_json.specs.Report.{entry_value, entry_text, report_value, report_text}
 use Rattle.report_json.specs.Sites.{sites_value, sites_text, scope_value, scope_text}
 use Rattle.report_json.specs.Walks.{walk_value, walk_text}
-use Rattle.site_checks.specs.declared.shown.Told.{Told}
+use Rattle.site_checks.specs.declared.shown.SiteFindings.{SiteFindings}
 use Rattle.report_json.proofs.PlainValues.{walk_is_plain, walk_is_deep, entry_is_plain, entry_is_deep, report_is_plain, report_is_deep, ask_is_plain, ask_is_deep, sites_are_plain, sites_are_deep, scope_is_plain, scope_is_deep}
 use Rattle.report_json.proofs.ReadBack.{reads_back, line_reads_back, one_text, plain_written}
 
@@ -46,11 +46,11 @@ ask_reads_back name rtype walks =
     line_reads_back (ask_value name rtype walks) (ask_is_plain name rtype walks) (shallow (ask_value name rtype walks) (ask_is_deep name rtype walks))
 
 -- the text of what checks tell is read as its value
-pub sites_read_back : (told : List Told) → read (sites_text told) ≡ Some (sites_value told)
+pub sites_read_back : (told : List SiteFindings) → read (sites_text told) ≡ Some (sites_value told)
 sites_read_back told = line_reads_back (sites_value told) (sites_are_plain told) (shallow (sites_value told) (sites_are_deep told))
 
 -- the text of a scope's report whose numbers take 64 bits, with what checks tell, is read as its value
-pub scope_reads_back : (report : Report) (name : Labels) (told : List Told) → report.classes < 2 ^ 64 → report.names < 2 ^ 64 → report.rewrites < 2 ^ 64
+pub scope_reads_back : (report : Report) (name : Labels) (told : List SiteFindings) → report.classes < 2 ^ 64 → report.names < 2 ^ 64 → report.rewrites < 2 ^ 64
     → read (scope_text report name told) ≡ Some (scope_value report name told)
 scope_reads_back report name told classes names rewrites =
     line_reads_back (scope_value report name told) (scope_is_plain report name told classes names rewrites)

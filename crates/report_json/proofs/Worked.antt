@@ -23,7 +23,7 @@ use Rattle.graph_form.specs.declared.report.ReportEntry.{ReportEntry}
 use Rattle.report_json.specs.Report.{entry_text, report_text}
 use Rattle.report_json.specs.Sites.{sites_text, scope_text}
 use Rattle.report_json.specs.Walks.{walk_text}
-use Rattle.site_checks.specs.declared.shown.Told.{Told}
+use Rattle.site_checks.specs.declared.shown.SiteFindings.{SiteFindings}
 
 abbrev t : Labels
 t = codes "t" ∷ []
@@ -117,7 +117,7 @@ unfolding serde_json_on_literals
 alias = refl
 
 -- what two checks tell, what none tells, and what is told behind the report of a scope
-abbrev tells : List ℕ → List (List ℕ) → Told
+abbrev tells : List ℕ → List (List ℕ) → SiteFindings
 tells title findings = record { title = title; findings = findings }
 
 two_checks : sites_text (tells (codes "a-only") (codes "a-only www.t." ∷ []) ∷ tells (codes "answering") (codes "answers ns.t." ∷ codes "\"" ∷ []) ∷ [])

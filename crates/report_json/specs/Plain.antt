@@ -8,15 +8,15 @@ use Rattle.serde_json.specs.Read.{read}
 use Rattle.serde_json.specs.Written.{has_float, compact_text}
 
 -- the names of all members are above this one
-abbrev pub AreAbove : List ℕ → Members → Type 0
-AreAbove name no_members = ⊤
-AreAbove name (member key value more) = (slice_cmp nat_cmp key name ≡ Greater) × AreAbove name more
+abbrev pub NamesAreAbove : List ℕ → Members → Type 0
+NamesAreAbove name no_members = ⊤
+NamesAreAbove name (member key value more) = (slice_cmp nat_cmp key name ≡ Greater) × NamesAreAbove name more
 
 -- a whole number of 64 bits
-abbrev pub IsWhole : Num → Type 0
-IsWhole (unsigned n) = n < 2 ^ 64
-IsWhole (negative z) = ⊥
-IsWhole (float x) = ⊥
+abbrev pub IsWholeNumber : Num → Type 0
+IsWholeNumber (unsigned n) = n < 2 ^ 64
+IsWholeNumber (negative z) = ⊥
+IsWholeNumber (float x) = ⊥
 
 abbrev mutual
   -- the value is written and read back as it is: each number is a whole one of 64 bits, and the members of each object
@@ -24,7 +24,7 @@ abbrev mutual
   pub IsPlain : Data → Type 0
   IsPlain null = ⊤
   IsPlain (boolean b) = ⊤
-  IsPlain (number n) = IsWhole n
+  IsPlain (number n) = IsWholeNumber n
   IsPlain (string text) = ⊤
   IsPlain (array values) = ArePlain values
   IsPlain (object members) = MembersPlain members
@@ -37,7 +37,7 @@ abbrev mutual
   -- each member of the object has a plain value, and stands before those whose names are greater
   pub MembersPlain : Members → Type 0
   MembersPlain no_members = ⊤
-  MembersPlain (member key value more) = AreAbove key more × IsPlain value × MembersPlain more
+  MembersPlain (member key value more) = NamesAreAbove key more × IsPlain value × MembersPlain more
 
 -- what serde_json writes of a value (`to_vec`): a text that it reads as the value. Of a value without a number that has a
 -- fraction or an exponent it is the compact text.

@@ -14,7 +14,7 @@ ghost use Rattle.report_json.specs.Plain.{IsPlain, IsWritten};
 ghost use Rattle.report_json.specs.Report.{entry_value, entry_text, report_value, report_text};
 ghost use Rattle.report_json.specs.Sites.{sites_value, sites_text, scope_value, scope_text};
 ghost use Rattle.report_json.specs.Walks.{walk_value, walk_text};
-ghost use Rattle.site_checks.specs.declared.shown.Told.{Told};
+ghost use Rattle.site_checks.specs.declared.shown.SiteFindings.{SiteFindings};
 
 /// The compact text of a plain value is read as that value, also with a line feed behind it. So are the texts of walks,
 /// entries, answers of `ask` and what checks tell, and that of a report whose three numbers have 64 bits at most, also of a
@@ -27,8 +27,8 @@ pub fn texts_read_back()
     ensures report { (report : Report) → report.classes < 2 ^ 64 → report.names < 2 ^ 64 → report.rewrites < 2 ^ 64
         → read (report_text report) ≡ Some (report_value report) }
     ensures ask { (name : Labels) (rtype : RrType) (walks : List Walk) → read (ask_text name rtype walks) ≡ Some (ask_value name rtype walks) }
-    ensures sites { (told : List Told) → read (sites_text told) ≡ Some (sites_value told) }
-    ensures scope { (report : Report) (name : Labels) (told : List Told) → report.classes < 2 ^ 64 → report.names < 2 ^ 64 → report.rewrites < 2 ^ 64
+    ensures sites { (told : List SiteFindings) → read (sites_text told) ≡ Some (sites_value told) }
+    ensures scope { (report : Report) (name : Labels) (told : List SiteFindings) → report.classes < 2 ^ 64 → report.names < 2 ^ 64 → report.rewrites < 2 ^ 64
         → read (scope_text report name told) ≡ Some (scope_value report name told) }
 {}
 

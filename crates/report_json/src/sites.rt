@@ -12,13 +12,13 @@ use crate::written::{Written, line_of, send_list};
 use dns_data::{Name, NoMemory, Octets};
 use graph_form::Report;
 use serde::Serializer;
-use site_checks::{Line, Told};
+use site_checks::{Line, SiteFindings};
 use std::alloc::Global;
 
 /// What all checks tell, in order.
 #[derive(Drop)]
 struct Sites<'a> {
-    told: &'a [Told],
+    told: &'a [SiteFindings],
 }
 
 /// The report on the queries at or below a name, and what all checks tell of their classes.
@@ -26,11 +26,11 @@ struct Sites<'a> {
 struct Scope<'a> {
     report: &'a Report,
     name: &'a Name,
-    told: &'a [Told],
+    told: &'a [SiteFindings],
 }
 
 /// The text of what checks tell, in the order in which they are given: a line of JSON.
-pub fn sites_text(alloc: Global, told: &[Told]) -> Result<Octets, NoMemory>
+pub fn sites_text(alloc: Global, told: &[SiteFindings]) -> Result<Octets, NoMemory>
     ensures { IfOk result (λ text. text ≡ sites_text told.now) }
 {
     line_of(alloc, &Sites { told })
@@ -42,7 +42,7 @@ pub fn scope_text(
     alloc: Global,
     report: &Report,
     name: &Name,
-    told: &[Told],
+    told: &[SiteFindings],
 ) -> Result<Octets, NoMemory>
     ensures { IfOk result (λ text. text ≡ scope_text report.now name.now told.now) }
 {
@@ -71,7 +71,11 @@ impl Written for Scope<'_> {
 }
 
 /// Writes what checks tell, as the last member of an object.
-fn send_sites<S: Serializer>(alloc: Global, told: &[Told], out: &mut S) -> Result<(), S::Error>
+fn send_sites<S: Serializer>(
+    alloc: Global,
+    told: &[SiteFindings],
+    out: &mut S,
+) -> Result<(), S::Error>
     ensures { OnOk result (SendsMembers (json_members (sites_members told.now)) (S.written out.old) (S.written out.new)) }
 {
     out.key("sites")?;
@@ -79,7 +83,7 @@ fn send_sites<S: Serializer>(alloc: Global, told: &[Told], out: &mut S) -> Resul
     out.end_map()
 }
 
-impl Written for Told {
+impl Written for SiteFindings {
     ghost value = { site_value };
 
     fn send<S: Serializer>(&self, alloc: Global, out: &mut S) -> Result<(), S::Error> {

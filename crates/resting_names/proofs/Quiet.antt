@@ -27,7 +27,7 @@ use Rattle.net_model.specs.Zone.{data_at, data_cmp, exists_in, is_of, owns, targ
 use Rattle.net_model.proofs.NearestZones.{nearest_tells}
 use Rattle.net_model.proofs.Prefixes.{from_prefixes}
 use Rattle.resting_names.specs.Leading.{IsQuiet, IsQuietAbove, data_lead, leading_of, leading_owner, leads_on, server_leading, zone_leading}
-use Rattle.resting_names.specs.Resting.{EndsIn, Rests, ended}
+use Rattle.resting_names.specs.Resting.{EndsInZone, Rests, ended}
 
 -- ---- records that lead
 
@@ -205,7 +205,7 @@ module _ (config : Config) (zone : Zone) (of_config : Contains (zones config) zo
     data_end [] = (_, refl)
     data_end (first ∷ rest) = (_, refl)
 
-    pub ends_in : (rtype : RrType) → EndsIn zone name rtype
+    pub ends_in : (rtype : RrType) → EndsInZone zone name rtype
     ends_in rtype = by (deciding zone name) decides where
       records : (owner : Labels) (b : Bool) → first_name (targets_at zone owner types.Cname) ≡ None
           → (leaf : _) × (ended (aliased zone owner rtype (cond b None (first_name (targets_at zone owner types.Cname)))) ≡ Some leaf)

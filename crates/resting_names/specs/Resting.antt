@@ -20,12 +20,12 @@ ended found_as.NxDomain = Some NxDomain
 ended answer = None
 
 -- the walks of the name with the type end in the zone
-abbrev pub EndsIn : Zone → Labels → RrType → Type 0
-EndsIn zone name rtype = (leaf : Leaf) × (ended (found zone name rtype) ≡ Some leaf)
+abbrev pub EndsInZone : Zone → Labels → RrType → Type 0
+EndsInZone zone name rtype = (leaf : Leaf) × (ended (found zone name rtype) ≡ Some leaf)
 
 -- the name rests: at each server its walks end, with every type
 abbrev pub Rests : Config → Labels → Type 0
-Rests config name = (server : Labels) (zone : Zone) (rtype : RrType) → nearest_of config server name ≡ Some zone → EndsIn zone name rtype
+Rests config name = (server : Labels) (zone : Zone) (rtype : RrType) → nearest_of config server name ≡ Some zone → EndsInZone zone name rtype
 
 -- a zone answers with data
 abbrev pub answers : Found → Bool

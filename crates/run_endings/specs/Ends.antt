@@ -2,7 +2,7 @@
 use Rattle.std.specs.Prelude.{◌≡◌, ◌⊎◌, ℕ, List}
 use Rattle.io_edges.specs.Counts.{Rose}
 use Rattle.io_edges.specs.Files.{FilesTold}
-use Rattle.config_load.specs.Load.{Comes}
+use Rattle.config_load.specs.Load.{ComesToFile}
 use Rattle.config_load.specs.Reading.{Reading, Refuses}
 use Rattle.config_load.specs.declared.fault.LoadFault.{LoadFault}
 use Rattle.config_load.specs.declared.fault.LoadFault.TheVariants.{Read, NoMemory}
@@ -19,12 +19,12 @@ EndsOrFails EndsSo ComesTo before after ending =
 -- how a run over the files of this metadata file ends, by what it gives of what was read
 abbrev pub EndsOver : {T : Type 0} → List ℕ → (FilesTold → Reading T) → (T → Ending → Type 0) → FilesTold → (List ℕ → ℕ) → (List ℕ → ℕ) → Ending → Type 0
 EndsOver meta reading of_value told before after ending =
-    EndsOrFails (OfReading meta of_value (reading told) ending) (Comes reading told) before after ending
+    EndsOrFails (OfReading meta of_value (reading told) ending) (ComesToFile reading told) before after ending
 
 -- how it ends where nothing is read
 abbrev pub EndsWithout : {T : Type 0} → List ℕ → (FilesTold → Reading T) → FilesTold → (List ℕ → ℕ) → (List ℕ → ℕ) → Ending → Type 0
 EndsWithout meta reading told before after ending =
-    EndsOrFails ((fault : LoadFault) × (reading told ≡ Refuses fault) × (ending ≡ refused meta fault)) (Comes reading told) before after ending
+    EndsOrFails ((fault : LoadFault) × (reading told ≡ Refuses fault) × (ending ≡ refused meta fault)) (ComesToFile reading told) before after ending
 
 -- the ending of a fault over the files of this metadata file
 abbrev pub IsNotLoaded : List ℕ → LoadFault → Ending → Type 0

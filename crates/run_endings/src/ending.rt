@@ -6,7 +6,7 @@ ghost use Rattle.config_load.specs.Refusal.{fields_line};
 ghost use Rattle.run_endings.specs.Endings as endings;
 ghost use Rattle.run_endings.specs.Ends.{IsNotLoaded};
 
-use crate::line::Line;
+use crate::line::EndingLine;
 use crate::status::Status;
 use config_load::LoadFault;
 use dns_data::{Name, NoMemory, Octets, Text};
@@ -18,7 +18,7 @@ use std::alloc::Global;
 pub struct Ending {
     pub status: Status,
     pub out: Octets,
-    pub err: Line,
+    pub err: EndingLine,
 }
 
 impl Ending {
@@ -30,14 +30,14 @@ impl Ending {
             Ok(out) => Ending {
                 status,
                 out,
-                err: Line::fixed(""),
+                err: EndingLine::fixed(""),
             },
             Err(NoMemory) => Ending::no_memory(),
         }
     }
 
     /// A line for err and no text for out.
-    pub fn without_output(status: Status, err: Line) -> Ending
+    pub fn without_output(status: Status, err: EndingLine) -> Ending
         ensures { result ≡ endings.without_output status err }
     {
         Ending {
@@ -51,14 +51,14 @@ impl Ending {
     pub fn usage(line: &'static str) -> Ending
         ensures { result ≡ endings.without_output Status.Usage line.now }
     {
-        Ending::without_output(Status::Usage, Line::fixed(line))
+        Ending::without_output(Status::Usage, EndingLine::fixed(line))
     }
 
     /// Memory ran out.
     pub fn no_memory() -> Ending
         ensures { result ≡ endings.no_memory }
     {
-        Ending::without_output(Status::NoMemory, Line::fixed("no memory\n"))
+        Ending::without_output(Status::NoMemory, EndingLine::fixed("no memory\n"))
     }
 
     /// A run over the files of this metadata file that aren't loaded.
@@ -115,7 +115,7 @@ impl From<NoMemory> for Ending {
 fn read_failed(alloc: Global, file: Text) -> Ending
     ensures { (result ≡ endings.read_failed file) ⊎ (result ≡ endings.no_memory) }
 {
-    match Line::of_pieces(alloc, &[file.as_str().as_bytes(), b": read failed\n"]) {
+    match EndingLine::of_pieces(alloc, &[file.as_str().as_bytes(), b": read failed\n"]) {
         Ok(line) => Ending::without_output(Status::ReadFault(file), line),
         Err(NoMemory) => Ending::no_memory(),
     }
@@ -133,11 +133,11 @@ fn refused(alloc: Global, meta: &str, fault: &LoadFault) -> Ending
 
 /// The line that says what there is more of than a limit: what stands in front, the limit in digits, and a line feed. An
 /// error means that memory ran out.
-pub fn more_than<'a>(alloc: Global, front: &'a [u8], limit: u32) -> Result<Line, NoMemory>
+pub fn more_than<'a>(alloc: Global, front: &'a [u8], limit: u32) -> Result<EndingLine, NoMemory>
     ensures { IfOk result (λ line. line ≡ front.now ++ (decimal limit ++ codes "\n")) }
 {
     let mut digits = Buffer::new();
-    Line::of_pieces(alloc, &[front, digits.format(limit).as_bytes(), b"\n"])
+    EndingLine::of_pieces(alloc, &[front, digits.format(limit).as_bytes(), b"\n"])
 }
 
 /// The line that says what there is more of than a limit for this name: what stands in front, the limit in digits, `for`,
@@ -147,12 +147,12 @@ fn more_than_for<'a>(
     front: &'a [u8],
     limit: u32,
     name: &Name,
-) -> Result<Line, NoMemory>
+) -> Result<EndingLine, NoMemory>
     ensures { IfOk result (λ line. line ≡ front.now ++ (decimal limit ++ (codes " for " ++ (name_text name.now ++ codes "\n")))) }
 {
     let mut digits = Buffer::new();
     let name = name.to_text(alloc)?;
-    Line::of_pieces(
+    EndingLine::of_pieces(
         alloc,
         &[
             front,
@@ -171,7 +171,7 @@ pub fn refusal_line<'a>(
     file: &'a str,
     line: u32,
     code: &'a str,
-) -> Result<Line, NoMemory>
+) -> Result<EndingLine, NoMemory>
     ensures { IfOk result (λ told. told ≡ fields_line file.now (decimal line) code.now) }
 {
     let mut digits = Buffer::new();
@@ -184,10 +184,10 @@ fn fields_line_of<'a>(
     file: &'a str,
     line: &'a str,
     code: &'a str,
-) -> Result<Line, NoMemory>
+) -> Result<EndingLine, NoMemory>
     ensures { IfOk result (λ told. told ≡ fields_line file.now line.now code.now) }
 {
-    Line::of_pieces(
+    EndingLine::of_pieces(
         alloc,
         &[
             file.as_bytes(),

@@ -10,6 +10,6 @@ mod output;
 mod status;
 
 pub use ending::{Ending, more_than, refusal_line};
-pub use line::Line;
+pub use line::EndingLine;
 pub use output::{tell, write_all};
 pub use status::Status;

@@ -16,11 +16,11 @@ enum LineOctets {
 
 /// A line for err, or nothing. Contracts see it as its octets.
 #[derive(Debug, Drop)]
-pub struct Line {
+pub struct EndingLine {
     octets: LineOctets,
 }
 
-impl Model for Line {
+impl Model for EndingLine {
     ghost use Rattle.std.specs.Prelude.{List, ℕ};
     ghost use Rattle.run_endings.specs.Line.{line_octets};
 
@@ -29,25 +29,25 @@ impl Model for Line {
     ghost view = { λ line. line_octets line.octets };
 }
 
-impl Line {
+impl EndingLine {
     /// A text of the program's own. It takes no memory.
-    pub fn fixed(text: &'static str) -> Line
+    pub fn fixed(text: &'static str) -> EndingLine
         ensures { result ≡ text.now }
     {
-        Line {
+        EndingLine {
             octets: LineOctets::Fixed(text),
         }
     }
 
     /// A text in pieces.
-    pub fn of_pieces(alloc: Global, pieces: &[&[u8]]) -> Result<Line, NoMemory>
+    pub fn of_pieces(alloc: Global, pieces: &[&[u8]]) -> Result<EndingLine, NoMemory>
         ensures { IfOk result (λ line. line ≡ flat_map (λ piece. piece.now) pieces.now) }
     {
         let mut text = Octets::new();
         for piece in pieces {
             text.extend_from_slice(alloc, piece)?;
         }
-        Ok(Line {
+        Ok(EndingLine {
             octets: LineOctets::Made(text),
         })
     }

@@ -21,7 +21,7 @@ use Rattle.same_answers.specs.Rows.{ArePairRows, ClassEnds, IsApartBy, IsFirstSo
 use Rattle.same_answers.specs.Sameness.{ClassIsApart, IsFirstDifference, IsSameness}
 use Rattle.same_answers.specs.Verdict.{IsBelowEnd, IsPairEnd, SomeServerPassesInOne}
 use Rattle.same_answers.specs.declared.sameness.Sameness.{Sameness}
-use Rattle.same_answers.specs.declared.search.Found.{Found}
+use Rattle.same_answers.specs.declared.search.SoughtClass.{SoughtClass}
 use Rattle.same_answers.specs.declared.search.Sought.{Sought}
 use Rattle.same_answers.specs.declared.search.Sought.TheVariants as sought_as
 use Rattle.same_answers.specs.declared.verdict.PairEnd.{PairEnd}
@@ -93,7 +93,7 @@ module _ (two : Compared) (sought : Sought) where
 
     -- what stands for the class below it
     pub below_found : (exact end : PairEnd) → IsPairEnd two name exact → is_sought sought exact ≡ false → IsBelowEnd two name (Some end)
-        → is_sought sought end ≡ true → (found : Option Found) → IsFoundBelow two name end found → IsSoughtAt two sought name found
+        → is_sought sought end ≡ true → (found : Option SoughtClass) → IsFoundBelow two name end found → IsSoughtAt two sought name found
     below_found exact end is e (also, stands, told) holds None none = absurd (none also stands)
     below_found exact end is e told holds (Some found) (stands, same) =
         subst (λ (other : PairEnd). IsFirstSoughtAt two sought name (record { query = found.query; end = other })) (sym same)
@@ -111,10 +111,10 @@ module _ (two : Compared) (sought : Sought) where
 
   module _ {W : Type 0} (rows : List (TreeRow W PairEnd)) (are : ArePairRows two rows) where
     -- what is sought is told of the class
-    abbrev IsSought : Class → Found → Type 0
+    abbrev IsSought : Class → SoughtClass → Type 0
     IsSought class found = ClassEnds two class found.query found.end × (is_sought sought found.end ≡ true)
 
-    is_of_tree : (class : Class) (found : Found) → IsSought class found → IsInPart (joint two) [] (class_name class)
+    is_of_tree : (class : Class) (found : SoughtClass) → IsSought class found → IsInPart (joint two) [] (class_name class)
     is_of_tree class found (ends, holds) = record { named = ends.is_class.0; is_name = ends.is_class.1; within = refl }
 
     -- where it is told of no class of any name, it is told of none
@@ -126,7 +126,7 @@ module _ (two : Compared) (sought : Sought) where
     -- and the first of the first name is the first
     pub first_of_rows : (i : ℕ) (e : TreeRow W PairEnd) → i < length rows
         → ((k : ℕ) (d : TreeRow W PairEnd) → k < i → NoneSoughtAt two sought (get_or rows k d).item)
-        → (found : Found) → IsFirstSoughtAt two sought (get_or rows i e).item found → IsFirstSought two sought found
+        → (found : SoughtClass) → IsFirstSoughtAt two sought (get_or rows i e).item found → IsFirstSought two sought found
     first_of_rows i e inside none found is_found =
         record {
           class = is_found.class;
@@ -146,7 +146,7 @@ module _ (two : Compared) where
   none_passes none (class, query, it) = none class query StatesPassed (record { is_class = it.is_class; represents = it.represents; is_end = it.passes }) refl
 
   -- and the one that is found is the first
-  pub passed_first : (found : Found) → IsFirstSought two sought_as.Passed found → IsFirstPassedInOne two found.query
+  pub passed_first : (found : SoughtClass) → IsFirstSought two sought_as.Passed found → IsFirstPassedInOne two found.query
   passed_first found is = by found.end is.is is.ends where
     by : (end : PairEnd) → is_sought sought_as.Passed end ≡ true → ClassEnds two is.class found.query end → IsFirstPassedInOne two found.query
     by StatesPassed e ends =
@@ -200,7 +200,7 @@ module _ (two : Compared) where
         }
 
     -- which is what is told
-    pub told_apart : (found : Found) (sameness : Sameness) → IsFirstSought two sought_as.Apart found → IsApartBy found sameness → IsSameness two sameness
+    pub told_apart : (found : SoughtClass) (sameness : Sameness) → IsFirstSought two sought_as.Apart found → IsApartBy found sameness → IsSameness two sameness
     told_apart found sameness is (rtype, end, told) =
         subst (IsSameness two) (sym told)
         (apart_first found.query rtype

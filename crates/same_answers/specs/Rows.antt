@@ -13,7 +13,7 @@ use Rattle.same_answers.specs.Compared.{Compared, joint}
 use Rattle.same_answers.specs.Verdict.{IsPairEnd}
 use Rattle.same_answers.specs.declared.sameness.Sameness.{Sameness}
 use Rattle.same_answers.specs.declared.sameness.Sameness.TheVariants as told
-use Rattle.same_answers.specs.declared.search.Found.{Found}
+use Rattle.same_answers.specs.declared.search.SoughtClass.{SoughtClass}
 use Rattle.same_answers.specs.declared.search.Sought.{Sought}
 use Rattle.same_answers.specs.declared.search.Sought.TheVariants as sought_as
 use Rattle.same_answers.specs.declared.verdict.PairEnd.{PairEnd}
@@ -41,7 +41,7 @@ NoneSoughtAt two sought name =
     (class : Class) (query : Labels) (end : PairEnd) → class_name class ≡ name → ClassEnds two class query end → is_sought sought end ≡ true → ⊥
 
 -- the found class is the first of the name of which what is sought is told
-pub record IsFirstSoughtAt (two : Compared) (sought : Sought) (name : Labels) (found : Found) : Type 0 where
+pub record IsFirstSoughtAt (two : Compared) (sought : Sought) (name : Labels) (found : SoughtClass) : Type 0 where
   pub class : Class
   pub of_name : class_name class ≡ name
   pub ends : ClassEnds two class found.query found.end
@@ -50,11 +50,11 @@ pub record IsFirstSoughtAt (two : Compared) (sought : Sought) (name : Labels) (f
       → is_sought sought end ≡ true → class_cmp other class ≢ Less
 
 -- the found class is the first of the name of which what is sought is told, or there is none
-abbrev pub IsSoughtAt : Compared → Sought → Labels → Option Found → Type 0
+abbrev pub IsSoughtAt : Compared → Sought → Labels → Option SoughtClass → Type 0
 IsSoughtAt two sought name found = MatchOption found (NoneSoughtAt two sought name) (IsFirstSoughtAt two sought name)
 
 -- what stands for the class below a name, of which this is told, or nothing where nothing does
-abbrev pub IsFoundBelow : Compared → Labels → PairEnd → Option Found → Type 0
+abbrev pub IsFoundBelow : Compared → Labels → PairEnd → Option SoughtClass → Type 0
 IsFoundBelow two above end found =
     MatchOption found ((query : Labels) → IsRepresentative (joint two) (Below above) query → ⊥)
     (λ found. IsRepresentative (joint two) (Below above) found.query × (found.end ≡ end))
@@ -64,7 +64,7 @@ abbrev pub NoneSought : Compared → Sought → Type 0
 NoneSought two sought = (class : Class) (query : Labels) (end : PairEnd) → ClassEnds two class query end → is_sought sought end ≡ true → ⊥
 
 -- the found class is the first of all of which what is sought is told
-pub record IsFirstSought (two : Compared) (sought : Sought) (found : Found) : Type 0 where
+pub record IsFirstSought (two : Compared) (sought : Sought) (found : SoughtClass) : Type 0 where
   pub class : Class
   pub ends : ClassEnds two class found.query found.end
   pub is : is_sought sought found.end ≡ true
@@ -72,5 +72,5 @@ pub record IsFirstSought (two : Compared) (sought : Sought) (found : Found) : Ty
       → class_cmp other class ≢ Less
 
 -- what is told of two configurations is that of a class whose outcomes differ
-abbrev pub IsApartBy : Found → Sameness → Type 0
+abbrev pub IsApartBy : SoughtClass → Sameness → Type 0
 IsApartBy found sameness = (rtype : RrType) × (found.end ≡ Apart rtype) × (sameness ≡ told.Apart found.query rtype)

@@ -11,7 +11,7 @@ ghost use Rattle.verdict_book.specs.Lists.{IsWholeTree};
 
 use crate::naming::{JointGround, PairNaming};
 use crate::pairing::Pairing;
-use crate::search::{Found, Sought};
+use crate::search::{Sought, SoughtClass};
 use crate::verdict::PairEnd;
 use dns_data::{List, Name, NoMemory, RrType};
 use query_classes::TreeName;
@@ -92,7 +92,7 @@ impl<'a, N: PairNaming + Send> Pairing<'a, N> {
         ensures none_passes { OnOk result (SomeClassPassesInOne N.compared → ⊥) }
         ensures fault { IfErr result (IsSameFault N.compared) }
     {
-        if let Some(Found { query, .. }) = self.first_sought(rows, Sought::Passed)? {
+        if let Some(SoughtClass { query, .. }) = self.first_sought(rows, Sought::Passed)? {
             return Err(SameFault::StatesPassed(query));
         }
         self.servers_are_learnt();
@@ -104,11 +104,11 @@ impl<'a, N: PairNaming + Send> Pairing<'a, N> {
 }
 
 /// The query and the type of a class whose outcomes differ.
-fn apart_by(found: Found) -> Sameness
+fn apart_by(found: SoughtClass) -> Sameness
     requires { is_sought Sought.Apart found.end ≡ true }
     ensures { IsApartBy found result }
 {
-    let Found { query, end } = found;
+    let SoughtClass { query, end } = found;
     match end {
         PairEnd::Apart(rtype) => Sameness::Apart { query, rtype },
         _ => unreachable!(),

@@ -26,7 +26,7 @@ pub(crate) enum Sought {
 
 /// The representative of a class, and what is told of the class.
 #[derive(Debug, Drop)]
-pub(crate) struct Found {
+pub(crate) struct SoughtClass {
     pub query: Name,
     pub end: PairEnd,
 }
@@ -35,7 +35,7 @@ impl<'a, N: PairNaming> Pairing<'a, N> {
     /// The first class in class order of which it is told, or `None` where it is told of none.
     pub(crate) fn first_sought<
         W: Work<Item = TreeName<JointGround<N>>, Verdict = NameVerdict<PairEnd>>,
-    >(&self, filed: &[Filed<W>], sought: Sought) -> Result<Option<Found>, NoMemory>
+    >(&self, filed: &[Filed<W>], sought: Sought) -> Result<Option<SoughtClass>, NoMemory>
         requires { ArePairRows N.compared filed.now }
         ensures { IfOk result (λ found. MatchOption found (NoneSought N.compared sought) (IsFirstSought N.compared sought)) }
     {
@@ -53,7 +53,7 @@ impl<'a, N: PairNaming> Pairing<'a, N> {
         name: &LiveName,
         verdict: &NameVerdict<PairEnd>,
         sought: Sought,
-    ) -> Result<Option<Found>, NoMemory>
+    ) -> Result<Option<SoughtClass>, NoMemory>
         requires live { IsLiveIn (joint N.compared) name.now.name name.now.live }
         requires in_tree { IsInTree (joint N.compared) name.now.name }
         requires verdict { IsPairVerdict N.compared name.now.name verdict.now }
@@ -61,7 +61,7 @@ impl<'a, N: PairNaming> Pairing<'a, N> {
     {
         if is_sought(sought, verdict.exact) {
             let query = name.name.copy(self.alloc())?;
-            return Ok(Some(Found {
+            return Ok(Some(SoughtClass {
                 query,
                 end: verdict.exact,
             }));
@@ -73,13 +73,13 @@ impl<'a, N: PairNaming> Pairing<'a, N> {
     }
 
     /// The class below a name of the class tree, of which this is told, or `None` where it is empty.
-    fn found_below(&self, above: &LiveName, end: PairEnd) -> Result<Option<Found>, NoMemory>
+    fn found_below(&self, above: &LiveName, end: PairEnd) -> Result<Option<SoughtClass>, NoMemory>
         requires live { IsLiveIn (joint N.compared) above.now.name above.now.live }
         requires in_tree { IsInTree (joint N.compared) above.now.name }
         ensures { IfOk result (IsFoundBelow N.compared above.now.name end) }
     {
         match self.representative_below(above)? {
-            Some(query) => Ok(Some(Found { query, end })),
+            Some(query) => Ok(Some(SoughtClass { query, end })),
             None => Ok(None),
         }
     }

@@ -5,7 +5,7 @@ use Rattle.std.proofs.lemmas.List.Sums.{fold-append}
 use Rattle.std.specs.List.{AllZip, fold}
 use Rattle.site_checks.specs.Shown.{HasSeen, Tells}
 use Rattle.site_checks.specs.Views.{told_by}
-use Rattle.site_checks.specs.declared.shown.Told.{Told}
+use Rattle.site_checks.specs.declared.shown.SiteFindings.{SiteFindings}
 use Rattle.site_checks.specs.declared.views.View.{View}
 
 module _ {B : Type 0} (name : B → List ℕ) (held : B → List (List ℕ)) (step : B → List (List ℕ) → View → List (List ℕ)) where
@@ -41,17 +41,17 @@ module _ {B : Type 0} (name : B → List ℕ) (held : B → List (List ℕ)) (st
   more_seen views more (a ∷ olds) (b ∷ bs) (c ∷ cs) first next = (one_seen views more a b c first.0 next.0, more_seen views more olds bs cs first.1 next.1)
 
   -- what checks tell is told once
-  pub tell_all : (all : List B) (told : List Told) → AllZip (Tells name held) all told → told ≡ map (λ b. record { title = name b; findings = held b }) all
+  pub tell_all : (all : List B) (told : List SiteFindings) → AllZip (Tells name held) all told → told ≡ map (λ b. record { title = name b; findings = held b }) all
   tell_all [] [] tells = refl
   tell_all [] (t ∷ told) tells = absurd tells
   tell_all (b ∷ all) [] tells = absurd tells
   tell_all (b ∷ all) (t ∷ told) tells =
       by (as_told t (name b) (held b) tells.0.title_is tells.0.findings_are) (tell_all all told tells.1)
     where
-      as_told : (t : Told) (title : List ℕ) (findings : List (List ℕ)) → t.title ≡ title → t.findings ≡ findings → t ≡ record { title = title; findings = findings }
+      as_told : (t : SiteFindings) (title : List ℕ) (findings : List (List ℕ)) → t.title ≡ title → t.findings ≡ findings → t ≡ record { title = title; findings = findings }
       as_told t title findings one other = λ i. record { title = one i; findings = other i }
 
-      by : {x y : Told} {xs ys : List Told} → x ≡ y → xs ≡ ys → x ∷ xs ≡ y ∷ ys
+      by : {x y : SiteFindings} {xs ys : List SiteFindings} → x ≡ y → xs ≡ ys → x ∷ xs ≡ y ∷ ys
       by one rest = λ i. one i ∷ rest i
 
   -- checks that were shown views tell what they mean that were handed in

@@ -1,7 +1,7 @@
 -- Checks that were shown views, and what they tell.
 use Rattle.std.specs.Prelude.{◌≡◌, ℕ, List}
 use Rattle.std.specs.List.{fold}
-use Rattle.site_checks.specs.declared.shown.Told.{Told}
+use Rattle.site_checks.specs.declared.shown.SiteFindings.{SiteFindings}
 use Rattle.site_checks.specs.declared.views.View.{View}
 
 -- a check has seen these views: it has its name and its step, and the findings that these give
@@ -12,6 +12,6 @@ pub record HasSeen {B : Type 0} (name : B → List ℕ) (held : B → List (List
   pub held_is : held after ≡ fold (step before) (held before) views
 
 -- what is told of a check: its name and its findings
-pub record Tells {B : Type 0} (name : B → List ℕ) (held : B → List (List ℕ)) (check : B) (told : Told) : Type 0 where
+pub record Tells {B : Type 0} (name : B → List ℕ) (held : B → List (List ℕ)) (check : B) (told : SiteFindings) : Type 0 where
   pub title_is : told.title ≡ name check
   pub findings_are : told.findings ≡ held check

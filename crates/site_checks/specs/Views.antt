@@ -8,7 +8,7 @@ use Rattle.net_model.specs.Class.{class_cmp, IsRepresentative}
 use Rattle.net_model.specs.Learnt.{IsInForce}
 use Rattle.net_model.specs.Step.{following}
 use Rattle.site_checks.specs.Ends.{AreEnds}
-use Rattle.site_checks.specs.declared.shown.Told.{Told}
+use Rattle.site_checks.specs.declared.shown.SiteFindings.{SiteFindings}
 use Rattle.site_checks.specs.declared.views.View.{View}
 
 -- the view is that of its class: the class's representative, with the ends of its walks by the set in force
@@ -35,5 +35,5 @@ abbrev pub findings_of : Site → List View → List (List ℕ)
 findings_of site views = fold site.step site.held views
 
 -- what a check tells that was shown these views, in order: its name, and its findings
-abbrev pub told_by : List View → Site → Told
+abbrev pub told_by : List View → Site → SiteFindings
 told_by views site = record { title = site.name; findings = findings_of site views }

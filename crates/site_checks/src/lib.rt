@@ -27,5 +27,5 @@ pub use ends::view;
 pub use fault::LineBad;
 pub use laws::views_are_one;
 pub use line::{Line, copied_lines};
-pub use shown::{Told, tell};
+pub use shown::{SiteFindings, tell};
 pub use views::{TypedEnd, View};

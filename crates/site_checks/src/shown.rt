@@ -11,13 +11,13 @@ use std::alloc::Global;
 
 /// What a check tells: its name and its findings.
 #[derive(Debug, Drop)]
-pub struct Told {
+pub struct SiteFindings {
     pub title: Line,
     pub findings: List<Line>,
 }
 
 /// What all checks tell, in order. Each is asked once for its name and once for its findings.
-pub fn tell(alloc: Global, sites: &[Box<dyn SiteCheck>]) -> Result<List<Told>, NoMemory>
+pub fn tell(alloc: Global, sites: &[Box<dyn SiteCheck>]) -> Result<List<SiteFindings>, NoMemory>
     ensures { IfOk result (λ told. AllZip (Tells (λ b. name b) (λ b. held b)) sites.now told) }
 {
     let mut told = List::new(alloc);
@@ -28,10 +28,10 @@ pub fn tell(alloc: Global, sites: &[Box<dyn SiteCheck>]) -> Result<List<Told>, N
 }
 
 /// What a check tells.
-fn tell_one(alloc: Global, site: &Box<dyn SiteCheck>) -> Result<Told, NoMemory>
+fn tell_one(alloc: Global, site: &Box<dyn SiteCheck>) -> Result<SiteFindings, NoMemory>
     ensures { IfOk result (λ told. (told.title ≡ name site.now) × (told.findings ≡ held site.now)) }
 {
-    Ok(Told {
+    Ok(SiteFindings {
         title: site.title(alloc)?,
         findings: site.findings(alloc)?,
     })

@@ -14,7 +14,7 @@ use Rattle.name_rules.specs.declared.sym_name.SymName.{SymName}
 use Rattle.net_model.specs.declared.config.Zone.{Zone}
 use Rattle.net_model.specs.declared.found.Found.{Found}
 use Rattle.net_model.specs.Lookup.{Deciding, answered}
-use Rattle.sym_query.specs.Answers.{IsAnswered, AreAnswers, IsOneAnswer}
+use Rattle.sym_query.specs.Answers.{AnswersAsDecided, AreAnswers, IsOneAnswer}
 use Rattle.sym_query.specs.TypedFound.{answers_type, AreApart, HasSome, AnswersSome, IsOpenExactly}
 use Rattle.sym_query.specs.declared.typed_found.TypedFound.{TypedFound}
 use Rattle.dns_data.proofs.Membership.{pairs_more}
@@ -38,7 +38,7 @@ module _ (zone : Zone) (name : SymName) (decides : Deciding) where
     together = λ rtype. ap (λ (xs : List TypedFound). answers_type xs rtype) one.is ∙ or-false (has_bit one.answer.types rtype) ∙ ap (λ (set : List Bool). has_bit set rtype) one.for_types;
     apart = subst AreApart (sym one.is) (λ i j d before within. absurd (omega arith));
     some = subst (AllByRecursion AnswersSome) (sym one.is) (subst HasSome (sym one.for_types) some, tt);
-    found = subst (AllByRecursion (IsAnswered zone (whole name) decides)) (sym one.is)
+    found = subst (AllByRecursion (AnswersAsDecided zone (whole name) decides)) (sym one.is)
         (λ rtype has. one.answers_found ∙ is rtype (ap (λ (set : List Bool). has_bit set rtype) (sym one.for_types) ∙ has), tt);
     open_tail = subst (AllByRecursion (IsOpenExactly name)) (sym one.is) (one.open_tail, tt);
   }
@@ -56,7 +56,7 @@ module _ (zone : Zone) (name : SymName) (decides : Deciding) where
 
     -- one answer more, to types that had none
     pub more_are : (answer : TypedFound) → ((rtype : RrType) → has_bit answer.types rtype ≡ true → among rtype ≡ false) → AnswersSome answer
-        → IsAnswered zone (whole name) decides answer → IsOpenExactly name answer → (more : RrType → Bool)
+        → AnswersAsDecided zone (whole name) decides answer → IsOpenExactly name answer → (more : RrType → Bool)
         → ((rtype : RrType) → more rtype ≡ (among rtype || has_bit answer.types rtype)) → AreAnswers zone name decides more (answers ++ answer ∷ [])
     more_are answer new some is opens more both = record {
       together = λ rtype. list_any-append (λ (a : TypedFound). has_bit a.types rtype) answers (answer ∷ [])
@@ -67,7 +67,7 @@ module _ (zone : Zone) (name : SymName) (decides : Deciding) where
           (λ old has rtype bit. false_from_ne_true (has_bit answer.types rtype)
           (λ also. true≢false (sym (sym (are.together rtype) ∙ any_has (λ (a : TypedFound). has_bit a.types rtype) answers old has bit) ∙ new rtype also)));
       some = all_push AnswersSome answers answer are.some some;
-      found = all_push (IsAnswered zone (whole name) decides) answers answer are.found is;
+      found = all_push (AnswersAsDecided zone (whole name) decides) answers answer are.found is;
       open_tail = all_push (IsOpenExactly name) answers answer are.open_tail opens;
     }
 

@@ -20,7 +20,7 @@ use Rattle.zone_tree.specs.declared.decider.Decider.{Decider}
 use Rattle.zone_tree.specs.declared.decider.Decider.TheVariants.{Cut, Redirection, Records, Nothing}
 use Rattle.zone_tree.specs.Decider.{deciding_by}
 use Rattle.zone_tree.specs.Tree.{ZoneTree, name_of}
-use Rattle.sym_query.specs.Answers.{RedirectsKnown, IsAnswered}
+use Rattle.sym_query.specs.Answers.{RedirectsKnown, AnswersAsDecided}
 use Rattle.sym_query.specs.TypedFound.{StandsForTails, is_too_long, with_tail}
 use Rattle.sym_query.specs.declared.typed_found.TypedFound.{TypedFound}
 
@@ -91,7 +91,7 @@ answered_alike tree (Redirection node) known tail label rtype above e f =
 pub stands_for_tails : (tree : ZoneTree) (decider : Decider) (known : Labels) (tail : Option (List ℕ)) (answer : TypedFound)
     → RedirectsKnown tree decider (record { known = known; tail = tail })
     → (is_some tail ≡ true → (other : Labels) → IsOpenTail tree.zone known other → deciding tree.zone (known ++ other) ≡ deciding_by tree decider)
-    → IsAnswered tree.zone (whole (record { known = known; tail = tail })) (deciding_by tree decider) answer
+    → AnswersAsDecided tree.zone (whole (record { known = known; tail = tail })) (deciding_by tree decider) answer
     → StandsForTails tree.zone (record { known = known; tail = tail }) answer
 stands_for_tails tree decider known None answer above decides is some rtype has tail opens e f = absurd (true≢false (sym some))
 stands_for_tails tree decider known (Some label) answer above decides is some rtype has tail opens e f =

@@ -23,8 +23,8 @@ RedirectsKnown tree (Records node) name = Unit {0}
 RedirectsKnown tree Nothing name = Unit {0}
 
 -- the answer is that of what decides to each of its types
-abbrev pub IsAnswered : Zone → Labels → Deciding → TypedFound → Type 0
-IsAnswered zone name decides answer =
+abbrev pub AnswersAsDecided : Zone → Labels → Deciding → TypedFound → Type 0
+AnswersAsDecided zone name decides answer =
     (rtype : RrType) → has_bit answer.types rtype ≡ true → answer.found ≡ answered zone name rtype decides
 
 -- the answers are those of what decides to these types, each once
@@ -32,7 +32,7 @@ pub record AreAnswers (zone : Zone) (name : SymName) (decides : Deciding) (among
   pub together : (rtype : RrType) → answers_type answers rtype ≡ among rtype
   pub apart : AreApart answers
   pub some : AllByRecursion AnswersSome answers
-  pub found : AllByRecursion (IsAnswered zone (whole name) decides) answers
+  pub found : AllByRecursion (AnswersAsDecided zone (whole name) decides) answers
   pub open_tail : AllByRecursion (IsOpenExactly name) answers
 
 -- there is one answer, to all types of the set

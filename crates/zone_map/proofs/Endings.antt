@@ -20,9 +20,9 @@ use Rattle.zone_map.specs.JobEnds.{JobEnds}
 use Rattle.zone_map.specs.Outcome.{TellsAsked, Outcome, IsEnding, JobComesTo, NoJobReadFailed}
 use Rattle.zone_map.specs.Reached.{reached_text}
 use Rattle.zone_map.specs.Targets.{targets_status, targets_text}
-use Rattle.zone_map.specs.declared.words.Asked.{Asked}
-use Rattle.zone_map.specs.declared.words.Asked.TheVariants.{Records, Reached, Targets}
-use Rattle.zone_map.specs.declared.words.Job.{Job}
+use Rattle.zone_map.specs.declared.words.MapView.{MapView}
+use Rattle.zone_map.specs.declared.words.MapView.TheVariants.{Records, Reached, Targets}
+use Rattle.zone_map.specs.declared.words.MapJob.{MapJob}
 
 -- ---- by what the files give
 
@@ -36,7 +36,7 @@ module _ (told : FilesTold) (before after : List ℕ → ℕ) where
   not_loaded meta load_faults.NoMemory ending gives came failed (inl is) = inr (inr is)
   not_loaded meta fault ending gives came failed (inl is) = inl (fault, gives, is)
 
-  module _ (asked : Asked) (own meta : List ℕ) (same : own ≡ meta) (ending : Ending) where
+  module _ (asked : MapView) (own meta : List ℕ) (same : own ≡ meta) (ending : Ending) where
     abbrev Ends : List ℕ → Type 0
     Ends file = JobEnds told (Some (record { asked = asked; meta = file })) before after ending
 
@@ -58,7 +58,7 @@ module _ (told : FilesTold) (before after : List ℕ → ℕ) where
 
 -- ---- the clauses
 
-module _ (told : FilesTold) (said : Option Job) (before after : List ℕ → ℕ) where
+module _ (told : FilesTold) (said : Option MapJob) (before after : List ℕ → ℕ) where
   -- What the status of a run says, and whether out gets something: a failed read is of a file to which the job comes and
   -- whose count rose, and no output has failed.
   abbrev Says : Status → List ℕ → Type 0
@@ -75,7 +75,7 @@ module _ (told : FilesTold) (said : Option Job) (before after : List ℕ → ℕ
   by_test true out = tt
   by_test false out = tt
 
-  of_asked : (asked : Asked) (all : Loaded) (ending : Ending) → TellsAsked asked all ending → SaysSo ending
+  of_asked : (asked : MapView) (all : Loaded) (ending : Ending) → TellsAsked asked all ending → SaysSo ending
   of_asked Records all ending is = subst SaysSo (sym is) tt
   of_asked Reached all ending (inl (server, first, is)) = subst SaysSo (sym is) refl
   of_asked Reached all ending (inr (few, inl (origin, first, is))) = subst SaysSo (sym is) refl
@@ -86,19 +86,19 @@ module _ (told : FilesTold) (said : Option Job) (before after : List ℕ → ℕ
     by [] out = tt
     by (octet ∷ text) out = tt
 
-  of_reading : (meta : List ℕ) (asked : Asked) (ending : Ending) (reading : Reading Loaded) → OfReading meta (TellsAsked asked) reading ending → SaysSo ending
+  of_reading : (meta : List ℕ) (asked : MapView) (ending : Ending) (reading : Reading Loaded) → OfReading meta (TellsAsked asked) reading ending → SaysSo ending
   of_reading meta asked ending (Reads all) tells = of_asked asked all ending tells
   of_reading meta asked ending (Refuses fault) is = subst SaysSo (sym is) refl
   of_reading meta asked ending (Misses file) never = absurd never
   of_reading meta asked ending (Unknown file) never = absurd never
 
-  of_outcome : (job : Option Job) (ending : Ending) → Outcome told job ending → SaysSo ending
+  of_outcome : (job : Option MapJob) (ending : Ending) → Outcome told job ending → SaysSo ending
   of_outcome None ending is = subst SaysSo (sym is) refl
   of_outcome (Some job) ending gives = of_reading job.meta job.asked ending (loaded job.meta told) gives
 
-  module _ (job : Job) (is_job : said ≡ Some job) (ending : Ending) (ended : JobEnds told (Some job) before after ending) where
+  module _ (job : MapJob) (is_job : said ≡ Some job) (ending : Ending) (ended : JobEnds told (Some job) before after ending) where
     ends : JobEnds told said before after ending
-    ends = subst (λ (other : Option Job). JobEnds told other before after ending) (sym is_job) ended
+    ends = subst (λ (other : Option MapJob). JobEnds told other before after ending) (sym is_job) ended
 
     says : SaysSo ending
     says = by ends where
@@ -144,8 +144,8 @@ module _ (told : FilesTold) (said : Option Job) (before after : List ℕ → ℕ
 -- ---- what is told of what was read
 
 -- a run whose job's outcome is this, of what was read, tells it
-pub told_of_read : (told : FilesTold) (said : Option Job) (job : Job) (all : Loaded) (ending : Ending) → said ≡ Some job → loaded job.meta told ≡ Reads all
+pub told_of_read : (told : FilesTold) (said : Option MapJob) (job : MapJob) (all : Loaded) (ending : Ending) → said ≡ Some job → loaded job.meta told ≡ Reads all
     → Outcome told said ending → TellsAsked job.asked all ending
 told_of_read told said job all ending is reads outcome =
     subst (λ (read : Reading Loaded). OfReading job.meta (TellsAsked job.asked) read ending) reads
-    (subst (λ (other : Option Job). Outcome told other ending) is outcome)
+    (subst (λ (other : Option MapJob). Outcome told other ending) is outcome)

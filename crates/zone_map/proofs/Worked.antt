@@ -14,7 +14,7 @@ use Rattle.zone_map.specs.Records.{records_text, told_data, type_text}
 use Rattle.zone_map.specs.Targets.{dead_ends, is_reverse, target_in, targets_text}
 use Rattle.zone_map.specs.Words.{job_of}
 use Rattle.zone_map.specs.declared.target_ends.DeadEnds.TheVariants as dead
-use Rattle.zone_map.specs.declared.words.Asked.TheVariants.{Records, Targets}
+use Rattle.zone_map.specs.declared.words.MapView.TheVariants.{Records, Targets}
 
 -- Tabs, line feeds and backslashes of a file's name are escaped.
 

@@ -4,8 +4,8 @@ use Rattle.io_edges.specs.Files.{FilesTold}
 use Rattle.run_endings.specs.Ends.{EndsOrFails}
 use Rattle.run_endings.specs.declared.ending.Ending.{Ending}
 use Rattle.zone_map.specs.Outcome.{Outcome, JobComesTo}
-use Rattle.zone_map.specs.declared.words.Job.{Job}
+use Rattle.zone_map.specs.declared.words.MapJob.{MapJob}
 
 -- how the run of a job ends
-abbrev pub JobEnds : FilesTold → Option Job → (List ℕ → ℕ) → (List ℕ → ℕ) → Ending → Type 0
+abbrev pub JobEnds : FilesTold → Option MapJob → (List ℕ → ℕ) → (List ℕ → ℕ) → Ending → Type 0
 JobEnds told job before after ending = EndsOrFails (Outcome told job ending) (JobComesTo told job) before after ending

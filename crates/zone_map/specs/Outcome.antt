@@ -3,7 +3,7 @@ use Rattle.std.specs.Prelude.{◌≡◌, ◌⊎◌, ℕ, List, Option, Some, Non
 use Rattle.io_edges.specs.Counts.{Rose}
 use Rattle.io_edges.specs.Files.{FilesTold}
 use Rattle.config_load.specs.Conf.{loaded}
-use Rattle.config_load.specs.Load.{Comes}
+use Rattle.config_load.specs.Load.{ComesToFile}
 use Rattle.config_load.specs.declared.loaded.Loaded.{Loaded}
 use Rattle.run_endings.specs.Endings.{OfReading, with_output, without_output, read_failed, no_memory}
 use Rattle.run_endings.specs.declared.ending.Ending.{Ending}
@@ -13,36 +13,36 @@ use Rattle.zone_map.specs.Reached.{TellsRows}
 use Rattle.zone_map.specs.Records.{records_text}
 use Rattle.zone_map.specs.Targets.{IsTargets}
 use Rattle.zone_map.specs.Words.{usage_line}
-use Rattle.zone_map.specs.declared.words.Asked.{Asked}
-use Rattle.zone_map.specs.declared.words.Asked.TheVariants.{Records, Reached, Targets}
-use Rattle.zone_map.specs.declared.words.Job.{Job}
+use Rattle.zone_map.specs.declared.words.MapView.{MapView}
+use Rattle.zone_map.specs.declared.words.MapView.TheVariants.{Records, Reached, Targets}
+use Rattle.zone_map.specs.declared.words.MapJob.{MapJob}
 
 -- what is told of what was read: for `records` the lines of all records, for `reached` those of all rows, for `targets`
 -- those of records whose target leads nowhere
-abbrev pub TellsAsked : Asked → Loaded → Ending → Type 0
+abbrev pub TellsAsked : MapView → Loaded → Ending → Type 0
 TellsAsked Records all ending = ending ≡ with_output Clean (records_text all)
 TellsAsked Reached all ending = WithinLimits all.config all.rows (TellsRows all.config all.rows ending) ending
 TellsAsked Targets all ending = IsTargets all ending
 
 -- what the words' job gives, by what is told of the files
-abbrev pub Outcome : FilesTold → Option Job → Ending → Type 0
+abbrev pub Outcome : FilesTold → Option MapJob → Ending → Type 0
 Outcome told None ending = ending ≡ without_output Usage usage_line
 Outcome told (Some job) ending = OfReading job.meta (TellsAsked job.asked) (loaded job.meta told) ending
 
 -- a run ends in the outcome of its job, in a failed read or because memory ran out
-abbrev pub IsEnding : FilesTold → Option Job → Ending → Type 0
+abbrev pub IsEnding : FilesTold → Option MapJob → Ending → Type 0
 IsEnding told job ending = Outcome told job ending ⊎ ((file : List ℕ) × (ending ≡ read_failed file)) ⊎ (ending ≡ no_memory)
 
 -- The job comes to the file: every step of its reading before gives no refusal, and comes to no opened name that isn't
 -- held.
-abbrev pub JobComesTo : FilesTold → Option Job → List ℕ → Type 0
+abbrev pub JobComesTo : FilesTold → Option MapJob → List ℕ → Type 0
 JobComesTo told None file = ⊥
-JobComesTo told (Some job) file = Comes (loaded job.meta) told file
+JobComesTo told (Some job) file = ComesToFile (loaded job.meta) told file
 
 -- no other file is opened than those to which the job comes: of any other name the same is told as before
-abbrev pub JobOpensNoOther : FilesTold → FilesTold → Option Job → Type 0
+abbrev pub JobOpensNoOther : FilesTold → FilesTold → Option MapJob → Type 0
 JobOpensNoOther before after job = (file : List ℕ) → (after file ≡ before file) ⊎ JobComesTo after job file
 
 -- no count of a file rose to which the job comes
-abbrev pub NoJobReadFailed : FilesTold → Option Job → (List ℕ → ℕ) → (List ℕ → ℕ) → Type 0
+abbrev pub NoJobReadFailed : FilesTold → Option MapJob → (List ℕ → ℕ) → (List ℕ → ℕ) → Type 0
 NoJobReadFailed told job before after = (file : List ℕ) → JobComesTo told job file → Rose (before file) (after file) → ⊥

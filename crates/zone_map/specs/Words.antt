@@ -2,22 +2,22 @@
 use Rattle.std.specs.Prelude.{ℕ, nat_eq, Bool, ◌&&◌, not, List, [], ◌∷◌, codes, length, if◌then◌else◌, ◌==◌, Option, None, option_map}
 use Rattle.std.specs.List.{find, starts_with}
 use Rattle.dns_data.specs.Rdata.{octets_eq}
-use Rattle.zone_map.specs.declared.words.Asked.{Asked}
-use Rattle.zone_map.specs.declared.words.Asked.TheVariants.{Records, Reached, Targets}
-use Rattle.zone_map.specs.declared.words.Job.{Job}
+use Rattle.zone_map.specs.declared.words.MapView.{MapView}
+use Rattle.zone_map.specs.declared.words.MapView.TheVariants.{Records, Reached, Targets}
+use Rattle.zone_map.specs.declared.words.MapJob.{MapJob}
 
 -- the word of what may be asked for
-abbrev pub asked_word : Asked → List ℕ
+abbrev pub asked_word : MapView → List ℕ
 asked_word Records = codes "records"
 asked_word Reached = codes "reached"
 asked_word Targets = codes "targets"
 
 -- what may be asked for
-abbrev pub all_asked : List Asked
+abbrev pub all_asked : List MapView
 all_asked = Records ∷ Reached ∷ Targets ∷ []
 
 -- what a word asks for, which is compared as written
-abbrev pub asked_by_word : List ℕ → Option Asked
+abbrev pub asked_by_word : List ℕ → Option MapView
 asked_by_word word = find (λ asked. octets_eq word (asked_word asked)) all_asked
 
 -- the word names a metadata file: it isn't empty and doesn't begin with a dash
@@ -25,11 +25,11 @@ abbrev pub is_file : List ℕ → Bool
 is_file word = not (length word == 0) && not (starts_with nat_eq word (codes "-"))
 
 -- the job of a word over this metadata file
-abbrev pub job_over : List ℕ → Option Asked → Option Job
+abbrev pub job_over : List ℕ → Option MapView → Option MapJob
 job_over meta asked = option_map (λ asked. record { asked = asked; meta = meta }) asked
 
 -- the job that the words ask for
-abbrev pub job_of : List (List ℕ) → Option Job
+abbrev pub job_of : List (List ℕ) → Option MapJob
 job_of (word ∷ meta ∷ []) = if is_file meta then job_over meta (asked_by_word word) else None
 job_of words = None
 

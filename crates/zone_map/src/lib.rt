@@ -27,4 +27,4 @@ mod words;
 
 pub use reached::Reached;
 pub use run::{groot_map, run_words};
-pub use words::{Asked, Job, read_words};
+pub use words::{MapJob, MapView, read_words};

@@ -21,7 +21,7 @@ ghost use Rattle.zone_map.specs.Words.{job_of};
 use crate::reached_rows::reached_rows;
 use crate::records::records_text;
 use crate::targets::targets_ending;
-use crate::words::{Asked, Job, read_words, usage_line};
+use crate::words::{MapJob, MapView, read_words, usage_line};
 use config_load::{Loaded, load_with_files};
 use dns_data::NoMemory;
 use io_edges::{Failed, Files, Sink};
@@ -39,7 +39,7 @@ pub fn groot_map<F: Files, O: Sink, E: Sink>(
     // For files that read, by the octets that were read of them, `records` writes exactly the records of their
     // configuration, in the order of rows, each with the file and the line from which it was read.
     ensures records { (meta : List ℕ) (all : Read) →
-        job_of (map (λ word. word.now) words.now) ≡ Some (record { asked = Asked.Records; meta = meta }) →
+        job_of (map (λ word. word.now) words.now) ≡ Some (record { asked = MapView.Records; meta = meta }) →
         loaded meta (F.told files.new) ≡ Reads all →
         NoJobReadFailed (F.told files.new) (job_of (map (λ word. word.now) words.now)) (F.faults files.old) (F.faults files.new) →
         (Rose (O.faults out.old) (O.faults out.new) → ⊥) →
@@ -48,7 +48,7 @@ pub fn groot_map<F: Files, O: Sink, E: Sink>(
     // `reached` writes the line of each row, which says whether a walk of the SOA query at the origin of its zone ends in
     // an answer at its server, and ends with 0 exactly if one does for each row; unless a query passes the limit of states.
     ensures reached { (meta : List ℕ) (all : Read) →
-        job_of (map (λ word. word.now) words.now) ≡ Some (record { asked = Asked.Reached; meta = meta }) →
+        job_of (map (λ word. word.now) words.now) ≡ Some (record { asked = MapView.Reached; meta = meta }) →
         loaded meta (F.told files.new) ≡ Reads all →
         NoJobReadFailed (F.told files.new) (job_of (map (λ word. word.now) words.now)) (F.faults files.old) (F.faults files.new) →
         (Rose (O.faults out.old) (O.faults out.new) → ⊥) →
@@ -58,7 +58,7 @@ pub fn groot_map<F: Files, O: Sink, E: Sink>(
     // `targets` writes exactly the records whose target leads nowhere, with the ends of its walks of type A and of type
     // AAAA, or has too many walks to be looked at.
     ensures targets { (meta : List ℕ) (all : Read) →
-        job_of (map (λ word. word.now) words.now) ≡ Some (record { asked = Asked.Targets; meta = meta }) →
+        job_of (map (λ word. word.now) words.now) ≡ Some (record { asked = MapView.Targets; meta = meta }) →
         loaded meta (F.told files.new) ≡ Reads all →
         NoJobReadFailed (F.told files.new) (job_of (map (λ word. word.now) words.now)) (F.faults files.old) (F.faults files.new) →
         (Rose (O.faults out.old) (O.faults out.new) → ⊥) →
@@ -130,7 +130,7 @@ pub fn run_words<F: Files>(alloc: Global, words: &[&str], files: &mut F) -> Endi
 }
 
 /// What a job gives.
-fn of_job<F: Files>(alloc: Global, files: &mut F, job: &Job) -> Ending
+fn of_job<F: Files>(alloc: Global, files: &mut F, job: &MapJob) -> Ending
     ensures cause { JobEnds (F.told files.new) (Some job.now) (F.faults files.old) (F.faults files.new) result }
     ensures from_the_start { TellsAll (F.told files.old) → F.told files.new ≡ F.told files.old }
     ensures opens { JobOpensNoOther (F.told files.old) (F.told files.new) (Some job.now) }
@@ -143,12 +143,12 @@ fn of_job<F: Files>(alloc: Global, files: &mut F, job: &Job) -> Ending
 }
 
 /// What is told of what was read.
-fn told(alloc: Global, asked: Asked, all: &Loaded) -> Ending
+fn told(alloc: Global, asked: MapView, all: &Loaded) -> Ending
     ensures { TellsAsked asked all.now result ⊎ (result ≡ no_memory) }
 {
     match asked {
-        Asked::Records => Ending::written(Status::Clean, records_text(alloc, all)),
-        Asked::Reached => reached_rows(alloc, &all.config, all.rows.items()),
-        Asked::Targets => targets_ending(alloc, all),
+        MapView::Records => Ending::written(Status::Clean, records_text(alloc, all)),
+        MapView::Reached => reached_rows(alloc, &all.config, all.rows.items()),
+        MapView::Targets => targets_ending(alloc, all),
     }
 }

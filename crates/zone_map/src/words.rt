@@ -8,7 +8,7 @@ use std::alloc::Global;
 
 /// What is asked for.
 #[derive(Clone, Copy, Debug, PartialEq, Eq)]
-pub enum Asked {
+pub enum MapView {
     /// Each record, and where it was read.
     Records,
     /// Whether a query reaches each row.
@@ -19,31 +19,31 @@ pub enum Asked {
 
 /// What is asked for, over which metadata file.
 #[derive(Debug, Drop)]
-pub struct Job {
-    pub asked: Asked,
+pub struct MapJob {
+    pub asked: MapView,
     pub meta: Text,
 }
 
-impl Asked {
+impl MapView {
     /// What may be asked for.
-    const ALL: [Asked; 3] = [Asked::Records, Asked::Reached, Asked::Targets];
+    const ALL: [MapView; 3] = [MapView::Records, MapView::Reached, MapView::Targets];
 
     /// The word for what is asked for.
     fn word(&self) -> &'static str
         ensures { result.now ≡ asked_word self.now }
     {
         match self {
-            Asked::Records => "records",
-            Asked::Reached => "reached",
-            Asked::Targets => "targets",
+            MapView::Records => "records",
+            MapView::Reached => "reached",
+            MapView::Targets => "targets",
         }
     }
 
     /// What a word asks for. It is compared as written.
-    fn by_word(word: &[u8]) -> Option<Asked>
+    fn by_word(word: &[u8]) -> Option<MapView>
         ensures { result ≡ asked_by_word word.now }
     {
-        Asked::ALL
+        MapView::ALL
             .iter()
             .copied()
             .find(|asked| word == asked.word().as_bytes())
@@ -51,7 +51,7 @@ impl Asked {
 }
 
 /// The job that the words ask for, or none.
-pub fn read_words(alloc: Global, words: &[&str]) -> Result<Option<Job>, NoMemory>
+pub fn read_words(alloc: Global, words: &[&str]) -> Result<Option<MapJob>, NoMemory>
     ensures { IfOk result (λ job. job ≡ job_of (map (λ word. word.now) words.now)) }
 {
     let [word, meta] = words else {
@@ -60,7 +60,7 @@ pub fn read_words(alloc: Global, words: &[&str]) -> Result<Option<Job>, NoMemory
     if !is_file(meta) {
         return Ok(None);
     }
-    job_over(alloc, meta, Asked::by_word(word.as_bytes()))
+    job_over(alloc, meta, MapView::by_word(word.as_bytes()))
 }
 
 /// Whether the word names a metadata file.
@@ -71,11 +71,11 @@ fn is_file(word: &str) -> bool
 }
 
 /// The job of what is asked for over a metadata file.
-fn job_over(alloc: Global, meta: &str, asked: Option<Asked>) -> Result<Option<Job>, NoMemory>
+fn job_over(alloc: Global, meta: &str, asked: Option<MapView>) -> Result<Option<MapJob>, NoMemory>
     ensures { IfOk result (λ job. job ≡ job_over meta.now asked) }
 {
     match asked {
-        Some(asked) => Ok(Some(Job {
+        Some(asked) => Ok(Some(MapJob {
             asked,
             meta: Text::from_str(alloc, meta)?,
         })),

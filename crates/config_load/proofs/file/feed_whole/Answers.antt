@@ -2,7 +2,7 @@ use Rattle.std.proofs.Common.{◌≡◌, ◌+◌, List, ℕ, length, subst, sym,
 use Rattle.io_edges.specs.Files.{first_told}
 use Rattle.io_edges.proofs.Told.{first_told-long}
 use Rattle.master_read.specs.Reader.{IsReaderOf}
-use Rattle.master_read.specs.declared.asked.Asked.{Asked}
+use Rattle.master_read.specs.declared.asked.AfterFile.{AfterFile}
 use Rattle.config_load.proofs.Follows.{Follows-whole, Answers-too_long}
 use Rattle.config_load.proofs.Sources.{FailedAt-then, FailedAt-passed, FailedAt-too_long, FailsToRead-passed, FailsToRead-wanting, ReadsOnly-none, ReadsOnly-then, first_told-none}
 use Rattle.config_load.proofs.Steps.{FailedAt-wanting}
@@ -58,7 +58,7 @@ returns-then-count-eq0-clause-only g c = ReadsOnly-then c.loop-at.invariant.only
 
 pub returns-clause-cause : goal.returns-clause-cause
 returns-clause-cause g c =
-    FailedAt-too_long Asked (g.F.Files.faults c.args.files.now) (g.F.Files.faults c.loop-at.files) c.args.name.now c.too_long.result c.too_long.ensures
+    FailedAt-too_long AfterFile (g.F.Files.faults c.args.files.now) (g.F.Files.faults c.loop-at.files) c.args.name.now c.too_long.result c.too_long.ensures
 
 pub returns-clause-only : goal.returns-clause-only
 returns-clause-only g c = c.loop-at.invariant.only

@@ -1,6 +1,6 @@
 use Rattle.io_edges.proofs.Told.{TellsAll-same}
 use Rattle.config_load.specs.Conf.{conf}
-use Rattle.config_load.proofs.Answered.{Gives-answers, IsWhole-answers, FailedWhereItCame-answers, IsReadFault-misses, IsReadFault-unknown}
+use Rattle.config_load.proofs.Answered.{Gives-answers, IsAnswerTo-answers, FailedWhereItCame-answers, IsReadFault-misses, IsReadFault-unknown}
 use Rattle.config_load.proofs.Opens.{OpensNoOther-answers}
 use Rattle.config_load.proofs.Steady.{Gives-later, conf_is_steady}
 use Rattle.config_load.proofs.loading.load.Goals as goal
@@ -21,7 +21,7 @@ returns-clause-order g c =
 pub returns-clause-whole : goal.returns-clause-whole
 returns-clause-whole g c none =
     let told = g.F.Files.told c.read_config.new.files in
-    IsWhole-answers told c.args.meta.now (g.F.Files.faults c.args.files.now) (g.F.Files.faults c.read_config.new.files) (conf c.args.meta.now told) c.read_config.result
+    IsAnswerTo-answers told c.args.meta.now (g.F.Files.faults c.args.files.now) (g.F.Files.faults c.read_config.new.files) (conf c.args.meta.now told) c.read_config.result
     (Gives-answers told (conf c.args.meta.now) c.read_config.result c.read_config.ensures.answers) c.read_config.ensures.cause
     (FailedWhereItCame-answers told (conf c.args.meta.now) c.read_config.result c.read_config.ensures.answers) none
 

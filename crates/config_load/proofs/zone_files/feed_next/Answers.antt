@@ -1,5 +1,5 @@
 use Rattle.std.proofs.Common.{List, ℕ, [], ◌∷◌, ◌++◌, subst, ap, ◌∙◌}
-use Rattle.master_read.specs.declared.asked.Asked.{Asked}
+use Rattle.master_read.specs.declared.asked.AfterFile.{AfterFile}
 use Rattle.config_load.specs.Fed.{HasFed, FailsToRead}
 use Rattle.config_load.specs.Joined.{joined}
 use Rattle.config_load.specs.Sources.{ReadsOnly}
@@ -30,7 +30,7 @@ returns-in_err-asked-clause-fault g c =
 
 pub returns-in_err-asked-clause-cause : goal.returns-in_err-asked-clause-cause
 returns-in_err-asked-clause-cause g c =
-    FailedAt-passed Asked (g.F.Files.faults c.args.files.now) (g.F.Files.faults c.feed_whole.new.files) c.in_err-asked.field-0.0 c.from_residual-in_err-asked.result c.from_residual-in_err-asked.ensures.1 c.in_err-asked.ensures.cause
+    FailedAt-passed AfterFile (g.F.Files.faults c.args.files.now) (g.F.Files.faults c.feed_whole.new.files) c.in_err-asked.field-0.0 c.from_residual-in_err-asked.result c.from_residual-in_err-asked.ensures.1 c.in_err-asked.ensures.cause
 
 pub returns-in_err-asked-clause-only : goal.returns-in_err-asked-clause-only
 returns-in_err-asked-clause-only g c =

@@ -1,7 +1,7 @@
 use Rattle.std.proofs.Common.{[], List, ℕ, refl, subst, sym, ap}
 use Rattle.dns_data.specs.Name.{Labels}
 use Rattle.master_read.specs.Reader.{IsReaderOf}
-use Rattle.master_read.specs.declared.asked.Asked.{Asked}
+use Rattle.master_read.specs.declared.asked.AfterFile.{AfterFile}
 use Rattle.config_load.specs.Conf.{zone_files}
 use Rattle.config_load.specs.Joined.{joined}
 use Rattle.config_load.proofs.OpenedFiles.{is_done, fewer-left, HasFedFiles, HasFedFiles-more, HasFedFiles-over, HasOpened-first, HasOpened-asked, HasOpened-source, HasAnswered-unread, HasAnswered-finished}
@@ -91,10 +91,10 @@ pub finish-requires : goal.finish-requires
 finish-requires g c =
     let told = g.F.Files.told c.loop-asked.files in
     HasFedFiles-over c.args.meta.now c.args.row.now c.args.left told c.loop-asked.names c.loop-asked.reader
-    (subst (λ (asked : Asked). HasFedFiles c.args.meta.now c.args.row.now c.args.left told c.loop-asked.names asked c.loop-asked.reader) (is_done c.loop-asked.asked c.in_default.not-Include) c.loop-asked.invariant.fed)
+    (subst (λ (asked : AfterFile). HasFedFiles c.args.meta.now c.args.row.now c.args.left told c.loop-asked.names asked c.loop-asked.reader) (is_done c.loop-asked.asked c.in_default.not-Include) c.loop-asked.invariant.fed)
 
 pub returns : goal.returns
 returns g c =
     let told = g.F.Files.told c.loop-asked.files in
-    let fed = subst (λ (asked : Asked). HasFedFiles c.args.meta.now c.args.row.now c.args.left told c.loop-asked.names asked c.loop-asked.reader) (is_done c.loop-asked.asked c.in_default.not-Include) c.loop-asked.invariant.fed in
+    let fed = subst (λ (asked : AfterFile). HasFedFiles c.args.meta.now c.args.row.now c.args.left told c.loop-asked.names asked c.loop-asked.reader) (is_done c.loop-asked.asked c.in_default.not-Include) c.loop-asked.invariant.fed in
     HasAnswered-finished c.args.meta.now c.args.row.now c.args.left told c.loop-asked.names c.loop-asked.reader c.finish.result c.told.result c.loop-asked.invariant.source fed c.finish.ensures.answers c.told.ensures

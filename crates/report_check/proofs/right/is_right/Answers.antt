@@ -4,7 +4,7 @@ use Rattle.dns_data.specs.declared.rr_type.RrType.{RrType}
 use Rattle.net_model.specs.Walk.{AreWalks}
 use Rattle.serde_json.specs.View.{view}
 use Rattle.report_check.specs.Right.{NamesQuery}
-use Rattle.report_check.specs.declared.asked.Asked.{Asked}
+use Rattle.report_check.specs.declared.asked.EntryQuery.{EntryQuery}
 use Rattle.report_check.proofs.RightByWalks.{right_told, walks_few}
 use Rattle.report_check.proofs.right.is_right.Goals as goal
 
@@ -14,7 +14,7 @@ returns-clause-right c =
     let value = view c.args.value.now in
     let asked = c.in-Some.asked in
     let names : NamesQuery value asked.query asked.rtype =
-    subst (λ (found : Option Asked). MatchOption found ((query : Labels) (rtype : RrType) → NamesQuery value query rtype → ⊥) (λ one. NamesQuery value one.query one.rtype))
+    subst (λ (found : Option EntryQuery). MatchOption found ((query : Labels) (rtype : RrType) → NamesQuery value query rtype → ⊥) (λ one. NamesQuery value one.query one.rtype))
     c.in-Some.is c.in_ok-asked.ensures in
     let walks = c.items.result.now in
     let are = subst (AreWalks setting asked.query asked.rtype) (sym c.items.ensures) c.in_ok-walks.ensures.walks in
@@ -26,6 +26,6 @@ returns-clause-few c =
     let value = view c.args.value.now in
     let asked = c.in-Some.asked in
     let names : NamesQuery value asked.query asked.rtype =
-    subst (λ (found : Option Asked). MatchOption found ((query : Labels) (rtype : RrType) → NamesQuery value query rtype → ⊥) (λ one. NamesQuery value one.query one.rtype))
+    subst (λ (found : Option EntryQuery). MatchOption found ((query : Labels) (rtype : RrType) → NamesQuery value query rtype → ⊥) (λ one. NamesQuery value one.query one.rtype))
     c.in-Some.is c.in_ok-asked.ensures in
     walks_few c.args.checker.now c.in_ok-walks.ensures.in_force value asked.query asked.rtype names c.in_ok-walks.ensures.few

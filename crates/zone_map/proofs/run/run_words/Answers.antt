@@ -1,7 +1,7 @@
 use Rattle.std.proofs.Common.{Option, subst, sym, ◌∙◌}
 use Rattle.zone_map.proofs.Endings.{complete, cause, read_fault, no_write_fault, silent}
 use Rattle.zone_map.specs.Outcome.{JobOpensNoOther}
-use Rattle.zone_map.specs.declared.words.Job.{Job}
+use Rattle.zone_map.specs.declared.words.MapJob.{MapJob}
 use Rattle.zone_map.proofs.run.run_words.Goals as goal
 
 pub returns-in-Ok-Some-clause-complete : goal.returns-in-Ok-Some-clause-complete
@@ -26,4 +26,4 @@ returns-in-Ok-Some-clause-silent g c =
 
 pub returns-in-Ok-Some-clause-opens : goal.returns-in-Ok-Some-clause-opens
 returns-in-Ok-Some-clause-opens g c =
-    subst (λ (job : Option Job). JobOpensNoOther (g.F.Files.told c.args.files.now) (g.F.Files.told c.of_job.new.files) job) (sym (sym c.in-Ok-Some.ensures ∙ c.in-Ok-Some.field-0-is)) c.of_job.ensures.opens
+    subst (λ (job : Option MapJob). JobOpensNoOther (g.F.Files.told c.args.files.now) (g.F.Files.told c.of_job.new.files) job) (sym (sym c.in-Ok-Some.ensures ∙ c.in-Ok-Some.field-0-is)) c.of_job.ensures.opens

@@ -4,13 +4,13 @@ use Rattle.zone_map.specs.Limits.{WithinLimits}
 use Rattle.zone_map.specs.Outcome.{TellsAsked}
 use Rattle.zone_map.specs.Reached.{TellsRows}
 use Rattle.zone_map.specs.Records.{records_text}
-use Rattle.zone_map.specs.declared.words.Asked.{Asked}
+use Rattle.zone_map.specs.declared.words.MapView.{MapView}
 use Rattle.zone_map.proofs.run.told.Goals as goal
 
 pub returns-in-Records : goal.returns-in-Records
 returns-in-Records c =
     elim (c.written.ensures (records_text c.args.all.now) c.records_text.ensures) [
-      | inl is ↦ inl (subst (λ (asked : Asked). TellsAsked asked c.args.all.now c.written.result) (sym c.in-Records.is) is)
+      | inl is ↦ inl (subst (λ (asked : MapView). TellsAsked asked c.args.all.now c.written.result) (sym c.in-Records.is) is)
       | inr ran_out ↦ inr ran_out
     ]
 
@@ -19,7 +19,7 @@ returns-in-Reached c =
     let config = c.args.all.now.config in
     let ending = c.reached_rows.result in
     elim c.reached_rows.ensures [
-      | inl is ↦ inl (subst (λ (asked : Asked). TellsAsked asked c.args.all.now ending) (sym c.in-Reached.is)
+      | inl is ↦ inl (subst (λ (asked : MapView). TellsAsked asked c.args.all.now ending) (sym c.in-Reached.is)
           (subst (λ (rows : List RowFiles). WithinLimits config rows (TellsRows config rows ending) ending) c.items.ensures is))
       | inr ran_out ↦ inr ran_out
     ]
@@ -27,6 +27,6 @@ returns-in-Reached c =
 pub returns-in-Targets : goal.returns-in-Targets
 returns-in-Targets c =
     elim c.targets_ending.ensures [
-      | inl is ↦ inl (subst (λ (asked : Asked). TellsAsked asked c.args.all.now c.targets_ending.result) (sym c.in-Targets.is) is)
+      | inl is ↦ inl (subst (λ (asked : MapView). TellsAsked asked c.args.all.now c.targets_ending.result) (sym c.in-Targets.is) is)
       | inr ran_out ↦ inr ran_out
     ]

@@ -3,7 +3,7 @@ use Rattle.std.proofs.lemmas.Result.{on_ok_weaker}
 use Rattle.serde_json.specs.Data.{string}
 use Rattle.serde_json.specs.Events.{SendsValue}
 use Rattle.report_json.specs.Json.{array_of}
-use Rattle.report_json.proofs.sites.ToldWritten.send.Goals as goal
+use Rattle.report_json.proofs.sites.SiteFindingsWritten.send.Goals as goal
 
 pub returns : goal.returns
 returns g c =
