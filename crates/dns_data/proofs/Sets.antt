@@ -1,5 +1,5 @@
 -- Sets of types: the marks of a set made by a test, and the first type of a set.
-use Rattle.std.proofs.Common.{◌≡◌, ◌↔◌, ℕ, ◌+◌, ◌<◌, ◌≤◌, Bool, true, false, ◌&&◌, nat_le, List, [], ◌∷◌, Option, Some, None, cond, option_map, IsNone, IfSome, slice_index_or, refl, sym, suc, zero, ◌∙◌, subst, inl, inr, arith}
+use Rattle.std.proofs.Common.{◌≡◌, ◌↔◌, ℕ, ◌+◌, ◌<◌, ◌≤◌, Bool, true, false, ◌&&◌, nat_le, List, [], ◌∷◌, Option, Some, None, cond, option_map, IsNone, IfSome, slice_index_or, map, refl, sym, suc, zero, ◌∙◌, subst, inl, inr, arith}
 use Rattle.std.specs.Array.{IsFromFnResult, IsFromFnResultFrom}
 use Rattle.std.specs.Fn.{Called}
 use Rattle.std.specs.List.{AllByRecursion, find, list_all}
@@ -53,6 +53,21 @@ all_types P h Aaaa = h.1.1.1.1.1.1.1.1.0
 all_types P h Srv = h.1.1.1.1.1.1.1.1.1.0
 all_types P h Dname = h.1.1.1.1.1.1.1.1.1.1.0
 all_types P h Caa = h.1.1.1.1.1.1.1.1.1.1.1.0
+
+-- the types that pass a test, as a bit for each, have those bits
+pub bit_of : (test : RrType → Bool) (rtype : RrType) → has_bit (map test types) rtype ≡ test rtype
+bit_of test A = refl
+bit_of test Ns = refl
+bit_of test Cname = refl
+bit_of test Soa = refl
+bit_of test Ptr = refl
+bit_of test Hinfo = refl
+bit_of test Mx = refl
+bit_of test Txt = refl
+bit_of test Aaaa = refl
+bit_of test Srv = refl
+bit_of test Dname = refl
+bit_of test Caa = refl
 
 -- none is found where none passes, and only there
 none_passes : (test : RrType → Bool) (xs : List RrType) → find test xs ≡ None → AllByRecursion (λ t. test t ≡ false) xs

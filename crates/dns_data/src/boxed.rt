@@ -22,7 +22,7 @@ impl<T> Model for Boxed<T> {
 }
 
 impl<T> Boxed<T> {
-    /// The value, moved into memory of its own.
+    /// The value, moved into memory of its own. `NoMemory` comes where there is no room for it; the value is let go then.
     pub fn new(alloc: Global, value: T) -> Result<Boxed<T>, NoMemory>
     where
         T: Drop,

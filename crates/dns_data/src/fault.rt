@@ -1,10 +1,5 @@
 //! Why octets are no label, a text no name, and labels no longer name.
 
-ghost use Rattle.std.specs.Prelude.{◌≡◌};
-ghost use Rattle.dns_data.specs.declared.fault.JoinFault.TheVariants as join_fault;
-ghost use Rattle.dns_data.specs.declared.fault.NameFault.TheVariants as name_fault;
-
-use crate::memory::WantOfMemory;
 use thiserror::Error;
 
 /// Why octets are no label or a text is no name.
@@ -29,20 +24,4 @@ pub enum JoinFault {
     TooLong,
     #[error("no memory")]
     NoMemory,
-}
-
-impl<E: WantOfMemory + Drop> From<E> for NameFault {
-    ghost from_gives = { λ _ fault. fault ≡ name_fault.NoMemory };
-
-    fn from(_fault: E) -> NameFault {
-        NameFault::NoMemory
-    }
-}
-
-impl<E: WantOfMemory + Drop> From<E> for JoinFault {
-    ghost from_gives = { λ _ fault. fault ≡ join_fault.NoMemory };
-
-    fn from(_fault: E) -> JoinFault {
-        JoinFault::NoMemory
-    }
 }

@@ -1,5 +1,5 @@
-//! Domain names, record types and record data, and the small types that stand for a list, a text
-//! and `NoMemory` in the plain values of every crate above.
+//! Domain names, record types and record data, and the small types that stand for a list, a text, a value in memory of
+//! its own (`Boxed`) and `NoMemory` in the plain values of every crate above.
 #![tactic(auto)]
 
 mod boxed;

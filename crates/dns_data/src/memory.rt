@@ -1,5 +1,10 @@
-//! `NoMemory`.
+//! `NoMemory`, and the faults that come of it.
 
+ghost use Rattle.std.specs.Prelude.{◌≡◌};
+ghost use Rattle.dns_data.specs.declared.fault.JoinFault.TheVariants as join_fault;
+ghost use Rattle.dns_data.specs.declared.fault.NameFault.TheVariants as name_fault;
+
+use crate::fault::{JoinFault, NameFault};
 use std::alloc::{AllocError, AllocFailed};
 use thiserror::Error;
 
@@ -26,5 +31,21 @@ impl From<AllocError> for NoMemory {
 impl<T: Drop> From<AllocFailed<T>> for NoMemory {
     fn from(_fault: AllocFailed<T>) -> NoMemory {
         NoMemory
+    }
+}
+
+impl<E: WantOfMemory + Drop> From<E> for NameFault {
+    ghost from_gives = { λ _ fault. fault ≡ name_fault.NoMemory };
+
+    fn from(_fault: E) -> NameFault {
+        NameFault::NoMemory
+    }
+}
+
+impl<E: WantOfMemory + Drop> From<E> for JoinFault {
+    ghost from_gives = { λ _ fault. fault ≡ join_fault.NoMemory };
+
+    fn from(_fault: E) -> JoinFault {
+        JoinFault::NoMemory
     }
 }

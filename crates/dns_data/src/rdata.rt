@@ -13,7 +13,7 @@ use std::alloc::Global;
 
 /// A record's data. The names of the fields are those of the RFCs. Data are equal where their types are one and each
 /// field is. Their order, in which the types come first, is one for searches alone. The fields of rare types stand in
-/// memory of their own, so that data take 40 octets beside that of long names and texts.
+/// memory of their own, so that a record takes 96 octets beside its long names and texts.
 #[derive(Debug, PartialEq, Eq, PartialOrd, Ord, Drop)]
 pub enum Rdata {
     /// An IPv4 address (RFC 1035 section 3.4.1).

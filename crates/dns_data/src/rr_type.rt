@@ -25,6 +25,9 @@ pub enum RrType {
 }
 
 impl RrType {
+    /// How many types there are.
+    pub const COUNT: u32 = 12;
+
     /// The twelve types in the order of their numbers.
     pub const ALL: [RrType; 12] = [
         RrType::A,

@@ -50,8 +50,8 @@ module _ (shows : State → Branch → Bool) (graph : PlainGraph) (rtype : RrTyp
       ∙ ap (takes_by (takes_from shows graph rtype numbers) shows node.state (length numbers == 0) taken) has.there
 
   -- no path by the branch with a number takes one that shows
-  abbrev pub Passes : Bool → ℕ → ℕ → Type 0
-  Passes taken at number = (numbers : List ℕ) → takes_from shows graph rtype (number ∷ numbers) taken at ≡ false
+  abbrev pub LeavesUntaken : Bool → ℕ → ℕ → Type 0
+  LeavesUntaken taken at number = (numbers : List ℕ) → takes_from shows graph rtype (number ∷ numbers) taken at ≡ false
 
   -- a branch behind which there is none
   abbrev pub LeadsNowhere : Bool → Branch → Type 0
@@ -59,7 +59,7 @@ module _ (shows : State → Branch → Bool) (graph : PlainGraph) (rtype : RrTyp
   LeadsNowhere taken (End hop leaf) = taken ≡ false
 
   nowhere_passes : (taken : Bool) (at number : ℕ) (node : Node) (branch : Branch) → HasBranch graph rtype at number node branch
-      → LeadsNowhere (taken || shows node.state branch) branch → Passes taken at number
+      → LeadsNowhere (taken || shows node.state branch) branch → LeavesUntaken taken at number
   nowhere_passes taken at number node (Go hop to) has nowhere numbers =
       by_number numbers taken at number node (Go hop to) has ∙ nowhere numbers
   nowhere_passes taken at number node (End hop leaf) has nowhere numbers =
@@ -68,10 +68,10 @@ module _ (shows : State → Branch → Bool) (graph : PlainGraph) (rtype : RrTyp
   -- so where the branch with the number, if there is one, leads nowhere
   pub passes : (taken : Bool) (at number : ℕ)
       → ((node : Node) (branch : Branch) → HasBranch graph rtype at number node branch → LeadsNowhere (taken || shows node.state branch) branch)
-      → Passes taken at number
+      → LeavesUntaken taken at number
   passes taken at number nowhere = by (slice_get graph.nodes at) refl where
     by_branch : (node : Node) → slice_get graph.nodes at ≡ Some node → (branch : Option Branch) → slice_get (branches_of node rtype) number ≡ branch
-        → Passes taken at number
+        → LeavesUntaken taken at number
     by_branch node here None there =
         λ numbers. ap (node_takes (takes_from shows graph rtype numbers) shows rtype number (length numbers == 0) taken) here
         ∙ ap (takes_by (takes_from shows graph rtype numbers) shows node.state (length numbers == 0) taken) there
@@ -79,12 +79,12 @@ module _ (shows : State → Branch → Bool) (graph : PlainGraph) (rtype : RrTyp
         let has : HasBranch graph rtype at number node branch = record { here = here; there = there } in
         nowhere_passes taken at number node branch has (nowhere node branch has)
 
-    by : (node : Option Node) → slice_get graph.nodes at ≡ node → Passes taken at number
+    by : (node : Option Node) → slice_get graph.nodes at ≡ node → LeavesUntaken taken at number
     by None here = λ numbers. ap (node_takes (takes_from shows graph rtype numbers) shows rtype number (length numbers == 0) taken) here
     by (Some node) here = by_branch node here (slice_get (branches_of node rtype) number) refl
 
   -- a node of which each branch leads nowhere is barren
-  pub barren_by : (taken : Bool) (at : ℕ) → ((number : ℕ) → Passes taken at number) → IsBarren shows graph rtype taken at
+  pub barren_by : (taken : Bool) (at : ℕ) → ((number : ℕ) → LeavesUntaken taken at number) → IsBarren shows graph rtype taken at
   barren_by taken at pass [] = refl
   barren_by taken at pass (number ∷ numbers) = pass number numbers
 
@@ -92,7 +92,7 @@ module _ (shows : State → Branch → Bool) (graph : PlainGraph) (rtype : RrTyp
 
   -- the branches before this one lead nowhere, and a path is first from the node behind it: so it is with this number
   pub goes_first : (taken : Bool) (at number to : ℕ) (hop : Hop) (node : Node) (rest : List ℕ) → HasBranch graph rtype at number node (Go hop to)
-      → ((j : ℕ) → j < number → Passes taken at j) → IsFirstFrom shows graph rtype (taken || shows node.state (Go hop to)) to rest
+      → ((j : ℕ) → j < number → LeavesUntaken taken at j) → IsFirstFrom shows graph rtype (taken || shows node.state (Go hop to)) to rest
       → IsFirstFrom shows graph rtype taken at (number ∷ rest)
   goes_first taken at number to hop node rest has before later =
       record { takes = by_number rest taken at number node (Go hop to) has ∙ later.takes; first = by }
@@ -107,7 +107,7 @@ module _ (shows : State → Branch → Bool) (graph : PlainGraph) (rtype : RrTyp
 
   -- and where this one is an end that shows
   pub ends_first : (taken : Bool) (at number : ℕ) (hop : Option Hop) (leaf : Leaf) (node : Node) → HasBranch graph rtype at number node (End hop leaf)
-      → ((j : ℕ) → j < number → Passes taken at j) → (taken || shows node.state (End hop leaf)) ≡ true
+      → ((j : ℕ) → j < number → LeavesUntaken taken at j) → (taken || shows node.state (End hop leaf)) ≡ true
       → IsFirstFrom shows graph rtype taken at (number ∷ [])
   ends_first taken at number hop leaf node has before shown =
       record { takes = by_number [] taken at number node (End hop leaf) has ∙ shown; first = by }
@@ -125,7 +125,7 @@ module _ (shows : State → Branch → Bool) (graph : PlainGraph) (rtype : RrTyp
     pub node : Node
     pub has : HasBranch graph rtype turn.node turn.number node (Go hop at)
     pub taken_is : taken ≡ (turn.taken || shows node.state (Go hop at))
-    pub before : (j : ℕ) → j < turn.number → Passes turn.taken turn.node j
+    pub before : (j : ℕ) → j < turn.number → LeavesUntaken turn.taken turn.node j
     pub rest : Rest
 
   -- the turns lead from the start to the node
@@ -137,7 +137,7 @@ module _ (shows : State → Branch → Bool) (graph : PlainGraph) (rtype : RrTyp
   abbrev pub AreTurns : ℕ → List Turn → Type 0
   AreTurns start [] = Unit {0}
   AreTurns start (turn ∷ below) =
-      ((j : ℕ) → j < turn.number → Passes turn.taken turn.node j) × LedTo start below turn.taken turn.node
+      ((j : ℕ) → j < turn.number → LeavesUntaken turn.taken turn.node j) × LedTo start below turn.taken turn.node
 
   -- those before the last one are such
   pub turns_below : (start : ℕ) (below : List Turn) (taken : Bool) (at : ℕ) → LedTo start below taken at → AreTurns start below

@@ -19,7 +19,7 @@ use Rattle.graph_form.specs.declared.first_path.Turn.{Turn}
 use Rattle.graph_form.specs.declared.node.Branch.{Branch}
 use Rattle.graph_form.specs.declared.node.Branch.TheVariants.{Go, End}
 use Rattle.graph_form.specs.declared.node.Node.{Node}
-use Rattle.graph_form.proofs.FirstPaths.{AreTurns, LeadsNowhere, Passes, passes, barren_by, ends_first, first_behind, turns_below}
+use Rattle.graph_form.proofs.FirstPaths.{AreTurns, LeadsNowhere, LeavesUntaken, passes, barren_by, ends_first, first_behind, turns_below}
 use Rattle.graph_form.proofs.NoCircle.{no_circle}
 
 -- the last turn of a path comes first
@@ -151,7 +151,7 @@ module _ (shows : State → Branch → Bool) (graph : PlainGraph) (rtype : RrTyp
 
     -- no path takes a branch that shows by those before the one that is found
     passed : (turn : Turn) (below : List Turn) (met : List Bool) (found : Option Onward) → IsSearch begin (turn ∷ below) met
-        → ArePassed shows graph rtype met turn found → (number : ℕ) → IsBefore number found → Passes shows graph rtype turn.taken turn.node number
+        → ArePassed shows graph rtype met turn found → (number : ℕ) → IsBefore number found → LeavesUntaken shows graph rtype turn.taken turn.node number
     passed turn below met found search closed number before =
         elim (cases_lt number turn.number) [
           | inl less ↦ search.turns.0 number less

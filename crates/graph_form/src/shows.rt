@@ -4,18 +4,7 @@ ghost use Rattle.std.specs.Prelude.{◌≡◌, ◌↔◌, true, false, not};
 ghost use Rattle.std.specs.List.{list_all};
 ghost use Rattle.std.specs.Option.{option_map_or};
 ghost use Rattle.net_model.specs.Shown.{is_authoritative};
-ghost use Rattle.graph_form.specs.FirstPath.{
-  answer_eq,
-  branch_shows,
-  cut_eq,
-  end_shows,
-  hop_shows,
-  is_behind,
-  is_new_answer,
-  is_referral,
-  leaf_shows,
-  place_eq,
-};
+ghost use Rattle.graph_form.specs.FirstPath as first_path;
 
 use crate::node::Branch;
 use dns_data::Boxed;
@@ -24,7 +13,7 @@ use net_model::{Cut, Fault, Hop, Leaf, Place, State, Walk};
 /// Whether the branch of the state shows the fault: an end in which a walk shows it, or a referral by which a walk shows
 /// it whatever comes behind. Of differing answers an end shows one that none of the walks has.
 pub(crate) fn branch_shows(fault: &Fault, walks: &[Walk], state: &State, branch: &Branch) -> bool
-    ensures { result ≡ branch_shows fault.now walks.now state.now branch.now }
+    ensures { result ≡ first_path.branch_shows fault.now walks.now state.now branch.now }
 {
     match branch {
         Branch::Go { hop, .. } => hop_shows(fault, hop.get()),
@@ -34,7 +23,7 @@ pub(crate) fn branch_shows(fault: &Fault, walks: &[Walk], state: &State, branch:
 
 /// Whether a walk that goes on by the hop shows the fault.
 fn hop_shows(fault: &Fault, hop: &Hop) -> bool
-    ensures { result ≡ hop_shows fault.now hop.now }
+    ensures { result ≡ first_path.hop_shows fault.now hop.now }
 {
     match fault {
         Fault::Differs(cut) | Fault::NoGlue(cut) | Fault::GlueDiffers(cut) | Fault::Cyclic(cut) =>
@@ -51,7 +40,7 @@ fn end_shows(
     hop: &Option<Boxed<Hop>>,
     leaf: &Leaf,
 ) -> bool
-    ensures { result ≡ end_shows fault.now walks.now last.now hop.now leaf.now }
+    ensures { result ≡ first_path.end_shows fault.now walks.now last.now hop.now leaf.now }
 {
     match fault {
         Fault::Lame(cut) | Fault::NoAddress(cut) => is_behind(cut, hop) && leaf_shows(fault, leaf),
@@ -65,7 +54,7 @@ fn end_shows(
 
 /// Whether the leaf is that of the fault.
 fn leaf_shows(fault: &Fault, leaf: &Leaf) -> bool
-    ensures { result ≡ leaf_shows fault.now leaf.now }
+    ensures { result ≡ first_path.leaf_shows fault.now leaf.now }
 {
     match (fault, leaf) {
         (Fault::Lame(cut), Leaf::Lame(ns)) | (Fault::NoAddress(cut), Leaf::NoAddress(ns)) => {
@@ -80,14 +69,14 @@ fn leaf_shows(fault: &Fault, leaf: &Leaf) -> bool
 
 /// Whether the leaf is authoritative and none of the walks ends in an equal one.
 fn is_new_answer(walks: &[Walk], leaf: &Leaf) -> bool
-    ensures { result ≡ is_new_answer walks.now leaf.now }
+    ensures { result ≡ first_path.is_new_answer walks.now leaf.now }
 {
     is_authoritative(leaf) && none_ends_so(walks, leaf)
 }
 
 /// Whether none of the walks ends in an equal leaf.
 fn none_ends_so(walks: &[Walk], leaf: &Leaf) -> bool
-    ensures { result ≡ list_all (λ walk. not (answer_eq walk.leaf leaf.now)) walks.now }
+    ensures { result ≡ list_all (λ walk. not (first_path.answer_eq walk.leaf leaf.now)) walks.now }
 {
     walks.iter().all(|walk| !is_same_answer(&walk.leaf, leaf))
 }
@@ -104,7 +93,7 @@ pub fn is_authoritative(leaf: &Leaf) -> bool
 
 /// Whether two leaves tell the same of a name: equal data, or both that there is none of the type, or no such name.
 pub fn is_same_answer(a: &Leaf, b: &Leaf) -> bool
-    ensures value { result ≡ answer_eq a.now b.now }
+    ensures value { result ≡ first_path.answer_eq a.now b.now }
     ensures same { is_authoritative a.now ≡ true → (result ≡ true ↔ a.now ≡ b.now) }
 {
     match (a, b) {
@@ -116,7 +105,7 @@ pub fn is_same_answer(a: &Leaf, b: &Leaf) -> bool
 
 /// Whether an end with this hop is behind the referral to the name server.
 fn is_behind(cut: &Cut, hop: &Option<Boxed<Hop>>) -> bool
-    ensures { result ≡ is_behind cut.now hop.now }
+    ensures { result ≡ first_path.is_behind cut.now hop.now }
 {
     match hop {
         Some(hop) => is_referral(cut, hop.get()),
@@ -126,7 +115,7 @@ fn is_behind(cut: &Cut, hop: &Option<Boxed<Hop>>) -> bool
 
 /// Whether the hop is the referral to the name server.
 fn is_referral(cut: &Cut, hop: &Hop) -> bool
-    ensures { result ≡ is_referral cut.now hop.now }
+    ensures { result ≡ first_path.is_referral cut.now hop.now }
 {
     match hop {
         Hop::Refer(other) => is_cut(cut, other),
@@ -136,7 +125,7 @@ fn is_referral(cut: &Cut, hop: &Hop) -> bool
 
 /// Whether the place is that of the last rewrite.
 fn is_last(place: &Place, last: &Option<Place>) -> bool
-    ensures { result ≡ option_map_or (place_eq place.now) last.now false }
+    ensures { result ≡ option_map_or (first_path.place_eq place.now) last.now false }
 {
     match last {
         Some(other) => is_place(place, other),
@@ -146,14 +135,14 @@ fn is_last(place: &Place, last: &Option<Place>) -> bool
 
 /// Whether two places are equal: server, zone and owner.
 pub fn is_place(a: &Place, b: &Place) -> bool
-    ensures { result ≡ place_eq a.now b.now }
+    ensures { result ≡ first_path.place_eq a.now b.now }
 {
     a.server == b.server && a.zone == b.zone && a.owner == b.owner
 }
 
 /// Whether two name servers of delegations are equal.
 fn is_cut(a: &Cut, b: &Cut) -> bool
-    ensures { result ≡ cut_eq a.now b.now }
+    ensures { result ≡ first_path.cut_eq a.now b.now }
 {
     a.server == b.server && a.zone == b.zone && a.cut == b.cut && a.ns == b.ns
 }

@@ -5,10 +5,10 @@ use Rattle.std.specs.Option.{option_to_list}
 use Rattle.std.proofs.lemmas.Bool.{and_parts, and_from, or_left, or_right, not-true}
 use Rattle.std.proofs.lemmas.List.Elements.{Contains-append_right}
 use Rattle.std.proofs.lemmas.Option.{slice_get-get_or}
+use Rattle.dns_data.proofs.Sets.{bit_of}
 use Rattle.dns_data.specs.TypeSet.{has_bit}
 use Rattle.dns_data.specs.RrType.{types}
 use Rattle.dns_data.specs.declared.rr_type.RrType.{RrType}
-use Rattle.dns_data.specs.declared.rr_type.RrType.TheVariants as rr
 use Rattle.dns_data.proofs.Membership.{has_first, filter_has}
 use Rattle.graph_form.proofs.Reached.{every_type}
 use Rattle.interp_graph.specs.Drafts.{size_of, Draft}
@@ -27,21 +27,6 @@ taken_below (Some at) old new many parts among =
     among at (subst (λ (ks : List ℕ). Contains ks at) (sym parts) (Contains-append_right new (at ∷ []) at (has_first at [])))
 
 -- ---- types that are new to a draft
-
--- a set of the types that pass a test
-bits : (test : RrType → Bool) (rtype : RrType) → has_bit (map test types) rtype ≡ test rtype
-bits test rr.A = refl
-bits test rr.Ns = refl
-bits test rr.Cname = refl
-bits test rr.Soa = refl
-bits test rr.Ptr = refl
-bits test rr.Hinfo = refl
-bits test rr.Mx = refl
-bits test rr.Txt = refl
-bits test rr.Aaaa = refl
-bits test rr.Srv = refl
-bits test rr.Dname = refl
-bits test rr.Caa = refl
 
 module _ (growing : GrowingGraph) (at : ℕ) (set_of newly : List Bool) (old : Draft) (is : slice_get (drafts_in growing) at ≡ Some old)
     (minus : (rtype : RrType) → has_bit newly rtype ≡ (has_bit set_of rtype && not (has_bit old.wanted rtype))) where
@@ -99,7 +84,7 @@ module _ (growing : GrowingGraph) (at : ℕ) (set_of newly : List Bool) (old : D
         newly = newly;
         is_old = is;
         takes = takes_new (record { state = old.state; wanted = both old.wanted; waiting = both old.waiting; arms = old.arms }) refl refl
-            (bits (λ rtype. has_bit old.wanted rtype || has_bit newly rtype)) (bits (λ rtype. has_bit old.waiting rtype || has_bit newly rtype));
+            (bit_of (λ rtype. has_bit old.wanted rtype || has_bit newly rtype)) (bit_of (λ rtype. has_bit old.waiting rtype || has_bit newly rtype));
         only = only_asked;
         more = more;
       }

@@ -30,8 +30,8 @@ pub record AreTold (setting : Setting) (state : State) (types : List Bool) (told
   pub each : (rtype : RrType) → has_bit types rtype ≡ true → (one : List Bool × List step.Branch) × Contains told one × (has_bit one.0 rtype ≡ true)
   pub tell : (one : List Bool × List step.Branch) → Contains told one → (rtype : RrType) → has_bit one.0 rtype ≡ true → one.1 ≡ next setting rtype state
 
-abbrev Told : Type 0
-Told = List Bool × List step.Branch
+abbrev ToldFork : Type 0
+ToldFork = List Bool × List step.Branch
 
 -- forks that say so are the state's
 pub told_forks : (setting : Setting) (state : State) (types : List Bool) (forks : List Fork) (told : List (List Bool × List step.Branch))
@@ -44,17 +44,17 @@ told_forks setting state types forks told same are =
         within = λ fork has rtype typed. are.within (fork_of fork) (is_told fork has) rtype typed;
         each = λ rtype typed.
             let there = are.each rtype typed in
-            let from = from_map fork_of forks there.0 (subst (λ (all : List Told). Contains all there.0) (sym same) there.1) in
-            (from.0, from.1, ap (λ (one : Told). has_bit one.0 rtype) from.2 ∙ there.2);
+            let from = from_map fork_of forks there.0 (subst (λ (all : List ToldFork). Contains all there.0) (sym same) there.1) in
+            (from.0, from.1, ap (λ (one : ToldFork). has_bit one.0 rtype) from.2 ∙ there.2);
       };
       tell = λ fork has rtype typed. are.tell (fork_of fork) (is_told fork has) rtype typed;
     }
   where
     is_told : (fork : Fork) → Contains forks fork → Contains told (fork_of fork)
-    is_told fork has = subst (λ (all : List Told). Contains all (fork_of fork)) same (map_has fork_of forks fork has)
+    is_told fork has = subst (λ (all : List ToldFork). Contains all (fork_of fork)) same (map_has fork_of forks fork has)
 
-    sets : map (λ (fork : Fork). fork.types) forks ≡ map (λ (one : Told). one.0) told
-    sets = sym (map-map (λ (one : Told). one.0) fork_of forks) ∙ ap (map (λ (one : Told). one.0)) same
+    sets : map (λ (fork : Fork). fork.types) forks ≡ map (λ (one : ToldFork). one.0) told
+    sets = sym (map-map (λ (one : ToldFork). one.0) fork_of forks) ∙ ap (map (λ (one : ToldFork). one.0)) same
 
 -- a state whose server holds no zone for the name
 pub outside_told : (setting : Setting) (state : State) (types : List Bool) → None ≡ nearest_of setting.config state.server state.name
@@ -63,17 +63,17 @@ outside_told setting state types none =
     record {
       apart = λ i j d before within. absurd (omega arith);
       within = λ one has rtype typed. elim (first_or_later all [] one has) [
-        | inl same ↦ subst (λ (o : Told). has_bit o.0 rtype ≡ true) (sym same) typed
+        | inl same ↦ subst (λ (o : ToldFork). has_bit o.0 rtype ≡ true) (sym same) typed
         | inr nil ↦ absurd (none_in_nil one nil)
       ];
       each = λ rtype typed. (all, has_first all [], typed);
       tell = λ one has rtype typed. elim (first_or_later all [] one has) [
-        | inl same ↦ ap (λ (o : Told). o.1) (sym same) ∙ ap (in_zone setting rtype state) none
+        | inl same ↦ ap (λ (o : ToldFork). o.1) (sym same) ∙ ap (in_zone setting rtype state) none
         | inr nil ↦ absurd (none_in_nil one nil)
       ];
     }
   where
-    all : Told
+    all : ToldFork
     all = (types, step.End None Outside ∷ [])
 
 -- what a state leads to by an answer of its server's zone
@@ -87,20 +87,20 @@ pub answers_told : (setting : Setting) (state : State) (types : List Bool) (zone
     → AreTold setting state types (map (told_of setting state zone.origin) answers)
 answers_told setting state types zone name answers near same apart together founds =
     record {
-      apart = subst (λ (sets : List (List Bool)). AllPairs IsApart sets) (sym (map-map (λ (one : Told). one.0) (told_of setting state zone.origin) answers))
+      apart = subst (λ (sets : List (List Bool)). AllPairs IsApart sets) (sym (map-map (λ (one : ToldFork). one.0) (told_of setting state zone.origin) answers))
           (pairs_of_images (λ (answer : TypedFound). answer.types) IsApart answers apart);
       within = λ one has rtype typed.
           let from = from_map (told_of setting state zone.origin) answers one has in
           sym (together rtype)
-          ∙ any_has (λ (answer : TypedFound). has_bit answer.types rtype) answers from.0 from.1 (ap (λ (o : Told). has_bit o.0 rtype) from.2 ∙ typed);
+          ∙ any_has (λ (answer : TypedFound). has_bit answer.types rtype) answers from.0 from.1 (ap (λ (o : ToldFork). has_bit o.0 rtype) from.2 ∙ typed);
       each = λ rtype typed.
           let there = from_any (λ (answer : TypedFound). has_bit answer.types rtype) answers (together rtype ∙ typed) in
           (told_of setting state zone.origin there.0, map_has (told_of setting state zone.origin) answers there.0 there.1, there.2);
       tell = λ one has rtype typed.
           let from = from_map (told_of setting state zone.origin) answers one has in
           let answered = All-contains (IsFoundFor zone name) answers from.0 (All-from_recursion (IsFoundFor zone name) answers founds) from.1 in
-          ap (λ (o : Told). o.1) (sym from.2)
+          ap (λ (o : ToldFork). o.1) (sym from.2)
           ∙ (ap (after_lookup setting state zone.origin)
-          (answered rtype (ap (λ (o : Told). has_bit o.0 rtype) from.2 ∙ typed) ∙ ap (λ (n : Labels). found zone n rtype) same)
+          (answered rtype (ap (λ (o : ToldFork). has_bit o.0 rtype) from.2 ∙ typed) ∙ ap (λ (n : Labels). found zone n rtype) same)
           ∙ ap (in_zone setting rtype state) near);
     }

@@ -7,7 +7,7 @@
 //! name below a name with that live set, and `next_names` gives all labels that do, with the live sets of the names
 //! that they make.
 //!
-//! Costs: the base names of configurations are made once for the records with one owner in a row. Those of each zone
+//! Costs: `of_config` and `of_names` make the base names once for the records with one owner in a row. Those of each zone
 //! are put in order before the next, zone after zone in the order of their origins: so the sort of all names finds
 //! them nearly in order. `build` sorts the names that it is given: it compares each with the next alone where they stand
 //! in order, and merges runs that do. The names move into the graph as they are. Building sorts the fronts of targets,

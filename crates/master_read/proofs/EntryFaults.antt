@@ -48,8 +48,8 @@ abbrev pub IsTold : TextCause → Type 0
 IsTold cause = tells_of_text cause ≡ true
 
 -- the cause of a step's fault, if it has one, does
-abbrev pub Told : {T : Type 0} → Result T TextCause → Type 0
-Told said = IfErr said IsTold
+abbrev pub SaysTold : {T : Type 0} → Result T TextCause → Type 0
+SaysTold said = IfErr said IsTold
 
 -- ---- faults that stand in causes
 
@@ -72,40 +72,40 @@ data_fault rdata_faults.NoMemory said = absurd (said.own refl)
 
 -- ---- directives
 
-named_told : (origin : Labels) (token : Token) → Told (named_below origin token)
+named_told : (origin : Labels) (token : Token) → SaysTold (named_below origin token)
 named_told origin token = one (name_of_text token.raw origin) where
-  one : (said : Result Labels NameFault) → Told (with_fault (λ _. BadDirective) said)
+  one : (said : Result Labels NameFault) → SaysTold (with_fault (λ _. BadDirective) said)
   one (Ok name) = tt
   one (Err fault) = refl
 
-origin_told : (context : Context) (tokens : List Token) → Told (origin_directive context tokens)
+origin_told : (context : Context) (tokens : List Token) → SaysTold (origin_directive context tokens)
 unfolding origin_directive
 origin_told context [] = refl
 origin_told context (name ∷ []) = if_err_then IsTold (named_below context.origin name) _ (named_told context.origin name) (λ origin. tt)
 origin_told context (name ∷ next ∷ tokens) = refl
 
-ttl_told : (context : Context) (tokens : List Token) → Told (ttl_directive context tokens)
+ttl_told : (context : Context) (tokens : List Token) → SaysTold (ttl_directive context tokens)
 unfolding ttl_directive
 ttl_told context [] = refl
 ttl_told context (time ∷ []) = if_err_then IsTold _ _ (if_err_or IsTold (time_of time.raw) BadDirective refl) (λ ttl. tt)
 ttl_told context (time ∷ next ∷ tokens) = refl
 
-file_told : (octets : List ℕ) → Told (file_named octets)
+file_told : (octets : List ℕ) → SaysTold (file_named octets)
 file_told octets = if_err_either IsTold (length octets == 0) _ _ refl (if_err_either IsTold (is_utf8 octets) _ _ tt refl)
 
-below_told : (origin : Labels) (tokens : List Token) → Told (include_origin origin tokens)
+below_told : (origin : Labels) (tokens : List Token) → SaysTold (include_origin origin tokens)
 below_told origin [] = tt
 below_told origin (name ∷ []) = named_told origin name
 below_told origin (name ∷ next ∷ tokens) = refl
 
-include_told : (context : Context) (tokens : List Token) → Told (include_directive context tokens)
+include_told : (context : Context) (tokens : List Token) → SaysTold (include_directive context tokens)
 unfolding include_directive
 include_told context [] = refl
 include_told context (name ∷ tokens) =
     if_err_then IsTold (file_named (resolved name.raw)) _ (file_told (resolved name.raw)) (λ file.
     if_err_then IsTold (include_origin context.origin tokens) _ (below_told context.origin tokens) (λ origin. tt))
 
-directive_told : (context : Context) (tokens : List Token) → Told (directive_of context tokens)
+directive_told : (context : Context) (tokens : List Token) → SaysTold (directive_of context tokens)
 unfolding directive_of
 directive_told context [] = refl
 directive_told context (word ∷ arguments) =
@@ -116,24 +116,24 @@ directive_told context (word ∷ arguments) =
 
 -- ---- records
 
-written_told : (context : Context) (tokens : List Token) → Told (written_owner context tokens)
+written_told : (context : Context) (tokens : List Token) → SaysTold (written_owner context tokens)
 written_told context [] = refl
 written_told context (token ∷ tokens) =
     if_err_told IsTold BadOwner (name_of_text token.raw context.origin) (MatchResult-weaker (name_of_text token.raw context.origin) (name_told token.raw context.origin) (λ owner h. h) name_fault)
 
-owner_told : (context : Context) (entry : Entry) → Told (owner_of context entry)
+owner_told : (context : Context) (entry : Entry) → SaysTold (owner_of context entry)
 unfolding owner_of
 owner_told context entry = if_err_either IsTold entry.blank_start _ _ (if_err_or IsTold context.owner NoOwner refl) (written_told context entry.tokens)
 
-class_told : (front : Front) (tokens : List Token) (class : Option ClassWord) → Told (with_class_word front tokens class)
+class_told : (front : Front) (tokens : List Token) (class : Option ClassWord) → SaysTold (with_class_word front tokens class)
 class_told front tokens (Some In) = tt
 class_told front tokens (Some NotIn) = refl
 class_told front tokens None = tt
 
-more_told : (front : Front) → Told (one_more front)
+more_told : (front : Front) → SaysTold (one_more front)
 unfolding one_more
 more_told front = next front.tokens where
-  next : (tokens : List Token) → Told (with_next_word front tokens)
+  next : (tokens : List Token) → SaysTold (with_next_word front tokens)
   next [] = tt
   next (token ∷ tokens) =
       if_err_either IsTold token.quoted _ _ tt
@@ -141,34 +141,34 @@ more_told front = next front.tokens where
       (if_err_then IsTold _ _ (if_err_or IsTold (time_of token.raw) BadTtl refl) (λ ttl. tt))
       (if_err_either IsTold front.class _ _ tt (class_told front tokens (class_word token.raw))))
 
-front_told : (tokens : List Token) → Told (front_in tokens)
+front_told : (tokens : List Token) → SaysTold (front_in tokens)
 unfolding front_in
 front_told tokens = if_err_then IsTold (one_more (front_of tokens)) _ (more_told (front_of tokens)) (λ first. more_told first)
 
-type_told : (token : Token) → Told (type_said token)
+type_told : (token : Token) → SaysTold (type_said token)
 unfolding type_said
 type_told token = if_err_either IsTold token.quoted _ _ refl (if_err_or IsTold (type_word token.raw) UnknownType refl)
 
-as_data_told : (said : Result Rdata RdataFault) → IfErr said IsSaid → Told (as_data said)
+as_data_told : (said : Result Rdata RdataFault) → IfErr said IsSaid → SaysTold (as_data said)
 as_data_told said h =
     if_err_then IsTold (with_fault BadData said) _ (if_err_told IsTold BadData said (MatchResult-weaker said h (λ rdata k. k) data_fault)) (λ rdata. tt)
 
-data_by_told : (said : TypeWord) (word : Token) (fields : List Token) (origin : Labels) → Told (data_by said word fields origin)
+data_by_told : (said : TypeWord) (word : Token) (fields : List Token) (origin : Labels) → SaysTold (data_by said word fields origin)
 data_by_told (Known rtype) word fields origin = as_data_told (rdata_of rtype fields origin) (reads-data rtype fields origin)
 data_by_told Other word fields origin = as_data_told (other_of _ fields) (reads-other _ fields)
 data_by_told Dropped word fields origin = tt
 
-data_told : (tokens : List Token) (origin : Labels) → Told (data_behind tokens origin)
+data_told : (tokens : List Token) (origin : Labels) → SaysTold (data_behind tokens origin)
 unfolding data_behind
 data_told [] origin = refl
 data_told (word ∷ fields) origin = if_err_then IsTold (type_said word) _ (type_told word) (λ said. data_by_told said word fields origin)
 
-made_told : (context : Context) (owner : Labels) (stated : Option ℕ) (file line : ℕ) (rdata : Option Rdata) → Told (made_of context owner stated file line rdata)
+made_told : (context : Context) (owner : Labels) (stated : Option ℕ) (file line : ℕ) (rdata : Option Rdata) → SaysTold (made_of context owner stated file line rdata)
 unfolding made_of
 made_told context owner stated file line None = tt
 made_told context owner stated file line (Some rdata) = if_err_then IsTold _ _ (if_err_or IsTold (ttl_of context stated rdata) NoTtl refl) (λ ttl. tt)
 
-record_told : (file : ℕ) (context : Context) (entry : Entry) → Told (record_of file context entry)
+record_told : (file : ℕ) (context : Context) (entry : Entry) → SaysTold (record_of file context entry)
 unfolding record_of
 record_told file context entry =
     if_err_then IsTold (owner_of context entry) _ (owner_told context entry) (λ owner.
@@ -179,7 +179,7 @@ record_told file context entry =
 -- ---- entries and texts
 
 -- the fault of an entry says something of the text
-entry_told : (room file : ℕ) (so_far : Records) (entry : Entry) → Told (effect_of room file so_far entry)
+entry_told : (room file : ℕ) (so_far : Records) (entry : Entry) → SaysTold (effect_of room file so_far entry)
 unfolding effect_of
 entry_told room file so_far entry =
     if_err_either IsTold (is_directive entry) _ _
@@ -193,7 +193,7 @@ pub fault_told : (room file line : ℕ) (so_far : Records) (entry : Entry) (faul
 fault_told room file line so_far entry WantsMemory h = tt
 fault_told room file line so_far entry (Cause cause) (inl free) = absurd cc
 fault_told room file line so_far entry (Cause cause) (inr same) = carried (effect_of room file so_far entry) (entry_told room file so_far entry) same where
-  carried : (said : Result Effect TextCause) → Told said → with_fault Cause said ≡ Err (Cause cause) → IsTold cause
+  carried : (said : Result Effect TextCause) → SaysTold said → with_fault Cause said ≡ Err (Cause cause) → IsTold cause
   carried (Ok more) told e = absurd cc
   carried (Err fault) told e = let is : fault ≡ cause = cc in subst IsTold is told
 

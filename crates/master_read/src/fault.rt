@@ -59,30 +59,6 @@ pub enum TextCause {
     TooManyIncludes,
 }
 
-impl TextCause {
-    /// The code of the cause, a word that is printed.
-    pub fn code(&self) -> &'static str
-        ensures { result.now ≡ text_code self.now }
-    {
-        match self {
-            TextCause::Lex(kind) => kind.code(),
-            TextCause::BadDirective => "bad-directive",
-            TextCause::NotSupported => "not-supported",
-            TextCause::BadOwner(_) => "bad-owner",
-            TextCause::NoOwner => "no-owner",
-            TextCause::NoType => "no-type",
-            TextCause::UnknownType => "unknown-type",
-            TextCause::NotIn => "not-in",
-            TextCause::BadTtl => "bad-ttl",
-            TextCause::Rdata(fault) => fault.code(),
-            TextCause::NoTtl => "no-ttl",
-            TextCause::TooMany => "too-many-records",
-            TextCause::IncludeDepth => "include-depth",
-            TextCause::TooManyIncludes => "too-many-includes",
-        }
-    }
-}
-
 /// Why texts give no records.
 #[derive(Clone, Copy, Debug, PartialEq, Eq, Error)]
 pub enum TextFault {
@@ -108,6 +84,30 @@ pub enum EntryFault {
     Cause(TextCause),
     /// Memory ran out.
     NoMemory,
+}
+
+impl TextCause {
+    /// The code of the cause, a word that is printed.
+    pub fn code(&self) -> &'static str
+        ensures { result.now ≡ text_code self.now }
+    {
+        match self {
+            TextCause::Lex(kind) => kind.code(),
+            TextCause::BadDirective => "bad-directive",
+            TextCause::NotSupported => "not-supported",
+            TextCause::BadOwner(_) => "bad-owner",
+            TextCause::NoOwner => "no-owner",
+            TextCause::NoType => "no-type",
+            TextCause::UnknownType => "unknown-type",
+            TextCause::NotIn => "not-in",
+            TextCause::BadTtl => "bad-ttl",
+            TextCause::Rdata(fault) => fault.code(),
+            TextCause::NoTtl => "no-ttl",
+            TextCause::TooMany => "too-many-records",
+            TextCause::IncludeDepth => "include-depth",
+            TextCause::TooManyIncludes => "too-many-includes",
+        }
+    }
 }
 
 impl EntryFault {

@@ -36,19 +36,19 @@ abbrev pub all_leaves_pass : (Leaf → Bool) → Setting → Labels → RrType �
 all_leaves_pass test setting query rtype depth = list_all (leaves_pass test setting rtype depth) (start setting.config query)
 
 -- each walk from the state has such a leaf, and not more than some number of states
-abbrev Passes : (Leaf → Bool) → Setting → RrType → State → Type 0
-Passes test setting rtype state = (depth : ℕ) × (leaves_pass test setting rtype depth state ≡ true)
+abbrev LeavesPass : (Leaf → Bool) → Setting → RrType → State → Type 0
+LeavesPass test setting rtype state = (depth : ℕ) × (leaves_pass test setting rtype depth state ≡ true)
 
 -- so the leaf of each walk passes
 pub walk_passes : (test : Leaf → Bool) (setting : Setting) (query : Labels) (rtype : RrType) (depth : ℕ)
     → all_leaves_pass test setting query rtype depth ≡ true → (walk : Walk) → IsWalk setting query rtype walk → test walk.leaf ≡ true
 walk_passes test setting query rtype depth all walk (numbers, along) =
-    walk_ends setting rtype (Passes test setting rtype) (λ leaf. test leaf ≡ true) steps query
+    walk_ends setting rtype (LeavesPass test setting rtype) (λ leaf. test leaf ≡ true) steps query
     (λ number state is. (depth, item_passes (leaves_pass test setting rtype depth) (start setting.config query) number state all is))
     numbers walk along
   where
-    steps : (state : State) → Passes test setting rtype state → (number : ℕ) (branch : Branch) → slice_get (next setting rtype state) number ≡ Some branch
-        → LeadsSo (Passes test setting rtype) (λ leaf. test leaf ≡ true) branch
+    steps : (state : State) → LeavesPass test setting rtype state → (number : ℕ) (branch : Branch) → slice_get (next setting rtype state) number ≡ Some branch
+        → LeadsSo (LeavesPass test setting rtype) (λ leaf. test leaf ≡ true) branch
     steps state (zero, pass) number branch is = cc
     steps state (suc depth, pass) number (Go hop to) is =
         (depth, item_passes (branch_passes test (leaves_pass test setting rtype depth)) (next setting rtype state) number (Go hop to) pass is)

@@ -19,7 +19,7 @@ use Rattle.label_graph.proofs.NamePlaces.{same_above}
 use Rattle.query_classes.specs.Children.{AreChildren, IsOneBelow, IsInTree}
 use Rattle.query_classes.proofs.ChildLists.{children_exist}
 use Rattle.query_classes.proofs.LiveSetsExist.{live_set_of}
-use Rattle.verdict_book.specs.Items.{ParentsApart, IsChildAt, IsChain, Reached, ReachesMore, NoneTwice}
+use Rattle.verdict_book.specs.Items.{ParentsApart, IsChildAt, IsItemPath, Reached, ReachesMore, NoneTwice}
 
 -- the names of the class tree one label below a name
 pub children_of : (ground : Ground) → IsClosed ground → Labels → List Labels
@@ -52,7 +52,7 @@ module _ (ground : Ground) (first : Labels) (children : Labels → List Labels) 
       (subst (Before (get_or (children parent) k item)) (too item) (of_parent.ordered k j item less inside)))
 
   -- a name that is reached is at or below the first
-  chain_begins : (from : Labels) (path : List Labels) (to : Labels) → IsChain children from path to → Begins from to
+  chain_begins : (from : Labels) (path : List Labels) (to : Labels) → IsItemPath children from path to → Begins from to
   chain_begins from [] to e = ([], append-nil from ∙ e)
   chain_begins from (next ∷ path) to ((place, at), chain) =
       let (label, is) = (child_of from place next at).1 in
@@ -85,7 +85,7 @@ module _ (ground : Ground) (first : Labels) (children : Labels → List Labels) 
 
   -- ---- what is reached
 
-  chain_in_tree : (from : Labels) (path : List Labels) (to : Labels) → IsInTree ground from → IsChain children from path to → IsInTree ground to
+  chain_in_tree : (from : Labels) (path : List Labels) (to : Labels) → IsInTree ground from → IsItemPath children from path to → IsInTree ground to
   chain_in_tree from [] to is e = subst (IsInTree ground) e is
   chain_in_tree from (next ∷ path) to is ((place, at), chain) = chain_in_tree next path to (child_of from place next at).0 chain
 
@@ -96,7 +96,7 @@ module _ (ground : Ground) (first : Labels) (children : Labels → List Labels) 
       record { named = is.0; is_name = is.1; within = is_prefix_told first name (chain_begins first path name chain) }
 
   module _ (closed : IsClosed ground) where
-    chain_to : (front rest : Labels) → IsInTree ground (front ++ rest) → (path : List Labels) × IsChain children front path (front ++ rest)
+    chain_to : (front rest : Labels) → IsInTree ground (front ++ rest) → (path : List Labels) × IsItemPath children front path (front ++ rest)
     chain_to front [] is = ([], sym (append-nil front))
     chain_to front (label ∷ rest) is =
         let whole : (front ++ label ∷ []) ++ rest ≡ front ++ label ∷ rest = append_assoc front (label ∷ []) rest in
@@ -111,7 +111,7 @@ module _ (ground : Ground) (first : Labels) (children : Labels → List Labels) 
           (front ++ label ∷ []) ∷ path,
           (
             (place, slice_get-get_or (children front) place (front ++ label ∷ []) within ∙ ap (λ (n : Labels). Some n) at),
-            subst (IsChain children (front ++ label ∷ []) path) whole chain,
+            subst (IsItemPath children (front ++ label ∷ []) path) whole chain,
           ),
         )
 
@@ -120,7 +120,7 @@ module _ (ground : Ground) (first : Labels) (children : Labels → List Labels) 
     part_reached name is =
         let (below, e) = is_prefix_tells first name is.within in
         let (path, chain) = chain_to first below (subst (IsInTree ground) (sym e) (is.named, is.is_name)) in
-        (path, subst (IsChain children first path) e chain)
+        (path, subst (IsItemPath children first path) e chain)
 
   -- what holds of each item of a list by its number holds along the list, and back
   along_numbers : (P : Labels → Type 0) (names : List Labels) → ((k : ℕ) (name : Labels) → slice_get names k ≡ Some name → P name) → AllByRecursion P names

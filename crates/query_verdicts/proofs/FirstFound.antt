@@ -20,7 +20,7 @@ turned_less a b e = faults_total.antisymm b.fault a.fault ∙ ap ordering_revers
 
 -- one is seen more: the new list has it or one with a lower type, and so of each that was there; it has no others, and
 -- rises
-record IsPut (x : Seen) (first more : List Seen) : Type 0 where
+record IsPutAmong (x : Seen) (first more : List Seen) : Type 0 where
   has_new : IsCovered more x
   has_old : (y : Seen) → Contains first y → IsCovered more y
   no_other : (y : Seen) → Contains more y → (x ≡ y) ⊎ Contains first y
@@ -39,7 +39,7 @@ rising x xs before rest = AllPairs-cons Rises x xs (all_from_contains (Rises x) 
 
 module _ (x y : Seen) (ys : List Seen) (rises : AllPairs Rises (y ∷ ys)) where
   -- it comes before the first
-  put_before : Rises x y → IsPut x (y ∷ ys) (x ∷ y ∷ ys)
+  put_before : Rises x y → IsPutAmong x (y ∷ ys) (x ∷ y ∷ ys)
   put_before less =
       record {
         has_new = covers_itself (x ∷ y ∷ ys) x (has_first x (y ∷ ys));
@@ -52,7 +52,7 @@ module _ (x y : Seen) (ys : List Seen) (rises : AllPairs Rises (y ∷ ys)) where
       }
 
   -- it has the first one's fault and a lower type
-  put_instead : fault_cmp x.fault y.fault ≡ Equal → number_of x.rtype ≤ number_of y.rtype → IsPut x (y ∷ ys) (x ∷ ys)
+  put_instead : fault_cmp x.fault y.fault ≡ Equal → number_of x.rtype ≤ number_of y.rtype → IsPutAmong x (y ∷ ys) (x ∷ ys)
   put_instead tie lower =
       let same : x.fault ≡ y.fault = one_fault x.fault y.fault tie in
       record {
@@ -67,7 +67,7 @@ module _ (x y : Seen) (ys : List Seen) (rises : AllPairs Rises (y ∷ ys)) where
       }
 
   -- it has the first one's fault and no lower type
-  put_nowhere : fault_cmp x.fault y.fault ≡ Equal → number_of y.rtype ≤ number_of x.rtype → IsPut x (y ∷ ys) (y ∷ ys)
+  put_nowhere : fault_cmp x.fault y.fault ≡ Equal → number_of y.rtype ≤ number_of x.rtype → IsPutAmong x (y ∷ ys) (y ∷ ys)
   put_nowhere tie lower =
       record {
         has_new = record { by = y; has = has_first y ys; fault_is = sym (one_fault x.fault y.fault tie); not_later = lower };
@@ -77,7 +77,7 @@ module _ (x y : Seen) (ys : List Seen) (rises : AllPairs Rises (y ∷ ys)) where
       }
 
   -- it comes behind the first
-  put_behind : fault_cmp x.fault y.fault ≡ Greater → (more : List Seen) → IsPut x ys more → IsPut x (y ∷ ys) (y ∷ more)
+  put_behind : fault_cmp x.fault y.fault ≡ Greater → (more : List Seen) → IsPutAmong x ys more → IsPutAmong x (y ∷ ys) (y ∷ more)
   put_behind greater more put =
       record {
         has_new = covered_behind y more x put.has_new;
@@ -95,7 +95,7 @@ module _ (x y : Seen) (ys : List Seen) (rises : AllPairs Rises (y ∷ ys)) where
         ]) put.rises;
       }
 
-put : (x : Seen) (first : List Seen) → AllPairs Rises first → (more : List Seen) × IsPut x first more
+put : (x : Seen) (first : List Seen) → AllPairs Rises first → (more : List Seen) × IsPutAmong x first more
 put x [] rises = (
   x ∷ [],
   record {
@@ -106,7 +106,7 @@ put x [] rises = (
   },
 )
 put x (y ∷ ys) rises = by (fault_cmp x.fault y.fault) refl (put x ys (pairs_rest Rises y ys rises)) where
-  by : (o : Ordering) → fault_cmp x.fault y.fault ≡ o → (more : List Seen) × IsPut x ys more → (more : List Seen) × IsPut x (y ∷ ys) more
+  by : (o : Ordering) → fault_cmp x.fault y.fault ≡ o → (more : List Seen) × IsPutAmong x ys more → (more : List Seen) × IsPutAmong x (y ∷ ys) more
   by Less e rest = (x ∷ y ∷ ys, put_before x y ys rises e)
   by Equal e rest =
       elim (cases_lt (number_of y.rtype) (number_of x.rtype)) [
@@ -135,7 +135,7 @@ first_types_exist (x ∷ all) =
       },
     )
   where
-    chain : {first : List Seen} (y : Seen) (more : List Seen) → IsCovered first y → IsPut x first more → IsCovered more y
+    chain : {first : List Seen} (y : Seen) (more : List Seen) → IsCovered first y → IsPutAmong x first more → IsCovered more y
     chain y more covered is =
         let again = is.has_old covered.by covered.has in
         let first : number_of again.by.rtype ≤ number_of covered.by.rtype = again.not_later in

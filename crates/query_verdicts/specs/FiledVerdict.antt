@@ -1,14 +1,14 @@
 -- What is told of a name by the verdict that is filed for it: for the contracts of inner calls alone.
 use Rattle.std.specs.Prelude.{◌≡◌, [], Some, None, IfSome}
 use Rattle.query_verdicts.specs.declared.verdict.FiledVerdict.TheInside.{Inside}
-use Rattle.query_verdicts.specs.declared.verdict.Told.{Told}
-use Rattle.query_verdicts.specs.declared.verdict.Told.TheVariants.{Nothing, NothingAlone, Whole}
+use Rattle.query_verdicts.specs.declared.verdict.FiledForm.{FiledForm}
+use Rattle.query_verdicts.specs.declared.verdict.FiledForm.TheVariants.{Nothing, NothingAlone, Whole}
 use Rattle.query_verdicts.specs.declared.verdict.ClassVerdict.{ClassVerdict}
 use Rattle.query_verdicts.specs.declared.verdict.ClassVerdict.TheVariants.{Faults}
 use Rattle.query_verdicts.specs.declared.verdict.NameVerdict.{NameVerdict}
 
 -- the verdict with what is told written out
-abbrev pub verdict_told : Told → NameVerdict ClassVerdict
+abbrev pub verdict_told : FiledForm → NameVerdict ClassVerdict
 verdict_told Nothing = record { exact = Faults []; below = Some (Faults []) }
 verdict_told NothingAlone = record { exact = Faults []; below = None }
 verdict_told (Whole verdict) = verdict.value

@@ -12,7 +12,7 @@ ghost use Rattle.dns_data.specs.Name.{name_cmp, is_among};
 use crate::queries::Queries;
 use crate::servers::servers_told;
 use address_deps::{AddressTold, dependencies_among};
-use dns_data::{List, Name, NoMemory};
+use dns_data::{Name, NoMemory};
 use net_model::{Config, Server};
 use std::alloc::Global;
 use std::collections::BTreeSet;

@@ -8,7 +8,7 @@
 //! queries. A subject is a configuration with its limits, the names that are told apart in it, and the name at or below
 //! which queries are looked at.
 //!
-//! `base_graph` and `joint_base_graph` make graphs of base names. The names of a zone come from its tree, where they stand
+//! `base_graph` and `joint_base_graph` make graphs of base names, and answer `NoMemory` where there is no room. The names of a zone come from its tree, where they stand
 //! in order: putting them in order costs a comparison a name for one zone, and a merge of their runs for several. They come
 //! from the records where two servers have one name, two zones of a server one origin, or an owner lies outside its zone.
 //!
@@ -21,9 +21,9 @@
 //! from that of the name above it: none is walked to from the root to be judged, and judging copies neither the name
 //! nor its live set. Judging a name makes a graph for each of its classes, which is dropped when its faults are found:
 //! a verdict keeps no walk, and takes no memory of its own where no class of the name shows a fault. No graph is made
-//! where the representative's walks are seen to go straight to their ends. Where all servers refer the name to servers
-//! elsewhere, or answer it by data of its own and have no wildcard below it, the class below is judged by the same
-//! search, and its representative isn't made. Where all refer it elsewhere and no zone's origin stands below it, no
+//! where the representative's walks are seen to go straight to their ends. Where each server refers the name to servers
+//! elsewhere, holds no zone for it, or answers it by data of its own and has no wildcard below it, the class below is
+//! judged by the same search, and its representative isn't made. Where all refer it elsewhere and no zone's origin stands below it, no
 //! name below it is searched for at all. A graph is restricted to the least set of learnt addresses only where some
 //! configured server is neither in that set nor a top server. The class of a query under the configuration's own names
 //! is asked only where a graph was made and the subject tells other names apart. The report makes one graph more for

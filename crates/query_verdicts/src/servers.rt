@@ -8,7 +8,7 @@ ghost use Rattle.resting_names.specs.Resting.{Rests};
 
 use crate::queries::{Queries, graph_of};
 use address_deps::AddressTold;
-use dns_data::{List, Name, NoMemory};
+use dns_data::{List, Name, NoMemory, RrType};
 use interp_graph::GraphFault;
 use resting_names::{RestingNames, learns_at_tops};
 
@@ -65,7 +65,7 @@ fn rests_within(
     ensures rests { IfOk result (λ within. within ≡ true → Rests queries.now.trees name.now) }
     ensures few { IfOk result (λ within. within ≡ true → PassesStates queries.now.trees queries.now.rewrites queries.now.states name.now → ⊥) }
 {
-    let most = (queries.states / 12) as usize;
+    let most = (queries.states / RrType::COUNT) as usize;
     if queries.trees.config().tops.items().len() > most {
         return Ok(false);
     }

@@ -31,13 +31,13 @@ pub struct NameVerdict<C> {
 /// memory of its own. Contracts see the verdict.
 #[derive(Debug, Drop)]
 pub struct FiledVerdict {
-    told: Told,
+    told: FiledForm,
 }
 
 /// What is told of a name. Nothing is told of a class whose representative shows no fault and reaches no more pairs of
 /// state and type than are looked at.
 #[derive(Debug, Drop)]
-enum Told {
+enum FiledForm {
     /// Nothing, and the class below the name isn't empty.
     Nothing,
     /// Nothing, and the class below the name is empty.
@@ -68,7 +68,7 @@ impl FiledVerdict {
         match nothing_told(&verdict) {
             Some(told) => Ok(FiledVerdict { told }),
             None => Ok(FiledVerdict {
-                told: Told::Whole(Box::new(alloc, verdict)?),
+                told: FiledForm::Whole(Box::new(alloc, verdict)?),
             }),
         }
     }
@@ -78,8 +78,8 @@ impl FiledVerdict {
         ensures { MatchOption result (TellsNothing self) (λ verdict. verdict ≡ self) }
     {
         match self.told {
-            Told::Whole(verdict) => Some(Box::into_inner(verdict)),
-            Told::Nothing | Told::NothingAlone => None,
+            FiledForm::Whole(verdict) => Some(Box::into_inner(verdict)),
+            FiledForm::Nothing | FiledForm::NothingAlone => None,
         }
     }
 
@@ -88,8 +88,8 @@ impl FiledVerdict {
         ensures { result ≡ passes self.now.exact }
     {
         match &self.told {
-            Told::Whole(verdict) => passes(&verdict.exact),
-            Told::Nothing | Told::NothingAlone => false,
+            FiledForm::Whole(verdict) => passes(&verdict.exact),
+            FiledForm::Nothing | FiledForm::NothingAlone => false,
         }
     }
 
@@ -98,8 +98,8 @@ impl FiledVerdict {
         ensures { result ≡ option_map_or passes self.now.below false }
     {
         match &self.told {
-            Told::Whole(verdict) => passes_below(&verdict.below),
-            Told::Nothing | Told::NothingAlone => false,
+            FiledForm::Whole(verdict) => passes_below(&verdict.below),
+            FiledForm::Nothing | FiledForm::NothingAlone => false,
         }
     }
 
@@ -108,24 +108,24 @@ impl FiledVerdict {
         ensures { result ≡ is_some self.now.below }
     {
         match &self.told {
-            Told::Whole(verdict) => verdict.below.is_some(),
-            Told::Nothing => true,
-            Told::NothingAlone => false,
+            FiledForm::Whole(verdict) => verdict.below.is_some(),
+            FiledForm::Nothing => true,
+            FiledForm::NothingAlone => false,
         }
     }
 }
 
 /// What is told where that is nothing, or `None` where the verdict says more.
-fn nothing_told(verdict: &NameVerdict<ClassVerdict>) -> Option<Told>
+fn nothing_told(verdict: &NameVerdict<ClassVerdict>) -> Option<FiledForm>
     ensures { IfSome result (λ told. verdict_told told ≡ verdict.now) }
 {
     if !tells_nothing(&verdict.exact) {
         return None;
     }
     match &verdict.below {
-        Some(below) if tells_nothing(below) => Some(Told::Nothing),
+        Some(below) if tells_nothing(below) => Some(FiledForm::Nothing),
         Some(_) => None,
-        None => Some(Told::NothingAlone),
+        None => Some(FiledForm::NothingAlone),
     }
 }
 

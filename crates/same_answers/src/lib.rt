@@ -26,5 +26,5 @@ mod verdict;
 
 pub use naming::{JointGround, PairNaming};
 pub use pairing::Pairing;
-pub use sameness::{SameFault, Sameness};
+pub use sameness::Sameness;
 pub use verdict::PairEnd;

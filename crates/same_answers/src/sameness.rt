@@ -15,8 +15,7 @@ use crate::search::{Sought, SoughtClass};
 use crate::verdict::PairEnd;
 use dns_data::{List, Name, NoMemory, RrType};
 use query_classes::TreeName;
-use query_verdicts::NameVerdict;
-use thiserror::Error;
+use query_verdicts::{NameVerdict, ReportFault as SameFault};
 use verdict_book::{Filed, Work};
 
 /// What is told of two configurations.
@@ -28,27 +27,6 @@ pub enum Sameness {
     /// Both bound this query, and its outcomes differ with the type. It is the first representative of which that is
     /// so, with the first type.
     Apart { query: Name, rtype: RrType },
-}
-
-/// Why two configurations aren't compared.
-#[derive(Debug, Drop, Error)]
-pub enum SameFault {
-    /// The representative of some class reaches more pairs of state and type than are looked at, in one of the
-    /// configurations; this one is the first.
-    #[error("more states than are looked at")]
-    StatesPassed(Name),
-    #[error("no memory")]
-    NoMemory,
-}
-
-impl From<NoMemory> for SameFault {
-    ghost from_gives = { λ _ fault. fault ≡ NoMemory };
-
-    ghost use Rattle.same_answers.specs.declared.sameness.SameFault.TheVariants.{NoMemory};
-
-    fn from(_fault: NoMemory) -> SameFault {
-        SameFault::NoMemory
-    }
 }
 
 impl<'a, N: PairNaming + Send> Pairing<'a, N> {

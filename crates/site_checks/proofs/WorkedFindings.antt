@@ -1,5 +1,5 @@
 -- Lines, ends and findings, worked by hand. Each is a theorem: a false one stops the check.
-use Rattle.std.specs.Prelude.{◌≡◌, true, List, [], ◌∷◌, codes, map, Some, None, Ok, Err}
+use Rattle.std.specs.Prelude.{◌≡◌, true, List, [], ◌∷◌, codes, map, Some, None}
 use Rattle.std.proofs.Common.{refl}
 use Rattle.dns_data.specs.Name.{Labels}
 use Rattle.dns_data.specs.declared.rdata.Rdata.TheVariants as data_of
@@ -15,22 +15,21 @@ use Rattle.site_checks.specs.Answering.{answering}
 use Rattle.site_checks.specs.Ends.{end_of, ends_of, typed_end}
 use Rattle.site_checks.specs.Line.{line_of}
 use Rattle.site_checks.specs.Views.{findings_of}
-use Rattle.site_checks.specs.declared.fault.LineBad.TheVariants.{Octet}
 use Rattle.site_checks.specs.declared.views.TypedEnd.{TypedEnd}
 use Rattle.site_checks.specs.declared.views.View.{View}
 
 -- ---- lines
 
-first_and_last_octet : line_of (32 ∷ 126 ∷ []) ≡ Ok (32 ∷ 126 ∷ [])
+first_and_last_octet : line_of (32 ∷ 126 ∷ []) ≡ Some (32 ∷ 126 ∷ [])
 first_and_last_octet = refl
 
-no_octets : line_of [] ≡ Ok []
+no_octets : line_of [] ≡ Some []
 no_octets = refl
 
-octet_31 : line_of (97 ∷ 31 ∷ []) ≡ Err Octet
+octet_31 : line_of (97 ∷ 31 ∷ []) ≡ None
 octet_31 = refl
 
-octet_127 : line_of (127 ∷ 97 ∷ []) ≡ Err Octet
+octet_127 : line_of (127 ∷ 97 ∷ []) ≡ None
 octet_127 = refl
 
 -- ---- ends

@@ -1,8 +1,6 @@
 -- Lines of findings.
-use Rattle.std.specs.Prelude.{ℕ, Bool, ◌&&◌, nat_le, List, if◌then◌else◌, Result, Ok, Err}
+use Rattle.std.specs.Prelude.{ℕ, Bool, ◌&&◌, nat_le, List, if◌then◌else◌, Option, Some, None}
 use Rattle.std.specs.List.{list_all}
-use Rattle.site_checks.specs.declared.fault.LineBad.{LineBad}
-use Rattle.site_checks.specs.declared.fault.LineBad.TheVariants.{Octet}
 
 -- an octet that may stand in a line: a printable one of ASCII
 abbrev pub is_line_octet : ℕ → Bool
@@ -12,6 +10,6 @@ is_line_octet octet = nat_le 32 octet && nat_le octet 126
 abbrev pub is_line : List ℕ → Bool
 is_line octets = list_all is_line_octet octets
 
--- the line with these octets, or that another octet stands among them
-abbrev pub line_of : List ℕ → Result (List ℕ) LineBad
-line_of octets = if is_line octets then Ok octets else Err Octet
+-- the line with these octets, if they may stand in one
+abbrev pub line_of : List ℕ → Option (List ℕ)
+line_of octets = if is_line octets then Some octets else None

@@ -1,11 +1,9 @@
 //! Lines of findings.
 
 ghost use Rattle.std.specs.Prelude.{◌≡◌, ◌++◌, true, IfOk};
-ghost use Rattle.dns_data.specs.Answers.{AnswersOr};
 ghost use Rattle.dns_data.specs.Spelling.{name_text};
 ghost use Rattle.site_checks.specs.Line.{is_line, line_of};
 
-use crate::fault::LineBad;
 use dns_data::{List, Name, NoMemory, Text, same_octets};
 use std::alloc::Global;
 use std::marker::Model;
@@ -29,14 +27,14 @@ impl Model for Line {
 }
 
 impl Line {
-    /// The line with these octets. It is `Octet` where one of them is below 32 or above 126.
-    pub fn from_octets(alloc: Global, octets: &[u8]) -> Result<Line, LineBad>
-        ensures { AnswersOr LineBad.NoMemory result (line_of octets.now) }
+    /// The line with these octets, or `None` where one of them is below 32 or above 126.
+    pub fn from_octets(alloc: Global, octets: &[u8]) -> Result<Option<Line>, NoMemory>
+        ensures { IfOk result (λ line. line ≡ line_of octets.now) }
     {
         if !is_line(octets) {
-            return Err(LineBad::Octet);
+            return Ok(None);
         }
-        Ok(Line::of_text(alloc, printed(octets))?)
+        Ok(Some(Line::of_text(alloc, printed(octets))?))
     }
 
     /// The line of a text that has no other octets than 32 to 126.

@@ -17,9 +17,9 @@ use Rattle.net_model.specs.Shown.{is_authoritative}
 use Rattle.net_model.specs.declared.walk.Leaf.{Leaf}
 use Rattle.net_model.specs.declared.walk.Leaf.TheVariants.{NxDomain}
 use Rattle.walk_laws.specs.Outcome.{outcome_of}
-use Rattle.straight_walks.specs.Answers.{Answering, ZoneOwner, leaf_of, leaf_with, owner_leaf, owner_with, sorted_data}
+use Rattle.straight_walks.specs.Answers.{AnswerOwners, ZoneOwner, leaf_of, leaf_with, owner_leaf, owner_with, sorted_data}
 use Rattle.straight_walks.specs.Ends.{IsOutcomeOf, answers_alike, ends_alike}
-use Rattle.straight_walks.specs.Searching.{IsPut}
+use Rattle.straight_walks.specs.Searching.{AnswerIsPut}
 use Rattle.straight_walks.specs.declared.ends.StraightEnds.{StraightEnds}
 
 -- ---- what a zone answers
@@ -36,15 +36,15 @@ owner_told owner rtype = by owner.owner where
   by (Some name) = told_data (sorted_data owner.zone name rtype)
 
 -- so does a server
-pub answers_told : (answering : Answering) (rtype : RrType) → is_authoritative (leaf_of answering rtype) ≡ true
+pub answers_told : (answering : AnswerOwners) (rtype : RrType) → is_authoritative (leaf_of answering rtype) ≡ true
 answers_told answering rtype = owner_told (owner_with answering rtype) rtype
 
 -- so that is the outcome of a walk that ends there
-pub outcome_told : (answering : Answering) (rtype : RrType) → outcome_of (leaf_of answering rtype) ≡ Some (leaf_of answering rtype)
+pub outcome_told : (answering : AnswerOwners) (rtype : RrType) → outcome_of (leaf_of answering rtype) ≡ Some (leaf_of answering rtype)
 outcome_told answering rtype = ap (λ (b : Bool). if b then Some (leaf_of answering rtype) else None) (answers_told answering rtype)
 
 -- zones that are seen to answer alike answer the same
-pub one_answer : (some other : Answering) (rtype : RrType) → answer_eq (leaf_of some rtype) (leaf_of other rtype) ≡ true → leaf_of some rtype ≡ leaf_of other rtype
+pub one_answer : (some other : AnswerOwners) (rtype : RrType) → answer_eq (leaf_of some rtype) (leaf_of other rtype) ≡ true → leaf_of some rtype ≡ leaf_of other rtype
 one_answer some other rtype equal = same_answers (leaf_of some rtype) (leaf_of other rtype) equal
 
 -- it is told by the data that the owner has, or that there is none
@@ -64,24 +64,24 @@ data_told (one ∷ found) [] = refl
 data_told (one ∷ found) (other ∷ others) = refl
 
 -- where these data are found, or no owner, answers are compared by them
-abbrev pub FoundWith : Answering → RrType → Option (List Rdata) → Type 0
+abbrev pub FoundWith : AnswerOwners → RrType → Option (List Rdata) → Type 0
 FoundWith answering rtype found =
     found ≡ option_map (λ name. sorted_data (owner_with answering rtype).zone name rtype) (owner_with answering rtype).owner
 
-compared_found : (one other : Answering) (rtype : RrType) (found others : Option (List Rdata)) → FoundWith one rtype found → FoundWith other rtype others
+compared_found : (one other : AnswerOwners) (rtype : RrType) (found others : Option (List Rdata)) → FoundWith one rtype found → FoundWith other rtype others
     → answer_eq (option_map_or leaf_with found NxDomain) (option_map_or leaf_with others NxDomain) ≡ answer_eq (leaf_of one rtype) (leaf_of other rtype)
 compared_found one other rtype found others is also =
     ap (λ (leaf : Leaf). answer_eq leaf (option_map_or leaf_with others NxDomain)) (sym (told_by (owner_with one rtype) rtype found is))
     ∙ ap (answer_eq (leaf_of one rtype)) (sym (told_by (owner_with other rtype) rtype others also))
 
 -- where both have data of the type, their answers are equal where the data are
-pub compared_by_data : (one other : Answering) (rtype : RrType) (found others : List Rdata) → FoundWith one rtype (Some found) → FoundWith other rtype (Some others)
+pub compared_by_data : (one other : AnswerOwners) (rtype : RrType) (found others : List Rdata) → FoundWith one rtype (Some found) → FoundWith other rtype (Some others)
     → pointwise (data_impl.ghosts).eq found others ≡ answer_eq (leaf_of one rtype) (leaf_of other rtype)
 compared_by_data one other rtype found others is also =
     same_lists found others ∙ data_told found others ∙ compared_found one other rtype (Some found) (Some others) is also
 
 -- where neither has the name, they answer alike
-pub both_nothing : (one other : Answering) (rtype : RrType) → FoundWith one rtype None → FoundWith other rtype None → true ≡ answer_eq (leaf_of one rtype) (leaf_of other rtype)
+pub both_nothing : (one other : AnswerOwners) (rtype : RrType) → FoundWith one rtype None → FoundWith other rtype None → true ≡ answer_eq (leaf_of one rtype) (leaf_of other rtype)
 both_nothing one other rtype is also = compared_found one other rtype None None is also
 
 data_or_nothing : (found : List Rdata) → (answer_eq (leaf_with found) NxDomain ≡ false) × (answer_eq NxDomain (leaf_with found) ≡ false)
@@ -89,12 +89,12 @@ data_or_nothing [] = (refl, refl)
 data_or_nothing (first ∷ rest) = (refl, refl)
 
 -- where only the first one lacks the name, they don't
-pub first_nothing : (one other : Answering) (rtype : RrType) (others : List Rdata) → FoundWith one rtype None → FoundWith other rtype (Some others)
+pub first_nothing : (one other : AnswerOwners) (rtype : RrType) (others : List Rdata) → FoundWith one rtype None → FoundWith other rtype (Some others)
     → false ≡ answer_eq (leaf_of one rtype) (leaf_of other rtype)
 first_nothing one other rtype others is also = sym (data_or_nothing others).1 ∙ compared_found one other rtype None (Some others) is also
 
 -- nor where only the second one lacks it
-pub second_nothing : (one other : Answering) (rtype : RrType) (found : List Rdata) → FoundWith one rtype (Some found) → FoundWith other rtype None
+pub second_nothing : (one other : AnswerOwners) (rtype : RrType) (found : List Rdata) → FoundWith one rtype (Some found) → FoundWith other rtype None
     → false ≡ answer_eq (leaf_of one rtype) (leaf_of other rtype)
 second_nothing one other rtype found is also = sym (data_or_nothing found).0 ∙ compared_found one other rtype (Some found) None is also
 
@@ -105,11 +105,11 @@ abbrev pub HaveSame : StraightEnds → StraightEnds → RrType → Type 0
 HaveSame one other rtype = (outcome : Option Leaf) → IsOutcomeOf one rtype outcome ↔ IsOutcomeOf other rtype outcome
 
 module _ (rtype : RrType) where
-  abbrev told : Option Answering → Option Leaf
+  abbrev told : Option AnswerOwners → Option Leaf
   told answer = option_map (λ answering. leaf_of answering rtype) answer
 
   -- answers are alike exactly where they tell the same
-  answers_decide : (one other : Option Answering) → (answers_alike one other rtype ≡ true) ↔ (told one ≡ told other)
+  answers_decide : (one other : Option AnswerOwners) → (answers_alike one other rtype ≡ true) ↔ (told one ≡ told other)
   answers_decide None None = (λ e. refl, λ same. refl)
   answers_decide None (Some other) = (λ e. absurd (true≢false (sym e)), λ same. absurd cc)
   answers_decide (Some one) None = (λ e. absurd (true≢false (sym e)), λ same. absurd cc)
@@ -155,16 +155,16 @@ alike_decides one other rtype = (
 abbrev pub with_rewrites : StraightEnds → ℕ → Bool → StraightEnds
 with_rewrites ends rewrites none_below = record ends { rewrites = rewrites; below = false; unnamed_below = ends.unnamed_below && none_below }
 
-module _ (ends : StraightEnds) (answering : Answering) (rewrites more : ℕ) (none_below : Bool) (kept : ends.rewrites ≤ more) (reached : rewrites ≤ more) where
+module _ (ends : StraightEnds) (answering : AnswerOwners) (rewrites more : ℕ) (none_below : Bool) (kept : ends.rewrites ≤ more) (reached : rewrites ≤ more) where
   -- it answers as those before
-  pub put_same : (before : Answering) → ends.answer ≡ Some before → ((rtype : RrType) → leaf_of before rtype ≡ leaf_of answering rtype)
-      → IsPut ends answering rewrites none_below (with_rewrites ends more none_below)
+  pub put_same : (before : AnswerOwners) → ends.answer ≡ Some before → ((rtype : RrType) → leaf_of before rtype ≡ leaf_of answering rtype)
+      → AnswerIsPut ends answering rewrites none_below (with_rewrites ends more none_below)
   put_same before is same =
       record {
         still = record { rewrites = kept; outcomes = still };
         behind = reached;
         there = λ rtype.
-            ap (option_map (λ (one : Answering). leaf_of one rtype)) is ∙ ap (λ (leaf : Leaf). Some leaf) (same rtype);
+            ap (option_map (λ (one : AnswerOwners). leaf_of one rtype)) is ∙ ap (λ (leaf : Leaf). Some leaf) (same rtype);
         only = λ rtype outcome told. inl (back rtype outcome told);
         alone = refl;
         unnamed = refl;
@@ -179,7 +179,7 @@ module _ (ends : StraightEnds) (answering : Answering) (rewrites more : ℕ) (no
       back rtype (Some leaf) told = told
 
   -- or none answered before
-  pub put_first : ends.answer ≡ None → IsPut ends answering rewrites none_below (record (with_rewrites ends more none_below) { answer = Some answering })
+  pub put_first : ends.answer ≡ None → AnswerIsPut ends answering rewrites none_below (record (with_rewrites ends more none_below) { answer = Some answering })
   put_first none =
       record {
         still = record { rewrites = kept; outcomes = still };
@@ -194,7 +194,7 @@ module _ (ends : StraightEnds) (answering : Answering) (rewrites more : ℕ) (no
           → IsOutcomeOf (record (with_rewrites ends more none_below) { answer = Some answering }) rtype outcome
       still rtype None is = is
       still rtype (Some leaf) is =
-          let told = sym (ap (option_map (λ (one : Answering). leaf_of one rtype)) none) ∙ is in absurd (by told)
+          let told = sym (ap (option_map (λ (one : AnswerOwners). leaf_of one rtype)) none) ∙ is in absurd (by told)
         where
           by : None ≡ Some leaf → ⊥
           by e = cc

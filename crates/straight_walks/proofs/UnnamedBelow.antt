@@ -29,9 +29,9 @@ use Rattle.net_model.proofs.Prefixes.{from_prefixes}
 use Rattle.walk_laws.proofs.WalksAlike.UnnamedTails.{far_names, nearest_with_tail, opens_in}
 use Rattle.zone_tree.specs.Tree.{ZoneTree}
 use Rattle.zone_tree.proofs.Prefixes.{longest_itself}
-use Rattle.straight_walks.specs.Answers.{Answering, leaf_of, owner_leaf}
+use Rattle.straight_walks.specs.Answers.{AnswerOwners, leaf_of, owner_leaf}
 use Rattle.straight_walks.specs.Ends.{IsOutcomeOf}
-use Rattle.straight_walks.specs.Searching.{AnswersNothingBelow, AnswersSo, IsPut, nothing_below, nothing_there, state_at}
+use Rattle.straight_walks.specs.Searching.{AnswersNothingBelow, AnswersSo, AnswerIsPut, nothing_below, nothing_there, state_at}
 use Rattle.straight_walks.specs.Straight.{NoOriginBetween}
 use Rattle.straight_walks.specs.declared.ends.StraightEnds.{StraightEnds}
 use Rattle.straight_walks.proofs.Replies.{nothing_decides}
@@ -147,14 +147,14 @@ nothing_answered config query server tree nearest opens tail is zone =
 -- ---- the ends there
 
 -- with each type the answer is that there is no such name
-nothing_leaf : (answering : Answering) (rtype : RrType) → leaf_of (nothing_there answering) rtype ≡ NxDomain
+nothing_leaf : (answering : AnswerOwners) (rtype : RrType) → leaf_of (nothing_there answering) rtype ≡ NxDomain
 nothing_leaf answering rtype = by (type_eq rtype types.Cname) where
   by : (b : Bool) → owner_leaf (cond b (nothing_there answering).own (nothing_there answering).last) rtype ≡ NxDomain
   by true = refl
   by false = refl
 
 -- so walks of it end at once at a server that answers so
-pub nothing_so : (config : Config) (query server tail : Labels) (answering : Answering) → IsUnnamedTail config query tail → AnswersNothingBelow config query server
+pub nothing_so : (config : Config) (query server tail : Labels) (answering : AnswerOwners) → IsUnnamedTail config query tail → AnswersNothingBelow config query server
     → AnswersSo config (query ++ tail) server (nothing_there answering) 0
 nothing_so config query server tail answering is so setting rtype above same enough = (
   [],
@@ -167,15 +167,15 @@ nothing_so config query server tail answering is so setting rtype above same eno
 )
 
 -- where some server answers, an answer there is that there is no such name
-module _ (before after : StraightEnds) (answering : Answering) (rewrites : ℕ) (none_below : Bool) (put : IsPut before answering rewrites none_below after) (rtype : RrType) where
-  abbrev told : Option Answering → Option Leaf
-  told answer = option_map (λ (one : Answering). leaf_of one rtype) answer
+module _ (before after : StraightEnds) (answering : AnswerOwners) (rewrites : ℕ) (none_below : Bool) (put : AnswerIsPut before answering rewrites none_below after) (rtype : RrType) where
+  abbrev told : Option AnswerOwners → Option Leaf
+  told answer = option_map (λ (one : AnswerOwners). leaf_of one rtype) answer
 
-  only_nothing : (answer : Option Answering) (leaf : Leaf) → told (option_map nothing_there answer) ≡ Some leaf → leaf ≡ NxDomain
+  only_nothing : (answer : Option AnswerOwners) (leaf : Leaf) → told (option_map nothing_there answer) ≡ Some leaf → leaf ≡ NxDomain
   only_nothing None leaf e = cc
   only_nothing (Some one) leaf e = let same : leaf_of (nothing_there one) rtype ≡ leaf = cc in sym same ∙ nothing_leaf one rtype
 
-  some_nothing : (answer : Option Answering) (leaf : Leaf) → told answer ≡ Some leaf → told (option_map nothing_there answer) ≡ Some NxDomain
+  some_nothing : (answer : Option AnswerOwners) (leaf : Leaf) → told answer ≡ Some leaf → told (option_map nothing_there answer) ≡ Some NxDomain
   some_nothing None leaf e = cc
   some_nothing (Some one) leaf e = ap (λ (leaf : Leaf). Some leaf) (nothing_leaf one rtype)
 
@@ -195,8 +195,8 @@ module _ (before after : StraightEnds) (answering : Answering) (rewrites : ℕ) 
   only (Some leaf) is = inr (ap (λ (leaf : Leaf). Some leaf) (only_nothing after.answer leaf is ∙ sym (nothing_leaf answering rtype)))
 
 -- so what is put for the query is put for it with an unnamed tail
-pub put_below : (before after : StraightEnds) (answering : Answering) (rewrites : ℕ) (none_below : Bool) → IsPut before answering rewrites none_below after
-    → IsPut (nothing_below before) (nothing_there answering) 0 none_below (nothing_below after)
+pub put_below : (before after : StraightEnds) (answering : AnswerOwners) (rewrites : ℕ) (none_below : Bool) → AnswerIsPut before answering rewrites none_below after
+    → AnswerIsPut (nothing_below before) (nothing_there answering) 0 none_below (nothing_below after)
 put_below before after answering rewrites none_below put =
     record {
       still = record { rewrites = put.still.rewrites; outcomes = λ rtype outcome is. still before after answering rewrites none_below put rtype outcome is };

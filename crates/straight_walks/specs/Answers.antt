@@ -24,20 +24,20 @@ zone_owner tree owner = record { zone = tree.zone; owner = option_map (name_of t
 
 -- What a server answers: with type CNAME by the name's own owner, and with each other type by the last owner, to which
 -- the name's aliases lead. They are the same where the name is no alias.
-pub record Answering : Type 0 where
+pub record AnswerOwners : Type 0 where
   pub own : ZoneOwner
   pub last : ZoneOwner
 
 -- what is answered by the tree's node, or without one, where the name is no alias
-abbrev pub answering_by : ZoneTree → Option ℕ → Answering
+abbrev pub answering_by : ZoneTree → Option ℕ → AnswerOwners
 answering_by tree owner = record { own = zone_owner tree owner; last = zone_owner tree owner }
 
 -- what is answered by the tree's node, whose name is an alias, and by the node of the other tree, to which the aliases lead
-abbrev pub alias_answering : ZoneTree → ℕ → ZoneTree → ℕ → Answering
+abbrev pub alias_answering : ZoneTree → ℕ → ZoneTree → ℕ → AnswerOwners
 alias_answering tree owner last_tree last = record { own = zone_owner tree (Some owner); last = zone_owner last_tree (Some last) }
 
 -- the owner by which it is answered with a type (RFC 1034 section 3.6.2)
-abbrev pub owner_with : Answering → RrType → ZoneOwner
+abbrev pub owner_with : AnswerOwners → RrType → ZoneOwner
 owner_with answering rtype = if type_eq rtype types.Cname then answering.own else answering.last
 
 -- the data of a type that an owner has, in the order of their texts
@@ -54,5 +54,5 @@ abbrev pub owner_leaf : ZoneOwner → RrType → Leaf
 owner_leaf at rtype = option_map_or (λ owner. leaf_with (sorted_data at.zone owner rtype)) at.owner NxDomain
 
 -- what is answered with a type
-abbrev pub leaf_of : Answering → RrType → Leaf
+abbrev pub leaf_of : AnswerOwners → RrType → Leaf
 leaf_of answering rtype = owner_leaf (owner_with answering rtype) rtype

@@ -27,7 +27,7 @@ use Rattle.net_model.specs.declared.walk.Walk.{Walk}
 use Rattle.walk_laws.specs.Outcome.{HasOutcome, outcome_of}
 use Rattle.zone_tree.specs.Tree.{ZoneTree, IsNode, name_of}
 use Rattle.zone_lookup.specs.Sound.{IsSound}
-use Rattle.straight_walks.specs.Answers.{Answering, ZoneOwner, leaf_of, owner_leaf, zone_owner}
+use Rattle.straight_walks.specs.Answers.{AnswerOwners, ZoneOwner, leaf_of, owner_leaf, zone_owner}
 use Rattle.straight_walks.specs.Ends.{IsOutcomeOf}
 use Rattle.straight_walks.specs.Straight.{EndsUnanswered, FailsOrGoes, FollowsLeast, GoesStraight, NoOriginBetween}
 use Rattle.straight_walks.specs.declared.aliases.AliasEnd.{AliasEnd}
@@ -87,7 +87,7 @@ IsComeTo setting query rtype state =
 -- ---- ends
 
 -- the zones of a server that answers have no such name
-abbrev pub nothing_there : Answering → Answering
+abbrev pub nothing_there : AnswerOwners → AnswerOwners
 nothing_there answering =
     record { own = record { zone = answering.own.zone; owner = None }; last = record { zone = answering.last.zone; owner = None } }
 
@@ -123,7 +123,7 @@ pub record KeepsOutcomes (before after : StraightEnds) : Type 0 where
 -- what a server answers behind so many rewrites is put to the ends: it is their answer then, no other outcome comes to
 -- those before, and of names below the query they tell at most of those with an unnamed tail, where the server has none
 -- of these
-pub record IsPut (before : StraightEnds) (answering : Answering) (rewrites : ℕ) (none_below : Bool) (after : StraightEnds) : Type 0 where
+pub record AnswerIsPut (before : StraightEnds) (answering : AnswerOwners) (rewrites : ℕ) (none_below : Bool) (after : StraightEnds) : Type 0 where
   pub still : KeepsOutcomes before after
   pub behind : rewrites ≤ after.rewrites
   pub there : (rtype : RrType) → IsOutcomeOf after rtype (Some (leaf_of answering rtype))
@@ -233,7 +233,7 @@ pub record IsAliasEnd (config : Config) (server name : Labels) (rewrites : ℕ) 
 
 -- with each type walks from a state with the name, to which so many rewrites led, go by rewrites alone to the answer,
 -- by no more rewrites in all than these
-abbrev pub AnswersBehind : Config → Labels → Labels → ℕ → Answering → ℕ → Type 0
+abbrev pub AnswersBehind : Config → Labels → Labels → ℕ → AnswerOwners → ℕ → Type 0
 AnswersBehind config server name rewrites answering most =
     (setting : Setting) (rtype : RrType) (state : State) → setting.config ≡ config → most ≤ setting.rewrites
     → state.server ≡ server → state.name ≡ name → state.used ≡ rewrites
@@ -242,14 +242,14 @@ AnswersBehind config server name rewrites answering most =
 -- what the server answers to the name, to which so many rewrites led, is put to the ends
 pub record IsAnsweredBehind (config : Config) (server name : Labels) (rewrites : ℕ) (before after : StraightEnds) : Type 0 where
   pub held : is_some (nearest_of config server name) ≡ true
-  pub answering : Answering
+  pub answering : AnswerOwners
   pub most : ℕ
   pub no_fewer : rewrites ≤ most
   pub answers : AnswersBehind config server name rewrites answering most
-  pub put : IsPut before answering most false after
+  pub put : AnswerIsPut before answering most false after
 
 -- with each type walks from the query's state at the server end in the answer, behind no more rewrites than these
-abbrev pub AnswersSo : Config → Labels → Labels → Answering → ℕ → Type 0
+abbrev pub AnswersSo : Config → Labels → Labels → AnswerOwners → ℕ → Type 0
 AnswersSo config query server answering rewrites =
     (setting : Setting) (rtype : RrType) (above : ℕ) → setting.config ≡ config → rewrites ≤ setting.rewrites
     → (behind : List State) × (length behind ≤ rewrites) × AnswersAlong setting rtype (leaf_of answering rtype) (state_at config query server above) behind
@@ -266,11 +266,11 @@ AnswersNothingBelow config query server =
 -- what the server answers to the query is put to the ends, and whether it has none of the query's names with an unnamed
 -- tail
 pub record IsAnswered (config : Config) (query server : Labels) (before after : StraightEnds) : Type 0 where
-  pub answering : Answering
+  pub answering : AnswerOwners
   pub rewrites : ℕ
   pub none_below : Bool
   pub answers : AnswersSo config query server answering rewrites
-  pub put : IsPut before answering rewrites none_below after
+  pub put : AnswerIsPut before answering rewrites none_below after
   pub below : none_below ≡ true → AnswersNothingBelow config query server
 
 -- ---- states that are passed
@@ -294,7 +294,7 @@ pub record IsSettingFor (config : Config) (deps : Deps) (ends : StraightEnds) (s
 
 -- from the query's state at a server walks go straight, to an end or on to states that are queued then; no other states
 -- come to the queue, and no other outcomes to the ends
-pub record Passes (config : Config) (deps : Deps) (query server : Labels) (before : List Queued) (ends_before : StraightEnds) (after : List Queued) (ends : StraightEnds) : Type 0 where
+pub record SearchPasses (config : Config) (deps : Deps) (query server : Labels) (before : List Queued) (ends_before : StraightEnds) (after : List Queued) (ends : StraightEnds) : Type 0 where
   pub extends : Extends before after
   pub still : KeepsOutcomes ends_before ends
   pub steps : (setting : Setting) (rtype : RrType) (above : ℕ) → IsSettingFor config deps ends setting
@@ -327,10 +327,13 @@ pub record HasPassed (config : Config) (deps : Deps) (query : Labels) (queue : L
 abbrev pub IsSearch : Config → Deps → Labels → Search → Type 0
 IsSearch config deps query searched = HasPassed config deps query searched.queue.items searched.passed (unanswered searched.fails)
 
+-- the statement holds of each name of which they tell the ends, with the ends of that name
+abbrev pub HoldsForEach : Config → Labels → (Labels → StraightEnds → Type 0) → StraightEnds → Type 0
+HoldsForEach config query P ends = (name : Labels) (found : StraightEnds) → AreEndsFor config query ends name found → P name found
+
 -- for each name of which they tell the ends the first queued states, as many as said, are passed
 abbrev pub HavePassed : Config → Deps → Labels → List Queued → ℕ → StraightEnds → Type 0
-HavePassed config deps query queue passed ends =
-    (name : Labels) (found : StraightEnds) → AreEndsFor config query ends name found → HasPassed config deps name queue passed found
+HavePassed config deps query queue passed ends = HoldsForEach config query (λ name found. HasPassed config deps name queue passed found) ends
 
 -- in each setting of the configuration in which walks may use so many rewrites those of the query go straight to the
 -- ends, with each type, over at most so many states
@@ -338,18 +341,13 @@ abbrev pub GoesStraightIn : Config → Deps → ℕ → ℕ → Labels → Strai
 GoesStraightIn config deps rewrites most query ends =
     (setting : Setting) → IsSettingOf config deps setting → rewrites ≤ setting.rewrites → (rtype : RrType) → GoesStraight setting deps most query ends rtype
 
--- so do those of each name of which they tell the ends
-abbrev pub GoStraightIn : Config → Deps → ℕ → ℕ → Labels → StraightEnds → Type 0
-GoStraightIn config deps rewrites most query ends =
-    (name : Labels) (found : StraightEnds) → AreEndsFor config query ends name found → GoesStraightIn config deps rewrites most name found
-
 -- the next referral of a search that has passed so many of the states, with what walks end in before and after: where
 -- walks end at all of them the query goes straight; where a server refers the query the search has passed all up to
 -- that state
 abbrev pub IsNextReferral : Config → Labels → List Queued → ℕ → StraightEnds → StraightEnds → NextReferral → Type 0
 IsNextReferral config query queue before ends_before ends referring.Ends =
     (deps : Deps) → HavePassed config deps query queue before ends_before
-    → (most : ℕ) → length queue * (ends.rewrites + 1) ≤ most → GoStraightIn config deps ends.rewrites most query ends
+    → (most : ℕ) → length queue * (ends.rewrites + 1) ≤ most → HoldsForEach config query (GoesStraightIn config deps ends.rewrites most) ends
 IsNextReferral config query queue before ends_before ends (referring.Refers passed tree cut) =
     (before ≤ passed)
     × (passed < length queue)

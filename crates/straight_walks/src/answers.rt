@@ -70,9 +70,9 @@ pub struct ZoneAnswer<'h, 'a> {
 }
 
 impl<'h, 'a> Model for ZoneAnswer<'h, 'a> {
-    ghost use Rattle.straight_walks.specs.Answers.{Answering};
+    ghost use Rattle.straight_walks.specs.Answers.{AnswerOwners};
 
-    ghost Value = { Answering };
+    ghost Value = { AnswerOwners };
 
     ghost view = { λ answer. record { own = answer.own; last = answer.last } };
 }

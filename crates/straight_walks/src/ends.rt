@@ -2,7 +2,7 @@
 
 ghost use Rattle.std.specs.Prelude.{◌≡◌, true};
 ghost use Rattle.straight_walks.specs.Ends.{answers_alike, ends_alike};
-ghost use Rattle.straight_walks.specs.Searching.{IsPut, failing};
+ghost use Rattle.straight_walks.specs.Searching.{AnswerIsPut, failing};
 
 use crate::answers::ZoneAnswer;
 use dns_data::RrType;
@@ -39,7 +39,7 @@ impl<'h, 'a> StraightEnds<'h, 'a> {
         rewrites: u32,
         none_below: bool,
     ) -> bool
-        ensures { result ≡ true → IsPut self.old answer.entry rewrites none_below self.new }
+        ensures { result ≡ true → AnswerIsPut self.old answer.entry rewrites none_below self.new }
     {
         self.below = false;
         self.unnamed_below = self.unnamed_below && none_below;

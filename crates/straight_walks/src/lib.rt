@@ -23,8 +23,9 @@
 //! name servers is configured the states of the query's nearest origin are copied, once. The search goes on from there,
 //! over the states queued after that one and those at the servers to which it refers the query, and looks at no state
 //! twice. Where no origin is at or above the query, a queue is made of the states at the top servers. No graph is made.
-//! Where all these servers refer the query or hold no zone for it, its ends are told of the names below too, and where
-//! the others answer it by its own data, of the query with an unnamed tail: those take no search of their own. Whether
+//! Where each of these servers refers the query to servers elsewhere or holds no zone for it, its ends are told of the
+//! names below too, and where the others answer it by data of its own and have no wildcard below it, of the query with
+//! an unnamed tail: those take no search of their own. Whether
 //! an origin stands below a name takes three comparisons.
 #![tactic(auto)]
 

@@ -7,12 +7,12 @@ use Rattle.std.proofs.lemmas.Bool.{eqb-true, eq-eqb, and_parts, ltb-true, not-tr
 use Rattle.pool_core.specs.declared.history.HistoryEntry.{HistoryEntry}
 use Rattle.pool_core.specs.declared.history.HistoryEntry.TheVariants.{Claim, File, Stop}
 use Rattle.pool_core.specs.History.{children_of, claims, files, issued_in, is_claimed_in, is_filed_in, first_stop, may_come_next, all_may_follow, is_legal}
-use Rattle.verdict_book.specs.Items.{IsChildAt, IsChain, Reached, ParentsApart, item_step, items_from, items_of, CountsRight, AllCountRight, AreReachedItems, FilesAllReached}
+use Rattle.verdict_book.specs.Items.{IsChildAt, IsItemPath, Reached, ParentsApart, item_step, items_from, items_of, CountsRight, AllCountRight, AreReachedItems, FilesAllReached}
 use Rattle.verdict_book.proofs.Places.{get_left, get_right, get_cases, some_same, one_value}
 use Rattle.pool_core.proofs.Histories.{issued_push, filed_push, claimed_cases, filed_cases}
 
 module _ {I : Type 0} (first : I) (children : I → List I) where
-  chain_more : (from : I) (path : List I) (parent : I) (place : ℕ) (item : I) → IsChain children from path parent → IsChildAt children parent place item → (path' : List I) × IsChain children from path' item
+  chain_more : (from : I) (path : List I) (parent : I) (place : ℕ) (item : I) → IsItemPath children from path parent → IsChildAt children parent place item → (path' : List I) × IsItemPath children from path' item
   chain_more from [] parent place item chain child = (item ∷ [], ((place, subst (λ p. IsChildAt children p place item) (sym chain) child), refl))
   chain_more from (next ∷ path) parent place item chain child =
       let rest = chain_more next path parent place item chain.1 child in
@@ -155,7 +155,7 @@ module _ {I : Type 0} (first : I) (children : I → List I) where
         only zero item at = some_same first item at
         only (suc k) item at = absurd cc
 
-    all_there : (h : List HistoryEntry) (items : List I) → Known h items → ((t : ℕ) → t < issued_in h → is_filed_in h t ≡ true) → (from : I) (k : ℕ) → At items k from → (path : List I) (item : I) → IsChain children from path item → (place : ℕ) × At items place item
+    all_there : (h : List HistoryEntry) (items : List I) → Known h items → ((t : ℕ) → t < issued_in h → is_filed_in h t ≡ true) → (from : I) (k : ℕ) → At items k from → (path : List I) (item : I) → IsItemPath children from path item → (place : ℕ) × At items place item
     all_there h items known all from k at [] item chain = (k, subst (At items k) chain at)
     all_there h items known all from k at (next ∷ path) item chain =
         let low = slice_get_within items k from at in

@@ -14,7 +14,7 @@ use Rattle.std.proofs.lemmas.List.FromFn.{length-range_with_len, get_or-range_wi
 use Rattle.std.proofs.lemmas.List.Sorted.{IsPermutation-refl, IsPermutation-sym, IsPermutation-swap, IsPermutation-trans, All-permutation, length_permutation}
 use Rattle.pool_core.proofs.Lists.{slice_get-set_same, slice_get-set_other}
 use Rattle.verdict_book.specs.Items.{NoneTwice}
-use Rattle.verdict_book.specs.Ranks.{AreAllPlaces, AreRanks}
+use Rattle.verdict_book.specs.Ranks.{ArePermutedPlaces, AreRanks}
 use Rattle.verdict_book.proofs.Places.{moved, moved_back, get_swap, none_twice_permuted, items_permuted, one_value, some_same}
 
 -- at each place of the rising places stands the place itself
@@ -51,7 +51,7 @@ pub lent_at : {T : Type 0} (items : List T) (place : ℕ) (lent : Option (Bor T)
 lent_at items place None lends = sym (slice_get_past items place lends.3)
 lent_at items place (Some x) lends = ap Some lends.1 ∙ sym (slice_get-get_or items place x.now lends.3.0)
 
-module _ (count : ℕ) (places : List ℕ) (all : AreAllPlaces count places) where
+module _ (count : ℕ) (places : List ℕ) (all : ArePermutedPlaces count places) where
   -- all places are as many as the elements
   pub places_many : length places ≡ count
   places_many = length_permutation (range_with_len 0 count) places all ∙ length-range_with_len 0 count
@@ -93,7 +93,7 @@ module _ (count : ℕ) (places : List ℕ) (all : AreAllPlaces count places) whe
 
 module _ {T : Type 0} (cmp : T → T → Ordering) (items items' : List T) (places ranks : List ℕ) where
   -- elements that stand where the ranks of sorted places say are sorted
-  pub sorted_by_ranks : AreAllPlaces (length items) places → AreRanks places ranks → IsSortedByKey (slice_get items) (option_cmp cmp) places
+  pub sorted_by_ranks : ArePermutedPlaces (length items) places → AreRanks places ranks → IsSortedByKey (slice_get items) (option_cmp cmp) places
       → ((place rank : ℕ) → slice_get ranks place ≡ Some rank → slice_get items' rank ≡ slice_get items place) → length items' ≡ length items → IsSorted cmp items'
   sorted_by_ranks all are sorted each len k d low high =
       let many = places_many (length items) places all in

@@ -9,14 +9,14 @@ abbrev pub IsChildAt : {I : Type 0} → (I → List I) → I → ℕ → I → T
 IsChildAt children parent place item = slice_get (children parent) place ≡ Some item
 
 -- each next item of the path is a child of the one before, from this item to the last one
-abbrev pub IsChain : {I : Type 0} → (I → List I) → I → List I → I → Type 0
-IsChain children from [] to = from ≡ to
-IsChain children from (next ∷ path) to =
-    ((place : ℕ) × IsChildAt children from place next) × IsChain children next path to
+abbrev pub IsItemPath : {I : Type 0} → (I → List I) → I → List I → I → Type 0
+IsItemPath children from [] to = from ≡ to
+IsItemPath children from (next ∷ path) to =
+    ((place : ℕ) × IsChildAt children from place next) × IsItemPath children next path to
 
 -- there is a chain from the first item
 abbrev pub Reached : {I : Type 0} → I → (I → List I) → I → Type 0
-Reached {I} first children item = (path : List I) × IsChain children first path item
+Reached {I} first children item = (path : List I) × IsItemPath children first path item
 
 -- no item is a child twice, of one or of two reached items, and the first item is a child of no reached item
 pub record ParentsApart {I : Type 0} (first : I) (children : I → List I) : Type 0 where

@@ -4,8 +4,8 @@ use Rattle.std.specs.List.{range_with_len}
 use Rattle.std.specs.List.Sorted.{IsPermutation}
 
 -- the numbers are the places of a list of so many elements, each once, in some order
-abbrev pub AreAllPlaces : ℕ → List ℕ → Type 0
-AreAllPlaces count places = IsPermutation (range_with_len 0 count) places
+abbrev pub ArePermutedPlaces : ℕ → List ℕ → Type 0
+ArePermutedPlaces count places = IsPermutation (range_with_len 0 count) places
 
 -- there is a rank for each place, and it says where the place stands among the places
 pub record AreRanks (places ranks : List ℕ) : Type 0 where

@@ -5,13 +5,13 @@ ghost use Rattle.std.specs.List.{range_with_len, swap};
 ghost use Rattle.std.specs.List.Sorted.{IsPermutation, IsSortedByKey};
 ghost use Rattle.std.specs.Option.{option_cmp};
 ghost use Rattle.verdict_book.specs.Items.{NoneTwice};
-ghost use Rattle.verdict_book.specs.Ranks.{AreAllPlaces, AreRanks};
+ghost use Rattle.verdict_book.specs.Ranks.{ArePermutedPlaces, AreRanks};
 
 use dns_data::NoMemory;
 use std::alloc::Global;
 use std::cmp::Ordering;
 
-/// Puts the elements in order. After an error they stand as before. It takes room for two numbers of 32 bits
+/// Puts the elements, fewer than 2^32, in order. After an error they stand as before. It takes room for two numbers of 32 bits
 /// an element: not the elements are sorted, but their places. Then each element goes where its place stands
 /// among them, by fewer exchanges than there are elements.
 pub fn sort_by_places<T: Ord>(alloc: Global, items: &mut Vec<T>) -> Result<(), NoMemory>
@@ -29,7 +29,7 @@ pub fn sort_by_places<T: Ord>(alloc: Global, items: &mut Vec<T>) -> Result<(), N
 /// The places of the elements, in the order of the elements.
 fn sorted_places<T: Ord>(alloc: Global, items: &[T]) -> Result<Vec<u32>, NoMemory>
     requires few { length items.now < 2 ^ 32 }
-    ensures all { IfOk result (λ places. AreAllPlaces (length items.now) places.items) }
+    ensures all { IfOk result (λ places. ArePermutedPlaces (length items.now) places.items) }
     ensures sorted { IfOk result (λ places. IsSortedByKey (slice_get items.now) (option_cmp T.cmp) places.items) }
 {
     let mut places = all_places(alloc, items.len() as u32)?;
@@ -58,7 +58,7 @@ fn compare_at<T: Ord>(items: &[T], one: u32, other: u32) -> Ordering
 /// The rank of each place: which one it is of the places, counted from 0.
 fn ranks_of(alloc: Global, places: &[u32]) -> Result<Vec<u32>, NoMemory>
     requires few { length places.now < 2 ^ 32 }
-    requires all { AreAllPlaces (length places.now) places.now }
+    requires all { ArePermutedPlaces (length places.now) places.now }
     ensures { IfOk result (λ ranks. AreRanks places.now ranks.items) }
 {
     let mut ranks = vec![in alloc; 0u32; places.len()]?;

@@ -9,7 +9,7 @@ use Rattle.dns_data.proofs.Membership.{has_first, has_later, first_or_later, pai
 use Rattle.dns_data.proofs.NameOrder.{names_total, before_later}
 use Rattle.dns_data.proofs.OrderedLists.{never_before_itself}
 use Rattle.dns_data.proofs.Searches.{found_there}
-use Rattle.zone_lookup.specs.Firsts.{AreFirsts}
+use Rattle.zone_lookup.specs.Firsts.{AreFirstsByName}
 use Rattle.zone_lookup.proofs.FirstsByName.{found_in_order}
 
 -- items that differ from each other and are all in a list that is no longer are its items
@@ -32,7 +32,7 @@ all_among (x ∷ xs) ys differ has many =
         ]) (omega (arith, many, length_permutation ys (x ∷ remove ys k) same)) in
         IsPermutation-trans ys (x ∷ remove ys k) (x ∷ xs) same (IsPermutation-cons x (remove ys k) xs left)
 
-module _ {X Y : Type 0} (tell : X → Y) (name_of : Y → Labels) (all : List Y) (items : List X) (are : AreFirsts tell name_of all items) where
+module _ {X Y : Type 0} (tell : X → Y) (name_of : Y → Labels) (all : List Y) (items : List X) (are : AreFirstsByName tell name_of all items) where
   abbrev key : X → Labels
   key x = name_of (tell x)
 

@@ -19,7 +19,7 @@ use Rattle.dns_data.specs.Name.{Labels, name_eq, name_cmp}
 use Rattle.dns_data.proofs.NameOrder.{names_total, before_differs, before_later, behind_differs}
 use Rattle.dns_data.proofs.Names.{same_names, name_eq_decides}
 use Rattle.dns_data.proofs.Searches.{find_none}
-use Rattle.zone_lookup.specs.Firsts.{AreFirsts, FindsFirsts}
+use Rattle.zone_lookup.specs.Firsts.{AreFirstsByName, FindsFirsts}
 
 -- the order of borrowed names
 abbrev pub borrowed_cmp : Bor Labels → Bor Labels → Ordering
@@ -110,9 +110,9 @@ module _ {X Y : Type 0} (tell : X → Y) (name_of : Y → Labels) where
 
   -- they are the firsts, in the order of names
   pub values_are : (all : List Y) (items : BTreeMap (Bor Labels) X) (values : List X) → FindsFirsts tell name_of all items
-      → IsStrictlySortedBy borrowed_cmp (keys_of items.entries) → values ≡ values_of items.entries → AreFirsts tell name_of all values
+      → IsStrictlySortedBy borrowed_cmp (keys_of items.entries) → values ≡ values_of items.entries → AreFirstsByName tell name_of all values
   values_are all items values finds sorted are =
-      subst (AreFirsts tell name_of all) (sym are)
+      subst (AreFirstsByName tell name_of all) (sym are)
       (record {
         ordered = subst (IsStrictlySortedBy name_cmp) (sym (names_are_keys items.entries finds.keyed)) (names_rise (keys_of items.entries) sorted);
         firsts = λ name. ap (option_map tell) (found_as_key name items.entries finds.keyed) ∙ finds.firsts name;

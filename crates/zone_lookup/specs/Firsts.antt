@@ -12,7 +12,7 @@ use Rattle.dns_data.specs.Name.{Labels, name_eq, name_cmp}
 
 module _ {X Y : Type 0} (tell : X → Y) (name_of : Y → Labels) where
   -- the items stand in the order of their names, and of each name there is the first of all that have it
-  pub record AreFirsts (all : List Y) (items : List X) : Type 0 where
+  pub record AreFirstsByName (all : List Y) (items : List X) : Type 0 where
     pub ordered : IsStrictlySortedBy name_cmp (map (λ item. name_of (tell item)) items)
     pub firsts : (name : Labels) → option_map tell (find (λ item. name_eq (name_of (tell item)) name) items) ≡ find (λ one. name_eq (name_of one) name) all
 

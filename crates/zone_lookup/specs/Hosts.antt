@@ -5,16 +5,16 @@ use Rattle.dns_data.specs.Name.{Labels}
 use Rattle.net_model.specs.declared.config.Server.{Server}
 use Rattle.net_model.specs.declared.config.Zone.{Zone}
 use Rattle.zone_tree.specs.Tree.{ZoneTree}
-use Rattle.zone_lookup.specs.Firsts.{AreFirsts}
+use Rattle.zone_lookup.specs.Firsts.{AreFirstsByName}
 use Rattle.zone_lookup.specs.Named.{item_named}
 
 -- trees of zones by their origins
 abbrev pub AreTreesOf : List Zone → List ZoneTree → Type 0
-AreTreesOf zones trees = AreFirsts (λ tree. tree.zone) (λ zone. zone.origin) zones trees
+AreTreesOf zones trees = AreFirstsByName (λ tree. tree.zone) (λ zone. zone.origin) zones trees
 
 -- servers by their names
 abbrev pub AreHostsOf : List Server → List Server → Type 0
-AreHostsOf servers hosts = AreFirsts (λ host. host) (λ server. server.name) servers hosts
+AreHostsOf servers hosts = AreFirstsByName (λ host. host) (λ server. server.name) servers hosts
 
 -- the tree whose zone has this origin
 abbrev pub tree_at : List ZoneTree → Labels → Option ZoneTree

@@ -1,7 +1,7 @@
 //! The first of several values with one name.
 
 ghost use Rattle.std.specs.Prelude.{◌≡◌, map, IfOk};
-ghost use Rattle.zone_lookup.specs.Firsts.{AreFirsts, FindsFirsts};
+ghost use Rattle.zone_lookup.specs.Firsts.{AreFirstsByName, FindsFirsts};
 
 use crate::named::Named;
 use dns_data::{Name, NoMemory};
@@ -22,7 +22,7 @@ pub(crate) fn firsts_in_order<'a, Y: Named, X: MadeOf<'a, Y>>(
     alloc: Global,
     all: &'a [Y],
 ) -> Result<Vec<X>, NoMemory>
-    ensures { IfOk result (λ items. AreFirsts X.tell Y.name_of all.now items.items) }
+    ensures { IfOk result (λ items. AreFirstsByName X.tell Y.name_of all.now items.items) }
 {
     let found = firsts_by_name(alloc, all)?;
     // The length is read, so that it is known here that the keys are in order.

@@ -14,8 +14,8 @@ use net_model::{Cut, Fault};
 use std::alloc::Global;
 
 /// Puts the faults of a referral, whatever comes behind it, behind the others, if its zone cut is at or below its zone's
-/// origin, as the zone cut of every referral on a walk is. `NoMemory` comes where there is no room for them (RFC 1034
-/// sections 4.2.1 and 4.3.2).
+/// origin, as the zone cut of every referral on a walk is. `NoMemory` comes where there is no room for them, or for the
+/// addresses that are compared; some of them stand behind the others then (RFC 1034 sections 4.2.1 and 4.3.2).
 pub fn put_cut_faults(
     alloc: Global,
     hosts: &Hosts<'_>,

@@ -37,24 +37,6 @@ pub enum RuleCause {
     StarOrigin,
 }
 
-impl RuleCause {
-    /// The code of the rule, a word that is printed.
-    pub fn code(&self) -> &'static str
-        ensures { result.now ≡ rule_code self.now }
-    {
-        match self {
-            RuleCause::NoSoa => "no-soa",
-            RuleCause::TwoSoas => "two-soas",
-            RuleCause::SoaElsewhere => "soa-elsewhere",
-            RuleCause::CnameAndOther => "cname-and-other",
-            RuleCause::TwoCnames => "two-cnames",
-            RuleCause::TwoDnames => "two-dnames",
-            RuleCause::StarRecord => "star-record",
-            RuleCause::StarOrigin => "star-origin",
-        }
-    }
-}
-
 /// Why records are no zone.
 #[derive(Clone, Copy, Debug, PartialEq, Eq, Error)]
 pub enum RuleFault {
@@ -71,6 +53,24 @@ pub enum RuleFault {
     /// Memory ran out.
     #[error("no memory")]
     NoMemory,
+}
+
+impl RuleCause {
+    /// The code of the rule, a word that is printed.
+    pub fn code(&self) -> &'static str
+        ensures { result.now ≡ rule_code self.now }
+    {
+        match self {
+            RuleCause::NoSoa => "no-soa",
+            RuleCause::TwoSoas => "two-soas",
+            RuleCause::SoaElsewhere => "soa-elsewhere",
+            RuleCause::CnameAndOther => "cname-and-other",
+            RuleCause::TwoCnames => "two-cnames",
+            RuleCause::TwoDnames => "two-dnames",
+            RuleCause::StarRecord => "star-record",
+            RuleCause::StarOrigin => "star-origin",
+        }
+    }
 }
 
 impl<E: WantOfMemory + Drop> From<E> for RuleFault {

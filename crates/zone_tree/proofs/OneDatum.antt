@@ -5,13 +5,13 @@ use Rattle.std.proofs.Math.Bool.{or-false}
 use Rattle.std.proofs.lemmas.Bool.{eq-eqb, or_left}
 use Rattle.std.proofs.lemmas.Cmp.{nat_eq_equiv}
 use Rattle.std.proofs.lemmas.Map.Views.{any-filter_same}
+use Rattle.dns_data.proofs.Sets.{bit_of}
 use Rattle.dns_data.specs.Name.{name_cmp}
 use Rattle.dns_data.specs.Rdata.{has_type, type_of_data}
 use Rattle.dns_data.specs.RrType.{types, type_eq, number_of}
-use Rattle.dns_data.specs.TypeSet.{has_bit}
 use Rattle.dns_data.specs.declared.rdata.Rdata.{Rdata}
 use Rattle.dns_data.specs.declared.rr_type.RrType.{RrType}
-use Rattle.dns_data.specs.declared.rr_type.RrType.TheVariants.{A, Ns, Cname, Soa, Ptr, Hinfo, Mx, Txt, Aaaa, Srv, Dname, Caa}
+use Rattle.dns_data.specs.declared.rr_type.RrType.TheVariants.{Ns}
 use Rattle.net_model.specs.Order.{in_order}
 use Rattle.net_model.specs.Zone.{target_of}
 use Rattle.zone_tree.specs.OwnedData.{written_out, HaveSameData}
@@ -19,21 +19,6 @@ use Rattle.zone_tree.specs.Records.{TellsData}
 use Rattle.zone_tree.specs.declared.owned_data.OwnedForm.TheVariants.{Nothing, OneDatum}
 use Rattle.zone_tree.specs.declared.records.Set.{Set}
 use Rattle.zone_tree.proofs.Types.{set_of_one}
-
--- the types that pass a test, as a bit for each, have those bits
-pub bit_of : (test : RrType → Bool) (rtype : RrType) → has_bit (map test types) rtype ≡ test rtype
-bit_of test A = refl
-bit_of test Ns = refl
-bit_of test Cname = refl
-bit_of test Soa = refl
-bit_of test Ptr = refl
-bit_of test Hinfo = refl
-bit_of test Mx = refl
-bit_of test Txt = refl
-bit_of test Aaaa = refl
-bit_of test Srv = refl
-bit_of test Dname = refl
-bit_of test Caa = refl
 
 -- lists of which a filter leaves the same pass its test alike
 same_any : {A : Type 0} (test : A → Bool) (xs ys : List A) → filter test xs ≡ filter test ys → list_any test xs ≡ list_any test ys

@@ -13,7 +13,7 @@ use Rattle.dns_data.proofs.NameFronts.{is_prefix_told}
 use Rattle.dns_data.proofs.Names.{same_names}
 use Rattle.dns_data.proofs.NameOrder.{UpTo, Before, names_total, before_differs, behind_differs, prefix_up_to, up_to_before, between}
 use Rattle.dns_data.proofs.OrderedLists.{never_before_itself}
-use Rattle.zone_tree.specs.Names.{StandsBelow}
+use Rattle.zone_tree.specs.Names.{IsStrictlyBelow}
 
 -- names in order rise
 pub rises : (names : List Labels) → AreInOrder names → IsSortedBy (λ a b. is_lt (name_cmp a b)) names
@@ -55,7 +55,7 @@ apart names i j ordered first second other =
     ]
 
 module _ (names : List Labels) (place : ℕ) (ordered : AreInOrder names) (within : place < length names)
-    (name : Labels) (below : StandsBelow name (get_or names place [])) (has : Contains names name) where
+    (name : Labels) (below : IsStrictlyBelow name (get_or names place [])) (has : Contains names name) where
   abbrev above : Labels
   above = get_or names place []
 
@@ -104,14 +104,14 @@ module _ (names : List Labels) (place : ℕ) (ordered : AreInOrder names) (withi
 -- where the next name isn't below the one at a place, or there is none, no name is
 pub none_below : (names : List Labels) (place : ℕ) → AreInOrder names → place < length names
     → (place + 1 < length names → is_prefix (get_or names place []) (get_or names (place + 1) []) ≡ false)
-    → (name : Labels) → StandsBelow name (get_or names place []) → Contains names name → ⊥
+    → (name : Labels) → IsStrictlyBelow name (get_or names place []) → Contains names name → ⊥
 none_below names place ordered within apart name below has =
     true≢false (sym (next_below names place ordered within name below has)
     ∙ apart (omega (arith, stands_behind names place ordered within name below has, has.1)))
 
 -- where the next name stands behind one below the name at a place, that one isn't there
 pub none_between : (names : List Labels) (place : ℕ) → AreInOrder names → place < length names
-    → (name : Labels) → StandsBelow name (get_or names place []) → name_cmp (get_or names (place + 1) []) name ≡ Greater → Contains names name → ⊥
+    → (name : Labels) → IsStrictlyBelow name (get_or names place []) → name_cmp (get_or names (place + 1) []) name ≡ Greater → Contains names name → ⊥
 none_between names place ordered within name below greater has =
     true≢false (sym (ap is_gt greater) ∙ next_up_to names place ordered within name below has)
 

@@ -17,7 +17,7 @@ tree_after before [] = []
 tree_after before (name ∷ names) = new_prefixes before name ++ tree_after name names
 
 -- the first name stands below the second
-pub record StandsBelow (name above : Labels) : Type 0 where
+pub record IsStrictlyBelow (name above : Labels) : Type 0 where
   pub first : List ℕ
   pub rest : Labels
   pub is : name ≡ above ++ first ∷ rest

@@ -14,8 +14,8 @@ use std::alloc::Global;
 use std::marker::Model;
 use std::slice;
 
-/// What a name owns. Where that is no data or one datum, as it is for most names of a large zone, it takes no memory of
-/// its own. Contracts see the types, the name servers and the data of each type written out.
+/// What a name owns. Where that is no data or one datum other than an NS datum, as it is for most names of a zone of
+/// hosts, it takes no memory of its own. Contracts see the types, the name servers and the data of each type written out.
 #[derive(Debug, Drop)]
 pub(crate) struct OwnedData<'a> {
     form: OwnedForm<'a>,

@@ -4,7 +4,7 @@ ghost use Rattle.std.specs.Prelude.{◌≡◌, ◌+◌, ◌<◌, true, false, []
 ghost use Rattle.std.specs.List.Sorted.{IsSearchInRange, IsBinarySearchResult};
 ghost use Rattle.dns_data.specs.Name.{Labels, name_cmp, is_prefix, AreInOrder};
 ghost use Rattle.zone_tree.specs.Keys.{IsKeyBelow, AreKeyed};
-ghost use Rattle.zone_tree.specs.Names.{StandsBelow};
+ghost use Rattle.zone_tree.specs.Names.{IsStrictlyBelow};
 ghost use Rattle.zone_tree.specs.Preceding.{IsLastUpTo};
 
 use crate::keys::{key_if_below, key_of};
@@ -117,7 +117,7 @@ pub(crate) fn place_of_child(names: &[Name], place: usize, label: &[u8]) -> Opti
 fn is_leaf_at(names: &[Name], place: usize) -> bool
     requires ordered { AreInOrder names.now }
     requires within { place < length names.now }
-    ensures leaf { result ≡ true → (name : Labels) → StandsBelow name (slice_index_or names.now place []) → Contains names.now name → ⊥ }
+    ensures leaf { result ≡ true → (name : Labels) → IsStrictlyBelow name (slice_index_or names.now place []) → Contains names.now name → ⊥ }
     ensures next { result ≡ false → place + 1 < length names.now }
 {
     if place + 1 < names.len() {

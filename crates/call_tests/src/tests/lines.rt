@@ -1,7 +1,7 @@
 //! The lines that checks of an operator find.
 
 use dns_data::{List, Name, NoMemory};
-use site_checks::{Line, LineBad, copied_lines};
+use site_checks::{Line, copied_lines};
 use std::alloc::Global;
 use std::test::Fail;
 
@@ -16,16 +16,15 @@ fn lines_have_printable_octets_and_copies(rt: HostRuntime) -> Result<(), Fail> {
 
 /// Whether the octets are no line.
 fn is_no_line(alloc: Global, octets: &[u8]) -> bool {
-    match Line::from_octets(alloc, octets) {
-        Ok(_) => false,
-        Err(fault) => fault == LineBad::Octet,
-    }
+    matches!(Line::from_octets(alloc, octets), Ok(None))
 }
 
 /// A line of octets, one of a text, and one with the name of the root.
-fn three_lines(alloc: Global) -> Result<List<Line>, LineBad> {
+fn three_lines(alloc: Global) -> Result<List<Line>, NoMemory> {
     let mut lines = List::new(alloc);
-    lines.push(Line::from_octets(alloc, b" ~")?)?;
+    if let Some(line) = Line::from_octets(alloc, b" ~")? {
+        lines.push(line)?;
+    }
     lines.push(Line::of_text(alloc, "a b")?)?;
     lines.push(Line::with_name(alloc, "at ", &Name::root())?)?;
     Ok(lines)

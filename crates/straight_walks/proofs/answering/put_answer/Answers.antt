@@ -1,6 +1,6 @@
 use Rattle.std.proofs.Common.{false, Some, None, sym, subst, true≢false}
-use Rattle.straight_walks.specs.Answers.{Answering, alias_answering, answering_by}
-use Rattle.straight_walks.specs.Searching.{IsPut, IsReply}
+use Rattle.straight_walks.specs.Answers.{AnswerOwners, alias_answering, answering_by}
+use Rattle.straight_walks.specs.Searching.{AnswerIsPut, IsReply}
 use Rattle.straight_walks.proofs.AliasEnds.{alias_answers_so, answers_by}
 use Rattle.straight_walks.proofs.UnnamedBelow.{nothing_answered}
 use Rattle.straight_walks.proofs.answering.put_answer.Goals as goal
@@ -17,7 +17,7 @@ returns-in_ok-none_below-in-Records c = λ yes.
       rewrites = 0;
       none_below = c.in_ok-none_below-in-Records.none_below;
       answers = answers_by config query server tree (Some c.in-Records.owner) so.3;
-      put = subst (λ (answering : Answering). IsPut c.args.ends.now answering 0 c.in_ok-none_below-in-Records.none_below c.put.new.self) c.of_owner.ensures (c.put.ensures yes);
+      put = subst (λ (answering : AnswerOwners). AnswerIsPut c.args.ends.now answering 0 c.in_ok-none_below-in-Records.none_below c.put.new.self) c.of_owner.ensures (c.put.ensures yes);
       below = λ none. nothing_answered config query server tree so.1 (c.in_ok-none_below-in-Records.ensures none so.2);
     }
 
@@ -34,7 +34,7 @@ returns-in_ok-none_below-in-Some c = λ yes.
       rewrites = end.rewrites;
       none_below = c.in_ok-none_below-in-Some.none_below;
       answers = alias_answers_so config query server tree c.in-Alias.owner c.in-Alias.target end so c.in-Some.ensures;
-      put = subst (λ (answering : Answering). IsPut c.args.ends.now answering end.rewrites c.in_ok-none_below-in-Some.none_below c.put-in-Some.new.self) c.of_alias-answer.ensures (c.put-in-Some.ensures yes);
+      put = subst (λ (answering : AnswerOwners). AnswerIsPut c.args.ends.now answering end.rewrites c.in_ok-none_below-in-Some.none_below c.put-in-Some.new.self) c.of_alias-answer.ensures (c.put-in-Some.ensures yes);
       below = λ none. nothing_answered config query server tree so.1 (c.in_ok-none_below-in-Some.ensures none so.2);
     }
 
@@ -50,6 +50,6 @@ returns-in-Nothing c = λ yes.
       rewrites = 0;
       none_below = false;
       answers = answers_by config query server tree None so;
-      put = subst (λ (answering : Answering). IsPut c.args.ends.now answering 0 false c.put-in-Nothing.new.self) c.of_nothing.ensures (c.put-in-Nothing.ensures yes);
+      put = subst (λ (answering : AnswerOwners). AnswerIsPut c.args.ends.now answering 0 false c.put-in-Nothing.new.self) c.of_nothing.ensures (c.put-in-Nothing.ensures yes);
       below = λ some. absurd (true≢false (sym some));
     }

@@ -1,8 +1,8 @@
 use Rattle.std.proofs.Common.{false, Option, Some, ap, subst, arith}
 use Rattle.std.specs.Prelude.{is_some}
 use Rattle.net_model.specs.declared.config.Zone.{Zone}
-use Rattle.straight_walks.specs.Answers.{Answering, alias_answering, answering_by}
-use Rattle.straight_walks.specs.Searching.{IsPut}
+use Rattle.straight_walks.specs.Answers.{AnswerOwners, alias_answering, answering_by}
+use Rattle.straight_walks.specs.Searching.{AnswerIsPut}
 use Rattle.straight_walks.proofs.AliasEnds.{alias_behind, records_behind}
 use Rattle.straight_walks.proofs.answering.put_behind.Goals as goal
 
@@ -14,7 +14,7 @@ returns-in-Records c = λ yes.
       most = 1;
       no_fewer = omega arith;
       answers = records_behind c.args.hosts.now c.args.one.server.now c.args.name.now 1 c.in-Records.tree c.in-Records.owner c.in-Records.ensures;
-      put = subst (λ (answering : Answering). IsPut c.args.ends.now answering 1 false c.put.new.self) c.of_owner.ensures (c.put.ensures yes);
+      put = subst (λ (answering : AnswerOwners). AnswerIsPut c.args.ends.now answering 1 false c.put.new.self) c.of_owner.ensures (c.put.ensures yes);
     }
 
 pub returns-in-Some : goal.returns-in-Some
@@ -26,5 +26,5 @@ returns-in-Some c = λ yes.
       most = end.rewrites;
       no_fewer = omega (arith, c.in-Some.ensures.no_fewer);
       answers = alias_behind c.args.hosts.now c.args.one.server.now c.args.name.now 1 c.in-Alias.tree c.in-Alias.owner c.in-Alias.target end c.in-Alias.ensures c.in-Some.ensures;
-      put = subst (λ (answering : Answering). IsPut c.args.ends.now answering end.rewrites false c.put-in-Some.new.self) c.of_alias.ensures (c.put-in-Some.ensures yes);
+      put = subst (λ (answering : AnswerOwners). AnswerIsPut c.args.ends.now answering end.rewrites false c.put-in-Some.new.self) c.of_alias.ensures (c.put-in-Some.ensures yes);
     }
