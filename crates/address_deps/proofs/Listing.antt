@@ -14,7 +14,8 @@ use Rattle.dns_data.proofs.Names.{name_eq_decides}
 use Rattle.net_model.specs.declared.config.Config.{Config}
 use Rattle.address_deps.specs.declared.told.AddressTold.{AddressTold}
 use Rattle.graph_form.proofs.Paths.{same_item}
-use Rattle.address_deps.specs.Dependents.{AreAllPlaces, AreDependents, IsListedFor, places_of, told_awaits}
+use Rattle.dns_data.specs.Listed.{places_of}
+use Rattle.address_deps.specs.Dependents.{AreAllPlaces, AreDependents, IsListedFor, told_awaits}
 
 -- the names to which references lead
 abbrev pub borrowed_names : List (Bor Labels) → List Labels

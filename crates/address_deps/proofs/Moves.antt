@@ -17,7 +17,8 @@ use Rattle.address_deps.specs.declared.told.AddressTold.{AddressTold}
 use Rattle.graph_form.proofs.Paths.{same_item}
 use Rattle.address_deps.specs.declared.direction.Direction.{Direction}
 use Rattle.address_deps.specs.declared.direction.Direction.TheVariants.{Adding, Dropping}
-use Rattle.address_deps.specs.Dependents.{AreDependents, places_of}
+use Rattle.dns_data.specs.Listed.{places_of}
+use Rattle.address_deps.specs.Dependents.{AreDependents}
 use Rattle.address_deps.specs.Direction.{IsFair, IsMoved, IsSettledAt, adds, unmoved}
 use Rattle.address_deps.specs.Told.{AreTold, IsToldOf}
 use Rattle.address_deps.specs.Sets.{AreServers}

@@ -10,7 +10,8 @@ use Rattle.net_model.specs.declared.config.Server.{Server}
 use Rattle.address_deps.specs.declared.told.AddressTold.{AddressTold}
 use Rattle.graph_form.proofs.Paths.{same_item}
 use Rattle.graph_form.proofs.Places.{PairAt, pair_at}
-use Rattle.address_deps.specs.Dependents.{AreDependents, places_of, told_awaits}
+use Rattle.dns_data.specs.Listed.{places_of}
+use Rattle.address_deps.specs.Dependents.{AreDependents, told_awaits}
 use Rattle.address_deps.specs.Told.{AreTold, IsToldOf}
 use Rattle.address_deps.specs.Sets.{AreServers, NoneMoreLearntAt, IsLearntAt}
 use Rattle.address_deps.proofs.Awaited.{AreAlike, alike_back, same_told}

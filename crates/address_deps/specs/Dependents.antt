@@ -1,9 +1,10 @@
 -- Who waits for the address of a name server, and the servers that wait for another look. The contracts of inner calls
 -- alone cite it.
-use Rattle.std.specs.Prelude.{◌≡◌, ◌⊎◌, ◌↔◌, ℕ, ◌<◌, List, [], ◌∷◌, length, Some, Contains, slice_get, unwrap_or, if◌then◌else◌}
+use Rattle.std.specs.Prelude.{◌≡◌, ◌⊎◌, ◌↔◌, ℕ, ◌<◌, List, [], ◌∷◌, length, Some, Contains, slice_get, if◌then◌else◌}
 use Rattle.std.specs.BTreeMap as map
 use Rattle.std.specs.List.{flat_map}
-use Rattle.dns_data.specs.Name.{Labels, name_cmp}
+use Rattle.dns_data.specs.Listed.{places_of}
+use Rattle.dns_data.specs.Name.{Labels}
 use Rattle.net_model.specs.Step.{may_follow}
 use Rattle.net_model.specs.declared.config.Config.{Config}
 use Rattle.net_model.specs.declared.walk.Hop.{Hop}
@@ -33,10 +34,6 @@ graph_awaits config graph = flat_map (λ one. branch_awaits config one.branch) (
 abbrev pub told_awaits : Config → AddressTold → List Labels
 told_awaits config (Known learnt) = []
 told_awaits config (ByGraph graph) = graph_awaits config graph
-
--- the places that are listed for a name
-abbrev pub places_of : map.BTreeMap Labels (List ℕ) → Labels → List ℕ
-places_of places name = unwrap_or (map.get name_cmp places name) []
 
 -- a place is listed for more names
 pub record IsListedFor (place : ℕ) (names : List Labels) (old new : map.BTreeMap Labels (List ℕ)) : Type 0 where

@@ -2,13 +2,13 @@
 
 ghost use Rattle.std.specs.Prelude.{◌≡◌, ◌⊎◌, ◌++◌, ◌∷◌, [], ℕ, true, false, Contains, IfOk, OnOk, length, map};
 ghost use Rattle.dns_data.specs.Name.{Labels, name_eq};
+ghost use Rattle.dns_data.specs.Listed.{places_of};
 ghost use Rattle.address_deps.specs.Dependents.{
   AreDependents,
   IsListedFor,
   branch_awaits,
   graph_awaits,
   hop_awaits,
-  places_of,
   told_awaits,
 };
 

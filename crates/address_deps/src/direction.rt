@@ -2,7 +2,8 @@
 
 ghost use Rattle.std.specs.Prelude.{◌≡◌, ◌<◌, ◌≤◌, ◌==◌, ◌++◌, ℕ, Some, true, false, length, slice_get, IfOk, OnOk};
 ghost use Rattle.net_model.specs.declared.config.Server.{Server};
-ghost use Rattle.address_deps.specs.Dependents.{AreAllPlaces, AreDependents, places_of};
+ghost use Rattle.dns_data.specs.Listed.{places_of};
+ghost use Rattle.address_deps.specs.Dependents.{AreAllPlaces, AreDependents};
 ghost use Rattle.address_deps.specs.Direction.{IsFair, IsMoved, IsRoundOf, IsSettledAt, adds, unmoved};
 
 use crate::dependents::Dependents;

@@ -18,9 +18,7 @@ use graph_form::Report;
 use label_graph::LabelGraph;
 use net_model::Config;
 use query_classes::TreeName;
-use query_verdicts::{
-    FiledVerdict, NameJudge, QueryGraphs, ReportFault, SubjectGround, base_graph,
-};
+use query_verdicts::{FiledVerdict, JudgeFault, NameJudge, QueryGraphs, SubjectGround, base_graph};
 use std::alloc::Global;
 use std::marker::Model;
 use verdict_book::{Filed, JudgeShare, Judged, Work};
@@ -113,7 +111,7 @@ impl<'a, N: Naming + Send> Judge<'a, N> {
     /// The report of the configuration, from the verdicts of all names of its class tree: the faults that some query
     /// shows, each with its first query and type, and the first walk or pair of walks. Where the representative of some
     /// class reaches more pairs of state and type than are looked at, it is `StatesPassed` with the first such one.
-    pub fn report(&self, filed: List<Filed<Judge<'a, N>>>) -> Result<Report, ReportFault>
+    pub fn report(&self, filed: List<Filed<Judge<'a, N>>>) -> Result<Report, JudgeFault>
         requires whole { IsWholeTree name_cmp [] N.children_of N.verdict_of filed }
         requires few { length filed < 2 ^ 31 }
         ensures report { IfOk result (IsReport (whole_config N.config N.rewrites)) }

@@ -14,4 +14,4 @@ mod naming;
 
 pub use judge::Judge;
 pub use naming::{Naming, OfConfig};
-pub use query_verdicts::{ClassVerdict, FiledVerdict, NameVerdict, ReportFault};
+pub use query_verdicts::{ClassVerdict, FiledVerdict, JudgeFault, NameVerdict};

@@ -17,3 +17,4 @@ pub mod Put
 pub mod TypeSet
 pub mod Storage
 pub mod First
+pub mod Listed

@@ -26,10 +26,10 @@ pub enum RrType {
 
 impl RrType {
     /// How many types there are.
-    pub const COUNT: u32 = 12;
+    pub const COUNT: usize = 12;
 
     /// The twelve types in the order of their numbers.
-    pub const ALL: [RrType; 12] = [
+    pub const ALL: [RrType; RrType::COUNT] = [
         RrType::A,
         RrType::Ns,
         RrType::Cname,

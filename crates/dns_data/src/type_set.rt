@@ -12,7 +12,7 @@ use std::marker::Model;
 /// A set of the twelve record types.
 #[derive(Clone, Copy, Debug, PartialEq, Eq)]
 pub struct TypeSet {
-    members: [bool; 12],
+    members: [bool; RrType::COUNT],
 }
 
 impl Model for TypeSet {
@@ -31,7 +31,7 @@ impl TypeSet {
         ensures { (t : RrType) → has_bit result t ≡ false }
     {
         TypeSet {
-            members: [false; 12],
+            members: [false; RrType::COUNT],
         }
     }
 
@@ -40,7 +40,7 @@ impl TypeSet {
         ensures { (t : RrType) → has_bit result t ≡ true }
     {
         TypeSet {
-            members: [true; 12],
+            members: [true; RrType::COUNT],
         }
     }
 

@@ -29,5 +29,5 @@ pub use net_model::Deps;
 pub use node::{Arm, Branch, Node};
 pub use repeated::repeats;
 pub use report::{Report, ReportEntry, Seen};
-pub use shows::{is_authoritative, is_place, is_same_answer};
+pub use shows::{is_authoritative, is_same_answer};
 pub use verdict::first_types;

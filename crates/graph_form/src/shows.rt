@@ -61,7 +61,7 @@ fn leaf_shows(fault: &Fault, leaf: &Leaf) -> bool
             cut.ns == *ns
         }
         (Fault::Limit(place), Leaf::Limit(other))
-        | (Fault::Overlong(place), Leaf::Overlong(other)) => is_place(place, other),
+        | (Fault::Overlong(place), Leaf::Overlong(other)) => place == other,
         (Fault::Blackhole(_), Leaf::NxDomain) => true,
         _ => false,
     }
@@ -118,7 +118,7 @@ fn is_referral(cut: &Cut, hop: &Hop) -> bool
     ensures { result ≡ first_path.is_referral cut.now hop.now }
 {
     match hop {
-        Hop::Refer(other) => is_cut(cut, other),
+        Hop::Refer(other) => cut == other,
         Hop::Rewrite { .. } => false,
     }
 }
@@ -128,21 +128,7 @@ fn is_last(place: &Place, last: &Option<Place>) -> bool
     ensures { result ≡ option_map_or (first_path.place_eq place.now) last.now false }
 {
     match last {
-        Some(other) => is_place(place, other),
+        Some(other) => place == other,
         None => false,
     }
-}
-
-/// Whether two places are equal: server, zone and owner.
-pub fn is_place(a: &Place, b: &Place) -> bool
-    ensures { result ≡ first_path.place_eq a.now b.now }
-{
-    a.server == b.server && a.zone == b.zone && a.owner == b.owner
-}
-
-/// Whether two name servers of delegations are equal.
-fn is_cut(a: &Cut, b: &Cut) -> bool
-    ensures { result ≡ first_path.cut_eq a.now b.now }
-{
-    a.server == b.server && a.zone == b.zone && a.cut == b.cut && a.ns == b.ns
 }

@@ -8,7 +8,7 @@ ghost use Rattle.groot_run.specs.Judged.{AreLimits, IsJudged};
 
 use crate::counted::{config_redirects, count_redirected};
 use crate::ending::too_many_states;
-use class_judge::{Judge, Naming, ReportFault, laws};
+use class_judge::{Judge, JudgeFault, Naming, laws};
 use dns_data::NoMemory;
 use graph_form::Report;
 use io_edges::Gate;
@@ -107,8 +107,8 @@ fn told<N: Naming + Send + Sync, G: Gate + Sync, R: Threads + Wait + Sync>(
     match run_tree(rt, alloc, judge, limits.workers, limits.classes, gate) {
         Ok(filed) => match judge.report(filed) {
             Ok(report) => Ok(report),
-            Err(ReportFault::StatesPassed(query)) => Err(too_many_states(alloc, &query)),
-            Err(ReportFault::NoMemory) => Err(Ending::no_memory()),
+            Err(JudgeFault::StatesPassed(query)) => Err(too_many_states(alloc, &query)),
+            Err(JudgeFault::NoMemory) => Err(Ending::no_memory()),
         },
         Err(PoolFault::TooMany(_)) => Err(Ending::too_many_names(alloc, limits.classes)),
         Err(PoolFault::NoMemory) => Err(Ending::no_memory()),

@@ -21,7 +21,7 @@ use dns_data::{Name, NoMemory, Octets, RrType};
 use groot_line::{USUAL_NAMES, USUAL_REWRITES, USUAL_WORKERS};
 use io_edges::{Files, Gate};
 use net_model::Config;
-use query_verdicts::{MOST_STATES, ReportFault as SameFault};
+use query_verdicts::{JudgeFault, MOST_STATES};
 use run_endings::{Ending, Status};
 use same_answers::{PairNaming, Pairing, Sameness, laws};
 use std::alloc::Global;
@@ -153,8 +153,8 @@ fn told_by<N: PairNaming + Send + Sync, G: Gate + Sync, R: Threads + Wait + Sync
     match run_tree(rt, alloc, pairing, workers, USUAL_NAMES, gate) {
         Ok(filed) => match pairing.outcome(filed) {
             Ok(sameness) => told(alloc, &sameness),
-            Err(SameFault::StatesPassed(query)) => too_many_states(alloc, &query),
-            Err(SameFault::NoMemory) => Ending::no_memory(),
+            Err(JudgeFault::StatesPassed(query)) => too_many_states(alloc, &query),
+            Err(JudgeFault::NoMemory) => Ending::no_memory(),
         },
         Err(PoolFault::TooMany(_)) => Ending::too_many_names(alloc, USUAL_NAMES),
         Err(PoolFault::NoMemory) => Ending::no_memory(),

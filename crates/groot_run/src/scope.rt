@@ -22,7 +22,7 @@ use dns_data::{List, Name, NoMemory, Octets};
 use graph_form::Report;
 use groot_line::{USUAL_NAMES, USUAL_REWRITES, USUAL_WORKERS};
 use io_edges::Gate;
-use job_scope::{ScopeFault, ScopeJudge, ScopeNaming, laws};
+use job_scope::{JudgeFault, ScopeJudge, ScopeNaming, laws};
 use net_model::Config;
 use query_classes::ClassRow;
 use query_verdicts::MOST_STATES;
@@ -116,8 +116,8 @@ fn report_of<N: ScopeNaming + Send + Sync, G: Gate + Sync, R: Threads + Wait + S
     match run_tree(rt, alloc, judge, workers, USUAL_NAMES, gate) {
         Ok(filed) => match judge.report(filed) {
             Ok(report) => Ok(report),
-            Err(ScopeFault::StatesPassed(query)) => Err(too_many_states(alloc, &query)),
-            Err(ScopeFault::NoMemory) => Err(Ending::no_memory()),
+            Err(JudgeFault::StatesPassed(query)) => Err(too_many_states(alloc, &query)),
+            Err(JudgeFault::NoMemory) => Err(Ending::no_memory()),
         },
         Err(PoolFault::TooMany(_)) => Err(Ending::too_many_names(alloc, USUAL_NAMES)),
         Err(PoolFault::NoMemory) => Err(Ending::no_memory()),

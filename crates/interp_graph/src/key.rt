@@ -114,7 +114,7 @@ fn same_last(a: &Option<Place>, b: &Option<Place>) -> bool
 {
     match (a, b) {
         (None, None) => true,
-        (Some(a), Some(b)) => a.server == b.server && a.zone == b.zone && a.owner == b.owner,
+        (Some(a), Some(b)) => a == b,
         _ => false,
     }
 }

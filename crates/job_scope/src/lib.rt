@@ -17,6 +17,6 @@ mod scope_judge;
 
 pub use naming::{OfScope, ScopeNaming};
 pub use query_verdicts::{
-    ClassVerdict as ScopeEnd, FiledVerdict, NameVerdict as ScopeVerdict, ReportFault as ScopeFault,
+    ClassVerdict as ScopeEnd, FiledVerdict, JudgeFault, NameVerdict as ScopeVerdict,
 };
 pub use scope_judge::ScopeJudge;

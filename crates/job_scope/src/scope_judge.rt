@@ -18,8 +18,7 @@ use label_graph::LabelGraph;
 use net_model::Config;
 use query_classes::TreeName;
 use query_verdicts::{
-    FiledVerdict, NameJudge, QueryGraphs, ReportFault as ScopeFault, SubjectGround, base_graph,
-    joint_base_graph,
+    FiledVerdict, JudgeFault, NameJudge, QueryGraphs, SubjectGround, base_graph, joint_base_graph,
 };
 use std::alloc::Global;
 use std::marker::Model;
@@ -131,7 +130,7 @@ impl<'a, N: ScopeNaming + Send> ScopeJudge<'a, N> {
     /// some class at or below that name reaches more pairs of state and type than are looked at, it is `StatesPassed`
     /// with the first such one; if none does, but the name of some configured server, with the first such server's
     /// name.
-    pub fn report(&self, filed: List<Filed<ScopeJudge<'a, N>>>) -> Result<Report, ScopeFault>
+    pub fn report(&self, filed: List<Filed<ScopeJudge<'a, N>>>) -> Result<Report, JudgeFault>
         requires whole { IsWholeTree name_cmp N.scope N.children_of N.verdict_of filed }
         requires few { length filed < 2 ^ 31 }
         ensures report { IfOk result (IsReport (scoped N.config N.rewrites N.scope)) }

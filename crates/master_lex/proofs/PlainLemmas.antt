@@ -13,7 +13,7 @@ use Rattle.master_lex.specs.declared.position.Mode.TheVariants.{Start, Between, 
 use Rattle.master_lex.specs.declared.position.Escape.TheVariants.{Outside}
 use Rattle.master_lex.specs.declared.scanner.TheConstants.{MOST}
 use Rattle.master_lex.specs.Octets.{kind, is_space, is_blank, is_feed, stands}
-use Rattle.master_lex.specs.States.{State, with_mode, kept, between_by, in_word_by, in_quotes_by, in_comment_by, passed_by, passed, run}
+use Rattle.master_lex.specs.States.{LexState, with_mode, kept, between_by, in_word_by, in_quotes_by, in_comment_by, passed_by, passed, run}
 use Rattle.master_lex.specs.Plain.{with_plain, KeptPlain, PassedFirst}
 
 -- the first octet passes, and those behind it
@@ -31,11 +31,11 @@ blank_is Blank h = refl
 blank_is _ h = absurd cc
 
 -- in a token whose octets so far are these
-abbrev in_token_of : Bool → List ℕ → State → State
+abbrev in_token_of : Bool → List ℕ → LexState → LexState
 in_token_of q w s = record s { raw = w; position = record s.position { mode = InToken q Outside } }
 
 -- an octet that stands for itself
-itself : (q : Bool) (s : State) (w : List ℕ) (c : ℕ) → stands q (kind c) ≡ true → passed (in_token_of q w s) c ≡ kept (in_token_of q w s) (c ∷ []) q
+itself : (q : Bool) (s : LexState) (w : List ℕ) (c : ℕ) → stands q (kind c) ≡ true → passed (in_token_of q w s) c ≡ kept (in_token_of q w s) (c ∷ []) q
 unfolding passed
 itself false s w c h = by (kind c) h where
   by : (k : OctetKind) → stands false k ≡ true → in_word_by k (in_token_of false w s) c ≡ kept (in_token_of false w s) (c ∷ []) false
@@ -48,11 +48,11 @@ itself true s w c h = by (kind c) h where
   by Backslash h = absurd cc
   by _ h = refl
 
-keep_short : (s : State) (w : List ℕ) (c : ℕ) (q : Bool) → length w < MOST → kept (in_token_of q w s) (c ∷ []) q ≡ in_token_of q (w ++ c ∷ []) s
+keep_short : (s : LexState) (w : List ℕ) (c : ℕ) (q : Bool) → length w < MOST → kept (in_token_of q w s) (c ∷ []) q ≡ in_token_of q (w ++ c ∷ []) s
 keep_short s w c q h = let e : nat_le 1 (MOST - length w) ≡ true = grind (arith, nat_tests) in rw e refl
 
 -- plain octets in a token under way
-token_run : (q : Bool) (s : State) (w octets : List ℕ) (n : ℕ) → n ≤ prefix_len (λ octet. stands q (kind octet)) octets → n ≤ MOST - length w
+token_run : (q : Bool) (s : LexState) (w octets : List ℕ) (n : ℕ) → n ≤ prefix_len (λ octet. stands q (kind octet)) octets → n ≤ MOST - length w
     → run (in_token_of q w s) (take n octets) ≡ in_token_of q (w ++ take n octets) s
 token_run q s w octets zero h l = ap (λ x. in_token_of q x s) (sym (append-nil w))
 token_run q s w [] (suc n) h l = ap (λ x. in_token_of q x s) (sym (append-nil w))
@@ -67,11 +67,11 @@ unfolding kind
 plain_no_space c h = grind (arith, nat_tests)
 
 -- a plain octet begins a token
-first_kept : (s : State) (c : ℕ) → kind c ≡ Plain → length s.raw < MOST → between_by (kind c) s c ≡ in_token_of false (s.raw ++ c ∷ []) s
+first_kept : (s : LexState) (c : ℕ) → kind c ≡ Plain → length s.raw < MOST → between_by (kind c) s c ≡ in_token_of false (s.raw ++ c ∷ []) s
 first_kept s c e h = let short : nat_le 1 (MOST - length s.raw) ≡ true = grind (arith, nat_tests) in ap (λ k. between_by k s c) e ∙ rw short refl
 
 -- plain octets in front, the first of which is passed as between tokens
-begun_run : (s t : State) (octets : List ℕ) (n : ℕ) → ((c : ℕ) → kind c ≡ Plain → passed s c ≡ between_by (kind c) t c)
+begun_run : (s t : LexState) (octets : List ℕ) (n : ℕ) → ((c : ℕ) → kind c ≡ Plain → passed s c ≡ between_by (kind c) t c)
     → suc n ≤ prefix_len (λ octet. stands false (kind octet)) octets → suc n ≤ MOST - length t.raw
     → run s (take (suc n) octets) ≡ with_plain t (take (suc n) octets) false
 begun_run s t [] n first h l = absurd (omega arith)
@@ -82,30 +82,30 @@ begun_run s t (c ∷ cs) n first h l =
     ∙ token_run false t (t.raw ++ c ∷ []) cs n p.1 (omega (arith, length-append t.raw (c ∷ [])))
     ∙ ap (λ x. in_token_of false x t) (append_assoc t.raw (c ∷ []) (take n cs))
 
-passed_between : (s : State) (c : ℕ) → s.position.mode ≡ Between → passed s c ≡ between_by (kind c) s c
+passed_between : (s : LexState) (c : ℕ) → s.position.mode ≡ Between → passed s c ≡ between_by (kind c) s c
 unfolding passed
 passed_between s c m = ap (λ mode. passed_by mode s c) m
 
 -- an entry that begins without a space or a tab
-abbrev pub without_blank : State → State
+abbrev pub without_blank : LexState → LexState
 without_blank s = record s { position = record s.position { blank_start = false } }
 
-passed_start : (s : State) (c : ℕ) → s.position.mode ≡ Start → kind c ≡ Plain → passed s c ≡ between_by (kind c) (without_blank s) c
+passed_start : (s : LexState) (c : ℕ) → s.position.mode ≡ Start → kind c ≡ Plain → passed s c ≡ between_by (kind c) (without_blank s) c
 unfolding passed
 passed_start s c m e =
     ap (λ mode. passed_by mode s c) m ∙ ap (λ b. between_by (kind c) (record s { position = record s.position { blank_start = b } }) c) (plain_no_space c e)
 
-between_run : (s : State) (octets : List ℕ) (n : ℕ) → s.position.mode ≡ Between → n ≤ prefix_len (λ octet. stands false (kind octet)) octets → n ≤ MOST - length s.raw
+between_run : (s : LexState) (octets : List ℕ) (n : ℕ) → s.position.mode ≡ Between → n ≤ prefix_len (λ octet. stands false (kind octet)) octets → n ≤ MOST - length s.raw
     → run s (take n octets) ≡ with_plain s (take n octets) false
 between_run s octets zero m h l = refl
 between_run s octets (suc n) m h l = begun_run s s octets n (λ c e. passed_between s c m) h l
 
 -- plain octets with which an entry begins
-start_run : (s : State) (octets : List ℕ) (n : ℕ) → s.position.mode ≡ Start → suc n ≤ prefix_len (λ octet. stands false (kind octet)) octets → suc n ≤ MOST - length s.raw
+start_run : (s : LexState) (octets : List ℕ) (n : ℕ) → s.position.mode ≡ Start → suc n ≤ prefix_len (λ octet. stands false (kind octet)) octets → suc n ≤ MOST - length s.raw
     → run s (take (suc n) octets) ≡ with_plain (without_blank s) (take (suc n) octets) false
 start_run s octets n m h l = begun_run s (without_blank s) octets n (λ c e. passed_start s c m e) h l
 
-in_token_run : (q : Bool) (s : State) (octets : List ℕ) (n : ℕ) → s.position.mode ≡ InToken q Outside → n ≤ prefix_len (λ octet. stands q (kind octet)) octets → n ≤ MOST - length s.raw
+in_token_run : (q : Bool) (s : LexState) (octets : List ℕ) (n : ℕ) → s.position.mode ≡ InToken q Outside → n ≤ prefix_len (λ octet. stands q (kind octet)) octets → n ≤ MOST - length s.raw
     → run s (take n octets) ≡ with_plain s (take n octets) q
 in_token_run q s octets zero m h l = refl
 in_token_run q s [] (suc n) m h l = refl
@@ -113,21 +113,21 @@ in_token_run q s (c ∷ cs) (suc n) m h l =
     ap (λ x. run (with_mode s x) (c ∷ take n cs)) m ∙ token_run q s s.raw (c ∷ cs) (suc n) h l
 
 -- what is kept between tokens or in one was passed over
-pub kept_between : (s s' : State) (octets : List ℕ) → s.position.mode ≡ Between → (count : ℕ) → KeptPlain s s' octets false count → PassedFirst s s' octets count
+pub kept_between : (s s' : LexState) (octets : List ℕ) → s.position.mode ≡ Between → (count : ℕ) → KeptPlain s s' octets false count → PassedFirst s s' octets count
 kept_between s s' octets m count k = record {
   within = omega (arith, k.plain, prefix_len-le-length (λ octet. stands false (kind octet)) octets);
   passed = k.kept ∙ sym (between_run s octets count m k.plain k.short);
 }
 
 -- plain octets that are kept in a token, quoted or not, were passed over
-pub kept_in_token : (q : Bool) (s s' : State) (octets : List ℕ) → s.position.mode ≡ InToken q Outside → (count : ℕ) → KeptPlain s s' octets q count → PassedFirst s s' octets count
+pub kept_in_token : (q : Bool) (s s' : LexState) (octets : List ℕ) → s.position.mode ≡ InToken q Outside → (count : ℕ) → KeptPlain s s' octets q count → PassedFirst s s' octets count
 kept_in_token q s s' octets m count k = record {
   within = omega (arith, k.plain, prefix_len-le-length (λ octet. stands q (kind octet)) octets);
   passed = k.kept ∙ sym (in_token_run q s octets count m k.plain k.short);
 }
 
 -- a comment up to its line's end
-comment_run : (s : State) (octets : List ℕ) (n : ℕ) → n ≤ prefix_len (λ octet. not (is_feed (kind octet))) octets → run (with_mode s Comment) (take n octets) ≡ with_mode s Comment
+comment_run : (s : LexState) (octets : List ℕ) (n : ℕ) → n ≤ prefix_len (λ octet. not (is_feed (kind octet))) octets → run (with_mode s Comment) (take n octets) ≡ with_mode s Comment
 unfolding passed
 comment_run s octets zero h = refl
 comment_run s [] (suc n) h = refl
@@ -139,16 +139,16 @@ comment_run s (c ∷ cs) (suc n) h =
       same _ h = refl
 
 -- the octets in front of the line feed that ends a comment are passed over, and change nothing
-pub comment_first : (s : State) (octets : List ℕ) (count : ℕ) → s.position.mode ≡ Comment → count ≡ prefix_len (λ octet. not (is_feed (kind octet))) octets → PassedFirst s s octets count
+pub comment_first : (s : LexState) (octets : List ℕ) (count : ℕ) → s.position.mode ≡ Comment → count ≡ prefix_len (λ octet. not (is_feed (kind octet))) octets → PassedFirst s s octets count
 comment_first s octets count m e =
     let same = ap (with_mode s) m in
     record {
       within = omega (arith, prefix_len-le-length (λ octet. not (is_feed (kind octet))) octets);
-      passed = sym (ap (λ (x : State). run x (take count octets)) same ∙ comment_run s octets count (omega arith) ∙ sym same);
+      passed = sym (ap (λ (x : LexState). run x (take count octets)) same ∙ comment_run s octets count (omega arith) ∙ sym same);
     }
 
 -- white space between tokens
-blank_run : (s : State) (octets : List ℕ) (n : ℕ) → s.position.mode ≡ Between → n ≤ prefix_len (λ octet. is_blank (kind octet)) octets → run s (take n octets) ≡ s
+blank_run : (s : LexState) (octets : List ℕ) (n : ℕ) → s.position.mode ≡ Between → n ≤ prefix_len (λ octet. is_blank (kind octet)) octets → run s (take n octets) ≡ s
 blank_run s octets zero m h = refl
 blank_run s [] (suc n) m h = refl
 blank_run s (c ∷ cs) (suc n) m h =
@@ -157,29 +157,29 @@ blank_run s (c ∷ cs) (suc n) m h =
     ap (λ x. run x (take n cs)) e ∙ blank_run s cs n m p.1
 
 -- the white space in front is passed over between tokens, and changes nothing
-pub blank_first : (s : State) (octets : List ℕ) (count : ℕ) → s.position.mode ≡ Between → count ≡ prefix_len (λ octet. is_blank (kind octet)) octets → PassedFirst s s octets count
+pub blank_first : (s : LexState) (octets : List ℕ) (count : ℕ) → s.position.mode ≡ Between → count ≡ prefix_len (λ octet. is_blank (kind octet)) octets → PassedFirst s s octets count
 blank_first s octets count m e = record {
   within = omega (arith, prefix_len-le-length (λ octet. is_blank (kind octet)) octets);
   passed = sym (blank_run s octets count m (omega arith));
 }
 
 -- behind a fault nothing changes
-run_faulty : (fault : LexFault) (s : State) (rest : List ℕ) → run (with_mode s (Faulty fault)) rest ≡ with_mode s (Faulty fault)
+run_faulty : (fault : LexFault) (s : LexState) (rest : List ℕ) → run (with_mode s (Faulty fault)) rest ≡ with_mode s (Faulty fault)
 unfolding passed
 run_faulty fault s [] = refl
 run_faulty fault s (c ∷ cs) = run_faulty fault s cs
 
 -- all behind a fault
-pub faulty_first : (s : State) (octets : List ℕ) (fault : LexFault) → s.position.mode ≡ Faulty fault → PassedFirst s s octets (length octets)
+pub faulty_first : (s : LexState) (octets : List ℕ) (fault : LexFault) → s.position.mode ≡ Faulty fault → PassedFirst s s octets (length octets)
 faulty_first s octets fault m =
     let same = ap (with_mode s) m in
     record {
       within = omega arith;
-      passed = sym (ap (run s) (take-length octets) ∙ ap (λ (x : State). run x octets) same ∙ run_faulty fault s octets ∙ sym same);
+      passed = sym (ap (run s) (take-length octets) ∙ ap (λ (x : LexState). run x octets) same ∙ run_faulty fault s octets ∙ sym same);
     }
 
 -- what is kept of an entry that begins was passed over, with no space in front
-pub kept_start : (s s' : State) (octets : List ℕ) (count : ℕ) → s.position.mode ≡ Start → 0 < count → KeptPlain s s' octets false count
+pub kept_start : (s s' : LexState) (octets : List ℕ) (count : ℕ) → s.position.mode ≡ Start → 0 < count → KeptPlain s s' octets false count
     → PassedFirst s (without_blank s') octets count
 kept_start s s' octets zero m some k = absurd (omega arith)
 kept_start s s' [] (suc n) m some k = absurd (let p = k.plain in omega arith)

@@ -14,7 +14,7 @@ use Rattle.master_lex.specs.declared.position.Escape.TheVariants.{Outside, Begun
 use Rattle.master_lex.specs.declared.scanner.TheConstants.{MOST}
 use Rattle.master_lex.specs.Pieces.{Written, before, pieces, comment}
 use Rattle.master_lex.specs.Contents.{EntrySoFar, fails, with_token, contents_from}
-use Rattle.master_lex.specs.States.{State, CanGoOn, Fits, entry_so_far, rest_of_token, ahead_by}
+use Rattle.master_lex.specs.States.{LexState, CanGoOn, Fits, entry_so_far, rest_of_token, ahead_by}
 use Rattle.master_lex.proofs.Ahead.{before_before, too_long}
 use Rattle.master_lex.proofs.Steps.{bad_ahead}
 
@@ -114,7 +114,7 @@ ended None said h k = cc
 ended (Some fault) said h k = cc
 
 -- where none is held, none is settled
-pub not_settled : (m : Mode) (s : State) (fault : LexFault) → Fits m s → held_fault m ≡ None → ((more : List ℕ) → (ahead_by m s more).fault ≡ Some fault) → ⊥
+pub not_settled : (m : Mode) (s : LexState) (fault : LexFault) → Fits m s → held_fault m ≡ None → ((more : List ℕ) → (ahead_by m s more).fault ≡ Some fault) → ⊥
 not_settled Start s fault fits none h = ended _ fault (closed (record (entry_so_far s) { blank_start = _ }) s.position.depth refl) (h (closing s.position.depth))
 not_settled Between s fault fits none h = ended _ fault (closed (entry_so_far s) s.position.depth refl) (h (closing s.position.depth))
 not_settled Comment s fault fits none h = ended _ fault (comment_ends (entry_so_far s)) (h (10 ∷ closing s.position.depth))

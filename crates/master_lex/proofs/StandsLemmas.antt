@@ -13,7 +13,7 @@ use Rattle.master_lex.specs.declared.position.Mode.TheVariants.{Start, Between, 
 use Rattle.master_lex.specs.declared.taken.Taken.{Taken}
 use Rattle.master_lex.specs.declared.taken.Taken.TheVariants as answers
 use Rattle.master_lex.specs.Contents.{Contents, behind, contents, text_entries, text_fault}
-use Rattle.master_lex.specs.States.{State, empty, run, Fits, IsTidy, ahead_by, ahead, last_fault, whole_by, made, without_fault, last_entry}
+use Rattle.master_lex.specs.States.{LexState, empty, run, Fits, IsTidy, ahead_by, ahead, last_fault, whole_by, made, without_fault, last_entry}
 use Rattle.master_lex.specs.Taking.{IsFault, left_answer, IsNextEntry, given_with}
 use Rattle.master_lex.specs.Lexer.{Lexing, IsLexerOf, left, LastTaken}
 use Rattle.master_lex.proofs.Running.{run_ahead, end_ahead}
@@ -25,16 +25,16 @@ drop_front [] ys = refl
 drop_front (x ∷ xs) ys = drop_front xs ys
 
 -- what is fed goes on with the text
-pub fed_stands : (s s' : State) (n n' : ℕ) (text piece : List ℕ) (given : List Entry) (finished : Bool) → finished ≡ false → IsTidy s → s' ≡ run s piece → n' ≡ n + length piece
+pub fed_stands : (s s' : LexState) (n n' : ℕ) (text piece : List ℕ) (given : List Entry) (finished : Bool) → finished ≡ false → IsTidy s → s' ≡ run s piece → n' ≡ n + length piece
     → IsLexerOf (record { state = s; fed = n; finished = finished }) text given → IsLexerOf (record { state = s'; fed = n'; finished = finished }) (text ++ piece) given
 fed_stands s s' n n' text piece given finished unended tidy e m h = rw unended (record {
   fed = m ∙ ap (λ k. k + length piece) h.fed ∙ sym (length-append text piece);
   agrees = λ more. ap contents (append_assoc text piece more) ∙ (rw unended at h.agrees) (piece ++ more)
-      ∙ ap (behind given) (run_ahead s piece more tidy ∙ ap (λ (x : State). ahead x more) (sym e));
+      ∙ ap (behind given) (run_ahead s piece more tidy ∙ ap (λ (x : LexState). ahead x more) (sym e));
 })
 
 -- what is left where the text ends
-pub end_stands : (s : State) (n : ℕ) (finished : Bool) → finished ≡ false → IsTidy s → (text : List ℕ) (given : List Entry)
+pub end_stands : (s : LexState) (n : ℕ) (finished : Bool) → finished ≡ false → IsTidy s → (text : List ℕ) (given : List Entry)
     → IsLexerOf (record { state = s; fed = n; finished = finished }) text given → IsLexerOf (record { state = s; fed = n; finished = true }) text given
 end_stands s n finished unended tidy text given h =
     let ahead_is : (more : List ℕ) → contents (text ++ more) ≡ behind given (ahead s more) = rw unended at h.agrees in
@@ -54,7 +54,7 @@ new_stands = record { fed = refl; agrees = λ more. refl }
 
 -- ---- the whole entries
 
-same_made : (m : Mode) (s : State) (ready : List Entry) → made (whole_by m (record s { ready = ready })) ≡ made (whole_by m s)
+same_made : (m : Mode) (s : LexState) (ready : List Entry) → made (whole_by m (record s { ready = ready })) ≡ made (whole_by m s)
 same_made Start s ready = refl
 same_made Between s ready = refl
 same_made Comment s ready = refl
@@ -62,10 +62,10 @@ same_made (InToken quoted escape) s ready = refl
 same_made (Faulty fault) s ready = refl
 
 -- which whole entries are held plays no part in the last one
-pub same_last : (s : State) (ready : List Entry) → last_entry (record s { ready = ready }) ≡ last_entry s
+pub same_last : (s : LexState) (ready : List Entry) → last_entry (record s { ready = ready }) ≡ last_entry s
 same_last s ready = ap (without_fault (last_fault s.position)) (same_made s.position.mode s ready)
 
-same_ahead : (m : Mode) (s : State) (text : List ℕ) → ahead_by m (record s { ready = [] }) text ≡ ahead_by m s text
+same_ahead : (m : Mode) (s : LexState) (text : List ℕ) → ahead_by m (record s { ready = [] }) text ≡ ahead_by m s text
 same_ahead Start s text = refl
 same_ahead Between s text = refl
 same_ahead Comment s text = refl
@@ -73,7 +73,7 @@ same_ahead (InToken quoted escape) s text = refl
 same_ahead (Faulty fault) s text = refl
 
 -- where all whole entries are taken, they were given
-pub ready_given : (s : State) (n : ℕ) (finished : Bool) (text : List ℕ) (given : List Entry) → IsLexerOf (record { state = s; fed = n; finished = finished }) text given
+pub ready_given : (s : LexState) (n : ℕ) (finished : Bool) (text : List ℕ) (given : List Entry) → IsLexerOf (record { state = s; fed = n; finished = finished }) text given
     → IsLexerOf (record { state = record s { ready = [] }; fed = n; finished = finished }) text (given ++ s.ready)
 ready_given s n true text given h = record {
   fed = h.fed;
@@ -99,7 +99,7 @@ left_over given rest total e = ap (drop (length given)) e ∙ drop_front given r
 abbrev pub known_fault : Lexing → Option LexFault
 known_fault lexer = if lexer.finished then last_fault lexer.state.position else held_fault lexer.state.position.mode
 
-fault_is : (s : State) (text : List ℕ) (given : List Entry) → IsTidy s → ((more : List ℕ) → contents (text ++ more) ≡ behind given (ahead s more)) → IsFault false text (held_fault s.position.mode)
+fault_is : (s : LexState) (text : List ℕ) (given : List Entry) → IsTidy s → ((more : List ℕ) → contents (text ++ more) ≡ behind given (ahead s more)) → IsFault false text (held_fault s.position.mode)
 fault_is s text given tidy h = by s.position.mode tidy (λ more. ap (λ (c : Contents). c.fault) (h more)) where
   none : (m : Mode) → held_fault m ≡ None → Fits m s → ((more : List ℕ) → text_fault (text ++ more) ≡ (ahead_by m s more).fault) → IsFault false text None
   none m is fits same fault said = not_settled m s fault fits is (λ more. sym (same more) ∙ said more)
@@ -112,7 +112,7 @@ fault_is s text given tidy h = by s.position.mode tidy (λ more. ap (λ (c : Con
   by (InToken quoted escape) fits same = none (InToken quoted escape) refl fits same
 
 -- a lexer answers by what is left
-pub stands_answer : (s : State) (n : ℕ) (finished : Bool) (result : Result Taken TakeFault) → IsTidy s
+pub stands_answer : (s : LexState) (n : ℕ) (finished : Bool) (result : Result Taken TakeFault) → IsTidy s
     → AnswersOr NoMemory result (left_answer finished (left (record { state = s; fed = n; finished = finished })) (known_fault (record { state = s; fed = n; finished = finished })))
     → (text : List ℕ) (given : List Entry) → IsLexerOf (record { state = s; fed = n; finished = finished }) text given → IsNextEntry finished text given result
 stands_answer s n true result tidy a text given h = (
@@ -142,11 +142,11 @@ no_first [] ys e f = refl
 no_first (x ∷ xs) ys e f = absurd (omega (arith, ap length e, ap length f))
 
 -- where a call that fails leaves what is held as it was, it leaves the lexer so
-pub same_lexer : (s s' : State) (n : ℕ) (finished : Bool) (result : Result Taken TakeFault) → OnErr result (s' ≡ s)
+pub same_lexer : (s s' : LexState) (n : ℕ) (finished : Bool) (result : Result Taken TakeFault) → OnErr result (s' ≡ s)
     → OnErr result (◌≡◌ {A = Lexing} (record { state = s'; fed = n; finished = finished }) (record { state = s; fed = n; finished = finished }))
 same_lexer s s' n finished result h = on_err_weaker result (λ e. rw e refl) h
 
-last_stands : (s s' : State) (n : ℕ) (text : List ℕ) (given : List Entry) (taken : Taken) → s.ready ≡ [] → IsLexerOf (record { state = s; fed = n; finished = true }) text given → LastTaken s s' taken
+last_stands : (s s' : LexState) (n : ℕ) (text : List ℕ) (given : List Entry) (taken : Taken) → s.ready ≡ [] → IsLexerOf (record { state = s; fed = n; finished = true }) text given → LastTaken s s' taken
     → IsLexerOf (record { state = s'; fed = n; finished = true }) text (given_with given taken)
 last_stands s s' n text given taken none h l = record {
   fed = h.fed;
@@ -159,7 +159,7 @@ last_stands s s' n text given taken none h l = record {
 
 -- behind the end of a text, with no whole entry left, a lexer that gave the last entry, or that there is none, still stands
 -- for the text with what was given
-pub last_keeps : (s s' : State) (n : ℕ) (finished : Bool) (result : Result Taken TakeFault) → finished ≡ true → s.ready ≡ [] → IfOk result (LastTaken s s')
+pub last_keeps : (s s' : LexState) (n : ℕ) (finished : Bool) (result : Result Taken TakeFault) → finished ≡ true → s.ready ≡ [] → IfOk result (LastTaken s s')
     → (text : List ℕ) (given : List Entry) → IsLexerOf (record { state = s; fed = n; finished = finished }) text given
     → IfOk result (λ taken. IsLexerOf (record { state = s'; fed = n; finished = finished }) text (given_with given taken))
 last_keeps s s' n finished result ended none l text given h =
@@ -169,19 +169,19 @@ last_keeps s s' n finished result ended none l text given h =
 -- ---- what is answered
 
 -- where a whole entry is held, the first is what is to be answered
-pub first_answer : (s : State) (n : ℕ) (finished : Bool) (entry : Entry) (rest : List Entry) → s.ready ≡ entry ∷ rest
+pub first_answer : (s : LexState) (n : ℕ) (finished : Bool) (entry : Entry) (rest : List Entry) → s.ready ≡ entry ∷ rest
     → left_answer finished (left (record { state = s; fed = n; finished = finished })) (known_fault (record { state = s; fed = n; finished = finished })) ≡ Ok (answers.Entry entry)
 first_answer s n true entry rest e = rw e refl
 first_answer s n false entry rest e = rw e refl
 
 -- where no whole entry is held and a fault is met, the fault is what is to be answered
-pub fault_answer : (s : State) (n : ℕ) (finished : Bool) (fault : LexFault) → s.ready ≡ [] → s.position.mode ≡ Faulty fault
+pub fault_answer : (s : LexState) (n : ℕ) (finished : Bool) (fault : LexFault) → s.ready ≡ [] → s.position.mode ≡ Faulty fault
     → left_answer finished (left (record { state = s; fed = n; finished = finished })) (known_fault (record { state = s; fed = n; finished = finished })) ≡ Err (Lex fault.line fault.kind)
 fault_answer s n true fault none e = rw (none, e) refl
 fault_answer s n false fault none e = rw (none, e) refl
 
 -- where no whole entry is held, no fault is met and the text hasn't ended, more of it is to be asked for
-pub more_answer : (s : State) (n : ℕ) (finished : Bool) → s.ready ≡ [] → finished ≡ false → ((fault : LexFault) → s.position.mode ≡ Faulty fault → ⊥)
+pub more_answer : (s : LexState) (n : ℕ) (finished : Bool) → s.ready ≡ [] → finished ≡ false → ((fault : LexFault) → s.position.mode ≡ Faulty fault → ⊥)
     → left_answer finished (left (record { state = s; fed = n; finished = finished })) (known_fault (record { state = s; fed = n; finished = finished })) ≡ Ok answers.More
 more_answer s n finished none unended not_faulty = rw (unended, none) (by s.position.mode refl) where
   by : (m : Mode) → s.position.mode ≡ m → left_answer false [] (held_fault m) ≡ Ok answers.More
@@ -193,7 +193,7 @@ more_answer s n finished none unended not_faulty = rw (unended, none) (by s.posi
 
 -- where no whole entry is held and the text has ended, the last entry is what is to be answered, or else the last fault or
 -- the end
-pub last_answer : (s : State) (n : ℕ) (finished : Bool) → s.ready ≡ [] → finished ≡ true
+pub last_answer : (s : LexState) (n : ℕ) (finished : Bool) → s.ready ≡ [] → finished ≡ true
     → left_answer finished (left (record { state = s; fed = n; finished = finished })) (known_fault (record { state = s; fed = n; finished = finished }))
     ≡ left_answer true (last_entry s) (last_fault s.position)
 last_answer s n finished none ended = rw (ended, none) refl

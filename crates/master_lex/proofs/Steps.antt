@@ -17,7 +17,7 @@ use Rattle.master_lex.specs.Lists.{is_empty}
 use Rattle.master_lex.specs.Octets.{kind, is_space}
 use Rattle.master_lex.specs.Pieces.{is_code, Piece, Skipped, LineEnd, Written, Broken, before, bad_escape, pieces, comment, in_quotes, after_backslash, after_digit, after_two_digits}
 use Rattle.master_lex.specs.Contents.{EntrySoFar, begins_blank, entry_start, entry_at, fails, behind, contents_from}
-use Rattle.master_lex.specs.States.{State, with_mode, failed, pushed, kept, escape_begun, token_ended, entry_of, entry_ended, between_by, in_word_by, in_quotes_by, behind_backslash, behind_digit, behind_digits, in_comment_by, passed_by, passed, Fits, IsTidy, entry_so_far, rest_of_token, ahead_by, ahead}
+use Rattle.master_lex.specs.States.{LexState, with_mode, failed, pushed, kept, escape_begun, token_ended, entry_of, entry_ended, between_by, in_word_by, in_quotes_by, behind_backslash, behind_digit, behind_digits, in_comment_by, passed_by, passed, Fits, IsTidy, entry_so_far, rest_of_token, ahead_by, ahead}
 use Rattle.master_lex.proofs.Ahead.{by_kind, pieces_by_kind, before_before, too_long}
 
 -- what an escape spells goes on with its token
@@ -51,7 +51,7 @@ escape_alone quoted text =
 
 -- ---- one octet more in a token
 
-module _ (s : State) (quoted : Bool) where
+module _ (s : LexState) (quoted : Bool) where
   -- octets that are kept
   kept_ahead : (w text : List ℕ) → behind s.ready (contents_from (entry_so_far s) (before quoted (s.raw ++ w) (rest_of_token quoted Outside text))) ≡ ahead (kept s w quoted) text
   kept_ahead w text = by (nat_le (length w) (MOST - length s.raw)) refl where
@@ -88,7 +88,7 @@ bad_ahead place true w h = rw (le-ltb 131072 (length (w ++ 92 ∷ [])) (omega (a
 
 -- ---- outside tokens and comments
 
-between_ahead : (k : OctetKind) (s : State) (octet : ℕ) (text : List ℕ) → s.raw ≡ [] → behind s.ready (contents_from (entry_so_far s) (by_kind k octet text)) ≡ ahead (between_by k s octet) text
+between_ahead : (k : OctetKind) (s : LexState) (octet : ℕ) (text : List ℕ) → s.raw ≡ [] → behind s.ready (contents_from (entry_so_far s) (by_kind k octet text)) ≡ ahead (between_by k s octet) text
 between_ahead Plain s octet text h = ap (λ (w : List ℕ). behind s.ready (contents_from (entry_so_far s) (before false (w ++ octet ∷ []) (pieces text)))) (sym h) ∙ kept_ahead s false (octet ∷ []) text
 between_ahead Blank s octet text h = refl
 between_ahead LineFeed s octet text h = by (nat_eq s.position.depth 0) where
@@ -163,7 +163,7 @@ begins octet text = ap begins_blank (pieces_by_kind octet text) ∙ begins_by (k
 
 -- ---- comments
 
-comment_by : (k : OctetKind) (s : State) (octet : ℕ) (text : List ℕ) → kind octet ≡ k → s.position.mode ≡ Comment → s.raw ≡ []
+comment_by : (k : OctetKind) (s : LexState) (octet : ℕ) (text : List ℕ) → kind octet ≡ k → s.position.mode ≡ Comment → s.raw ≡ []
     → behind s.ready (contents_from (entry_so_far s) (comment (octet ∷ text))) ≡ ahead (in_comment_by k s) text
 unfolding kind
 comment_by k s octet text e m none = by (nat_eq octet 10) refl where
@@ -186,7 +186,7 @@ comment_by k s octet text e m none = by (nat_eq octet 10) refl where
       let is : k ≡ LineFeed = sym e ∙ ap kind ten in
       between_ahead LineFeed s octet text none ∙ ap (λ (k : OctetKind). ahead (in_comment_by k s) text) (sym is)
   by false h =
-      sym (ap (λ (x : State). ahead x text) (same k (λ is. let ten = feed is in cc)) ∙ ap (λ (m : Mode). behind s.ready (ahead_by m s text)) m)
+      sym (ap (λ (x : LexState). ahead x text) (same k (λ is. let ten = feed is in cc)) ∙ ap (λ (m : Mode). behind s.ready (ahead_by m s text)) m)
 
 -- ---- tokens
 
@@ -204,7 +204,7 @@ word_ends Quote w octet text p b = by (in_quotes text) where
   by (Written true more ∷ rest) = refl
   by _ = refl
 
-module _ (s : State) (octet : ℕ) (text : List ℕ) where
+module _ (s : LexState) (octet : ℕ) (text : List ℕ) where
   word_ahead_by : (k : OctetKind) → length s.raw ≤ MOST → behind s.ready (contents_from (entry_so_far s) (before false s.raw (by_kind k octet text))) ≡ ahead (in_word_by k s octet) text
   word_ahead_by k h = by k where
     ended : (k : OctetKind) → (k ≡ Plain → ⊥) → (k ≡ Backslash → ⊥)
@@ -254,7 +254,7 @@ module _ (s : State) (octet : ℕ) (text : List ℕ) where
         escape_ahead s true text ∙ sym (ap (λ c. ahead (in_quotes_by (kind c) s c) text) is)
     by false false false e g i =
         ap (λ x. behind s.ready (contents_from (entry_so_far s) x)) (before_before true s.raw (octet ∷ []) (in_quotes text)) ∙ kept_ahead s true (octet ∷ []) text
-        ∙ sym (ap (λ (x : State). ahead x text) (plain (kind octet) (λ is. grind (arith, nat_tests, is, e, g, i)) (λ is. grind (arith, nat_tests, is, e, g, i)) (λ is. grind (arith, nat_tests, is, e, g, i))))
+        ∙ sym (ap (λ (x : LexState). ahead x text) (plain (kind octet) (λ is. grind (arith, nat_tests, is, e, g, i)) (λ is. grind (arith, nat_tests, is, e, g, i)) (λ is. grind (arith, nat_tests, is, e, g, i))))
 
 -- ---- escapes
 
@@ -273,7 +273,7 @@ second_bad quoted a (b ∷ c ∷ text) h = by (is_code a b c) refl where
   by false e = refl
   by true e = absurd (grind (arith, nat_tests))
 
-module _ (s : State) (quoted : Bool) (octet : ℕ) (text : List ℕ) (room : length s.raw + 1 ≤ MOST) where
+module _ (s : LexState) (quoted : Bool) (octet : ℕ) (text : List ℕ) (room : length s.raw + 1 ≤ MOST) where
   bad : behind s.ready (contents_from (entry_so_far s) (before quoted s.raw (bad_escape quoted))) ≡ ahead (failed s BadEscape) text
   bad = ap (behind s.ready) (bad_ahead (entry_so_far s) quoted s.raw (omega (arith, room)))
 
@@ -307,7 +307,7 @@ module _ (s : State) (quoted : Bool) (octet : ℕ) (text : List ℕ) (room : len
 
 -- ---- one octet, and all octets
 
-step_by : (m : Mode) (s : State) (octet : ℕ) (text : List ℕ) → s.position.mode ≡ m → Fits m s → behind s.ready (ahead_by m s (octet ∷ text)) ≡ ahead (passed_by m s octet) text
+step_by : (m : Mode) (s : LexState) (octet : ℕ) (text : List ℕ) → s.position.mode ≡ m → Fits m s → behind s.ready (ahead_by m s (octet ∷ text)) ≡ ahead (passed_by m s octet) text
 step_by Start s octet text e (none, blank) =
     ap (λ (b : Bool). behind s.ready (contents_from (record (entry_so_far s) { blank_start = b }) (pieces (octet ∷ text)))) (begins octet text)
     ∙ ap (λ x. behind s.ready (contents_from (record (entry_so_far s) { blank_start = is_space octet }) x)) (pieces_by_kind octet text)
@@ -324,6 +324,6 @@ step_by (InToken quoted (Two first second)) s octet text e (go, room) = digits_a
 step_by (Faulty fault) s octet text e none = sym (ap (λ (m : Mode). behind s.ready (ahead_by m s text)) e)
 
 -- what one octet more makes of what is held has the same ahead
-pub step : (s : State) (octet : ℕ) (text : List ℕ) → IsTidy s → ahead s (octet ∷ text) ≡ ahead (passed s octet) text
+pub step : (s : LexState) (octet : ℕ) (text : List ℕ) → IsTidy s → ahead s (octet ∷ text) ≡ ahead (passed s octet) text
 unfolding passed
 step s octet text tidy = step_by s.position.mode s octet text refl tidy

@@ -6,7 +6,7 @@ use Rattle.master_lex.specs.declared.octet.OctetKind.{OctetKind}
 use Rattle.master_lex.specs.declared.position.Mode.TheVariants.{Start, Between}
 use Rattle.master_lex.specs.declared.scanner.TheConstants.{MOST}
 use Rattle.master_lex.specs.Octets.{kind, is_blank, stands}
-use Rattle.master_lex.specs.States.{State, pushed, token_ended, in_word_by, passed}
+use Rattle.master_lex.specs.States.{LexState, pushed, token_ended, in_word_by, passed}
 use Rattle.master_lex.specs.Plain.{with_plain, KeptPlain, PassedFirst, IsWord}
 use Rattle.master_lex.proofs.PlainLemmas.{blank_is, without_blank, kept_between, kept_start}
 use Rattle.master_lex.proofs.Reached.{octet_more}
@@ -17,16 +17,16 @@ pub is_whole : (octets : List ℕ) (count : ℕ) → count ≡ prefix_len (λ oc
 is_whole octets count is short within blank some = record { some = some; plain = omega (arith, is); short = short; within = within; behind = sym blank }
 
 -- some octets more of the token under way
-some_plain : (s : State) (octets : List ℕ) → 0 < length octets → with_plain s octets false ≡ pushed s octets false
+some_plain : (s : LexState) (octets : List ℕ) → 0 < length octets → with_plain s octets false ≡ pushed s octets false
 some_plain s [] some = absurd (omega arith)
 some_plain s (octet ∷ octets) some = refl
 
 -- white space behind a token ends it
-word_ends : (s : State) (word : List ℕ) (octet : ℕ) → is_blank (kind octet) ≡ true → passed (pushed s word false) octet ≡ token_ended (pushed s word false) false
+word_ends : (s : LexState) (word : List ℕ) (octet : ℕ) → is_blank (kind octet) ≡ true → passed (pushed s word false) octet ≡ token_ended (pushed s word false) false
 unfolding passed
 word_ends s word octet blank = ap (λ (k : OctetKind). in_word_by k (pushed s word false) octet) (blank_is (kind octet) blank)
 
-module _ (s s' : State) (octets : List ℕ) (count : ℕ) (none : s.raw ≡ []) (word : IsWord octets count) where
+module _ (s s' : LexState) (octets : List ℕ) (count : ℕ) (none : s.raw ≡ []) (word : IsWord octets count) where
   -- its octets are kept
   word_kept : KeptPlain s (pushed s (take count octets) false) octets false count
   word_kept =

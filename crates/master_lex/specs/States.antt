@@ -23,14 +23,14 @@ use Rattle.master_lex.specs.Contents.{EntrySoFar, Contents, begins_blank, behind
 
 -- the whole entries that weren't taken, and the entry under way: its whole tokens, the octets of the
 -- token under way, and how far it has come
-pub record State : Type 0 where
+pub record LexState : Type 0 where
   pub ready : List Entry
   pub tokens : List Token
   pub raw : List ℕ
   pub position : Position
 
 -- what the fields hold
-abbrev pub state_of : Scanner → State
+abbrev pub state_of : Scanner → LexState
 state_of scanner = record { ready = scanner.ready.items; tokens = scanner.tokens.items; raw = scanner.raw; position = scanner.position }
 
 -- nothing of an entry, in this line
@@ -38,31 +38,31 @@ abbrev pub start_of : ℕ → Position
 start_of line = record { line = line; blank_start = false; depth = 0; opened = 0; first = 0; mode = Start }
 
 -- nothing of a text
-abbrev pub empty : State
+abbrev pub empty : LexState
 empty = record { ready = []; tokens = []; raw = []; position = start_of 1 }
 
 -- a state with something else under way
-abbrev pub with_mode : State → Mode → State
+abbrev pub with_mode : LexState → Mode → LexState
 with_mode s mode = record s { position = record s.position { mode = mode } }
 
 -- a fault in the line under way
-abbrev pub failed : State → LexKind → State
+abbrev pub failed : LexState → LexKind → LexState
 failed s kind = with_mode s (Faulty (record { line = s.position.line; kind = kind }))
 
 -- the state with these octets more in the token under way, however long it is
-abbrev pub pushed : State → List ℕ → Bool → State
+abbrev pub pushed : LexState → List ℕ → Bool → LexState
 pushed s octets quoted = record s { raw = s.raw ++ octets; position = record s.position { mode = InToken quoted Outside } }
 
 -- the state with these octets more in the token under way, or the fault if it gets too long
-abbrev pub kept : State → List ℕ → Bool → State
+abbrev pub kept : LexState → List ℕ → Bool → LexState
 kept s octets quoted = if nat_le (length octets) (MOST - length s.raw) then pushed s octets quoted else failed s TokenTooLong
 
 -- a `\`, which has to be within the length of a token
-abbrev pub escape_begun : State → Bool → State
+abbrev pub escape_begun : LexState → Bool → LexState
 escape_begun s quoted = if nat_lt (length s.raw) MOST then with_mode s (InToken quoted Begun) else failed s TokenTooLong
 
 -- the token under way is whole
-abbrev pub token_ended : State → Bool → State
+abbrev pub token_ended : LexState → Bool → LexState
 token_ended s quoted = record s {
   tokens = s.tokens ++ record { raw = s.raw; quoted = quoted } ∷ [];
   raw = [];
@@ -70,11 +70,11 @@ token_ended s quoted = record s {
 }
 
 -- the entry that the tokens make
-abbrev pub entry_of : State → Entry
+abbrev pub entry_of : LexState → Entry
 entry_of s = record { line = s.position.first; blank_start = s.position.blank_start; tokens = s.tokens }
 
 -- the entry under way is whole; without a token it is none
-abbrev pub entry_ended : State → State
+abbrev pub entry_ended : LexState → LexState
 entry_ended s = record s {
   ready = (if is_empty s.tokens then s.ready else s.ready ++ entry_of s ∷ []);
   tokens = [];
@@ -82,14 +82,14 @@ entry_ended s = record s {
 }
 
 -- a line feed ends the entry outside parentheses, and is white space inside
-abbrev pub line_ended : State → State
+abbrev pub line_ended : LexState → LexState
 line_ended s =
     if s.position.depth == 0
     then entry_ended s
     else record s { position = record s.position { line = s.position.line + 1; mode = Between } }
 
 -- a parenthesis is opened
-abbrev pub opened : State → State
+abbrev pub opened : LexState → LexState
 opened s = record s {
   position = record s.position {
     depth = s.position.depth + 1;
@@ -99,14 +99,14 @@ opened s = record s {
 }
 
 -- a parenthesis is closed
-abbrev pub closed : State → State
+abbrev pub closed : LexState → LexState
 closed s =
     if s.position.depth == 0
     then failed s StrayClose
     else record s { position = record s.position { depth = s.position.depth - 1; mode = Between } }
 
 -- an octet outside comments and tokens
-abbrev pub between_by : OctetKind → State → ℕ → State
+abbrev pub between_by : OctetKind → LexState → ℕ → LexState
 between_by Plain s octet = kept s (octet ∷ []) false
 between_by Blank s octet = with_mode s Between
 between_by LineFeed s octet = line_ended s
@@ -117,35 +117,35 @@ between_by Quote s octet = with_mode s (InToken true Outside)
 between_by Backslash s octet = escape_begun s false
 
 -- an octet in a token without quotes: all but plain octets and escapes end it
-abbrev pub in_word_by : OctetKind → State → ℕ → State
+abbrev pub in_word_by : OctetKind → LexState → ℕ → LexState
 in_word_by Plain s octet = kept s (octet ∷ []) false
 in_word_by Backslash s octet = escape_begun s false
 in_word_by kind s octet = between_by kind (token_ended s false) octet
 
 -- an octet in a token in quotes: all but the quote, the line feed and escapes are plain
-abbrev pub in_quotes_by : OctetKind → State → ℕ → State
+abbrev pub in_quotes_by : OctetKind → LexState → ℕ → LexState
 in_quotes_by Quote s octet = token_ended s true
 in_quotes_by LineFeed s octet = failed s OpenQuote
 in_quotes_by Backslash s octet = escape_begun s true
 in_quotes_by kind s octet = kept s (octet ∷ []) true
 
 -- the octet behind a `\`: a digit has to be one with which the three of a value up to 255 can begin
-abbrev pub behind_backslash : State → ℕ → Bool → State
+abbrev pub behind_backslash : LexState → ℕ → Bool → LexState
 behind_backslash s octet quoted =
     if is_digit octet then (if is_code octet 48 48 then with_mode s (InToken quoted (One octet)) else failed s BadEscape)
     else (if octet == 10 then failed s BadEscape else kept s (92 ∷ octet ∷ []) quoted)
 
 -- the second of three digits
-abbrev pub behind_digit : ℕ → State → ℕ → Bool → State
+abbrev pub behind_digit : ℕ → LexState → ℕ → Bool → LexState
 behind_digit first s octet quoted = if is_code first octet 48 then with_mode s (InToken quoted (Two first octet)) else failed s BadEscape
 
 -- the third of three digits
-abbrev pub behind_digits : ℕ → ℕ → State → ℕ → Bool → State
+abbrev pub behind_digits : ℕ → ℕ → LexState → ℕ → Bool → LexState
 behind_digits first second s octet quoted =
     if is_code first second octet then kept s (92 ∷ first ∷ second ∷ octet ∷ []) quoted else failed s BadEscape
 
 -- an octet in a token
-abbrev pub in_token : Bool → Escape → State → ℕ → State
+abbrev pub in_token : Bool → Escape → LexState → ℕ → LexState
 in_token false Outside s octet = in_word_by (kind octet) s octet
 in_token true Outside s octet = in_quotes_by (kind octet) s octet
 in_token quoted Begun s octet = behind_backslash s octet quoted
@@ -153,12 +153,12 @@ in_token quoted (One first) s octet = behind_digit first s octet quoted
 in_token quoted (Two first second) s octet = behind_digits first second s octet quoted
 
 -- an octet in a comment
-abbrev pub in_comment_by : OctetKind → State → State
+abbrev pub in_comment_by : OctetKind → LexState → LexState
 in_comment_by LineFeed s = line_ended s
 in_comment_by kind s = s
 
 -- what one octet more makes of what is held, by what is under way
-abbrev pub passed_by : Mode → State → ℕ → State
+abbrev pub passed_by : Mode → LexState → ℕ → LexState
 passed_by Start s octet = between_by (kind octet) (record s { position = record s.position { blank_start = is_space octet } }) octet
 passed_by Between s octet = between_by (kind octet) s octet
 passed_by Comment s octet = in_comment_by (kind octet) s
@@ -166,11 +166,11 @@ passed_by (InToken quoted escape) s octet = in_token quoted escape s octet
 passed_by (Faulty fault) s octet = s
 
 -- what one octet more makes of what is held
-unfoldable pub passed : State → ℕ → State
+unfoldable pub passed : LexState → ℕ → LexState
 passed s octet = passed_by s.position.mode s octet
 
 -- what the octets make of what is held, one after another
-abbrev pub run : State → List ℕ → State
+abbrev pub run : LexState → List ℕ → LexState
 run s [] = s
 run s (octet ∷ octets) = run (passed s octet) octets
 
@@ -189,7 +189,7 @@ begun (One first) = 1
 begun (Two first second) = 1
 
 -- what is held fits what is under way: outside tokens no octet of a token is held
-abbrev pub Fits : Mode → State → Type 0
+abbrev pub Fits : Mode → LexState → Type 0
 Fits Start s = (s.raw ≡ []) × (s.position.blank_start ≡ false)
 Fits Between s = s.raw ≡ []
 Fits Comment s = s.raw ≡ []
@@ -197,11 +197,11 @@ Fits (InToken quoted escape) s = CanGoOn escape × (length s.raw + begun escape 
 Fits (Faulty fault) s = Unit {0}
 
 -- what is held fits what is under way
-abbrev pub IsTidy : State → Type 0
+abbrev pub IsTidy : LexState → Type 0
 IsTidy s = Fits s.position.mode s
 
 -- the place where the entry under way has come to
-abbrev pub entry_so_far : State → EntrySoFar
+abbrev pub entry_so_far : LexState → EntrySoFar
 entry_so_far s = record {
   line = s.position.line;
   blank_start = s.position.blank_start;
@@ -219,7 +219,7 @@ rest_of_token quoted (One first) text = after_digit quoted first text
 rest_of_token quoted (Two first second) text = after_two_digits quoted first second text
 
 -- what a text holds that goes on from here
-abbrev pub ahead_by : Mode → State → List ℕ → Contents
+abbrev pub ahead_by : Mode → LexState → List ℕ → Contents
 ahead_by Start s text = contents_from (record (entry_so_far s) { blank_start = begins_blank (pieces text) }) (pieces text)
 ahead_by Between s text = contents_from (entry_so_far s) (pieces text)
 ahead_by Comment s text = contents_from (entry_so_far s) (comment text)
@@ -227,7 +227,7 @@ ahead_by (InToken quoted escape) s text = contents_from (entry_so_far s) (before
 ahead_by (Faulty fault) s text = record { whole = []; last = []; fault = Some fault }
 
 -- the whole entries that weren't taken, and behind them what a text holds that goes on from here
-abbrev pub ahead : State → List ℕ → Contents
+abbrev pub ahead : LexState → List ℕ → Contents
 ahead s text = behind s.ready (ahead_by s.position.mode s text)
 
 -- parentheses are open
@@ -251,16 +251,16 @@ abbrev pub last_fault : Position → Option LexFault
 last_fault position = fault_at_end position.mode position
 
 -- the token under way ends with the text
-abbrev pub whole_by : Mode → State → State
+abbrev pub whole_by : Mode → LexState → LexState
 whole_by (InToken quoted escape) s = token_ended s quoted
 whole_by _ s = s
 
 -- the tokens of the entry that ends with the text
-abbrev pub whole : State → State
+abbrev pub whole : LexState → LexState
 whole s = whole_by s.position.mode s
 
 -- the entry that the tokens make, or none without a token
-abbrev pub made : State → List Entry
+abbrev pub made : LexState → List Entry
 made s = if is_empty s.tokens then [] else entry_of s ∷ []
 
 -- the entries, where there is no fault
@@ -269,15 +269,15 @@ without_fault None entries = entries
 without_fault (Some fault) entries = []
 
 -- the entry that ends with the text, if the text ends here
-abbrev pub last_entry : State → List Entry
+abbrev pub last_entry : LexState → List Entry
 last_entry s = without_fault (last_fault s.position) (made (whole s))
 
 -- the stores hold the same
-pub record SameStores (old new : State) : Type 0 where
+pub record SameStores (old new : LexState) : Type 0 where
   pub ready : new.ready ≡ old.ready
   pub tokens : new.tokens ≡ old.tokens
   pub raw : new.raw ≡ old.raw
 
 -- the octet wasn't passed: the stores hold the same, or at most the token in front of it was ended
-abbrev pub IsHalfway : State → State → Type 0
+abbrev pub IsHalfway : LexState → LexState → Type 0
 IsHalfway old new = SameStores old new ⊎ SameStores (token_ended old false) new

@@ -3,10 +3,10 @@ use Rattle.std.specs.Prelude.{◌≡◌, ◌⊎◌, ℕ, List, [], ◌∷◌, �
 use Rattle.master_lex.specs.declared.entry.Entry.{Entry}
 use Rattle.master_lex.specs.declared.entry.Token.{Token}
 use Rattle.master_lex.specs.declared.undo.Mark.{Mark}
-use Rattle.master_lex.specs.States.{State}
+use Rattle.master_lex.specs.States.{LexState}
 
 -- the mark of what is held
-abbrev pub mark_of : State → Mark
+abbrev pub mark_of : LexState → Mark
 mark_of s = record { ready = length s.ready; tokens = length s.tokens; raw = length s.raw; position = s.position }
 
 -- the token that was under way goes on, or is the first new one
@@ -22,5 +22,5 @@ EntriesGrew ready tokens raw ready' tokens' raw' =
     ⊎ ((entry : Entry) × ((others : List Entry) × ((ready' ≡ ready ++ entry ∷ others) × TokensGrew tokens raw entry.tokens [])))
 
 -- what is held grew, so that the way back can be found
-abbrev pub Grew : State → State → Type 0
+abbrev pub Grew : LexState → LexState → Type 0
 Grew old new = EntriesGrew old.ready old.tokens old.raw new.ready new.tokens new.raw

@@ -3,7 +3,7 @@
 ghost use Rattle.std.specs.Prelude.{◌≡◌, ℕ, List, [], length};
 ghost use Rattle.master_lex.specs.declared.entry.Entry.{Entry};
 ghost use Rattle.master_lex.specs.declared.entry.Token.{Token};
-ghost use Rattle.master_lex.specs.States.{State, state_of};
+ghost use Rattle.master_lex.specs.States.{LexState, state_of};
 ghost use Rattle.master_lex.specs.Undo.{mark_of, TokensGrew, EntriesGrew, Grew};
 
 use crate::entry::{Entry, Token};
@@ -74,7 +74,7 @@ impl Scanner {
 
     /// Brings back what was held at the mark.
     pub fn undo(&mut self, mark: Mark)
-        ensures { (before : State) → mark ≡ mark_of before → Grew before (state_of self.old) → state_of self.new ≡ before }
+        ensures { (before : LexState) → mark ≡ mark_of before → Grew before (state_of self.old) → state_of self.new ≡ before }
     {
         undo_entries(&mut self.ready, &mut self.tokens, &mut self.raw, mark.ready);
         undo_tokens(&mut self.tokens, &mut self.raw, mark.tokens, mark.raw);

@@ -7,7 +7,7 @@ use Rattle.dns_data.specs.declared.rr_type.RrType.TheVariants as types
 use Rattle.rdata_forms.specs.declared.fault.RdataFault.TheVariants.{GenericKnown}
 use Rattle.master_read.specs.Directives.{directive_of, include_directive}
 use Rattle.master_read.specs.Entries.{record_of, owner_of, front_in, one_more, type_said, data_behind, made_of}
-use Rattle.master_read.specs.Words.{type_word, type_numbered, class_word, is_among}
+use Rattle.master_read.specs.Words.{type_word, type_numbered, class_word, is_some_word}
 use Rattle.master_read.specs.ZoneText.{Asks, effect_of, included, with_entry, with_entries, with_rest, zone_text}
 use Rattle.master_read.specs.declared.fault.TextCause.TheVariants.{NotIn as OtherClass, Rdata as BadData}
 use Rattle.master_read.specs.declared.words.ClassWord.TheVariants.{In, NotIn}
@@ -16,45 +16,45 @@ use Rattle.master_read.proofs.Worked.Words.{alone, context_with, entry, lines, n
 
 -- RFC 3597 section 5: types and classes by their numbers
 type_731 : type_word (codes "TYPE731") ≡ Some Other
-unfolding type_word is_among type_numbered
+unfolding type_word is_some_word type_numbered
 type_731 = refl
 
 type_62347 : type_word (codes "TYPE62347") ≡ Some Other
-unfolding type_word is_among type_numbered
+unfolding type_word is_some_word type_numbered
 type_62347 = refl
 
 type_1 : type_word (codes "TYPE1") ≡ Some (Known types.A)
-unfolding type_word is_among type_numbered
+unfolding type_word is_some_word type_numbered
 type_1 = refl
 
 class_32 : class_word (codes "CLASS32") ≡ Some NotIn
-unfolding class_word is_among
+unfolding class_word is_some_word
 class_32 = refl
 
 class_1 : class_word (codes "CLASS1") ≡ Some In
-unfolding class_word is_among
+unfolding class_word is_some_word
 class_1 = refl
 
 -- records of its examples: one of another class, and an address in the generic form
 of_class_32 :
     record_of 0 (context_with [] (Some 7) None None) (entry 1 (tokens "a.example. CLASS32 TYPE731 \\# 6 abcd ef 01 23 45"))
     ≡ Err OtherClass
-unfolding record_of owner_of front_in one_more class_word is_among
+unfolding record_of owner_of front_in one_more class_word is_some_word
 of_class_32 = refl
 
 a_generic_address :
     record_of 0 (context_with [] (Some 7) None None) (entry 1 (tokens "e.example. IN A \\# 4 0A000001"))
     ≡ Err (BadData GenericKnown)
-unfolding record_of owner_of front_in one_more data_behind type_said type_word class_word is_among
+unfolding record_of owner_of front_in one_more data_behind type_said type_word class_word is_some_word
 a_generic_address = refl
 
 -- RFC 4034 sections 3 and 4, RFC 5155 sections 3 and 4: the numbers of RRSIG, NSEC and NSEC3, and of NSEC3PARAM
 dropped_by_number : map type_word (codes "TYPE46" ∷ codes "TYPE47" ∷ codes "TYPE50" ∷ []) ≡ replicate 3 (Some Dropped)
-unfolding type_word is_among
+unfolding type_word is_some_word
 dropped_by_number = refl
 
 nsec3param : type_word (codes "TYPE51") ≡ Some Other
-unfolding type_word is_among type_numbered
+unfolding type_word is_some_word type_numbered
 nsec3param = refl
 
 -- RFC 1035 section 5.3: the file that defines the zone ISI.EDU, without its last line
@@ -101,12 +101,12 @@ isi_edu_records =
     ∷ []
 
 isi_edu_reads : alone (name "isi.edu") 11 isi_edu ≡ reads isi_edu_records 11
-unfolding zone_text with_rest with_entries with_entry effect_of record_of owner_of front_in one_more type_said data_behind made_of type_word class_word is_among directive_of
+unfolding zone_text with_rest with_entries with_entry effect_of record_of owner_of front_in one_more type_said data_behind made_of type_word class_word is_some_word directive_of
 isi_edu_reads = refl
 
 -- the last line of the file of ISI.EDU includes another file, which is asked for
 isi_edu_includes :
     zone_text (name "isi.edu") 11 1 ((isi_edu ++ codes "$INCLUDE <SUBSYS>ISI-MAILBOXES.TXT") ∷ [])
     ≡ Err (Asks (codes "<SUBSYS>ISI-MAILBOXES.TXT"))
-unfolding zone_text with_rest with_entries with_entry effect_of record_of owner_of front_in one_more type_said data_behind made_of type_word class_word is_among directive_of include_directive included is_utf8 chars lib.Utf8.encode
+unfolding zone_text with_rest with_entries with_entry effect_of record_of owner_of front_in one_more type_said data_behind made_of type_word class_word is_some_word directive_of include_directive included is_utf8 chars lib.Utf8.encode
 isi_edu_includes = refl

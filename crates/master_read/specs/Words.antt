@@ -12,8 +12,8 @@ use Rattle.master_read.specs.declared.words.ClassWord.{ClassWord}
 use Rattle.master_read.specs.declared.words.ClassWord.TheVariants.{In, NotIn}
 
 -- the octets are one of these words
-unfoldable pub is_among : List (List ℕ) → List ℕ → Bool
-is_among words octets = list_any (λ word. is_word word octets) words
+unfoldable pub is_some_word : List (List ℕ) → List ℕ → Bool
+is_some_word words octets = list_any (λ word. is_word word octets) words
 
 -- the words of the types whose records are dropped: they sign or chain what a signer makes of a zone
 abbrev pub dropped_words : List (List ℕ)
@@ -51,8 +51,8 @@ type_with number =
 -- what the word of a type says that isn't one of the twelve
 abbrev pub other_type_word : List ℕ → Option TypeWord
 other_type_word octets =
-    if is_among dropped_words octets then Some Dropped
-    else (if is_among other_words octets then Some Other else option_map type_with (number_behind (codes "TYPE") octets))
+    if is_some_word dropped_words octets then Some Dropped
+    else (if is_some_word other_words octets then Some Other else option_map type_with (number_behind (codes "TYPE") octets))
 
 -- the word of one of the twelve types, or of another
 abbrev pub known_or_other_word : Option RrType → List ℕ → Option TypeWord
@@ -66,6 +66,6 @@ type_word octets = known_or_other_word (type_of_word octets) octets
 -- what the word of a class says
 unfoldable pub class_word : List ℕ → Option ClassWord
 class_word octets =
-    if is_among (codes "IN" ∷ codes "CLASS1" ∷ []) octets then Some In
-    else (if is_among (codes "CS" ∷ codes "CH" ∷ codes "HS" ∷ []) octets then Some NotIn
+    if is_some_word (codes "IN" ∷ codes "CLASS1" ∷ []) octets then Some In
+    else (if is_some_word (codes "CS" ∷ codes "CH" ∷ codes "HS" ∷ []) octets then Some NotIn
     else option_map (λ number. NotIn) (number_behind (codes "CLASS") octets))

@@ -2,7 +2,7 @@
 
 ghost use Rattle.std.specs.Prelude.{◌≡◌, map};
 ghost use Rattle.dns_data.specs.Octet.{is_word};
-ghost use Rattle.master_read.specs.Words.{is_among, type_word, other_type_word, type_with, type_numbered, class_word, number_behind};
+ghost use Rattle.master_read.specs.Words.{is_some_word, type_word, other_type_word, type_with, type_numbered, class_word, number_behind};
 
 use dns_data::{RrType, is_word, read_number};
 
@@ -63,9 +63,9 @@ const OTHERS: [&str; 29] = [
 ];
 
 /// Whether the octets are one of these words.
-#[tactic(auto, unfolding(crate::specs::Words::is_among))]
-fn is_among(words: &[&str], octets: &[u8]) -> bool
-    ensures { result ≡ is_among (map (λ word. word.now) words.now) octets.now }
+#[tactic(auto, unfolding(crate::specs::Words::is_some_word))]
+fn is_some_word(words: &[&str], octets: &[u8]) -> bool
+    ensures { result ≡ is_some_word (map (λ word. word.now) words.now) octets.now }
 {
     words.iter().any(|word| is_word(word, octets))
 }
@@ -85,10 +85,10 @@ pub fn type_word(octets: &[u8]) -> Option<TypeWord>
 fn other_type_word(octets: &[u8]) -> Option<TypeWord>
     ensures { result ≡ other_type_word octets.now }
 {
-    if is_among(&DROPPED, octets) {
+    if is_some_word(&DROPPED, octets) {
         return Some(TypeWord::Dropped);
     }
-    if is_among(&OTHERS, octets) {
+    if is_some_word(&OTHERS, octets) {
         return Some(TypeWord::Other);
     }
     Some(type_with(number_behind("TYPE", octets)?))
@@ -120,10 +120,10 @@ fn type_numbered(number: u16) -> Option<RrType>
 pub fn class_word(octets: &[u8]) -> Option<ClassWord>
     ensures { result ≡ class_word octets.now }
 {
-    if is_among(&["IN", "CLASS1"], octets) {
+    if is_some_word(&["IN", "CLASS1"], octets) {
         return Some(ClassWord::In);
     }
-    if is_among(&["CS", "CH", "HS"], octets) {
+    if is_some_word(&["CS", "CH", "HS"], octets) {
         return Some(ClassWord::NotIn);
     }
     number_behind("CLASS", octets)?;

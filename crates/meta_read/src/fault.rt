@@ -26,8 +26,8 @@ pub enum MetaFault {
     /// The list of top servers is empty.
     #[error("no top server")]
     NoTops,
-    /// There are more than 10,000 rows.
-    #[error("more than 10,000 rows")]
+    /// There are more rows than are read.
+    #[error("more rows than are read")]
     TooManyRows,
     /// Memory ran out.
     #[error("no memory")]

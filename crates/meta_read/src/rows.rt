@@ -19,7 +19,7 @@ use std::alloc::Global;
 /// How many rows there may be.
 const MOST_ROWS: usize = 10_000;
 
-/// The rows in order, at most 10,000.
+/// The rows in order, if there are no more than are read.
 pub(crate) fn read_rows(alloc: Global, value: &Value) -> Result<List<MetaRow>, MetaFault>
     ensures { AnswersOr MetaFault.NoMemory result (rows_of (view value.now)) }
 {

@@ -8,7 +8,7 @@ use std::alloc::Global;
 use std::cmp::Ordering;
 
 /// The place of a rewrite: the server, the zone's origin and the owner of the record that rewrites.
-#[derive(Debug, Drop)]
+#[derive(Debug, PartialEq, Eq, Drop)]
 pub struct Place {
     pub server: Name,
     pub zone: Name,
@@ -17,7 +17,7 @@ pub struct Place {
 
 /// One name server of a delegation: the referring server and its zone's origin, the zone cut, and the name of
 /// the name server (RFC 1034 section 4.2.1).
-#[derive(Debug, Drop)]
+#[derive(Debug, PartialEq, Eq, Drop)]
 pub struct Cut {
     pub server: Name,
     pub zone: Name,

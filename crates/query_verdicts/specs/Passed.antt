@@ -4,8 +4,8 @@ use Rattle.std.specs.Prelude.{◌≡◌, ◌≢◌, ◌⊎◌, ℕ, List, ◌∷
 use Rattle.std.specs.declared.cmp.Ordering.TheVariants.{Less}
 use Rattle.dns_data.specs.Name.{Labels, IsName}
 use Rattle.query_verdicts.specs.Verdict.{PassesStates, SomeServerPasses}
-use Rattle.query_verdicts.specs.declared.report.ReportFault.{ReportFault}
-use Rattle.query_verdicts.specs.declared.report.ReportFault.TheVariants.{StatesPassed, NoMemory}
+use Rattle.query_verdicts.specs.declared.report.JudgeFault.{JudgeFault}
+use Rattle.query_verdicts.specs.declared.report.JudgeFault.TheVariants.{StatesPassed, NoMemory}
 use Rattle.graph_form.specs.Report.{Subject, IsClass}
 use Rattle.net_model.specs.declared.class.Class.{Class}
 use Rattle.net_model.specs.declared.config.Config.{Config}
@@ -55,6 +55,6 @@ IsRefusedFor subject states name =
     ⊎ ((SomeClassPasses subject states → ⊥) × IsFirstServerPassed subject.config subject.rewrites states name)
 
 -- what a refusal of a report says
-abbrev pub IsReportFault : Subject → ℕ → ReportFault → Type 0
+abbrev pub IsReportFault : Subject → ℕ → JudgeFault → Type 0
 IsReportFault subject states (StatesPassed name) = IsRefusedFor subject states name
 IsReportFault subject states NoMemory = Unit {0}

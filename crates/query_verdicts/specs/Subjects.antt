@@ -11,7 +11,7 @@ use Rattle.query_classes.specs.Members.{RepresentsClass}
 use Rattle.query_classes.specs.TreeNames.{AreBaseNamesOf}
 use Rattle.straight_walks.specs.Straight.{NoOriginBetween}
 use Rattle.query_verdicts.specs.Queries.{LimitedQueries, queries_of}
-use Rattle.query_verdicts.specs.Verdict.{IsFaultless}
+use Rattle.query_verdicts.specs.Verdict.{IsQuiet}
 use Rattle.query_verdicts.specs.declared.quiet.Quiet.{Quiet}
 
 -- the subject's ground covers its configuration, and its class tree has the name at or below which queries are looked at
@@ -36,6 +36,6 @@ RepresentsBelow base above found =
 -- the query shows no fault; nor does a name below it with no origin between, or the query with an unnamed tail, where that is
 -- told
 pub record IsQuietAt (subject : Subject) (states : ℕ) (query : Labels) (quiet : Quiet) : Type 0 where
-  pub alone : IsFaultless subject states query
-  pub below : quiet.below ≡ true → (name : Labels) → NoOriginBetween subject.config query name → IsFaultless subject states name
-  pub unnamed : quiet.unnamed ≡ true → (tail : Labels) → IsUnnamedTail subject.config query tail → IsFaultless subject states (query ++ tail)
+  pub alone : IsQuiet subject states query
+  pub below : quiet.below ≡ true → (name : Labels) → NoOriginBetween subject.config query name → IsQuiet subject states name
+  pub unnamed : quiet.unnamed ≡ true → (tail : Labels) → IsUnnamedTail subject.config query tail → IsQuiet subject states (query ++ tail)

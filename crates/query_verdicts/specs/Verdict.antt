@@ -38,8 +38,8 @@ IsClassVerdict config rewrites states query (Faults shown) =
 IsClassVerdict config rewrites states query StatesPassed = PassesStates config rewrites states query
 
 -- the query shows no fault, and reaches no more pairs than are looked at
-abbrev pub IsFaultless : Subject → ℕ → Labels → Type 0
-IsFaultless subject states query = IsClassVerdict subject.config subject.rewrites states query (Faults [])
+abbrev pub IsQuiet : Subject → ℕ → Labels → Type 0
+IsQuiet subject states query = IsClassVerdict subject.config subject.rewrites states query (Faults [])
 
 -- the verdict of the class below a name of the subject's class tree, if it has a representative
 abbrev pub IsBelowVerdict : Subject → ℕ → Labels → Option ClassVerdict → Type 0

@@ -8,9 +8,10 @@
 //! queries. A subject is a configuration with its limits, the names that are told apart in it, and the name at or below
 //! which queries are looked at.
 //!
-//! `base_graph` and `joint_base_graph` make graphs of base names, and answer `NoMemory` where there is no room. The names of a zone come from its tree, where they stand
-//! in order: putting them in order costs a comparison a name for one zone, and a merge of their runs for several. They come
-//! from the records where two servers have one name, two zones of a server one origin, or an owner lies outside its zone.
+//! `base_graph` and `joint_base_graph` make graphs of base names, and answer `NoMemory` where there is no room. The names
+//! of a zone come from its tree, where they stand in order: putting them in order costs a comparison a name for one zone,
+//! and a merge of their runs for several. They come from the records where two servers have one name, two zones of a
+//! server one origin, or an owner lies outside its zone.
 //!
 //! The way of a fault, from the graph of a query's walks to its entry, goes through four files: `verdicts` finds the faults
 //! in the graph, `verdict` has what is told of a class and of a name and how that is filed, `name_judge` judges the two
@@ -23,11 +24,12 @@
 //! a verdict keeps no walk, and takes no memory of its own where no class of the name shows a fault. No graph is made
 //! where the representative's walks are seen to go straight to their ends. Where each server refers the name to servers
 //! elsewhere, holds no zone for it, or answers it by data of its own and has no wildcard below it, the class below is
-//! judged by the same search, and its representative isn't made. Where all refer it elsewhere and no zone's origin stands below it, no
-//! name below it is searched for at all. A graph is restricted to the least set of learnt addresses only where some
-//! configured server is neither in that set nor a top server. The class of a query under the configuration's own names
-//! is asked only where a graph was made and the subject tells other names apart. The report makes one graph more for
-//! each class that is the first to show some fault, and finds the first walks of all these faults in it.
+//! judged by the same search, and its representative isn't made. Where each refers it elsewhere or holds no zone for
+//! it, and no zone's origin stands below it, no name below it is searched for at all. A graph is restricted to the
+//! least set of learnt addresses only where some configured server is neither in that set nor a top server. The class
+//! of a query under the configuration's own names is asked only where a graph was made and the subject tells other
+//! names apart. The report makes one graph more for each class that is the first to show some fault, and finds the
+//! first walks of all these faults in it.
 #![tactic(auto)]
 
 mod base_names;
@@ -50,6 +52,6 @@ pub use graphs::QueryGraphs;
 pub use name_judge::NameJudge;
 pub use own_class::OwnClass;
 pub use queries::MOST_STATES;
-pub use report::ReportFault;
+pub use report::JudgeFault;
 pub use subject::{OnSubject, SubjectGround};
 pub use verdict::{ClassVerdict, FiledVerdict, NameVerdict};

@@ -7,7 +7,7 @@ ghost use Rattle.net_model.specs.declared.class.Class.TheVariants.{Below};
 ghost use Rattle.query_verdicts.specs.Passed.{IsFirstServerPassed};
 ghost use Rattle.query_verdicts.specs.Queries.{IsLeastGraph, StandsFor};
 ghost use Rattle.query_verdicts.specs.Subjects.{AreOfSubject, IsCovering, IsQuietAt, RepresentsBelow};
-ghost use Rattle.query_verdicts.specs.Verdict.{IsBelowVerdict, IsClassVerdict, IsNameVerdict, IsFaultless, PassesStates, SomeServerPasses};
+ghost use Rattle.query_verdicts.specs.Verdict.{IsBelowVerdict, IsClassVerdict, IsNameVerdict, IsQuiet, PassesStates, SomeServerPasses};
 ghost use Rattle.query_verdicts.specs.declared.verdict.ClassVerdict.TheVariants.{Faults};
 ghost use Rattle.query_classes.specs.Children.{AreChildren, IsInTree};
 ghost use Rattle.query_classes.specs.Members.{RepresentsClass};
@@ -136,7 +136,7 @@ impl<'a, S: OnSubject> NameJudge<'a, S> {
         all_quiet: bool,
     ) -> Result<Judged<TreeName<SubjectGround<S>>, FiledVerdict>, NoMemory>
         requires verdict { IsNameVerdict S.subject S.states item.now verdict }
-        requires quiet { all_quiet ≡ true → IsToldBelow (IsFaultless S.subject S.states) item.now }
+        requires quiet { all_quiet ≡ true → IsToldBelow (IsQuiet S.subject S.states) item.now }
         ensures verdict { IfOk result (λ judged. IsNameVerdict S.subject S.states item.now judged.verdict) }
         ensures children { IfOk result (λ judged. AreChildren S.subject.ground item.now judged.children) }
     {
@@ -191,7 +191,7 @@ impl<'a, S: OnSubject> NameJudge<'a, S> {
     /// near a place.
     fn all_quiet(&self, quiet: Option<Quiet>, near: usize, query: &Name) -> bool
         requires { IfSome quiet (IsQuietAt S.subject S.states query.now) }
-        ensures { result ≡ true → IsToldBelow (IsFaultless S.subject S.states) query.now }
+        ensures { result ≡ true → IsToldBelow (IsQuiet S.subject S.states) query.now }
     {
         match quiet {
             Some(quiet) => {
@@ -216,8 +216,8 @@ impl<'a, S: OnSubject> NameJudge<'a, S> {
     fn quiet_name(&self, name: &LiveName) -> Result<NameVerdict<ClassVerdict>, NoMemory>
         requires live { IsLiveIn S.subject.ground name.now.name name.now.live }
         requires in_tree { IsInTree S.subject.ground name.now.name }
-        requires alone { IsFaultless S.subject S.states name.now.name }
-        requires below { (tail : Labels) → IsUnnamedTail S.subject.config name.now.name tail → IsFaultless S.subject S.states (name.now.name ++ tail) }
+        requires alone { IsQuiet S.subject S.states name.now.name }
+        requires below { (tail : Labels) → IsUnnamedTail S.subject.config name.now.name tail → IsQuiet S.subject S.states (name.now.name ++ tail) }
         ensures { IfOk result (IsNameVerdict S.subject S.states name.now.name) }
     {
         let below = self.quiet_below(name)?;
@@ -232,7 +232,7 @@ impl<'a, S: OnSubject> NameJudge<'a, S> {
     fn quiet_below(&self, above: &LiveName) -> Result<Option<ClassVerdict>, NoMemory>
         requires live { IsLiveIn S.subject.ground above.now.name above.now.live }
         requires in_tree { IsInTree S.subject.ground above.now.name }
-        requires below { (tail : Labels) → IsUnnamedTail S.subject.config above.now.name tail → IsFaultless S.subject S.states (above.now.name ++ tail) }
+        requires below { (tail : Labels) → IsUnnamedTail S.subject.config above.now.name tail → IsQuiet S.subject S.states (above.now.name ++ tail) }
         ensures { IfOk result (IsBelowVerdict S.subject S.states above.now.name) }
     {
         if above.has_below(self.alloc, &self.names)? {

@@ -30,24 +30,24 @@ use std::cmp::Ordering;
 use thiserror::Error;
 use verdict_book::{Filed, Work};
 
-/// Why a report isn't given.
+/// Why the verdicts of names aren't put together, to a report or to a comparison.
 #[derive(Debug, Drop, Error)]
-pub enum ReportFault {
-    /// The representative of some class reaches more pairs of state and type than are looked at; this one is the first.
-    /// Where none does, but the name of some configured server, it is the first such name.
+pub enum JudgeFault {
+    /// More pairs of state and type than are looked at are reached by this name: by the first representative of a class
+    /// that does so, or by another name of which the call speaks.
     #[error("more states than are looked at")]
     StatesPassed(Name),
     #[error("no memory")]
     NoMemory,
 }
 
-impl From<NoMemory> for ReportFault {
+impl From<NoMemory> for JudgeFault {
     ghost from_gives = { λ _ fault. fault ≡ NoMemory };
 
-    ghost use Rattle.query_verdicts.specs.declared.report.ReportFault.TheVariants.{NoMemory};
+    ghost use Rattle.query_verdicts.specs.declared.report.JudgeFault.TheVariants.{NoMemory};
 
-    fn from(_fault: NoMemory) -> ReportFault {
-        ReportFault::NoMemory
+    fn from(_fault: NoMemory) -> JudgeFault {
+        JudgeFault::NoMemory
     }
 }
 
@@ -59,7 +59,7 @@ impl<'a, S: OnSubject> NameJudge<'a, S> {
     pub fn report<W: Work<Item = TreeName<SubjectGround<S>>, Verdict = FiledVerdict>>(
         &self,
         filed: List<Filed<W>>,
-    ) -> Result<Report, ReportFault>
+    ) -> Result<Report, JudgeFault>
         requires rows { AreRows S.subject S.states filed }
         requires few { length filed < 2 ^ 31 }
         ensures report { IfOk result (IsReport S.subject) }
@@ -67,10 +67,10 @@ impl<'a, S: OnSubject> NameJudge<'a, S> {
         ensures fault { IfErr result (IsReportFault S.subject S.states) }
     {
         if let Some(query) = first_passed(self, filed.items())? {
-            return Err(ReportFault::StatesPassed(query));
+            return Err(JudgeFault::StatesPassed(query));
         }
         match self.server_passed()? {
-            Some(server) => Err(ReportFault::StatesPassed(server)),
+            Some(server) => Err(JudgeFault::StatesPassed(server)),
             None => Ok(report_with(self, filed)?),
         }
     }

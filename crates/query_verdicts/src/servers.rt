@@ -65,7 +65,7 @@ fn rests_within(
     ensures rests { IfOk result (λ within. within ≡ true → Rests queries.now.trees name.now) }
     ensures few { IfOk result (λ within. within ≡ true → PassesStates queries.now.trees queries.now.rewrites queries.now.states name.now → ⊥) }
 {
-    let most = (queries.states / RrType::COUNT) as usize;
+    let most = queries.states as usize / RrType::COUNT;
     if queries.trees.config().tops.items().len() > most {
         return Ok(false);
     }

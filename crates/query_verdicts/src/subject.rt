@@ -22,9 +22,9 @@ pub struct SubjectGround<S: OnSubject> {
 }
 
 impl<S: OnSubject> OnGround for SubjectGround<S> {
-    ghost use Rattle.query_verdicts.specs.Verdict.{IsFaultless};
+    ghost use Rattle.query_verdicts.specs.Verdict.{IsQuiet};
 
     ghost ground = { S.subject.ground };
 
-    ghost told = { IsFaultless S.subject S.states };
+    ghost told = { IsQuiet S.subject S.states };
 }

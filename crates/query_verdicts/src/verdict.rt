@@ -34,8 +34,8 @@ pub struct FiledVerdict {
     told: FiledForm,
 }
 
-/// What is told of a name. Nothing is told of a class whose representative shows no fault and reaches no more pairs of
-/// state and type than are looked at.
+/// How the verdict of a name is filed. Nothing is told of a class whose representative shows no fault and reaches no more
+/// pairs of state and type than are looked at.
 #[derive(Debug, Drop)]
 enum FiledForm {
     /// Nothing, and the class below the name isn't empty.

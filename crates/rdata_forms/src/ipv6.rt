@@ -8,7 +8,7 @@ use crate::piece::first_piece;
 use arrayvec::ArrayVec;
 
 /// The octets of an address, or of a part of it.
-type Octets = ArrayVec<u8, 16>;
+type AddressPart = ArrayVec<u8, 16>;
 
 /// The octets for which a `::` may stand.
 const ZEROS: [u8; 16] = [0; 16];
@@ -43,7 +43,7 @@ fn sides(text: &[u8]) -> Option<(&[u8], &[u8])>
 }
 
 /// The address with zeros between its two parts, or `None` where they leave no room for a group of them.
-fn with_zeros(mut front: Octets, back: &Octets) -> Option<[u8; 16]>
+fn with_zeros(mut front: AddressPart, back: &AddressPart) -> Option<[u8; 16]>
     ensures { result ≡ with_zero_groups front.items back.now.items }
 {
     let written = front.len() + back.len();
@@ -56,14 +56,14 @@ fn with_zeros(mut front: Octets, back: &Octets) -> Option<[u8; 16]>
 }
 
 /// The address of these octets, or `None` where they aren't sixteen.
-fn whole(octets: Octets) -> Option<[u8; 16]>
+fn whole(octets: AddressPart) -> Option<[u8; 16]>
     ensures { result ≡ if_whole octets.items }
 {
     octets.into_inner().ok()
 }
 
 /// Puts octets at the end, or answers `None` where there is no room for all of them.
-fn push_all(octets: &mut Octets, more: &[u8]) -> Option<()>
+fn push_all(octets: &mut AddressPart, more: &[u8]) -> Option<()>
     ensures some { OnSome result (octets.new.items ≡ octets.old.items ++ more.now) }
     ensures none { IfNone result (16 < length octets.old.items + length more.now) }
 {
@@ -71,7 +71,7 @@ fn push_all(octets: &mut Octets, more: &[u8]) -> Option<()>
 }
 
 /// The octets of a side of a `::`, where there may be no piece. `None` stands for too many octets too.
-fn read_side(text: &[u8], ends: bool) -> Option<Octets>
+fn read_side(text: &[u8], ends: bool) -> Option<AddressPart>
     ensures some { IfSome result (λ octets. side_of ends text.now ≡ Some octets.items) }
     ensures none { IfNone result (IfSome (side_of ends text.now) (λ octets. 16 < length octets)) }
 {
@@ -83,7 +83,7 @@ fn read_side(text: &[u8], ends: bool) -> Option<Octets>
 
 /// The octets of pieces with colons between them, of which the last may be an IPv4 address where they end the
 /// text. `None` stands for too many octets too.
-fn read_pieces(text: &[u8], ends: bool) -> Option<Octets>
+fn read_pieces(text: &[u8], ends: bool) -> Option<AddressPart>
     ensures some { IfSome result (λ octets. octets_of ends text.now ≡ Some octets.items) }
     ensures none { IfNone result (IfSome (octets_of ends text.now) (λ octets. 16 < length octets)) }
 {
@@ -101,7 +101,7 @@ fn read_pieces(text: &[u8], ends: bool) -> Option<Octets>
 }
 
 /// Puts the two octets of a group at the end, or answers `None` where the text is no group or there is no room.
-fn push_group(octets: &mut Octets, text: &[u8]) -> Option<()>
+fn push_group(octets: &mut AddressPart, text: &[u8]) -> Option<()>
     ensures some { OnSome result (option_map (λ more. octets.old.items ++ more) (group_of text.now) ≡ Some octets.new.items) }
     ensures none { IfNone result (IfSome (group_of text.now) (λ more. 16 < length octets.old.items + length more)) }
 {
@@ -111,7 +111,7 @@ fn push_group(octets: &mut Octets, text: &[u8]) -> Option<()>
 
 /// Puts the octets of the last piece at the end: those of a group, or of an IPv4 address where the piece ends the
 /// text. `None` stands for another text and for want of room.
-fn push_last(octets: &mut Octets, text: &[u8], ends: bool) -> Option<()>
+fn push_last(octets: &mut AddressPart, text: &[u8], ends: bool) -> Option<()>
     ensures some { OnSome result (option_map (λ more. octets.old.items ++ more) (last_of ends text.now) ≡ Some octets.new.items) }
     ensures none { IfNone result (IfSome (last_of ends text.now) (λ more. 16 < length octets.old.items + length more)) }
 {

@@ -18,9 +18,9 @@ pub enum CheckFault {
     /// at `faults`.
     #[error("not a report")]
     NotReport,
-    /// The query of the entry with this number, counted from 1, has more than 10,000 walks; with the number 0, the name
-    /// of a server has more, whose address is to be learnt.
-    #[error("more than 10000 walks for entry {entry}")]
+    /// The query of the entry with this number, counted from 1, has more walks than are followed
+    /// (`MOST_WALKS_FOLLOWED`); with the number 0, the name of a server has more, whose address is to be learnt.
+    #[error("more walks for entry {entry} than are followed")]
     Walks { entry: u64 },
     /// Memory ran out.
     #[error("no memory")]

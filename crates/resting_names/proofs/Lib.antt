@@ -1,3 +1,3 @@
 pub mod Addresses
-pub mod Quiet
+pub mod Still
 pub mod Resting

@@ -39,9 +39,9 @@ abbrev pub leading_of : Config → List Labels
 leading_of config = flat_map server_leading config.servers
 
 -- neither the name nor the asterisk label below it is among the owners
-abbrev pub IsQuiet : List Labels → Labels → Type 0
-IsQuiet owners name = (is_among owners name ≡ false) × (is_among owners (name ++ codes "*" ∷ []) ≡ false)
+abbrev pub IsStill : List Labels → Labels → Type 0
+IsStill owners name = (is_among owners name ≡ false) × (is_among owners (name ++ codes "*" ∷ []) ≡ false)
 
 -- so it is of no number of labels at the front of a name
-abbrev pub IsQuietAbove : List Labels → Labels → ℕ → Type 0
-IsQuietAbove owners name bound = (count : ℕ) → count ≤ bound → IsQuiet owners (take count name)
+abbrev pub IsStillAbove : List Labels → Labels → ℕ → Type 0
+IsStillAbove owners name bound = (count : ℕ) → count ≤ bound → IsStill owners (take count name)

@@ -3,7 +3,7 @@
 ghost use Rattle.std.specs.Prelude.{◌≡◌, true, List, codes, length, IfOk, IfSome};
 ghost use Rattle.dns_data.specs.Name.{Labels};
 ghost use Rattle.zone_lookup.specs.LearntSets.{IsSetOf};
-ghost use Rattle.resting_names.specs.Leading.{IsQuiet, IsQuietAbove};
+ghost use Rattle.resting_names.specs.Leading.{IsStill, IsStillAbove};
 ghost use Rattle.resting_names.specs.Resting.{Rests};
 
 use crate::leading::leading_owners;
@@ -61,19 +61,19 @@ impl<'a> RestingNames<'a> {
         ensures { IfOk result (λ rests. rests ≡ true → Rests self.now name.now) }
     {
         match &self.leading {
-            Some(leading) => is_quiet_above(alloc, leading, name),
+            Some(leading) => is_still_above(alloc, leading, name),
             None => Ok(false),
         }
     }
 }
 
 /// Whether no owner of these stands at or above the name, nor as the asterisk label below a name there.
-fn is_quiet_above(alloc: Global, leading: &BTreeSet<Name>, name: &Name) -> Result<bool, NoMemory>
-    ensures { IfOk result (λ quiet. quiet ≡ true → (owners : List Labels) → IsSetOf owners leading.now → IsQuietAbove owners name.now (length name.now)) }
+fn is_still_above(alloc: Global, leading: &BTreeSet<Name>, name: &Name) -> Result<bool, NoMemory>
+    ensures { IfOk result (λ still. still ≡ true → (owners : List Labels) → IsSetOf owners leading.now → IsStillAbove owners name.now (length name.now)) }
 {
     let asterisk = Label::with_octets(alloc, b"*")?;
     for count in 0..name.len() as usize + 1 {
-        if !is_quiet(alloc, leading, &asterisk, &name.front(count))? {
+        if !is_still(alloc, leading, &asterisk, &name.front(count))? {
             return Ok(false);
         }
     }
@@ -82,14 +82,14 @@ fn is_quiet_above(alloc: Global, leading: &BTreeSet<Name>, name: &Name) -> Resul
 
 /// Whether neither the name nor the asterisk label below it is one of these owners. Where that label would make too long a
 /// name nothing is told.
-fn is_quiet(
+fn is_still(
     alloc: Global,
     leading: &BTreeSet<Name>,
     asterisk: &Label,
     name: &Labels<'_>,
 ) -> Result<bool, NoMemory>
     requires { asterisk.now ≡ codes "*" }
-    ensures { IfOk result (λ quiet. quiet ≡ true → (owners : List Labels) → IsSetOf owners leading.now → IsQuiet owners name.now) }
+    ensures { IfOk result (λ still. still ≡ true → (owners : List Labels) → IsSetOf owners leading.now → IsStill owners name.now) }
 {
     let Some(mut above) = name_with(alloc, name)? else {
         return Ok(false);

@@ -7,8 +7,8 @@ use Rattle.graph_form.specs.Report.{IsTreeSize}
 use Rattle.net_model.specs.declared.class.Class.{Class}
 use Rattle.net_model.specs.Class.{class_cmp, class_name, IsRepresentative}
 use Rattle.query_classes.specs.Children.{IsInTree}
-use Rattle.query_verdicts.specs.declared.report.ReportFault.{ReportFault}
-use Rattle.query_verdicts.specs.declared.report.ReportFault.TheVariants as faults
+use Rattle.query_verdicts.specs.declared.report.JudgeFault.{JudgeFault}
+use Rattle.query_verdicts.specs.declared.report.JudgeFault.TheVariants as faults
 use Rattle.same_answers.specs.Alike.{AllAlike, AnswersAlike, AreBounded}
 use Rattle.same_answers.specs.Compared.{Compared, joint}
 use Rattle.same_answers.specs.Passed.{IsFirstPassedInOne}
@@ -40,6 +40,6 @@ IsSameness two (Same classes names) = IsTreeSize (joint two) [] names classes ×
 IsSameness two (Apart query rtype) = IsFirstDifference two query rtype
 
 -- what is told where the configurations aren't compared
-abbrev pub IsSameFault : Compared → ReportFault → Type 0
+abbrev pub IsSameFault : Compared → JudgeFault → Type 0
 IsSameFault two (faults.StatesPassed query) = IsFirstPassedInOne two query
 IsSameFault two faults.NoMemory = Unit {0}

@@ -15,7 +15,7 @@ use crate::search::{Sought, SoughtClass};
 use crate::verdict::PairEnd;
 use dns_data::{List, Name, NoMemory, RrType};
 use query_classes::TreeName;
-use query_verdicts::{NameVerdict, ReportFault as SameFault};
+use query_verdicts::{JudgeFault, NameVerdict};
 use verdict_book::{Filed, Work};
 
 /// What is told of two configurations.
@@ -33,7 +33,7 @@ impl<'a, N: PairNaming + Send> Pairing<'a, N> {
     /// What is told of the two configurations, from the verdicts of all names of their joint class tree. `Same` speaks
     /// of every query that both bound, and `Apart` names one. Where some representative reaches more pairs of state and
     /// type than are looked at, in one of the configurations, it is `StatesPassed` with the first such one.
-    pub fn outcome(&self, filed: List<Filed<Pairing<'a, N>>>) -> Result<Sameness, SameFault>
+    pub fn outcome(&self, filed: List<Filed<Pairing<'a, N>>>) -> Result<Sameness, JudgeFault>
         requires whole { IsWholeTree name_cmp [] N.children_of N.verdict_of filed }
         requires few { length filed < 2 ^ 31 }
         ensures sameness { IfOk result (IsSameness N.compared) }
@@ -49,7 +49,7 @@ impl<'a, N: PairNaming + Send> Pairing<'a, N> {
     fn told_of<W: Work<Item = TreeName<JointGround<N>>, Verdict = NameVerdict<PairEnd>>>(
         &self,
         filed: List<Filed<W>>,
-    ) -> Result<Sameness, SameFault>
+    ) -> Result<Sameness, JudgeFault>
         requires rows { ArePairRows N.compared filed }
         requires few { length filed < 2 ^ 31 }
         ensures sameness { IfOk result (IsSameness N.compared) }
@@ -63,7 +63,7 @@ impl<'a, N: PairNaming + Send> Pairing<'a, N> {
     fn told_by<W: Work<Item = TreeName<JointGround<N>>, Verdict = NameVerdict<PairEnd>>>(
         &self,
         rows: &[Filed<W>],
-    ) -> Result<Sameness, SameFault>
+    ) -> Result<Sameness, JudgeFault>
         requires rows { ArePairRows N.compared rows.now }
         requires few { length rows.now < 2 ^ 31 }
         ensures sameness { IfOk result (IsSameness N.compared) }
@@ -71,7 +71,7 @@ impl<'a, N: PairNaming + Send> Pairing<'a, N> {
         ensures fault { IfErr result (IsSameFault N.compared) }
     {
         if let Some(SoughtClass { query, .. }) = self.first_sought(rows, Sought::Passed)? {
-            return Err(SameFault::StatesPassed(query));
+            return Err(JudgeFault::StatesPassed(query));
         }
         self.servers_are_learnt();
         match self.first_sought(rows, Sought::Apart)? {

@@ -12,7 +12,8 @@ use Rattle.dns_data.specs.Name.{Labels, name_cmp, name_eq}
 use Rattle.dns_data.proofs.Names.{name_eq_decides}
 use Rattle.dns_data.proofs.Searches.{any_has, from_any, same_truth}
 use Rattle.graph_form.proofs.ShownKinds.{name_itself}
-use Rattle.site_checks.specs.EndPlaces.{ListsPlaces, is_end_at, places_of}
+use Rattle.dns_data.specs.Listed.{places_of}
+use Rattle.site_checks.specs.EndPlaces.{ListsPlaces, is_end_at}
 use Rattle.site_checks.specs.Ends.{end_eq}
 use Rattle.site_checks.specs.declared.views.TypedEnd.{TypedEnd}
 use Rattle.site_checks.proofs.EqualEnds.{end_decides}

@@ -4,12 +4,13 @@ ghost use Rattle.std.specs.Prelude.{◌≡◌, ◌∷◌, ◌++◌, ℕ, [], Con
 ghost use Rattle.std.specs.List.{list_any};
 ghost use Rattle.dns_data.specs.Name.{Labels};
 ghost use Rattle.site_checks.specs.Ends.{end_eq, leaf_eq, typed_end};
-ghost use Rattle.site_checks.specs.EndPlaces.{is_end_at, places_of};
+ghost use Rattle.dns_data.specs.Listed.{places_of};
+ghost use Rattle.site_checks.specs.EndPlaces.{is_end_at};
 ghost use Rattle.site_checks.specs.Once.{with_new};
 
 use crate::views::TypedEnd;
 use dns_data::{List, Name, NoMemory, RrType};
-use graph_form::{is_place, is_same_answer};
+use graph_form::is_same_answer;
 use net_model::Leaf;
 use std::alloc::Global;
 use std::collections::BTreeMap;
@@ -134,7 +135,7 @@ fn is_same_leaf(a: &Leaf, b: &Leaf) -> bool
         | (Leaf::Lame(ns), Leaf::Lame(other))
         | (Leaf::NoAddress(ns), Leaf::NoAddress(other)) => *ns == *other,
         (Leaf::Limit(place), Leaf::Limit(other)) | (Leaf::Overlong(place), Leaf::Overlong(other)) =>
-            is_place(place, other),
+            place == other,
         _ => false,
     }
 }

@@ -17,7 +17,7 @@ use Rattle.net_model.specs.declared.config.Config.{Config}
 use Rattle.net_model.specs.declared.walk.Leaf.{Leaf}
 use Rattle.walk_laws.specs.Outcome.{HasOutcome}
 use Rattle.straight_walks.specs.Ends.{IsOutcomeOf}
-use Rattle.straight_walks.specs.Searching.{GoesStraightIn, nothing_below, HoldsForEach}
+use Rattle.straight_walks.specs.Searching.{GoesStraightIn, nothing_below, HoldsOfEachTold}
 use Rattle.straight_walks.specs.Straight.{GoesStraight, NoOriginBetween}
 use Rattle.straight_walks.specs.declared.ends.StraightEnds.{StraightEnds}
 use Rattle.straight_walks.proofs.FewStates.{few_states}
@@ -41,24 +41,24 @@ module _ (config : Config) (deps : Deps) (rewrites most : ℕ) (query : Labels) 
 -- where ends are given
 module _ (config : Config) (deps : Deps) (rewrites most : ℕ) (query : Labels) {E : Type 0} (given : Result (Option StraightEnds) E) where
   -- what holds of the ends of straight walks holds of these
-  by_straight : (Q : StraightEnds → Type 0) → ((ends : StraightEnds) → HoldsForEach config query (GoesStraightIn config deps rewrites most) ends → Q ends)
-      → IfOk given (λ found. IfSome found (HoldsForEach config query (GoesStraightIn config deps rewrites most))) → IfOk given (λ found. IfSome found Q)
+  by_straight : (Q : StraightEnds → Type 0) → ((ends : StraightEnds) → HoldsOfEachTold config query (GoesStraightIn config deps rewrites most) ends → Q ends)
+      → IfOk given (λ found. IfSome found (HoldsOfEachTold config query (GoesStraightIn config deps rewrites most))) → IfOk given (λ found. IfSome found Q)
   by_straight Q so = by given where
-    by : (given : Result (Option StraightEnds) E) → IfOk given (λ found. IfSome found (HoldsForEach config query (GoesStraightIn config deps rewrites most)))
+    by : (given : Result (Option StraightEnds) E) → IfOk given (λ found. IfSome found (HoldsOfEachTold config query (GoesStraightIn config deps rewrites most)))
         → IfOk given (λ found. IfSome found Q)
     by (Ok None) straight = tt
     by (Ok (Some ends)) straight = so ends straight
     by (Err fault) straight = tt
 
   -- few pairs of state and type are reached
-  pub few_given : (states : ℕ) → most * 12 ≤ states → IfOk given (λ found. IfSome found (HoldsForEach config query (GoesStraightIn config deps rewrites most)))
+  pub few_given : (states : ℕ) → most * 12 ≤ states → IfOk given (λ found. IfSome found (HoldsOfEachTold config query (GoesStraightIn config deps rewrites most)))
       → IfOk given (λ found. IfSome found (λ ends. HasMoreThan (IsReached config rewrites query) states → ⊥))
   few_given states fits =
       by_straight (λ ends. HasMoreThan (IsReached config rewrites query) states → ⊥)
       (λ ends straight. few_states config rewrites deps most query ends (in_all config deps rewrites most query ends (straight query ends (inl (refl, refl)))) states fits)
 
   -- and by the names of which they are the ends too
-  pub few_given_below : (states : ℕ) → most * 12 ≤ states → IfOk given (λ found. IfSome found (HoldsForEach config query (GoesStraightIn config deps rewrites most)))
+  pub few_given_below : (states : ℕ) → most * 12 ≤ states → IfOk given (λ found. IfSome found (HoldsOfEachTold config query (GoesStraightIn config deps rewrites most)))
       → IfOk given (λ found. IfSome found (λ ends. ends.below ≡ true → (name : Labels) → NoOriginBetween config query name
       → HasMoreThan (IsReached config rewrites name) states → ⊥))
   few_given_below states fits =
@@ -67,7 +67,7 @@ module _ (config : Config) (deps : Deps) (rewrites most : ℕ) (query : Labels) 
       few_states config rewrites deps most name ends (in_all config deps rewrites most name ends (straight name ends (inr (inl (below, between, refl))))) states fits)
 
   -- and by it with an unnamed tail, where its ends are known then
-  pub few_given_unnamed : (states : ℕ) → most * 12 ≤ states → IfOk given (λ found. IfSome found (HoldsForEach config query (GoesStraightIn config deps rewrites most)))
+  pub few_given_unnamed : (states : ℕ) → most * 12 ≤ states → IfOk given (λ found. IfSome found (HoldsOfEachTold config query (GoesStraightIn config deps rewrites most)))
       → IfOk given (λ found. IfSome found (λ ends. ends.unnamed_below ≡ true → (tail : Labels) → IsUnnamedTail config query tail
       → HasMoreThan (IsReached config rewrites (query ++ tail)) states → ⊥))
   few_given_unnamed states fits =
@@ -77,7 +77,7 @@ module _ (config : Config) (deps : Deps) (rewrites most : ℕ) (query : Labels) 
       (in_all config deps rewrites most (query ++ tail) (nothing_below ends) (straight (query ++ tail) (nothing_below ends) (inr (inr (below, (tail, is, refl), refl))))) states fits)
 
   -- no fault is shown
-  pub nothing_given : IfOk given (λ found. IfSome found (HoldsForEach config query (GoesStraightIn config deps rewrites most)))
+  pub nothing_given : IfOk given (λ found. IfSome found (HoldsOfEachTold config query (GoesStraightIn config deps rewrites most)))
       → IfOk given (λ found. IfSome found (λ ends. (rtype : RrType) (fault : Fault)
       → Shows (with_lists (following config rewrites deps.least) deps.least deps.greatest) query rtype fault → ⊥))
   nothing_given =
@@ -85,7 +85,7 @@ module _ (config : Config) (deps : Deps) (rewrites most : ℕ) (query : Labels) 
       (λ ends straight. shows_nothing (following config rewrites deps.least) deps most query ends (in_least config deps rewrites most query ends (straight query ends (inl (refl, refl)))))
 
   -- nor by those names
-  pub nothing_given_below : IfOk given (λ found. IfSome found (HoldsForEach config query (GoesStraightIn config deps rewrites most)))
+  pub nothing_given_below : IfOk given (λ found. IfSome found (HoldsOfEachTold config query (GoesStraightIn config deps rewrites most)))
       → IfOk given (λ found. IfSome found (λ ends. ends.below ≡ true → (name : Labels) → NoOriginBetween config query name → (rtype : RrType) (fault : Fault)
       → Shows (with_lists (following config rewrites deps.least) deps.least deps.greatest) name rtype fault → ⊥))
   nothing_given_below =
@@ -95,7 +95,7 @@ module _ (config : Config) (deps : Deps) (rewrites most : ℕ) (query : Labels) 
       shows_nothing (following config rewrites deps.least) deps most name ends (in_least config deps rewrites most name ends (straight name ends (inr (inl (below, between, refl))))))
 
   -- nor by it with an unnamed tail
-  pub nothing_given_unnamed : IfOk given (λ found. IfSome found (HoldsForEach config query (GoesStraightIn config deps rewrites most)))
+  pub nothing_given_unnamed : IfOk given (λ found. IfSome found (HoldsOfEachTold config query (GoesStraightIn config deps rewrites most)))
       → IfOk given (λ found. IfSome found (λ ends. ends.unnamed_below ≡ true → (tail : Labels) → IsUnnamedTail config query tail → (rtype : RrType) (fault : Fault)
       → Shows (with_lists (following config rewrites deps.least) deps.least deps.greatest) (query ++ tail) rtype fault → ⊥))
   nothing_given_unnamed =
@@ -106,14 +106,14 @@ module _ (config : Config) (deps : Deps) (rewrites most : ℕ) (query : Labels) 
       (in_least config deps rewrites most (query ++ tail) (nothing_below ends) (straight (query ++ tail) (nothing_below ends) (inr (inr (below, (tail, is, refl), refl))))))
 
   -- the query is bounded
-  pub bounded_given : IfOk given (λ found. IfSome found (HoldsForEach config query (GoesStraightIn config deps rewrites most)))
+  pub bounded_given : IfOk given (λ found. IfSome found (HoldsOfEachTold config query (GoesStraightIn config deps rewrites most)))
       → IfOk given (λ found. IfSome found (λ ends. (rtype : RrType) → IsBoundedWith (following config rewrites deps.least) query rtype))
   bounded_given =
       by_straight (λ ends. (rtype : RrType) → IsBoundedWith (following config rewrites deps.least) query rtype)
       (λ ends straight. is_bounded (following config rewrites deps.least) deps most query ends (in_least config deps rewrites most query ends (straight query ends (inl (refl, refl)))))
 
   -- and it has the outcomes of the ends
-  pub outcomes_given : IfOk given (λ found. IfSome found (HoldsForEach config query (GoesStraightIn config deps rewrites most)))
+  pub outcomes_given : IfOk given (λ found. IfSome found (HoldsOfEachTold config query (GoesStraightIn config deps rewrites most)))
       → IfOk given (λ found. IfSome found (λ ends. (rtype : RrType) (outcome : Option Leaf)
       → HasOutcome (following config rewrites deps.least) query rtype outcome ↔ IsOutcomeOf ends rtype outcome))
   outcomes_given =

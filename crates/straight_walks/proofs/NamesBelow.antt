@@ -9,7 +9,7 @@ use Rattle.net_model.specs.declared.deps.Deps.{Deps}
 use Rattle.net_model.specs.Zone.{ns_names}
 use Rattle.net_model.specs.declared.config.Config.{Config}
 use Rattle.zone_tree.specs.Tree.{ZoneTree, name_of}
-use Rattle.straight_walks.specs.Searching.{AllEndOutside, AreEndsFor, AreReferrals, EndsOutside, HavePassed, HasPassed, IsAnswered, IsReferral, IsReply, SearchPasses, cut_to, failing, nothing_below, nothing_there, unanswered}
+use Rattle.straight_walks.specs.Searching.{AllEndOutside, AreEndsFor, AreReferrals, EndsOutside, HavePassed, HasPassed, IsAnswered, IsReferral, IsReply, PassesServer, cut_to, failing, nothing_below, nothing_there, unanswered}
 use Rattle.straight_walks.specs.Regions.{IsSearchBelow}
 use Rattle.straight_walks.specs.Straight.{NoOriginBetween}
 use Rattle.straight_walks.specs.declared.ends.StraightEnds.{StraightEnds}
@@ -54,7 +54,7 @@ module _ (config : Config) (deps : Deps) (query : Labels) where
   -- a server passes a name of which it tells these ends, where others were told of it before
   abbrev pub PassesFor : Labels → List Queued → StraightEnds → StraightEnds → Labels → StraightEnds → Type 0
   PassesFor server queue before after name found =
-      (found_before : StraightEnds) × AreEndsFor config query before name found_before × SearchPasses config deps name server queue found_before queue found
+      (found_before : StraightEnds) × AreEndsFor config query before name found_before × PassesServer config deps name server queue found_before queue found
 
   -- the ends with another failure
   abbrev with_fails : StraightEnds → Bool → StraightEnds
@@ -75,7 +75,7 @@ module _ (config : Config) (deps : Deps) (query : Labels) where
         let (found_before, of_before, is, fails) = before_failing ends true name found of in (
           found_before,
           of_before,
-          subst (SearchPasses config deps name server queue found_before queue) (sym is)
+          subst (PassesServer config deps name server queue found_before queue) (sym is)
               (outside_passes config deps name server queue found_before (same_nearest config query name (between ends name found_before of_before) server ∙ so)),
         )
 
@@ -86,7 +86,7 @@ module _ (config : Config) (deps : Deps) (query : Labels) where
         let (found_before, of_before, is, fails) = before_failing ends true name found of in (
           found_before,
           of_before,
-          subst (SearchPasses config deps name server queue found_before queue) (sym is)
+          subst (PassesServer config deps name server queue found_before queue) (sym is)
               (referral_passes config deps name server queue found_before tree cut queue true
               (refers_below config deps query server tree cut so name (between ends name found_before of_before))
               (all_that_end config deps name server tree.now.zone (name_of tree.now cut) (ns_names tree.now.zone (name_of tree.now cut))
@@ -101,8 +101,8 @@ module _ (config : Config) (deps : Deps) (query : Labels) where
     answer_for after so name found (inl itself) = (
       ends,
       inl (itself.0, refl),
-      subst (λ (n : Labels). SearchPasses config deps n server queue ends queue found) (sym itself.0)
-          (subst (SearchPasses config deps query server queue ends queue) (sym itself.1) (answer_passes config deps query server queue ends so.answering so.rewrites so.none_below after so.answers so.put)),
+      subst (λ (n : Labels). PassesServer config deps n server queue ends queue found) (sym itself.0)
+          (subst (PassesServer config deps query server queue ends queue) (sym itself.1) (answer_passes config deps query server queue ends so.answering so.rewrites so.none_below after so.answers so.put)),
     )
     answer_for after so name found (inr (inl below)) = absurd (true≢false (sym below.0 ∙ so.put.alone))
     answer_for after so name found (inr (inr unnamed)) =
@@ -110,8 +110,8 @@ module _ (config : Config) (deps : Deps) (query : Labels) where
         let (tail, is, whole) = unnamed.1 in (
           nothing_below ends,
           inr (inr (told.0, unnamed.1, refl)),
-          subst (λ (n : Labels). SearchPasses config deps n server queue (nothing_below ends) queue found) (sym whole)
-              (subst (SearchPasses config deps (query ++ tail) server queue (nothing_below ends) queue) (sym unnamed.2)
+          subst (λ (n : Labels). PassesServer config deps n server queue (nothing_below ends) queue found) (sym whole)
+              (subst (PassesServer config deps (query ++ tail) server queue (nothing_below ends) queue) (sym unnamed.2)
               (answer_passes config deps (query ++ tail) server queue (nothing_below ends) (nothing_there so.answering) 0 so.none_below (nothing_below after)
               (nothing_so config query server tail so.answering is (so.below told.1)) (put_below ends after so.answering so.rewrites so.none_below so.put))),
         )

@@ -14,7 +14,7 @@ use Rattle.net_model.specs.Nearest.{held_zone}
 use Rattle.net_model.specs.declared.config.Config.{Config}
 use Rattle.net_model.specs.declared.config.Zone.{Zone}
 use Rattle.net_model.specs.declared.deps.Deps.{Deps}
-use Rattle.straight_walks.specs.Regions.{AreRegions, IsOriginBehind, region_origins}
+use Rattle.straight_walks.specs.Regions.{AreRegions, IsPastName, region_origins}
 use Rattle.straight_walks.specs.Straight.{NoOriginBelow}
 use Rattle.straight_walks.specs.declared.region.Region.{Region}
 use Rattle.straight_walks.proofs.NearestRegions.{has_region, origin_of}
@@ -45,7 +45,7 @@ module _ (name longer : Labels) (below : is_prefix name longer ≡ true) (more :
     by Greater e h = true≢false h
 
   -- and before each name that is past it
-  never_behind : (past : Labels) → IsOriginBehind name past → UpTo past longer → ⊥
+  never_behind : (past : Labels) → IsPastName name past → UpTo past longer → ⊥
   never_behind past is up =
       let front = is_prefix_tells name longer below in
       true≢false (sym (is_prefix_told name past (between name past front.0 (before_is_up_to name past is.behind) (subst (UpTo past) (sym front.1) up))) ∙ is.not_below)
@@ -53,7 +53,7 @@ module _ (name longer : Labels) (below : is_prefix name longer ≡ true) (more :
 -- ---- among names in order
 
 module _ (names : List Labels) (sorted : IsStrictlySortedBy name_cmp names) (name : Labels) (place : ℕ) (within : place < length names) (up_to : UpTo (get_or names place []) name)
-    (past : place + 1 < length names → IsOriginBehind name (get_or names (place + 1) [])) where
+    (past : place + 1 < length names → IsPastName name (get_or names (place + 1) [])) where
   -- none is below the name, where the one at the place isn't behind it and the next one is past those below it
   none_among : (longer : Labels) → Contains names longer → is_prefix name longer ≡ true → length name < length longer → ⊥
   none_among longer (at, inside, is) below more = by (cases_lt place at) where
@@ -75,8 +75,8 @@ module _ (names : List Labels) (sorted : IsStrictlySortedBy name_cmp names) (nam
         (ap is_gt (subst (Before (get_or names (place + 1) [])) there (before_later names sorted (place + 1) at [] further inside)))
     late (inr next) high =
         let same : at ≡ place + 1 = omega (arith, next, high) in
-        let it : IsOriginBehind name longer =
-        subst (IsOriginBehind name) (ap (λ (n : ℕ). get_or names n []) (sym same) ∙ there) (past (omega (arith, same, inside))) in
+        let it : IsPastName name longer =
+        subst (IsPastName name) (ap (λ (n : ℕ). get_or names n []) (sym same) ∙ there) (past (omega (arith, same, inside))) in
         true≢false (sym below ∙ it.not_below)
 
     by : (place < at) ⊎ (at ≤ place) → ⊥
@@ -93,11 +93,11 @@ origin_at regions place region within is = get_or-map origin_of regions place re
 module _ (regions : List Region) (name : Labels) (place : ℕ) where
   -- the next region, if there is one, is past the names below
   abbrev pub IsNextPast : Type 0
-  IsNextPast = place + 1 < length (region_origins regions) → IsOriginBehind name (get_or (region_origins regions) (place + 1) [])
+  IsNextPast = place + 1 < length (region_origins regions) → IsPastName name (get_or (region_origins regions) (place + 1) [])
 
   -- it is, or there is none
-  pub next_past : (next : Region) → place + 1 < length regions → next ≡ get_or regions (place + 1) next → IsOriginBehind name (origin_of next) → IsNextPast
-  next_past next within is past _ = subst (IsOriginBehind name) (sym (origin_at regions (place + 1) next within is)) past
+  pub next_past : (next : Region) → place + 1 < length regions → next ≡ get_or regions (place + 1) next → IsPastName name (origin_of next) → IsNextPast
+  next_past next within is past _ = subst (IsPastName name) (sym (origin_at regions (place + 1) next within is)) past
 
   pub none_next : length regions ≤ place + 1 → IsNextPast
   none_next short within = absurd (omega (arith, short, within, length-map regions origin_of))

@@ -12,7 +12,7 @@ use Rattle.net_model.specs.Zone.{ns_names}
 use Rattle.net_model.specs.declared.config.Config.{Config}
 use Rattle.net_model.specs.declared.walk.State.{State}
 use Rattle.zone_tree.specs.Tree.{ZoneTree, name_of}
-use Rattle.straight_walks.specs.Searching.{AreReferrals, Extends, HasWalked, IsReply, SearchPasses, queued_state, unanswered}
+use Rattle.straight_walks.specs.Searching.{AreReferrals, Extends, HasWalked, IsReply, PassesServer, queued_state, unanswered}
 use Rattle.straight_walks.specs.Regions.{IsAnsweringMore, IsLookedAt, IsPassedMore, IsRegionStart, IsSearchBelow}
 use Rattle.straight_walks.specs.Straight.{NoOriginBetween}
 use Rattle.straight_walks.specs.declared.queue.Queued.{Queued}
@@ -28,7 +28,7 @@ module _ (config : Config) (deps : Deps) (origin : Labels) where
 
   -- that has no zone for the origin: walks for each of the names pass it
   pub outside_past : (server : Labels) (queue : List Queued) (fails : Bool) → IsReply config origin server reply.Outside → (query : Labels) → NoOriginBetween config origin query
-      → SearchPasses config deps query server queue (unanswered fails) queue (unanswered true)
+      → PassesServer config deps query server queue (unanswered fails) queue (unanswered true)
   outside_past server queue fails so query nearest =
       outside_passes config deps query server queue (unanswered fails) (same_nearest config origin query nearest server ∙ so)
 
@@ -48,7 +48,7 @@ module _ (config : Config) (deps : Deps) (origin : Labels) where
   pub referral_past : (server : Labels) (queue : List Queued) (fails_before : Bool) (after : List Queued) (fails : Bool) (tree : Bor ZoneTree) (cut : ℕ)
       → IsReply config origin server (reply.Refers tree cut)
       → AreReferrals config deps origin server tree.now.zone (name_of tree.now cut) (ns_names tree.now.zone (name_of tree.now cut)) queue fails_before after fails
-      → (query : Labels) → NoOriginBetween config origin query → SearchPasses config deps query server queue (unanswered fails_before) after (unanswered fails)
+      → (query : Labels) → NoOriginBetween config origin query → PassesServer config deps query server queue (unanswered fails_before) after (unanswered fails)
   referral_past server queue fails_before after fails tree cut so on query nearest =
       referral_passes config deps query server queue (unanswered fails_before) tree cut after fails (refers_below server tree cut so query nearest)
       (refers_for config deps origin query (same_nearest config origin query nearest) server tree.now.zone (name_of tree.now cut) (ns_names tree.now.zone (name_of tree.now cut))

@@ -21,7 +21,7 @@ use Rattle.walk_laws.specs.Outcome.{HasOutcome, outcome_of}
 use Rattle.zone_tree.specs.Tree.{ZoneTree, name_of}
 use Rattle.straight_walks.specs.Answers.{AnswerOwners, leaf_of}
 use Rattle.straight_walks.specs.Ends.{IsOutcomeOf}
-use Rattle.straight_walks.specs.Searching.{AnswersSo, AreReferrals, EndsWith, GoesStraightIn, HasPassed, HasWalked, IsComeTo, AnswerIsPut, IsReply, IsSettingFor, IsSettingOf, KeepsOutcomes, LeadsOn, SearchPasses, PassesState, state_at, queued_state, to_servers, unanswered, HoldsForEach}
+use Rattle.straight_walks.specs.Searching.{AnswersSo, AreReferrals, EndsWith, GoesStraightIn, HasPassed, HasWalked, IsComeTo, AnswerIsPut, IsReply, IsSettingFor, IsSettingOf, KeepsOutcomes, LeadsOn, PassesServer, PassesState, state_at, queued_state, to_servers, unanswered, HoldsOfEachTold}
 use Rattle.straight_walks.specs.Straight.{FailsOrGoes, StepsStraight}
 use Rattle.straight_walks.specs.declared.ends.StraightEnds.{StraightEnds}
 use Rattle.straight_walks.specs.declared.queue.Queued.{Queued}
@@ -68,7 +68,7 @@ module _ (config : Config) (deps : Deps) (query : Labels) where
 
   module _ (server : Labels) (queue : List Queued) (ends : StraightEnds) where
     -- that has no zone for the name
-    pub outside_passes : IsReply config query server reply.Outside → SearchPasses config deps query server queue ends queue (record ends { fails = true })
+    pub outside_passes : IsReply config query server reply.Outside → PassesServer config deps query server queue ends queue (record ends { fails = true })
     outside_passes so =
         record {
           extends = ([], sym (append-nil queue));
@@ -97,7 +97,7 @@ module _ (config : Config) (deps : Deps) (query : Labels) where
 
     -- that answers as those before, or is the first
     pub answer_passes : (answering : AnswerOwners) (rewrites : ℕ) (none_below : Bool) (after : StraightEnds) → AnswersSo config query server answering rewrites
-        → AnswerIsPut ends answering rewrites none_below after → SearchPasses config deps query server queue ends queue after
+        → AnswerIsPut ends answering rewrites none_below after → PassesServer config deps query server queue ends queue after
     answer_passes answering rewrites none_below after so put =
         record {
           extends = ([], sym (append-nil queue));
@@ -120,7 +120,7 @@ module _ (config : Config) (deps : Deps) (query : Labels) where
     -- whose zone refers it
     pub referral_passes : (tree : Bor ZoneTree) (cut : ℕ) (after : List Queued) (fails : Bool) → IsReply config query server (reply.Refers tree cut)
         → AreReferrals config deps query server tree.now.zone (name_of tree.now cut) (ns_names tree.now.zone (name_of tree.now cut)) queue ends.fails after fails
-        → SearchPasses config deps query server queue ends after (record ends { fails = fails })
+        → PassesServer config deps query server queue ends after (record ends { fails = fails })
     referral_passes tree cut after fails so on =
         record {
           extends = on.extends;
@@ -184,7 +184,7 @@ module _ (config : Config) (deps : Deps) (query : Labels) where
 
   -- one more of the queued states is passed
   pub one_walked : (queue after passed : List Queued) (ends_before ends : StraightEnds) (item : Queued) → Contains queue item
-      → HasWalked config deps query queue passed ends_before → SearchPasses config deps query item.server.now queue ends_before after ends
+      → HasWalked config deps query queue passed ends_before → PassesServer config deps query item.server.now queue ends_before after ends
       → HasWalked config deps query after (passed ++ item ∷ []) ends
   one_walked queue after passed ends_before ends item among so one =
       record {
@@ -235,7 +235,7 @@ module _ (config : Config) (deps : Deps) (query : Labels) where
 
   -- walks go straight from one more of the queued states when they do from the next one
   pub one_passed : (queue after : List Queued) (at : ℕ) (ends_before ends : StraightEnds) (item : Queued) → at < length queue → item ≡ get_or queue at item
-      → HasPassed config deps query queue at ends_before → SearchPasses config deps query item.server.now queue ends_before after ends → HasPassed config deps query after (at + 1) ends
+      → HasPassed config deps query queue at ends_before → PassesServer config deps query item.server.now queue ends_before after ends → HasPassed config deps query after (at + 1) ends
   one_passed queue after at ends_before ends item within is so one =
       record {
         within = subst (λ (all : List Queued). at + 1 ≤ length all) (sym one.extends.1) (omega (arith, within, length-append queue one.extends.0));
@@ -296,8 +296,8 @@ module _ (config : Config) (deps : Deps) (query : Labels) where
   -- and where the ends are given if they are within these limits
   pub given_within : (rewrites most states : ℕ) (ends : StraightEnds) (given : Option StraightEnds) → IfSome given (λ found. found ≡ ends)
       → IfSome given (λ found. states * (ends.rewrites + 1) ≤ most) → IfSome given (λ found. ends.rewrites ≤ rewrites)
-      → (states * (ends.rewrites + 1) ≤ most → HoldsForEach config query (GoesStraightIn config deps ends.rewrites most) ends) → IfSome given (HoldsForEach config query (GoesStraightIn config deps rewrites most))
+      → (states * (ends.rewrites + 1) ≤ most → HoldsOfEachTold config query (GoesStraightIn config deps ends.rewrites most) ends) → IfSome given (HoldsOfEachTold config query (GoesStraightIn config deps rewrites most))
   given_within rewrites most states ends None same few fewer straight = tt
   given_within rewrites most states ends (Some found) same few fewer straight =
-      subst (HoldsForEach config query (GoesStraightIn config deps rewrites most)) (sym same)
+      subst (HoldsOfEachTold config query (GoesStraightIn config deps rewrites most)) (sym same)
       (λ name given_for told setting of enough rtype. straight few name given_for told setting of (omega (arith, fewer, enough)) rtype)

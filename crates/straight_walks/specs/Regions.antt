@@ -10,7 +10,7 @@ use Rattle.net_model.specs.Step.{start}
 use Rattle.net_model.specs.declared.config.Config.{Config}
 use Rattle.net_model.specs.declared.config.Server.{Server}
 use Rattle.net_model.specs.declared.config.Zone.{Zone}
-use Rattle.straight_walks.specs.Searching.{Extends, IsSearch, SearchPasses, queued_state, unanswered}
+use Rattle.straight_walks.specs.Searching.{Extends, IsSearch, PassesServer, queued_state, unanswered}
 use Rattle.straight_walks.specs.Straight.{NoOriginBetween}
 use Rattle.straight_walks.specs.declared.queue.Queued.{Queued}
 use Rattle.straight_walks.specs.declared.searching.Search.{Search}
@@ -44,7 +44,7 @@ pub record IsPassedMore (config : Config) (deps : Deps) (origin : Labels) (one :
   pub passed : after.passed.items ≡ before.passed.items ++ one ∷ []
   pub answering : after.answering.items ≡ before.answering.items
   pub passes : (query : Labels) → NoOriginBetween config origin query
-      → SearchPasses config deps query one.server.now before.queue.items (unanswered before.fails) after.queue.items (unanswered after.fails)
+      → PassesServer config deps query one.server.now before.queue.items (unanswered before.fails) after.queue.items (unanswered after.fails)
 
 -- the state is put at the end of those whose servers answer, or redirect the query
 pub record IsAnsweringMore (one : Queued) (before after : RegionSearch) : Type 0 where
@@ -74,7 +74,7 @@ pub record AreRegions (config : Config) (deps : Deps) (regions : List Region) : 
   pub all : HasEachOrigin config (region_origins regions)
 
 -- the origin stands behind the name and all names below it
-pub record IsOriginBehind (name origin : Labels) : Type 0 where
+pub record IsPastName (name origin : Labels) : Type 0 where
   pub behind : is_lt (name_cmp name origin) ≡ true
   pub not_below : is_prefix name origin ≡ false
 

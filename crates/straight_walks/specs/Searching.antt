@@ -294,7 +294,7 @@ pub record IsSettingFor (config : Config) (deps : Deps) (ends : StraightEnds) (s
 
 -- from the query's state at a server walks go straight, to an end or on to states that are queued then; no other states
 -- come to the queue, and no other outcomes to the ends
-pub record SearchPasses (config : Config) (deps : Deps) (query server : Labels) (before : List Queued) (ends_before : StraightEnds) (after : List Queued) (ends : StraightEnds) : Type 0 where
+pub record PassesServer (config : Config) (deps : Deps) (query server : Labels) (before : List Queued) (ends_before : StraightEnds) (after : List Queued) (ends : StraightEnds) : Type 0 where
   pub extends : Extends before after
   pub still : KeepsOutcomes ends_before ends
   pub steps : (setting : Setting) (rtype : RrType) (above : ℕ) → IsSettingFor config deps ends setting
@@ -327,13 +327,13 @@ pub record HasPassed (config : Config) (deps : Deps) (query : Labels) (queue : L
 abbrev pub IsSearch : Config → Deps → Labels → Search → Type 0
 IsSearch config deps query searched = HasPassed config deps query searched.queue.items searched.passed (unanswered searched.fails)
 
--- the statement holds of each name of which they tell the ends, with the ends of that name
-abbrev pub HoldsForEach : Config → Labels → (Labels → StraightEnds → Type 0) → StraightEnds → Type 0
-HoldsForEach config query P ends = (name : Labels) (found : StraightEnds) → AreEndsFor config query ends name found → P name found
+-- the statement holds of each name whose ends are told by these of the query, and of that name's ends
+abbrev pub HoldsOfEachTold : Config → Labels → (Labels → StraightEnds → Type 0) → StraightEnds → Type 0
+HoldsOfEachTold config query P ends = (name : Labels) (found : StraightEnds) → AreEndsFor config query ends name found → P name found
 
 -- for each name of which they tell the ends the first queued states, as many as said, are passed
 abbrev pub HavePassed : Config → Deps → Labels → List Queued → ℕ → StraightEnds → Type 0
-HavePassed config deps query queue passed ends = HoldsForEach config query (λ name found. HasPassed config deps name queue passed found) ends
+HavePassed config deps query queue passed ends = HoldsOfEachTold config query (λ name found. HasPassed config deps name queue passed found) ends
 
 -- in each setting of the configuration in which walks may use so many rewrites those of the query go straight to the
 -- ends, with each type, over at most so many states
@@ -347,7 +347,7 @@ GoesStraightIn config deps rewrites most query ends =
 abbrev pub IsNextReferral : Config → Labels → List Queued → ℕ → StraightEnds → StraightEnds → NextReferral → Type 0
 IsNextReferral config query queue before ends_before ends referring.Ends =
     (deps : Deps) → HavePassed config deps query queue before ends_before
-    → (most : ℕ) → length queue * (ends.rewrites + 1) ≤ most → HoldsForEach config query (GoesStraightIn config deps ends.rewrites most) ends
+    → (most : ℕ) → length queue * (ends.rewrites + 1) ≤ most → HoldsOfEachTold config query (GoesStraightIn config deps ends.rewrites most) ends
 IsNextReferral config query queue before ends_before ends (referring.Refers passed tree cut) =
     (before ≤ passed)
     × (passed < length queue)

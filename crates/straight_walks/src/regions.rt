@@ -6,7 +6,7 @@ ghost use Rattle.std.specs.List.Sorted.{IsStrictlySortedBy};
 ghost use Rattle.dns_data.specs.Name.{name_cmp};
 ghost use Rattle.net_model.specs.declared.config.Config.{Config};
 ghost use Rattle.net_model.specs.declared.deps.Deps.{Deps};
-ghost use Rattle.straight_walks.specs.Regions.{AreRegionsFor, IsOriginBehind, IsRegion, IsSearchBelow, region_origins};
+ghost use Rattle.straight_walks.specs.Regions.{AreRegionsFor, IsPastName, IsRegion, IsSearchBelow, region_origins};
 ghost use Rattle.straight_walks.specs.Straight.{NoOriginBelow};
 
 use crate::origins::origins_of;
@@ -74,7 +74,7 @@ impl<'a> Regions<'a> {
 
 /// Whether the origin stands behind the name and all names below it.
 fn is_past(name: &Name, origin: &Name) -> bool
-    ensures { result ≡ true → IsOriginBehind name.now origin.now }
+    ensures { result ≡ true → IsPastName name.now origin.now }
 {
     name.compare(origin).is_lt() && !name.is_prefix_of(origin)
 }

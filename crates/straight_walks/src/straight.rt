@@ -12,7 +12,7 @@ ghost use Rattle.net_model.specs.Tails.{IsUnnamedTail};
 ghost use Rattle.net_model.specs.Tree.{HasMoreThan, IsReached};
 ghost use Rattle.net_model.specs.Walk.{IsBoundedWith};
 ghost use Rattle.straight_walks.specs.Ends.{IsOutcomeOf};
-ghost use Rattle.straight_walks.specs.Searching.{HavePassed, IsReply, GoesStraightIn, HoldsForEach};
+ghost use Rattle.straight_walks.specs.Searching.{HavePassed, IsReply, GoesStraightIn, HoldsOfEachTold};
 ghost use Rattle.straight_walks.specs.declared.server.Reply.TheVariants as reply_as;
 ghost use Rattle.straight_walks.specs.Regions.{AreRegionsFor, IsSearchBelow};
 ghost use Rattle.straight_walks.specs.Straight.{NoOriginBetween};
@@ -76,7 +76,7 @@ pub fn straight_ends<'h, 'a>(
         → (rtype : RrTypeValue) (fault : FaultValue)
         → Shows (with_lists (following hosts.now rewrites sets.now.least) sets.now.least sets.now.greatest) (query.now ++ tail) rtype fault → ⊥)) }
 {
-    let most = (states / RrType::COUNT).min(MOST);
+    let most = (states / RrType::COUNT as u32).min(MOST);
     let limits = Limits {
         rewrites,
         states: most as usize,
@@ -96,7 +96,7 @@ fn ends_by_region<'h, 'a>(
     limits: Limits,
 ) -> Result<Option<StraightEnds<'h, 'a>>, NoMemory>
     requires { AreRegionsFor hosts.now sets.now regions.now }
-    ensures { IfOk result (λ found. IfSome found (HoldsForEach hosts.now query.now (GoesStraightIn hosts.now sets.now limits.rewrites limits.states))) }
+    ensures { IfOk result (λ found. IfSome found (HoldsOfEachTold hosts.now query.now (GoesStraightIn hosts.now sets.now limits.rewrites limits.states))) }
 {
     match regions.search_for(near, query) {
         Some(searched) => ends_from(alloc, hosts, sets, query, searched, limits),
@@ -118,7 +118,7 @@ fn ends_from<'h, 'a>(
     limits: Limits,
 ) -> Result<Option<StraightEnds<'h, 'a>>, NoMemory>
     requires { IsSearchBelow hosts.now sets.now query.now searched.now }
-    ensures { IfOk result (λ found. IfSome found (HoldsForEach hosts.now query.now (GoesStraightIn hosts.now sets.now limits.rewrites limits.states))) }
+    ensures { IfOk result (λ found. IfSome found (HoldsOfEachTold hosts.now query.now (GoesStraightIn hosts.now sets.now limits.rewrites limits.states))) }
 {
     let queue = searched.queue.as_slice();
     if queue.len() > limits.states {
@@ -160,7 +160,7 @@ fn all_ends<'h, 'a>(
     limits: Limits,
 ) -> Result<Option<StraightEnds<'h, 'a>>, NoMemory>
     requires { HavePassed hosts.now sets.now query.now queue.items passed ends }
-    ensures { IfOk result (λ found. IfSome found (HoldsForEach hosts.now query.now (GoesStraightIn hosts.now sets.now limits.rewrites limits.states))) }
+    ensures { IfOk result (λ found. IfSome found (HoldsOfEachTold hosts.now query.now (GoesStraightIn hosts.now sets.now limits.rewrites limits.states))) }
 {
     let mut queue = queue;
     let mut passed = passed;

@@ -9,7 +9,7 @@ ghost use Rattle.zone_map.specs.Targets.{dead_ends, ends_word, host_of, is_no_da
 ghost use Rattle.zone_map.specs.Rewrites.{most_rewrites};
 ghost use Rattle.zone_map.specs.TargetsAsked.{AreKnown, ends_in, type_ends};
 
-use crate::limits::REWRITES;
+use crate::limits::{MOST_WALKS, REWRITES};
 use config_load::RowFiles;
 use dns_data::{List, Name, NoMemory, Rdata, Rr, RrType};
 use net_model::{Leaf, Walk};
@@ -18,9 +18,6 @@ use std::alloc::Global;
 use std::collections::{BTreeMap, BTreeSet};
 use std::marker::Model;
 use zone_lookup::{Hosts, set_of};
-
-/// How many walks of a target with one type are followed at most.
-const MOST_WALKS: u32 = 1_000;
 
 /// How walks end that find no address.
 #[derive(Clone, Copy, Debug)]

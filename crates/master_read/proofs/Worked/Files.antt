@@ -6,7 +6,7 @@ use Rattle.master_lex.specs.declared.fault.LexKind.TheVariants.{OpenParen, OpenQ
 use Rattle.rdata_forms.specs.declared.fault.RdataFault.TheVariants.{FieldCount, BadAddress}
 use Rattle.master_read.specs.Directives.{directive_of, origin_directive, ttl_directive}
 use Rattle.master_read.specs.Entries.{record_of, owner_of, front_in, one_more, type_said, data_behind, made_of}
-use Rattle.master_read.specs.Words.{type_word, type_numbered, class_word, is_among}
+use Rattle.master_read.specs.Words.{type_word, type_numbered, class_word, is_some_word}
 use Rattle.master_read.specs.ZoneText.{effect_of, with_entry, with_entries, with_rest, zone_text}
 use Rattle.master_read.specs.declared.fault.TextCause.TheVariants.{BadDirective, Lex, Rdata as BadData, NoTtl, TooMany}
 use Rattle.master_read.proofs.StandardFacts.{isi_edu}
@@ -14,7 +14,7 @@ use Rattle.master_read.proofs.Worked.Words.{alone, faulty, lines, name, reads, r
 
 -- the file of the zone ISI.EDU, without room for its last record
 isi_edu_without_room : alone (name "isi.edu") 10 isi_edu ≡ faulty 20 TooMany
-unfolding zone_text with_rest with_entries with_entry effect_of record_of owner_of front_in one_more type_said data_behind made_of type_word class_word is_among directive_of
+unfolding zone_text with_rest with_entries with_entry effect_of record_of owner_of front_in one_more type_said data_behind made_of type_word class_word is_some_word directive_of
 isi_edu_without_room = refl
 
 -- a file as a server's documentation prints one
@@ -45,7 +45,7 @@ by_hand_records =
     ∷ []
 
 by_hand_reads : alone [] 1000000 by_hand ≡ reads by_hand_records 7
-unfolding zone_text with_rest with_entries with_entry effect_of record_of owner_of front_in one_more type_said data_behind made_of type_word class_word is_among directive_of origin_directive ttl_directive
+unfolding zone_text with_rest with_entries with_entry effect_of record_of owner_of front_in one_more type_said data_behind made_of type_word class_word is_some_word directive_of origin_directive ttl_directive
 by_hand_reads = refl
 
 -- a file as a server writes one
@@ -72,7 +72,7 @@ by_server_records =
     ∷ []
 
 by_server_reads : alone [] 4 by_server ≡ reads by_server_records 4
-unfolding zone_text with_rest with_entries with_entry effect_of record_of owner_of front_in one_more type_said data_behind made_of type_word type_numbered class_word is_among directive_of origin_directive ttl_directive
+unfolding zone_text with_rest with_entries with_entry effect_of record_of owner_of front_in one_more type_said data_behind made_of type_word type_numbered class_word is_some_word directive_of origin_directive ttl_directive
 by_server_reads = refl
 
 -- two records
@@ -83,22 +83,22 @@ abbrev head_records : List Rr
 head_records = rr (name "t") 60 (Soa (name "ns.t") (name "h.t") 1 2 3 4 5) 1 ∷ rr (name "t") 60 (Ns (name "ns.t")) 2 ∷ []
 
 head_reads : alone [] 2 head ≡ reads head_records 2
-unfolding zone_text with_rest with_entries with_entry effect_of record_of owner_of front_in one_more type_said data_behind made_of type_word class_word is_among
+unfolding zone_text with_rest with_entries with_entry effect_of record_of owner_of front_in one_more type_said data_behind made_of type_word class_word is_some_word
 head_reads = refl
 
 -- a third for which there is no room
 one_too_many : alone [] 2 (head ++ codes "x.t. 60 A 10.0.0.1") ≡ faulty 3 TooMany
-unfolding zone_text with_rest with_entries with_entry effect_of record_of owner_of front_in one_more type_said data_behind made_of type_word class_word is_among
+unfolding zone_text with_rest with_entries with_entry effect_of record_of owner_of front_in one_more type_said data_behind made_of type_word class_word is_some_word
 one_too_many = refl
 
 -- a third with bad data
 a_bad_address : alone [] 3 (head ++ codes "x.t. 60 A 10.0.0.256") ≡ faulty 3 (BadData BadAddress)
-unfolding zone_text with_rest with_entries with_entry effect_of record_of owner_of front_in one_more type_said data_behind made_of type_word class_word is_among
+unfolding zone_text with_rest with_entries with_entry effect_of record_of owner_of front_in one_more type_said data_behind made_of type_word class_word is_some_word
 a_bad_address = refl
 
 -- a text that was cut off
 cut_off : alone [] 9 (codes "t. 60 SOA ns.t. h.t.") ≡ faulty 1 (BadData FieldCount)
-unfolding zone_text with_rest with_entries with_entry effect_of record_of owner_of front_in one_more type_said data_behind type_word class_word is_among
+unfolding zone_text with_rest with_entries with_entry effect_of record_of owner_of front_in one_more type_said data_behind type_word class_word is_some_word
 cut_off = refl
 
 -- texts without an entry
@@ -112,7 +112,7 @@ remarks_alone = refl
 
 -- the fault of a spelling comes at its own line, and behind that of an entry before it
 open_at_the_end : alone [] 9 (head ++ codes "\nt. 60 TXT ( a\n( b )\n") ≡ faulty 4 (Lex OpenParen)
-unfolding zone_text with_rest with_entries with_entry effect_of record_of owner_of front_in one_more type_said data_behind made_of type_word class_word is_among
+unfolding zone_text with_rest with_entries with_entry effect_of record_of owner_of front_in one_more type_said data_behind made_of type_word class_word is_some_word
 open_at_the_end = refl
 
 a_quote_left_open : alone [] 9 (codes "t. 60 TXT (\n\"a\n\")") ≡ faulty 2 (Lex OpenQuote)
@@ -120,7 +120,7 @@ unfolding zone_text with_rest with_entries
 a_quote_left_open = refl
 
 a_fault_before_the_spelling : alone [] 9 (codes "t. NS ns.t.\nt. 60 TXT )") ≡ faulty 1 NoTtl
-unfolding zone_text with_rest with_entries with_entry effect_of record_of owner_of front_in one_more type_said data_behind made_of type_word class_word is_among
+unfolding zone_text with_rest with_entries with_entry effect_of record_of owner_of front_in one_more type_said data_behind made_of type_word class_word is_some_word
 a_fault_before_the_spelling = refl
 
 a_spelling_before_a_fault : alone [] 9 (codes "t. 60 TXT )\nt. NS ns.t.\n") ≡ faulty 1 (Lex StrayClose)

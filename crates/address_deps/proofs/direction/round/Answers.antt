@@ -1,6 +1,6 @@
 use Rattle.std.proofs.Common.{ℕ, ◌+◌, ◌<◌, List, get_or, length, refl, sym, ◌∙◌, subst, arith}
 use Rattle.std.proofs.lemmas.List.Elements.{Contains-get_or}
-use Rattle.address_deps.specs.Dependents.{places_of}
+use Rattle.dns_data.specs.Listed.{places_of}
 use Rattle.address_deps.specs.Direction.{IsFair, IsSettledAt, unmoved}
 use Rattle.address_deps.proofs.Moves.{are_servers, moved_settled, still_settled}
 use Rattle.address_deps.proofs.Rounds.{IsRoundAt, round_begins, round_changed, round_ends, round_same}

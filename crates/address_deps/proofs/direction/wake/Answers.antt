@@ -1,7 +1,7 @@
 use Rattle.std.proofs.Common.{ℕ, ◌++◌, List, ap, ◌∙◌}
 use Rattle.std.proofs.lemmas.List.{take_all}
 use Rattle.dns_data.specs.Name.{Labels}
-use Rattle.address_deps.specs.Dependents.{places_of}
+use Rattle.dns_data.specs.Listed.{places_of}
 use Rattle.address_deps.proofs.direction.wake.Goals as goal
 
 pub returns : goal.returns

@@ -1,6 +1,6 @@
 use Rattle.std.proofs.Common.{[], subst}
 use Rattle.class_judge.specs.Refused.{IsRefusalOf}
-use Rattle.query_verdicts.specs.declared.report.ReportFault.{ReportFault}
+use Rattle.query_verdicts.specs.declared.report.JudgeFault.{JudgeFault}
 use Rattle.verdict_book.specs.Lists.{IsPoolFault}
 use Rattle.verdict_book.specs.declared.walk.PoolFault.{PoolFault}
 use Rattle.groot_run.proofs.JudgedTrees.{pool_passes, states_pass, is_told, list_is_short}
@@ -20,7 +20,7 @@ pub returns-in-Err-StatesPassed : goal.returns-in-Err-StatesPassed
 returns-in-Err-StatesPassed g c =
     states_pass g.N.Naming.config g.N.Naming.rewrites g.N.Naming.states c.args.limits.classes g.N.Naming.children_of c.requires.states
     (c.tree_is_reached.ensures g.N.Naming.config g.N.Naming.children_of c.requires.values.children) c.too_many_states.result c.in-Err-StatesPassed.query c.in-Ok.ensures.few
-    (subst (λ (fault : ReportFault). IsRefusalOf g.N.Naming.config g.N.Naming.rewrites g.N.Naming.states fault) c.in-Err-StatesPassed.field-0-is c.in-Err-StatesPassed.ensures.fault)
+    (subst (λ (fault : JudgeFault). IsRefusalOf g.N.Naming.config g.N.Naming.rewrites g.N.Naming.states fault) c.in-Err-StatesPassed.field-0-is c.in-Err-StatesPassed.ensures.fault)
     c.too_many_states.ensures
 
 pub returns-in-Err-TooMany : goal.returns-in-Err-TooMany

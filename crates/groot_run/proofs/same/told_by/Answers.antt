@@ -1,5 +1,5 @@
 use Rattle.std.proofs.Common.{[], subst}
-use Rattle.query_verdicts.specs.declared.report.ReportFault.{ReportFault}
+use Rattle.query_verdicts.specs.declared.report.JudgeFault.{JudgeFault}
 use Rattle.same_answers.specs.Sameness.{IsSameFault}
 use Rattle.verdict_book.specs.Lists.{IsPoolFault}
 use Rattle.verdict_book.specs.declared.walk.PoolFault.{PoolFault}
@@ -24,7 +24,7 @@ returns-in-Err-StatesPassed g c =
     let N = g.N.PairNaming in
     states_pass N.compared N.children_of (c.tree_is_reached.ensures N.compared N.children_of c.requires.values.children) c.too_many_states.result
     c.in-Err-StatesPassed.query c.in-Ok.ensures.few
-    (subst (λ (fault : ReportFault). IsSameFault N.compared fault) c.in-Err-StatesPassed.field-0-is c.in-Err-StatesPassed.ensures.fault)
+    (subst (λ (fault : JudgeFault). IsSameFault N.compared fault) c.in-Err-StatesPassed.field-0-is c.in-Err-StatesPassed.ensures.fault)
     c.too_many_states.ensures
 
 pub returns-in-Err-TooMany : goal.returns-in-Err-TooMany

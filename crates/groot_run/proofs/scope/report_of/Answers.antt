@@ -2,7 +2,7 @@ use Rattle.std.proofs.Common.{subst}
 use Rattle.dns_data.specs.Name.{IsName}
 use Rattle.job_scope.specs.Scoped.{scoped}
 use Rattle.query_verdicts.specs.Passed.{IsReportFault}
-use Rattle.query_verdicts.specs.declared.report.ReportFault.{ReportFault}
+use Rattle.query_verdicts.specs.declared.report.JudgeFault.{JudgeFault}
 use Rattle.verdict_book.specs.Lists.{IsPoolFault}
 use Rattle.verdict_book.specs.declared.walk.PoolFault.{PoolFault}
 use Rattle.groot_run.specs.Outcome.{scope_names}
@@ -27,7 +27,7 @@ returns-in-Err-StatesPassed g c =
     states_pass N.config N.scope N.rewrites N.states N.children_of c.requires.name.0 c.requires.name.1
     (c.scope_is_reached.ensures N.config N.scope N.children_of (subst IsName c.requires.name.2 c.labels.ensures.name) c.requires.values.children)
     c.too_many_states.result c.in-Err-StatesPassed.query c.in-Ok.ensures.few
-    (subst (λ (fault : ReportFault). IsReportFault (scoped N.config N.rewrites N.scope) N.states fault) c.in-Err-StatesPassed.field-0-is c.in-Err-StatesPassed.ensures.fault)
+    (subst (λ (fault : JudgeFault). IsReportFault (scoped N.config N.rewrites N.scope) N.states fault) c.in-Err-StatesPassed.field-0-is c.in-Err-StatesPassed.ensures.fault)
     c.too_many_states.ensures
 
 pub returns-in-Err-TooMany : goal.returns-in-Err-TooMany

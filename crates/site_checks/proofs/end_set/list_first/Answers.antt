@@ -1,7 +1,7 @@
 use Rattle.std.proofs.Common.{◌≡◌, ℕ, List, [], Contains, sym, subst}
 use Rattle.dns_data.specs.Name.{Labels}
 use Rattle.dns_data.proofs.Membership.{none_in_nil}
-use Rattle.site_checks.specs.EndPlaces.{places_of}
+use Rattle.dns_data.specs.Listed.{places_of}
 use Rattle.site_checks.proofs.ListedEnds.{listed_stays}
 use Rattle.site_checks.proofs.end_set.list_first.Goals as goal
 

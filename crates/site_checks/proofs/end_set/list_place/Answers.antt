@@ -1,6 +1,6 @@
 use Rattle.std.proofs.Common.{ℕ, List, [], Contains, Option, is_some, sym, ap, subst}
 use Rattle.std.specs.Prelude.{unwrap_or}
-use Rattle.site_checks.specs.EndPlaces.{places_of}
+use Rattle.dns_data.specs.Listed.{places_of}
 use Rattle.site_checks.proofs.ListedEnds.{Places, kept_behind, listed_stays}
 use Rattle.site_checks.proofs.end_set.list_place.Goals as goal
 

@@ -1,6 +1,6 @@
 use Rattle.std.proofs.Common.{◌≡◌, cond, subst}
 use Rattle.dns_data.specs.Name.{Labels, name_eq}
-use Rattle.address_deps.specs.Dependents.{places_of}
+use Rattle.dns_data.specs.Listed.{places_of}
 use Rattle.address_deps.proofs.Listing.{listed_one, placed}
 use Rattle.address_deps.proofs.dependents.Dependents.put.Goals as goal
 

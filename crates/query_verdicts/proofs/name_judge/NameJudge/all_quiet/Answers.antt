@@ -3,7 +3,7 @@ use Rattle.std.specs.Prelude.{IfSome}
 use Rattle.straight_walks.specs.Straight.{NoOriginBelow}
 use Rattle.query_verdicts.specs.Queries.{LimitedQueries}
 use Rattle.query_verdicts.specs.Subjects.{IsQuietAt}
-use Rattle.query_verdicts.specs.Verdict.{IsFaultless}
+use Rattle.query_verdicts.specs.Verdict.{IsQuiet}
 use Rattle.query_verdicts.specs.declared.quiet.Quiet.{Quiet}
 use Rattle.query_verdicts.proofs.QuietBelow.{told_of_all}
 use Rattle.query_verdicts.proofs.name_judge.NameJudge.all_quiet.Goals as goal
@@ -14,5 +14,5 @@ returns-then-quiet g c = λ all.
     let states = g.S.OnSubject.states in
     let query = c.args.query.now in
     let at = subst (λ (found : Option Quiet). IfSome found (IsQuietAt subject states query)) c.in-Some.is c.requires in
-    told_of_all subject.config (IsFaultless subject states) query
+    told_of_all subject.config (IsQuiet subject states) query
     (subst (λ (q : LimitedQueries). NoOriginBelow q.config query) c.self.invariant.queries_are (c.no_origin_below.ensures all)) (at.below c.if-quiet.true)

@@ -2,7 +2,7 @@ use Rattle.std.proofs.Common.{sym, subst}
 use Rattle.dns_data.specs.Name.{Labels}
 use Rattle.query_classes.specs.Children.{IsInTree}
 use Rattle.query_classes.specs.TreeNames.{IsToldBelow}
-use Rattle.query_verdicts.specs.Verdict.{IsNameVerdict, IsFaultless}
+use Rattle.query_verdicts.specs.Verdict.{IsNameVerdict, IsQuiet}
 use Rattle.query_verdicts.proofs.QuietBelow.{told_itself, told_with_tail}
 use Rattle.query_verdicts.proofs.name_judge.NameJudge.judge.Goals as goal
 
@@ -15,12 +15,12 @@ quiet_name-requires-clause-in_tree g c = subst (IsInTree g.S.OnSubject.subject.g
 
 pub quiet_name-requires-clause-alone : goal.quiet_name-requires-clause-alone
 quiet_name-requires-clause-alone g c =
-    let IsTold = IsFaultless g.S.OnSubject.subject g.S.OnSubject.states in
+    let IsTold = IsQuiet g.S.OnSubject.subject g.S.OnSubject.states in
     told_itself IsTold c.live_name.result.now.name (subst (IsToldBelow IsTold) (sym c.live_name.ensures.name) (c.is_told_below.ensures c.if-is_told_below.true))
 
 pub quiet_name-requires-clause-below : goal.quiet_name-requires-clause-below
 quiet_name-requires-clause-below g c = λ tail is.
-    let IsTold = IsFaultless g.S.OnSubject.subject g.S.OnSubject.states in
+    let IsTold = IsQuiet g.S.OnSubject.subject g.S.OnSubject.states in
     told_with_tail IsTold c.live_name.result.now.name (subst (IsToldBelow IsTold) (sym c.live_name.ensures.name) (c.is_told_below.ensures c.if-is_told_below.true)) tail
 
 pub with_children-requires-clause-verdict : goal.with_children-requires-clause-verdict

@@ -1,5 +1,6 @@
 use Rattle.std.proofs.Common.{List, Contains, sym, subst}
-use Rattle.site_checks.specs.EndPlaces.{ListsPlaces, places_of}
+use Rattle.dns_data.specs.Listed.{places_of}
+use Rattle.site_checks.specs.EndPlaces.{ListsPlaces}
 use Rattle.site_checks.specs.declared.views.TypedEnd.{TypedEnd}
 use Rattle.site_checks.proofs.ListedEnds.{listed_more, still_listed}
 use Rattle.site_checks.proofs.end_set.EndSet.push.Goals as goal

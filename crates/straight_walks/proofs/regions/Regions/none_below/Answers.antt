@@ -1,7 +1,7 @@
 use Rattle.std.proofs.Common.{List, is_gt, sym, ◌∙◌, ap, subst, arith}
 use Rattle.dns_data.specs.Name.{name_cmp}
 use Rattle.dns_data.proofs.NameOrder.{UpTo}
-use Rattle.straight_walks.specs.Regions.{AreRegions, IsOriginBehind}
+use Rattle.straight_walks.specs.Regions.{AreRegions, IsPastName}
 use Rattle.straight_walks.specs.declared.region.Region.{Region}
 use Rattle.straight_walks.proofs.NearestRegions.{origin_of}
 use Rattle.straight_walks.proofs.OriginsBelow.{next_past, none_below, none_next}
@@ -18,7 +18,7 @@ returns-then-near-regions c = λ past config deps are.
     none_below config deps regions (subst (λ (all : List Region). AreRegions config deps all) (sym c.as_slice-regions.ensures.value) are) name c.args.near region
     (omega (arith, c.if-regions-near.false)) c.index-regions-near.is up_to
     (next_past regions name c.args.near next (omega (arith, c.if-near-regions.true)) c.index-regions-near-then-near-regions.is
-    (subst (λ (one : Region). IsOriginBehind name (origin_of one)) (sym c.index-regions-near-then-near-regions.is) (c.is_past.ensures past)))
+    (subst (λ (one : Region). IsPastName name (origin_of one)) (sym c.index-regions-near-then-near-regions.is) (c.is_past.ensures past)))
 
 pub returns-else-near-regions : goal.returns-else-near-regions
 returns-else-near-regions c = λ past config deps are.

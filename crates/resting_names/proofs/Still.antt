@@ -26,7 +26,7 @@ use Rattle.net_model.specs.Reading.{zones}
 use Rattle.net_model.specs.Zone.{data_at, data_cmp, exists_in, is_of, owns, target_of, targets_at}
 use Rattle.net_model.proofs.NearestZones.{nearest_tells}
 use Rattle.net_model.proofs.Prefixes.{from_prefixes}
-use Rattle.resting_names.specs.Leading.{IsQuiet, IsQuietAbove, data_lead, leading_of, leading_owner, leads_on, server_leading, zone_leading}
+use Rattle.resting_names.specs.Leading.{IsStill, IsStillAbove, data_lead, leading_of, leading_owner, leads_on, server_leading, zone_leading}
 use Rattle.resting_names.specs.Resting.{EndsInZone, Rests, ended}
 
 -- ---- records that lead
@@ -90,10 +90,10 @@ leads_among config zone rr has inside leads =
     (flat_map_has zone_leading server.zones zone rr.owner held (flat_map_has (leading_owner zone) zone.rrs rr rr.owner inside own))
 
 module _ (config : Config) (zone : Zone) (of_config : Contains (zones config) zone) where
-  -- a quiet name owns no alias, no redirection and no name server but the zone's own
-  quiet_owns : (rtype : RrType) (above : Labels) → IsQuiet (leading_of config) above
+  -- a still name owns no alias, no redirection and no name server but the zone's own
+  still_owns : (rtype : RrType) (above : Labels) → IsStill (leading_of config) above
       → ((rr : Rr) → rr.owner ≡ above → has_type rtype rr.rdata ≡ true → leads_on zone rr ≡ true) → owns zone above rtype ≡ false
-  quiet_owns rtype above quiet leads = by (owns zone above rtype) refl where
+  still_owns rtype above still leads = by (owns zone above rtype) refl where
     by : (b : Bool) → owns zone above rtype ≡ b → b ≡ false
     by false e = refl
     by true e =
@@ -101,17 +101,17 @@ module _ (config : Config) (zone : Zone) (of_config : Contains (zones config) zo
         let both = and_parts (name_eq rr.owner above) (has_type rtype rr.rdata) is in
         let same : rr.owner ≡ above = (name_eq_decides rr.owner above).0 both.0 in
         let among = subst (Contains (leading_of config)) same (leads_among config zone rr of_config inside (leads rr same both.1)) in
-        absurd (true≢false (sym (any_has (name_eq above) (leading_of config) above among ((name_eq_decides above above).1 refl)) ∙ quiet.0))
+        absurd (true≢false (sym (any_has (name_eq above) (leading_of config) above among ((name_eq_decides above above).1 refl)) ∙ still.0))
 
-  no_alias_owned : (above : Labels) → IsQuiet (leading_of config) above → owns zone above types.Cname ≡ false
-  no_alias_owned above quiet = quiet_owns types.Cname above quiet (λ rr same is. cname_leads (name_eq rr.owner zone.origin) rr.rdata is)
+  no_alias_owned : (above : Labels) → IsStill (leading_of config) above → owns zone above types.Cname ≡ false
+  no_alias_owned above still = still_owns types.Cname above still (λ rr same is. cname_leads (name_eq rr.owner zone.origin) rr.rdata is)
 
-  no_redirection_owned : (above : Labels) → IsQuiet (leading_of config) above → owns zone above types.Dname ≡ false
-  no_redirection_owned above quiet = quiet_owns types.Dname above quiet (λ rr same is. dname_leads (name_eq rr.owner zone.origin) rr.rdata is)
+  no_redirection_owned : (above : Labels) → IsStill (leading_of config) above → owns zone above types.Dname ≡ false
+  no_redirection_owned above still = still_owns types.Dname above still (λ rr same is. dname_leads (name_eq rr.owner zone.origin) rr.rdata is)
 
-  no_cut_owned : (above : Labels) → IsQuiet (leading_of config) above → length zone.origin < length above → owns zone above types.Ns ≡ false
-  no_cut_owned above quiet below =
-      quiet_owns types.Ns above quiet (λ rr same is.
+  no_cut_owned : (above : Labels) → IsStill (leading_of config) above → length zone.origin < length above → owns zone above types.Ns ≡ false
+  no_cut_owned above still below =
+      still_owns types.Ns above still (λ rr same is.
       subst (λ (b : Bool). data_lead b rr.rdata ≡ true) (sym (differs rr same (name_eq rr.owner zone.origin) refl)) (ns_leads rr.rdata is))
     where
       differs : (rr : Rr) → rr.owner ≡ above → (b : Bool) → name_eq rr.owner zone.origin ≡ b → b ≡ false
@@ -122,8 +122,8 @@ module _ (config : Config) (zone : Zone) (of_config : Contains (zones config) zo
           absurd (omega (arith, below, long))
 
   -- the asterisk label below it is no alias
-  no_source_alias : (above : Labels) → IsQuiet (leading_of config) above → owns zone (source_of_synthesis above) types.Cname ≡ false
-  no_source_alias above quiet = by (owns zone (source_of_synthesis above) types.Cname) refl where
+  no_source_alias : (above : Labels) → IsStill (leading_of config) above → owns zone (source_of_synthesis above) types.Cname ≡ false
+  no_source_alias above still = by (owns zone (source_of_synthesis above) types.Cname) refl where
     by : (b : Bool) → owns zone (source_of_synthesis above) types.Cname ≡ b → b ≡ false
     by false e = refl
     by true e =
@@ -132,7 +132,7 @@ module _ (config : Config) (zone : Zone) (of_config : Contains (zones config) zo
         let same : rr.owner ≡ source_of_synthesis above = (name_eq_decides rr.owner (source_of_synthesis above)).0 both.0 in
         let among = subst (Contains (leading_of config)) same
         (leads_among config zone rr of_config inside (cname_leads (name_eq rr.owner zone.origin) rr.rdata both.1)) in
-        absurd (true≢false (sym (any_has (name_eq (source_of_synthesis above)) (leading_of config) (source_of_synthesis above) among ((name_eq_decides (source_of_synthesis above) (source_of_synthesis above)).1 refl)) ∙ quiet.1))
+        absurd (true≢false (sym (any_has (name_eq (source_of_synthesis above)) (leading_of config) (source_of_synthesis above) among ((name_eq_decides (source_of_synthesis above) (source_of_synthesis above)).1 refl)) ∙ still.1))
 
   -- who owns no alias has no target of one
   without_target : (owner : Labels) → owns zone owner types.Cname ≡ false → first_name (targets_at zone owner types.Cname) ≡ None
@@ -141,13 +141,13 @@ module _ (config : Config) (zone : Zone) (of_config : Contains (zones config) zo
 
   -- ---- what decides at the name
 
-  module _ (name : Labels) (quiet : IsQuietAbove (leading_of config) name (length name)) where
-    -- each front of the name is quiet
-    quiet_front : (above : Labels) → Contains (prefixes name) above → IsQuiet (leading_of config) above
-    quiet_front above has =
+  module _ (name : Labels) (still : IsStillAbove (leading_of config) name (length name)) where
+    -- each front of the name is still
+    still_front : (above : Labels) → Contains (prefixes name) above → IsStill (leading_of config) above
+    still_front above has =
         let begins : Begins above name = from_prefixes name above has in
         let long : length above ≤ length name = omega (arith, ap (λ (n : Labels). length n) begins.1, length-append above begins.0) in
-        subst (IsQuiet (leading_of config)) (front_is_take above begins.0 name begins.1) (quiet (length above) long)
+        subst (IsStill (leading_of config)) (front_is_take above begins.0 name begins.1) (still (length above) long)
 
     no_cut : zone_cut zone name ≡ None
     no_cut = find_none (λ (above : Labels). nat_lt (length zone.origin) (length above) && owns zone above types.Ns) (prefixes name)
@@ -155,12 +155,12 @@ module _ (config : Config) (zone : Zone) (of_config : Contains (zones config) zo
       where
         by : (above : Labels) → Contains (prefixes name) above → (b : Bool) → nat_lt (length zone.origin) (length above) ≡ b → (b && owns zone above types.Ns) ≡ false
         by above has false e = refl
-        by above has true e = no_cut_owned above (quiet_front above has) (ltb-true (length zone.origin) (length above) e)
+        by above has true e = no_cut_owned above (still_front above has) (ltb-true (length zone.origin) (length above) e)
 
     no_redirection : dname_owner zone name ≡ None
     no_redirection =
         find_none (λ (above : Labels). nat_le (length zone.origin) (length above) && nat_lt (length above) (length name) && owns zone above types.Dname) (prefixes name)
-        (λ above has. by above (nat_le (length zone.origin) (length above)) (nat_lt (length above) (length name)) (no_redirection_owned above (quiet_front above has)))
+        (λ above has. by above (nat_le (length zone.origin) (length above)) (nat_lt (length above) (length name)) (no_redirection_owned above (still_front above has)))
       where
         by : (above : Labels) (a b : Bool) → owns zone above types.Dname ≡ false → (a && b && owns zone above types.Dname) ≡ false
         by above true true none = none
@@ -183,11 +183,11 @@ module _ (config : Config) (zone : Zone) (of_config : Contains (zones config) zo
           (found_there (exists_in zone) (reverse (prefixes name)) encloser e).0
 
       choose : (b : Bool) → Decides (cond b (ByRecords (source_of_synthesis encloser)) ByNothing)
-      choose true = without_target (source_of_synthesis encloser) (no_source_alias encloser (quiet_front encloser there))
+      choose true = without_target (source_of_synthesis encloser) (no_source_alias encloser (still_front encloser there))
       choose false = tt
 
-    itself : IsQuiet (leading_of config) name
-    itself = subst (IsQuiet (leading_of config)) (front_is_take name [] name (append-nil name)) (quiet (length name) (omega arith))
+    itself : IsStill (leading_of config) name
+    itself = subst (IsStill (leading_of config)) (front_is_take name [] name (append-nil name)) (still (length name) (omega arith))
 
     undecided_above : Decides (decided zone name None)
     undecided_above = choose (exists_in zone name) where
@@ -219,7 +219,7 @@ module _ (config : Config) (zone : Zone) (of_config : Contains (zones config) zo
       by ByNothing so = (_, refl)
       by other so = absurd so
 
--- a name that is quiet from the root down to itself rests
-pub quiet_rests : (config : Config) (name : Labels) → IsQuietAbove (leading_of config) name (length name) → Rests config name
-quiet_rests config name quiet = λ server zone rtype nearest.
-    ends_in config zone (nearest_tells config server name zone nearest).0 name quiet rtype
+-- a name that is still from the root down to itself rests
+pub still_rests : (config : Config) (name : Labels) → IsStillAbove (leading_of config) name (length name) → Rests config name
+still_rests config name still = λ server zone rtype nearest.
+    ends_in config zone (nearest_tells config server name zone nearest).0 name still rtype
